@@ -33,7 +33,13 @@ use Rattle.std.specs.Cmp.{ranks}
 use Rattle.std.specs.Cmp.Lexicographic.{slice_cmp}
 use Rattle.std.specs.List.{AllByRecursion}
 use Rattle.attribute_index.specs.declared.abbreviations.Abbreviation.{Abbreviation}
-use Rattle.attribute_index.specs.Abbreviations.{IsAbbreviation, symbols_of, digit_of, spelled, AreOctets}
+use Rattle.attribute_index.specs.Abbreviations.{
+  IsAbbreviation,
+  symbols_of,
+  digit_of,
+  spelled,
+  AreOctets,
+}
 use Rattle.attribute_index.specs.Rows.{value_cmp}
 
 -- ---- numbers
@@ -244,7 +250,8 @@ says_part a b from xs ys x_fits y_fits a_is b_is =
     (n ≡ spelled 7 (drop from ys)) (spelled 7 (drop from ys) < n)) a_is
     (subst (λ (n : ℕ). MatchOrdering (nat_cmp a b) (a < n) (a ≡ n) (n < a)) b_is (ranks a b)))))
 
-module _ (f g : Abbreviation) (v w : List ℕ × List ℕ) (left : IsAbbreviation f v) (right : IsAbbreviation g w) where
+module _ (f g : Abbreviation) (v w : List ℕ × List ℕ) (left : IsAbbreviation f v)
+    (right : IsAbbreviation g w) where
   abbrev behind : List ℕ × List ℕ → List ℕ
   behind value = drop 21 (symbols_of value)
 
@@ -264,7 +271,10 @@ module _ (f g : Abbreviation) (v w : List ℕ × List ℕ) (left : IsAbbreviatio
       (says_part f.third g.third 14 xs ys x_fits y_fits left.third right.third))
 
   -- where abbreviations differ, values are ordered as they are
-  pub by_abbreviations_apart : (r : Ordering) → r ≡ abbreviation_cmp f g → (r ≡ Equal → ⊥) → r ≡ value_cmp v w
+  pub by_abbreviations_apart : (r : Ordering)
+      → r ≡ abbreviation_cmp f g
+      → (r ≡ Equal → ⊥)
+      → r ≡ value_cmp v w
   by_abbreviations_apart r is apart =
       by r (subst (λ (q : Ordering). Says q (symbols_of v) (symbols_of w) (behind v) (behind w))
       (sym is) by_abbreviations) apart ∙ symbols_cmp v.0 v.1 w.0 w.1
@@ -277,7 +287,8 @@ module _ (f g : Abbreviation) (v w : List ℕ × List ℕ) (left : IsAbbreviatio
 
   -- where they are equal, and nothing is left out of them, values are equal
   pub by_abbreviations_whole : Equal ≡ abbreviation_cmp f g
-      → ((value : List ℕ × List ℕ) → IsAbbreviation f value → behind value ≡ []) → Equal ≡ value_cmp v w
+      → ((value : List ℕ × List ℕ) → IsAbbreviation f value → behind value ≡ [])
+      → Equal ≡ value_cmp v w
   by_abbreviations_whole is whole =
       let says : slice_cmp nat_cmp (symbols_of v) (symbols_of w)
       ≡ slice_cmp nat_cmp (behind v) (behind w) =
@@ -315,7 +326,9 @@ module _ (f g : Abbreviation) (v w : List ℕ × List ℕ) (left : IsAbbreviatio
       equal_numbers x y Greater h k = absurd cc
 
 -- where the last digit is 0, nothing is left out
-pub whole_abbreviation : (f : Abbreviation) (value : List ℕ × List ℕ) → IsAbbreviation f value → f.third % 512 ≡ 0
+pub whole_abbreviation : (f : Abbreviation) (value : List ℕ × List ℕ)
+    → IsAbbreviation f value
+    → f.third % 512 ≡ 0
     → drop 21 (symbols_of value) ≡ []
 whole_abbreviation f value is h =
     let fits = are_symbols value.0 value.1 is.name_octets is.value_octets in

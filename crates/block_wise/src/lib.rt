@@ -1,4 +1,5 @@
-//! Numbers and blocks as the values of options (RFC 7252 section 3.2), and the blocks of a body (RFC 7959 section 2.2).
+//! Numbers and blocks as the values of options (RFC 7252 section 3.2), and the blocks of a body
+//! (RFC 7959 section 2.2).
 #![tactic(auto)]
 
 mod slices;

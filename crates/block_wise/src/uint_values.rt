@@ -51,8 +51,8 @@ pub(crate) fn put_uint(octets: &mut [u8], n: u32) -> usize
     put_byte(octets, second, (n % 256) as u8)
 }
 
-/// Puts a number as the value of an option, in the fewest octets (RFC 7252 section 3.2), and gives how many these are:
-/// none for 0. [`uint_of`] reads it back.
+/// Puts a number as the value of an option, in the fewest octets (RFC 7252 section 3.2), and gives
+/// how many these are: none for 0. [`uint_of`] reads it back.
 ///
 /// The number is below 2^24, as those of Observe, Content-Format and the Block options are.
 pub fn uint_write(n: u32, into: &mut [u8; 3]) -> usize

@@ -11,8 +11,8 @@ use message_model::Block;
 #[derive(Clone, Copy, Debug, PartialEq, Eq)]
 pub struct Szx7;
 
-/// The block that the value of a Block option says (RFC 7959 section 2.2): 20 bits of number, one that says whether
-/// more follow, three of size exponent. The value has at most three octets.
+/// The block that the value of a Block option says (RFC 7959 section 2.2): 20 bits of number, one
+/// that says whether more follow, three of size exponent. The value has at most three octets.
 ///
 /// `Szx7`: the exponent is the reserved 7.
 #[tactic(auto, unfolding(message_model::specs::Blocks::block_read))]
@@ -20,7 +20,8 @@ pub fn block_read(value: &[u8]) -> Result<Block, Szx7>
     requires { length value.now ≤ 3 }
     ensures block { IfOk result (λ b. blocks.block_read value.now ≡ Some b) }
     ensures sound { IfOk result (λ b. blocks.IsBlock b) }
-    ensures spelled { IfOk result (λ b. blocks.block_value b ≡ numbers.uint_bytes (numbers.uint_of value.now)) }
+    ensures spelled { IfOk result
+        (λ b. blocks.block_value b ≡ numbers.uint_bytes (numbers.uint_of value.now)) }
     ensures reserved { OnErr result (blocks.block_read value.now ≡ None) }
 {
     let bits = uint_of(value);
@@ -42,8 +43,8 @@ fn more_bit(more: bool) -> u32
     if more { 1 } else { 0 }
 }
 
-/// Puts the value of a Block option that says this block, in the fewest octets (RFC 7959 section 2.2), and gives how
-/// many these are. [`block_read`] reads it back.
+/// Puts the value of a Block option that says this block, in the fewest octets (RFC 7959 section
+/// 2.2), and gives how many these are. [`block_read`] reads it back.
 ///
 /// The number is below 2^20, and the exponent below the reserved 7.
 #[tactic(auto, unfolding(message_model::specs::Blocks::block_value))]

@@ -226,7 +226,8 @@ pub fn packet_record(
     payload: &[u8],
 ) -> Result<Bytes, Starved>
     requires { length payload.now ≤ MAX_PAYLOAD }
-    ensures { IfOk result (λ octets. length octets ≡ 16 + packet_octets route.now (length payload.now)) }
+    ensures { IfOk result
+        (λ octets. length octets ≡ 16 + packet_octets route.now (length payload.now)) }
 {
     let (seconds, microseconds) = time_of(moment);
     let packet = ip_packet(alloc, route, ports, payload)?;

@@ -7,13 +7,25 @@ use Rattle.chunk_map.specs.declared.change.Tally.{Tally}
 use Rattle.chunk_map.specs.declared.change.Tally.TheVariants.{Same, More, Fewer}
 
 -- the pairs with this value at the key, or without the key
-abbrev pub with_value : {K V : Type 0} → (K → K → Ordering) → List (K × V) → K → Option V → List (K × V)
+abbrev pub with_value : {K V : Type 0}
+    → (K → K → Ordering)
+    → List (K × V)
+    → K
+    → Option V
+    → List (K × V)
 with_value cmp es key None = remove_entry (is_at (cmp key)) es
 with_value cmp es key (Some v) = insert_entry cmp es key v
 
 -- the pairs differ by a value, or none, that may come in place of that at the key, or of none
-abbrev pub IsChanged : {K V : Type 0} → (K → K → Ordering) → (Option V → Option V → Type 0) → List (K × V) → K → List (K × V) → Type 0
-IsChanged {K} {V} cmp gives es key es' = (new : Option V) × gives (lookup (is_at (cmp key)) es) new × (es' ≡ with_value cmp es key new)
+abbrev pub IsChanged : {K V : Type 0}
+    → (K → K → Ordering)
+    → (Option V → Option V → Type 0)
+    → List (K × V)
+    → K
+    → List (K × V)
+    → Type 0
+IsChanged {K} {V} cmp gives es key es' =
+    (new : Option V) × gives (lookup (is_at (cmp key)) es) new × (es' ≡ with_value cmp es key new)
 
 -- how many there are after a change, where there were so many
 abbrev pub IsCounted : Tally → ℕ → ℕ → Type 0

@@ -12,7 +12,8 @@ list_pairs pairs list = flat_map pairs (arc_value list).items
 
 -- the list has a part, and each of its parts is whole
 abbrev pub IsWholeList : {P : Type 0} → (P → Type 0) → Arc (Vec P) Global → Type 0
-IsWholeList is_whole list = (0 < length (arc_value list).items) × All is_whole (arc_value list).items
+IsWholeList is_whole list =
+    (0 < length (arc_value list).items) × All is_whole (arc_value list).items
 
 -- the pairs of a chunk, one after another
 abbrev pub chunk_pairs : {K V : Type 0} → Arc (Vec (K × V)) Global → List (K × V)
@@ -23,11 +24,15 @@ abbrev pub group_pairs : {K V : Type 0} → Arc (Vec (Arc (Vec (K × V)) Global)
 group_pairs group = list_pairs chunk_pairs group
 
 -- the pairs of a section, group after group
-abbrev pub section_pairs : {K V : Type 0} → Arc (Vec (Arc (Vec (Arc (Vec (K × V)) Global)) Global)) Global → List (K × V)
+abbrev pub section_pairs : {K V : Type 0}
+    → Arc (Vec (Arc (Vec (Arc (Vec (K × V)) Global)) Global)) Global
+    → List (K × V)
 section_pairs section = list_pairs group_pairs section
 
 -- the pairs of a division, section after section
-abbrev pub division_pairs : {K V : Type 0} → Arc (Vec (Arc (Vec (Arc (Vec (Arc (Vec (K × V)) Global)) Global)) Global)) Global → List (K × V)
+abbrev pub division_pairs : {K V : Type 0}
+    → Arc (Vec (Arc (Vec (Arc (Vec (Arc (Vec (K × V)) Global)) Global)) Global)) Global
+    → List (K × V)
 division_pairs division = list_pairs section_pairs division
 
 -- the chunk has a pair
@@ -39,9 +44,13 @@ abbrev pub IsWholeGroup : {K V : Type 0} → Arc (Vec (Arc (Vec (K × V)) Global
 IsWholeGroup group = IsWholeList IsWholeChunk group
 
 -- the section has a group, and each of its groups is whole
-abbrev pub IsWholeSection : {K V : Type 0} → Arc (Vec (Arc (Vec (Arc (Vec (K × V)) Global)) Global)) Global → Type 0
+abbrev pub IsWholeSection : {K V : Type 0}
+    → Arc (Vec (Arc (Vec (Arc (Vec (K × V)) Global)) Global)) Global
+    → Type 0
 IsWholeSection section = IsWholeList IsWholeGroup section
 
 -- the division has a section, and each of its sections is whole
-abbrev pub IsWholeDivision : {K V : Type 0} → Arc (Vec (Arc (Vec (Arc (Vec (Arc (Vec (K × V)) Global)) Global)) Global)) Global → Type 0
+abbrev pub IsWholeDivision : {K V : Type 0}
+    → Arc (Vec (Arc (Vec (Arc (Vec (Arc (Vec (K × V)) Global)) Global)) Global)) Global
+    → Type 0
 IsWholeDivision division = IsWholeList IsWholeSection division

@@ -3,7 +3,16 @@ use Rattle.std.specs.Prelude.{List}
 use Rattle.std.specs.List.{All, flat_map}
 use Rattle.chunk_map.specs.declared.levels.Levels.{Levels}
 use Rattle.chunk_map.specs.declared.levels.Levels.TheVariants.{Chunks, Groups, Sections, Divisions}
-use Rattle.chunk_map.specs.Groups.{chunk_pairs, group_pairs, section_pairs, division_pairs, IsWholeChunk, IsWholeGroup, IsWholeSection, IsWholeDivision}
+use Rattle.chunk_map.specs.Groups.{
+  chunk_pairs,
+  group_pairs,
+  section_pairs,
+  division_pairs,
+  IsWholeChunk,
+  IsWholeGroup,
+  IsWholeSection,
+  IsWholeDivision,
+}
 
 -- the pairs, part after part
 abbrev pub pairs_in : {K V : Type 0} → Levels K V → List (K × V)

@@ -65,7 +65,8 @@ pub(crate) enum Tally {
 }
 
 impl Tally {
-    /// How many pairs there are after the change, where there were so many. It answers `Starved` where they are more than a
+    /// How many pairs there are after the change, where there were so many. It answers `Starved`
+    /// where they are more than a
     /// `u64` counts: no memory holds so many.
     pub(crate) fn count(self, before: u64) -> Result<u64, Starved>
         requires { CanCount self before }

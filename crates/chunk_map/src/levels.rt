@@ -5,7 +5,8 @@ ghost use Rattle.std.specs.Map.{lookup};
 ghost use Rattle.std.specs.BTreeMap.{is_at};
 ghost use Rattle.chunk_map.specs.Changes.{IsChanged, IsCounted};
 ghost use Rattle.chunk_map.specs.Sorted.{IsAscending};
-ghost use Rattle.chunk_map.specs.Groups.{chunk_pairs, group_pairs, section_pairs, list_pairs, IsWholeChunk, IsWholeGroup, IsWholeSection, IsWholeList};
+ghost use Rattle.chunk_map.specs.Groups.{chunk_pairs, group_pairs, section_pairs, list_pairs};
+ghost use Rattle.chunk_map.specs.Groups.{IsWholeChunk, IsWholeGroup, IsWholeSection, IsWholeList};
 ghost use Rattle.chunk_map.specs.Levels.{AreWhole, pairs_in};
 
 use crate::change::Tally;
@@ -28,7 +29,8 @@ pub(crate) type Section<K, V> = Arc<Vec<Group<K, V>>>;
 /// A division: one to 12 sections, whose pairs ascend from section to section.
 pub(crate) type Division<K, V> = Arc<Vec<Section<K, V>>>;
 
-/// The pairs of a map, in the levels that they need: with too many parts for one list comes one level more.
+/// The pairs of a map, in the levels that they need: with too many parts for one list comes one
+/// level more.
 #[derive(Drop)]
 pub(crate) enum Levels<K: Ord + Shared, V: Shared> {
     /// At most 12 chunks.
@@ -41,7 +43,8 @@ pub(crate) enum Levels<K: Ord + Shared, V: Shared> {
     Divisions(Vec<Division<K, V>>),
 }
 
-/// Two parts that have these parts after a change of the value at this key; or one, where they are not too many for one.
+/// Two parts that have these parts after a change of the value at this key; or one, where they are
+/// not too many for one.
 fn raised<K: Ord + Drop, V: Drop, P: Part<K, V>>(
     alloc: Global,
     mut parts: Vec<P>,
@@ -49,7 +52,8 @@ fn raised<K: Ord + Drop, V: Drop, P: Part<K, V>>(
 ) -> Result<Vec<Arc<Vec<P>>>, Starved>
     requires any { 0 < length parts.items }
     requires whole { All P.is_whole parts.items }
-    ensures pairs { IfOk result (λ raised. flat_map (list_pairs P.pairs) raised.items ≡ flat_map P.pairs parts.items) }
+    ensures pairs { IfOk result
+        (λ raised. flat_map (list_pairs P.pairs) raised.items ≡ flat_map P.pairs parts.items) }
     ensures whole { IfOk result (λ raised. All (IsWholeList P.is_whole) raised.items) }
 {
     let behind = divide(&mut parts, key)?;
@@ -107,7 +111,8 @@ fn over_sections<K: Ord + Shared, V: Shared>(
     key: &K,
 ) -> Result<Levels<K, V>, Starved>
     requires whole { All IsWholeSection sections.items }
-    ensures pairs { IfOk result (λ levels. pairs_in levels ≡ flat_map section_pairs sections.items) }
+    ensures pairs { IfOk result
+        (λ levels. pairs_in levels ≡ flat_map section_pairs sections.items) }
     ensures whole { IfOk result AreWhole }
 {
     if sections.len() <= MOST_PARTS {
@@ -140,7 +145,8 @@ impl<K: Ord + Shared, V: Shared> Levels<K, V> {
     pub(crate) fn get(&self, key: &K) -> Option<&V>
         requires whole { AreWhole self.now }
         requires ascends { IsAscending K.cmp (pairs_in self.now) }
-        ensures { option_map (λ v. v.now) result ≡ lookup (is_at (K.cmp key.now)) (pairs_in self.now) }
+        ensures { option_map (λ v. v.now) result
+            ≡ lookup (is_at (K.cmp key.now)) (pairs_in self.now) }
     {
         match self {
             Levels::Chunks(chunks) => get(chunks.as_slice(), key),
@@ -160,8 +166,10 @@ impl<K: Ord + Shared, V: Shared> Levels<K, V> {
     ) -> Result<(Levels<K, V>, Tally), Starved>
         requires whole { AreWhole self }
         requires ascends { IsAscending K.cmp (pairs_in self) }
-        ensures pairs { IfOk result (λ changed. IsChanged K.cmp (C.gives change) (pairs_in self) key.now (pairs_in changed.0)) }
-        ensures counted { IfOk result (λ changed. IsCounted changed.1 (length (pairs_in self)) (length (pairs_in changed.0))) }
+        ensures pairs { IfOk result (λ changed.
+            IsChanged K.cmp (C.gives change) (pairs_in self) key.now (pairs_in changed.0)) }
+        ensures counted { IfOk result (λ changed.
+            IsCounted changed.1 (length (pairs_in self)) (length (pairs_in changed.0))) }
         ensures whole { IfOk result (λ changed. AreWhole changed.0) }
     {
         match self {

@@ -37,7 +37,9 @@ impl<K: Ord + Shared, V: Shared> Model for ChunkMap<K, V> {
 
     ghost view = { λ m. pairs_in m.levels };
 
-    ghost invariant = { λ m. AreWhole m.levels × IsAscending K.cmp (pairs_in m.levels) × (length (pairs_in m.levels) ≡ m.count) };
+    ghost invariant = { λ m. AreWhole m.levels
+        × IsAscending K.cmp (pairs_in m.levels)
+        × (length (pairs_in m.levels) ≡ m.count) };
 }
 
 impl<K: Ord + Shared, V: Shared> ChunkMap<K, V> {
@@ -94,7 +96,8 @@ impl<K: Ord + Shared, V: Shared> ChunkMap<K, V> {
         RangeIter::all(&self.levels)
     }
 
-    /// The map after a change of the value at this key. A key that is there stays, where a value is there then.
+    /// The map after a change of the value at this key. A key that is there stays, where a value is
+    /// there then.
     pub fn change<C: Change<V>>(&self, key: &K, change: C) -> Result<ChunkMap<K, V>, Starved>
         ensures ascends { IfOk result (λ map. IsAscending K.cmp map) }
         ensures pairs { IfOk result (λ map. IsChanged K.cmp (C.gives change) self.now key.now map) }
@@ -123,7 +126,8 @@ impl<K: Ord + Shared, V: Shared> ChunkMap<K, V> {
         })
     }
 
-    /// The map with this value at this key. A key that is there already stays, and its value is replaced.
+    /// The map with this value at this key. A key that is there already stays, and its value is
+    /// replaced.
     pub fn put(&self, key: K, value: V) -> Result<ChunkMap<K, V>, Starved>
         ensures ascends { IfOk result (λ map. IsAscending K.cmp map) }
         ensures pairs { IfOk result (λ map. map ≡ insert_entry K.cmp self.now key value) }

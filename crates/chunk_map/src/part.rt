@@ -1,5 +1,6 @@
 //! A part of a sorted map: a pair, or a list of smaller parts, or what is shared of one.
-ghost use Rattle.std.specs.Prelude.{◌≡◌, ◌<◌, length, List, [], ◌∷◌, ◌++◌, Option, Some, None, IfOk, IfSome, option_map};
+ghost use Rattle.std.specs.Prelude.{◌≡◌, ◌<◌, length, List, [], ◌∷◌, ◌++◌, Option, Some, None};
+ghost use Rattle.std.specs.Prelude.{IfOk, IfSome, option_map};
 ghost use Rattle.std.specs.List.{All, flat_map};
 ghost use Rattle.std.specs.Map.{lookup};
 ghost use Rattle.std.specs.BTreeMap.{is_at};
@@ -23,8 +24,8 @@ const MOST_PLAIN_PAIRS: usize = 56;
 /// The greatest number of pairs that a chunk keeps where a count is raised for each that is copied.
 const MOST_SHARED_PAIRS: usize = 24;
 
-/// The greatest number of parts that a list of shared parts keeps. Most of what a change of a large map costs is raising and
-/// lowering their counts.
+/// The greatest number of parts that a list of shared parts keeps. Most of what a change of a large
+/// map costs is raising and lowering their counts.
 pub(crate) const MOST_PARTS: usize = 12;
 
 /// What a change in place leaves where a part stands.
@@ -38,8 +39,9 @@ pub(crate) enum Outcome<P: Drop> {
     Split(P),
 }
 
-/// A part of a map. It shows one pair or more, in ascending order of their keys. A pair is the smallest part, a list of
-/// parts is a part, and so is an `Arc` of one: chunks, groups, sections and lists of them share this one code.
+/// A part of a map. It shows one pair or more, in ascending order of their keys. A pair is the
+/// smallest part, a list of parts is a part, and so is an `Arc` of one: chunks, groups, sections
+/// and lists of them share this one code.
 pub(crate) trait Part<K: Ord + Drop, V: Drop>: Drop {
     /// The pairs that it shows.
     ghost pairs: { Self → List (K × V) };
@@ -72,7 +74,8 @@ pub(crate) trait Part<K: Ord + Drop, V: Drop>: Drop {
     fn get(&self, key: &K) -> Option<&V>
         requires whole { is_whole self.now }
         requires ascends { IsAscending K.cmp (pairs self.now) }
-        ensures { option_map (λ v. v.now) result ≡ lookup (is_at (K.cmp key.now)) (pairs self.now) };
+        ensures { option_map (λ v. v.now) result
+            ≡ lookup (is_at (K.cmp key.now)) (pairs self.now) };
 
     /// Changes the value at this key: what is left where the part stands, and what that does to the
     /// number of its pairs. What nobody else has is changed in place, and a copy comes in place of
@@ -85,14 +88,19 @@ pub(crate) trait Part<K: Ord + Drop, V: Drop>: Drop {
     ) -> Result<(Outcome<Self>, Tally), Starved>
         requires whole { is_whole self.old }
         requires ascends { IsAscending K.cmp (pairs self.old) }
-        ensures pairs { IfOk result (λ changed. IsChanged K.cmp (C.gives change) (pairs self.old) key.now (standing pairs self.new changed.0)) }
-        ensures counted { IfOk result (λ changed. IsCounted changed.1 (length (pairs self.old)) (length (standing pairs self.new changed.0))) }
+        ensures pairs { IfOk result (λ changed.
+            IsChanged K.cmp (C.gives change) (pairs self.old) key.now
+            (standing pairs self.new changed.0)) }
+        ensures counted { IfOk result (λ changed.
+            IsCounted changed.1 (length (pairs self.old))
+            (length (standing pairs self.new changed.0))) }
         ensures whole { IfOk result (λ changed. StandWhole is_whole self.new changed.0) };
 
     /// One part that shows the pairs of this and of the next; None where it would be too large.
     fn joined(&self, alloc: Global, next: &Self) -> Result<Option<Self>, Starved>
         requires whole { is_whole self.now × is_whole next.now }
-        ensures pairs { IfOk result (λ joined. IfSome joined (λ part. pairs part ≡ pairs self.now ++ pairs next.now)) }
+        ensures pairs { IfOk result
+            (λ joined. IfSome joined (λ part. pairs part ≡ pairs self.now ++ pairs next.now)) }
         ensures whole { IfOk result (λ joined. IfSome joined is_whole) };
 }
 
@@ -101,8 +109,13 @@ fn change_at<K: Ord + Shared, V: Shared, C: Change<V>>(
     pair: &mut (K, V),
     change: C,
 ) -> Result<(Outcome<(K, V)>, Tally), Starved>
-    ensures changed { IfOk result (λ changed. (new : Option V) × C.gives change (Some pair.old.1) new × (standing (λ p. p ∷ []) pair.new changed.0 ≡ option_flat (λ v. (pair.old.0, v) ∷ []) new)) }
-    ensures counted { IfOk result (λ changed. IsCounted changed.1 1 (length (standing (λ p. p ∷ []) pair.new changed.0))) }
+    ensures changed { IfOk result (λ changed.
+        (new : Option V)
+        × C.gives change (Some pair.old.1) new
+        × (standing (λ p. p ∷ []) pair.new changed.0
+        ≡ option_flat (λ v. (pair.old.0, v) ∷ []) new)) }
+    ensures counted { IfOk result
+        (λ changed. IsCounted changed.1 1 (length (standing (λ p. p ∷ []) pair.new changed.0))) }
 {
     match change.follow(&pair.1)? {
         None => Ok((Outcome::Gone, Tally::Fewer)),
@@ -118,7 +131,10 @@ fn begun<K: Ord + Shared, V: Shared, C: Change<V>>(
     key: &K,
     change: C,
 ) -> Result<Option<(K, V)>, Starved>
-    ensures { IfOk result (λ begun. (new : Option V) × C.gives change None new × (option_flat (λ p. p ∷ []) begun ≡ option_flat (λ v. (key.now, v) ∷ []) new)) }
+    ensures { IfOk result (λ begun.
+        (new : Option V)
+        × C.gives change None new
+        × (option_flat (λ p. p ∷ []) begun ≡ option_flat (λ v. (key.now, v) ∷ []) new)) }
 {
     match change.begin()? {
         None => Ok(None),
@@ -135,8 +151,13 @@ fn change_before<K: Ord + Shared, V: Shared, C: Change<V>>(
     key: &K,
     change: C,
 ) -> Result<(Outcome<(K, V)>, Tally), Starved>
-    ensures changed { IfOk result (λ changed. (new : Option V) × C.gives change None new × (standing (λ p. p ∷ []) pair.new changed.0 ≡ option_flat (λ v. (key.now, v) ∷ []) new ++ (pair.old ∷ []))) }
-    ensures counted { IfOk result (λ changed. IsCounted changed.1 1 (length (standing (λ p. p ∷ []) pair.new changed.0))) }
+    ensures changed { IfOk result (λ changed.
+        (new : Option V)
+        × C.gives change None new
+        × (standing (λ p. p ∷ []) pair.new changed.0
+        ≡ option_flat (λ v. (key.now, v) ∷ []) new ++ (pair.old ∷ []))) }
+    ensures counted { IfOk result
+        (λ changed. IsCounted changed.1 1 (length (standing (λ p. p ∷ []) pair.new changed.0))) }
 {
     match begun(key, change)? {
         None => Ok((Outcome::Kept, Tally::Same)),
@@ -153,8 +174,13 @@ fn change_behind<K: Ord + Shared, V: Shared, C: Change<V>>(
     key: &K,
     change: C,
 ) -> Result<(Outcome<(K, V)>, Tally), Starved>
-    ensures changed { IfOk result (λ changed. (new : Option V) × C.gives change None new × (standing (λ p. p ∷ []) pair.new changed.0 ≡ pair.old ∷ option_flat (λ v. (key.now, v) ∷ []) new)) }
-    ensures counted { IfOk result (λ changed. IsCounted changed.1 1 (length (standing (λ p. p ∷ []) pair.new changed.0))) }
+    ensures changed { IfOk result (λ changed.
+        (new : Option V)
+        × C.gives change None new
+        × (standing (λ p. p ∷ []) pair.new changed.0
+        ≡ pair.old ∷ option_flat (λ v. (key.now, v) ∷ []) new)) }
+    ensures counted { IfOk result
+        (λ changed. IsCounted changed.1 1 (length (standing (λ p. p ∷ []) pair.new changed.0))) }
 {
     let _ = &pair.0;
     match begun(key, change)? {
@@ -222,8 +248,14 @@ fn shared<K: Ord + Drop, V: Drop, P: Part<K, V>>(
     alloc: Global,
     outcome: Outcome<P>,
 ) -> Result<Outcome<Arc<P>>, Starved>
-    ensures pairs { IfOk result (λ shared. (a : Arc P Global) → standing (λ b. P.pairs (arc_value b)) a shared ≡ standing P.pairs (arc_value a) outcome) }
-    ensures whole { IfOk result (λ shared. (a : Arc P Global) → StandWhole P.is_whole (arc_value a) outcome → StandWhole (λ b. P.is_whole (arc_value b)) a shared) }
+    ensures pairs { IfOk result (λ shared.
+        (a : Arc P Global)
+        → standing (λ b. P.pairs (arc_value b)) a shared
+        ≡ standing P.pairs (arc_value a) outcome) }
+    ensures whole { IfOk result (λ shared.
+        (a : Arc P Global)
+        → StandWhole P.is_whole (arc_value a) outcome
+        → StandWhole (λ b. P.is_whole (arc_value b)) a shared) }
 {
     match outcome {
         Outcome::Gone => Ok(Outcome::Gone),

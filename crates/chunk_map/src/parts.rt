@@ -1,5 +1,6 @@
 //! Lists of parts: the parts of a chunk, of a group, of a section and of a map.
-ghost use Rattle.std.specs.Prelude.{◌≡◌, ◌<◌, ◌≤◌, ◌+◌, List, [], ◌∷◌, ◌++◌, length, take, drop, slice_index_or, IfOk, OnOk, IfSome, IfNone, option_map};
+ghost use Rattle.std.specs.Prelude.{◌≡◌, ◌<◌, ◌≤◌, ◌+◌, List, [], ◌∷◌, ◌++◌, length, take, drop};
+ghost use Rattle.std.specs.Prelude.{slice_index_or, IfOk, OnOk, IfSome, IfNone, option_map};
 ghost use Rattle.std.specs.List.{All, flat_map};
 ghost use Rattle.std.specs.Map.{lookup, remove_entry};
 ghost use Rattle.std.specs.BTreeMap.{insert_entry, is_at};
@@ -16,9 +17,10 @@ use rd_base::Starved;
 use std::alloc::Global;
 use std::sync::Arc;
 
-/// Three quarters of the greatest number of parts that a list keeps. With at most so many together two lists that stand
-/// side by side are joined. A list that was changed in its last part keeps so many when it is split in two: so lists that
-/// are filled in ascending order are three quarters full; fuller ones would be fewer, but a change copies one of them.
+/// Three quarters of the greatest number of parts that a list keeps. With at most so many together
+/// two lists that stand side by side are joined. A list that was changed in its last part keeps so
+/// many when it is split in two: so lists that are filled in ascending order are three quarters
+/// full; fuller ones would be fewer, but a change copies one of them.
 pub(crate) fn three_quarters(most: usize) -> usize
     requires { 1 < most }
     ensures any { 0 < result }
@@ -56,9 +58,11 @@ fn append<K: Ord + Drop, V: Drop, P: Part<K, V>>(
 ) -> Result<(), Starved>
     requires whole { All P.is_whole parts.old.items }
     requires more_whole { All P.is_whole more.now }
-    ensures pairs { OnOk result (flat_map P.pairs parts.new.items ≡ flat_map P.pairs parts.old.items ++ flat_map P.pairs more.now) }
+    ensures pairs { OnOk result (flat_map P.pairs parts.new.items
+        ≡ flat_map P.pairs parts.old.items ++ flat_map P.pairs more.now) }
     ensures whole { OnOk result (All P.is_whole parts.new.items) }
-    ensures length { OnOk result (length parts.new.items ≡ length parts.old.items + length more.now) }
+    ensures length { OnOk result
+        (length parts.new.items ≡ length parts.old.items + length more.now) }
 {
     parts.reserve(more.len())?;
     for part in more {
@@ -91,9 +95,12 @@ pub(crate) fn join<K: Ord + Drop, V: Drop, P: Part<K, V>>(
 ) -> Result<Vec<P>, Starved>
     requires whole { All P.is_whole parts.now }
     requires more_whole { All P.is_whole more.now }
-    ensures pairs { IfOk result (λ joined. flat_map P.pairs joined.items ≡ flat_map P.pairs parts.now ++ flat_map P.pairs more.now) }
+    ensures pairs { IfOk result (λ joined.
+        flat_map P.pairs joined.items
+        ≡ flat_map P.pairs parts.now ++ flat_map P.pairs more.now) }
     ensures whole { IfOk result (λ joined. All P.is_whole joined.items) }
-    ensures length { IfOk result (λ joined. length joined.items ≡ length parts.now + length more.now) }
+    ensures length { IfOk result
+        (λ joined. length joined.items ≡ length parts.now + length more.now) }
 {
     let mut joined = Vec::with_capacity(alloc, usize::saturating_add(parts.len(), more.len()))?;
     append(&mut joined, parts)?;
@@ -105,7 +112,8 @@ pub(crate) fn join<K: Ord + Drop, V: Drop, P: Part<K, V>>(
 pub(crate) fn first<'a, K: Ord + Drop, V: Drop, P: Part<K, V>>(parts: &'a [P]) -> (&'a P, &'a [P])
     requires any { 0 < length parts.now }
     requires whole { All P.is_whole parts.now }
-    ensures pairs { flat_map P.pairs parts.now ≡ P.pairs result.0.now ++ flat_map P.pairs result.1.now }
+    ensures pairs { flat_map P.pairs parts.now
+        ≡ P.pairs result.0.now ++ flat_map P.pairs result.1.now }
     ensures whole { P.is_whole result.0.now × All P.is_whole result.1.now }
 {
     (&parts[0], &parts[1..])
@@ -121,7 +129,8 @@ pub(crate) fn parts_of<'a, K: Ord + Drop, V: Drop, P: Part<K, V>>(list: &'a Arc<
     list.as_slice()
 }
 
-/// The part where this key stands or would stand, and those after it; None if and only if there is no part.
+/// The part where this key stands or would stand, and those after it; None if and only if there is
+/// no part.
 pub(crate) fn cut<'a, K: Ord + Drop, V: Drop, P: Part<K, V>>(
     parts: &'a [P],
     key: &K,
@@ -129,7 +138,10 @@ pub(crate) fn cut<'a, K: Ord + Drop, V: Drop, P: Part<K, V>>(
     requires whole { All P.is_whole parts.now }
     requires ascends { IsAscending K.cmp (flat_map P.pairs parts.now) }
     ensures none { IfNone result (flat_map P.pairs parts.now ≡ []) }
-    ensures pairs { IfSome result (λ cut. entries_from (K.cmp key.now) (flat_map P.pairs parts.now) ≡ entries_from (K.cmp key.now) (P.pairs cut.0.now) ++ flat_map P.pairs cut.1.now) }
+    ensures pairs { IfSome result (λ cut.
+        entries_from (K.cmp key.now) (flat_map P.pairs parts.now)
+        ≡ entries_from (K.cmp key.now) (P.pairs cut.0.now)
+        ++ flat_map P.pairs cut.1.now) }
     ensures whole { IfSome result (λ cut. P.is_whole cut.0.now × All P.is_whole cut.1.now) }
     ensures ascends { IfSome result (λ cut. IsAscending K.cmp (P.pairs cut.0.now)) }
 {
@@ -147,7 +159,8 @@ pub(crate) fn get<'a, K: Ord + Drop, V: Drop, P: Part<K, V>>(
 ) -> Option<&'a V>
     requires whole { All P.is_whole parts.now }
     requires ascends { IsAscending K.cmp (flat_map P.pairs parts.now) }
-    ensures { option_map (λ v. v.now) result ≡ lookup (is_at (K.cmp key.now)) (flat_map P.pairs parts.now) }
+    ensures { option_map (λ v. v.now) result
+        ≡ lookup (is_at (K.cmp key.now)) (flat_map P.pairs parts.now) }
 {
     if parts.is_empty() {
         return None;
@@ -163,7 +176,8 @@ fn join_next<K: Ord + Drop, V: Drop, P: Part<K, V>>(
     at: usize,
 ) -> Result<(), Starved>
     requires whole { All P.is_whole parts.old.items }
-    ensures pairs { OnOk result (flat_map P.pairs parts.new.items ≡ flat_map P.pairs parts.old.items) }
+    ensures pairs { OnOk result
+        (flat_map P.pairs parts.new.items ≡ flat_map P.pairs parts.old.items) }
     ensures whole { OnOk result (All P.is_whole parts.new.items) }
 {
     let count = parts.len();
@@ -187,7 +201,8 @@ fn join_before<K: Ord + Drop, V: Drop, P: Part<K, V>>(
     at: usize,
 ) -> Result<(), Starved>
     requires whole { All P.is_whole parts.old.items }
-    ensures pairs { OnOk result (flat_map P.pairs parts.new.items ≡ flat_map P.pairs parts.old.items) }
+    ensures pairs { OnOk result
+        (flat_map P.pairs parts.new.items ≡ flat_map P.pairs parts.old.items) }
     ensures whole { OnOk result (All P.is_whole parts.new.items) }
 {
     if at == 0 {
@@ -208,7 +223,11 @@ fn settle<K: Ord + Drop, V: Drop, P: Part<K, V>>(
     requires front { All P.is_whole (take at parts.old.items) }
     requires part { (d : P) → StandWhole P.is_whole (slice_index_or parts.old.items at d) outcome }
     requires behind { All P.is_whole (drop (at + 1) parts.old.items) }
-    ensures pairs { OnOk result ((d : P) → flat_map P.pairs parts.new.items ≡ flat_map P.pairs (take at parts.old.items) ++ (standing P.pairs (slice_index_or parts.old.items at d) outcome ++ flat_map P.pairs (drop (at + 1) parts.old.items))) }
+    ensures pairs { OnOk result ((d : P)
+        → flat_map P.pairs parts.new.items
+        ≡ flat_map P.pairs (take at parts.old.items)
+        ++ (standing P.pairs (slice_index_or parts.old.items at d) outcome
+        ++ flat_map P.pairs (drop (at + 1) parts.old.items))) }
     ensures whole { OnOk result (All P.is_whole parts.new.items) }
 {
     match outcome {
@@ -236,8 +255,10 @@ fn begin_in<K: Ord + Drop, V: Drop, P: Part<K, V>, C: Change<V>>(
     change: C,
 ) -> Result<Tally, Starved>
     requires none { parts.old.items ≡ [] }
-    ensures pairs { OnOk result (IsChanged K.cmp (C.gives change) [] key.now (flat_map P.pairs parts.new.items)) }
-    ensures counted { IfOk result (λ tally. IsCounted tally 0 (length (flat_map P.pairs parts.new.items))) }
+    ensures pairs { OnOk result
+        (IsChanged K.cmp (C.gives change) [] key.now (flat_map P.pairs parts.new.items)) }
+    ensures counted { IfOk result
+        (λ tally. IsCounted tally 0 (length (flat_map P.pairs parts.new.items))) }
     ensures whole { OnOk result (All P.is_whole parts.new.items) }
 {
     match change.begin()? {
@@ -259,8 +280,12 @@ pub(crate) fn change_in<K: Ord + Drop, V: Drop, P: Part<K, V>, C: Change<V>>(
 ) -> Result<Tally, Starved>
     requires whole { All P.is_whole parts.old.items }
     requires ascends { IsAscending K.cmp (flat_map P.pairs parts.old.items) }
-    ensures pairs { OnOk result (IsChanged K.cmp (C.gives change) (flat_map P.pairs parts.old.items) key.now (flat_map P.pairs parts.new.items)) }
-    ensures counted { IfOk result (λ tally. IsCounted tally (length (flat_map P.pairs parts.old.items)) (length (flat_map P.pairs parts.new.items))) }
+    ensures pairs { OnOk result
+        (IsChanged K.cmp (C.gives change) (flat_map P.pairs parts.old.items) key.now
+        (flat_map P.pairs parts.new.items)) }
+    ensures counted { IfOk result (λ tally.
+        IsCounted tally (length (flat_map P.pairs parts.old.items))
+        (length (flat_map P.pairs parts.new.items))) }
     ensures whole { OnOk result (All P.is_whole parts.new.items) }
 {
     if parts.is_empty() {
@@ -272,8 +297,8 @@ pub(crate) fn change_in<K: Ord + Drop, V: Drop, P: Part<K, V>, C: Change<V>>(
     Ok(tally)
 }
 
-/// How many parts the first list keeps when a list with more than so many is split in two after a change of the value at
-/// this key.
+/// How many parts the first list keeps when a list with more than so many is split in two after a
+/// change of the value at this key.
 fn front_count<K: Ord + Drop, V: Drop, P: Part<K, V>>(parts: &[P], most: usize, key: &K) -> usize
     requires some { 1 < most }
     requires many { most < length parts.now }
@@ -296,9 +321,14 @@ pub(crate) fn divide<K: Ord + Drop, V: Drop, P: Part<K, V>>(
 ) -> Result<Option<Vec<P>>, Starved>
     requires any { 0 < length parts.old.items }
     requires whole { All P.is_whole parts.old.items }
-    ensures pairs { IfOk result (λ behind. flat_map P.pairs parts.new.items ++ option_flat (λ back. flat_map P.pairs back.items) behind ≡ flat_map P.pairs parts.old.items) }
-    ensures any { IfOk result (λ behind. (0 < length parts.new.items) × IfSome behind (λ back. 0 < length back.items)) }
-    ensures whole { IfOk result (λ behind. All P.is_whole parts.new.items × IfSome behind (λ back. All P.is_whole back.items)) }
+    ensures pairs { IfOk result (λ behind.
+        flat_map P.pairs parts.new.items
+        ++ option_flat (λ back. flat_map P.pairs back.items) behind
+        ≡ flat_map P.pairs parts.old.items) }
+    ensures any { IfOk result
+        (λ behind. (0 < length parts.new.items) × IfSome behind (λ back. 0 < length back.items)) }
+    ensures whole { IfOk result (λ behind.
+        All P.is_whole parts.new.items × IfSome behind (λ back. All P.is_whole back.items)) }
 {
     let most = P::most();
     if parts.len() <= most {

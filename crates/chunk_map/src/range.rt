@@ -1,11 +1,14 @@
 //! The pairs of a map from a key on, one after another.
-ghost use Rattle.std.specs.Prelude.{◌≡◌, ◌<◌, ◌+◌, [], ◌∷◌, ◌++◌, length, IfSome, IfNone, option_map};
+ghost use Rattle.std.specs.Prelude.{◌≡◌, ◌<◌, ◌+◌, [], ◌∷◌, ◌++◌, length, IfSome, IfNone};
+ghost use Rattle.std.specs.Prelude.{option_map};
 ghost use Rattle.std.specs.List.{All, flat_map};
 ghost use Rattle.std.specs.Map.{lookup};
 ghost use Rattle.std.specs.BTreeMap.{is_at};
 ghost use Rattle.std.specs.BTreeMap.Range.{entries_from};
 ghost use Rattle.chunk_map.specs.Sorted.{IsAscending, begins_by, first_value};
-ghost use Rattle.chunk_map.specs.Groups.{chunk_pairs, group_pairs, section_pairs, division_pairs, IsWholeChunk, IsWholeGroup, IsWholeSection, IsWholeDivision};
+ghost use Rattle.chunk_map.specs.Groups.{chunk_pairs, group_pairs, section_pairs, division_pairs};
+ghost use Rattle.chunk_map.specs.Groups.{IsWholeChunk, IsWholeGroup, IsWholeSection};
+ghost use Rattle.chunk_map.specs.Groups.{IsWholeDivision};
 ghost use Rattle.chunk_map.specs.Levels.{AreWhole, pairs_in};
 
 use crate::Shared;
@@ -35,13 +38,22 @@ pub struct RangeIter<'a, K: Ord + Shared, V: Shared> {
 impl<'a, K: Ord + Shared, V: Shared> Model for RangeIter<'a, K, V> {
     ghost use Rattle.std.specs.Prelude.{List, ◌++◌};
     ghost use Rattle.std.specs.List.{All, flat_map};
-    ghost use Rattle.chunk_map.specs.Groups.{chunk_pairs, group_pairs, section_pairs, division_pairs, IsWholeChunk, IsWholeGroup, IsWholeSection, IsWholeDivision};
+    ghost use Rattle.chunk_map.specs.Groups.{chunk_pairs, group_pairs, section_pairs};
+    ghost use Rattle.chunk_map.specs.Groups.{division_pairs, IsWholeChunk, IsWholeGroup};
+    ghost use Rattle.chunk_map.specs.Groups.{IsWholeSection, IsWholeDivision};
 
     ghost Value = { List (K × V) };
 
-    ghost view = { λ r. r.pairs.now ++ (flat_map chunk_pairs r.chunks.now ++ (flat_map group_pairs r.groups.now ++ (flat_map section_pairs r.sections.now ++ flat_map division_pairs r.divisions.now))) };
+    ghost view = { λ r. r.pairs.now
+        ++ (flat_map chunk_pairs r.chunks.now
+        ++ (flat_map group_pairs r.groups.now
+        ++ (flat_map section_pairs r.sections.now
+        ++ flat_map division_pairs r.divisions.now))) };
 
-    ghost invariant = { λ r. All IsWholeChunk r.chunks.now × All IsWholeGroup r.groups.now × All IsWholeSection r.sections.now × All IsWholeDivision r.divisions.now };
+    ghost invariant = { λ r. All IsWholeChunk r.chunks.now
+        × All IsWholeGroup r.groups.now
+        × All IsWholeSection r.sections.now
+        × All IsWholeDivision r.divisions.now };
 }
 
 /// The pairs from the first key that is not below this one.
@@ -77,11 +89,15 @@ fn next_section<'a, K: Ord + Shared, V: Shared>(
 ) -> Option<(&'a Section<K, V>, &'a [Section<K, V>], &'a [Division<K, V>])>
     requires sections { All IsWholeSection sections.now }
     requires divisions { All IsWholeDivision divisions.now }
-    ensures pairs { IfSome result (λ next. section_pairs next.0.now ++ (flat_map section_pairs next.1.now ++ flat_map division_pairs next.2.now) ≡ flat_map section_pairs sections.now ++ flat_map division_pairs divisions.now) }
+    ensures pairs { IfSome result (λ next.
+        section_pairs next.0.now
+        ++ (flat_map section_pairs next.1.now ++ flat_map division_pairs next.2.now)
+        ≡ flat_map section_pairs sections.now ++ flat_map division_pairs divisions.now) }
     ensures section { IfSome result (λ next. IsWholeSection next.0.now) }
     ensures sections { IfSome result (λ next. All IsWholeSection next.1.now) }
     ensures divisions { IfSome result (λ next. All IsWholeDivision next.2.now) }
-    ensures end { IfNone result (flat_map section_pairs sections.now ++ flat_map division_pairs divisions.now ≡ []) }
+    ensures end { IfNone result
+        (flat_map section_pairs sections.now ++ flat_map division_pairs divisions.now ≡ []) }
 {
     if !sections.is_empty() {
         let (section, sections) = first(sections);
@@ -95,7 +111,8 @@ fn next_section<'a, K: Ord + Shared, V: Shared>(
     Some((section, sections, divisions))
 }
 
-/// The next group, and the groups, sections and divisions after it; None if and only if there is none.
+/// The next group, and the groups, sections and divisions after it; None if and only if there is
+/// none.
 fn next_group<'a, K: Ord + Shared, V: Shared>(
     groups: &'a [Group<K, V>],
     sections: &'a [Section<K, V>],
@@ -111,12 +128,21 @@ fn next_group<'a, K: Ord + Shared, V: Shared>(
     requires groups { All IsWholeGroup groups.now }
     requires sections { All IsWholeSection sections.now }
     requires divisions { All IsWholeDivision divisions.now }
-    ensures pairs { IfSome result (λ next. group_pairs next.0.now ++ (flat_map group_pairs next.1.now ++ (flat_map section_pairs next.2.now ++ flat_map division_pairs next.3.now)) ≡ flat_map group_pairs groups.now ++ (flat_map section_pairs sections.now ++ flat_map division_pairs divisions.now)) }
+    ensures pairs { IfSome result (λ next.
+        group_pairs next.0.now
+        ++ (flat_map group_pairs next.1.now
+        ++ (flat_map section_pairs next.2.now
+        ++ flat_map division_pairs next.3.now))
+        ≡ flat_map group_pairs groups.now
+        ++ (flat_map section_pairs sections.now
+        ++ flat_map division_pairs divisions.now)) }
     ensures group { IfSome result (λ next. IsWholeGroup next.0.now) }
     ensures groups { IfSome result (λ next. All IsWholeGroup next.1.now) }
     ensures sections { IfSome result (λ next. All IsWholeSection next.2.now) }
     ensures divisions { IfSome result (λ next. All IsWholeDivision next.3.now) }
-    ensures end { IfNone result (flat_map group_pairs groups.now ++ (flat_map section_pairs sections.now ++ flat_map division_pairs divisions.now) ≡ []) }
+    ensures end { IfNone result (flat_map group_pairs groups.now
+        ++ (flat_map section_pairs sections.now ++ flat_map division_pairs divisions.now)
+        ≡ []) }
 {
     if !groups.is_empty() {
         let (group, groups) = first(groups);
@@ -147,13 +173,26 @@ fn next_chunk<'a, K: Ord + Shared, V: Shared>(
     requires groups { All IsWholeGroup groups.now }
     requires sections { All IsWholeSection sections.now }
     requires divisions { All IsWholeDivision divisions.now }
-    ensures pairs { IfSome result (λ next. next.0.now ++ (flat_map chunk_pairs next.1.now ++ (flat_map group_pairs next.2.now ++ (flat_map section_pairs next.3.now ++ flat_map division_pairs next.4.now))) ≡ flat_map chunk_pairs chunks.now ++ (flat_map group_pairs groups.now ++ (flat_map section_pairs sections.now ++ flat_map division_pairs divisions.now))) }
+    ensures pairs { IfSome result (λ next.
+        next.0.now
+        ++ (flat_map chunk_pairs next.1.now
+        ++ (flat_map group_pairs next.2.now
+        ++ (flat_map section_pairs next.3.now
+        ++ flat_map division_pairs next.4.now)))
+        ≡ flat_map chunk_pairs chunks.now
+        ++ (flat_map group_pairs groups.now
+        ++ (flat_map section_pairs sections.now
+        ++ flat_map division_pairs divisions.now))) }
     ensures any { IfSome result (λ next. 0 < length next.0.now) }
     ensures chunks { IfSome result (λ next. All IsWholeChunk next.1.now) }
     ensures groups { IfSome result (λ next. All IsWholeGroup next.2.now) }
     ensures sections { IfSome result (λ next. All IsWholeSection next.3.now) }
     ensures divisions { IfSome result (λ next. All IsWholeDivision next.4.now) }
-    ensures end { IfNone result (flat_map chunk_pairs chunks.now ++ (flat_map group_pairs groups.now ++ (flat_map section_pairs sections.now ++ flat_map division_pairs divisions.now)) ≡ []) }
+    ensures end { IfNone result (flat_map chunk_pairs chunks.now
+        ++ (flat_map group_pairs groups.now
+        ++ (flat_map section_pairs sections.now
+        ++ flat_map division_pairs divisions.now))
+        ≡ []) }
 {
     if !chunks.is_empty() {
         let (chunk, chunks) = first(chunks);
@@ -164,14 +203,16 @@ fn next_chunk<'a, K: Ord + Shared, V: Shared>(
     Some((pairs_of(chunk), chunks, groups, sections, divisions))
 }
 
-/// The pairs of these chunks from the first key that is not below this one: those of the first chunk, and the chunks after it.
+/// The pairs of these chunks from the first key that is not below this one: those of the first
+/// chunk, and the chunks after it.
 fn in_chunks<'a, K: Ord + Shared, V: Shared>(
     chunks: &'a [Chunk<K, V>],
     from: &K,
 ) -> (&'a [(K, V)], &'a [Chunk<K, V>])
     requires whole { All IsWholeChunk chunks.now }
     requires ascends { IsAscending K.cmp (flat_map chunk_pairs chunks.now) }
-    ensures pairs { result.0.now ++ flat_map chunk_pairs result.1.now ≡ entries_from (K.cmp from.now) (flat_map chunk_pairs chunks.now) }
+    ensures pairs { result.0.now ++ flat_map chunk_pairs result.1.now
+        ≡ entries_from (K.cmp from.now) (flat_map chunk_pairs chunks.now) }
     ensures whole { All IsWholeChunk result.1.now }
 {
     let Some((chunk, chunks)) = cut(chunks, from) else {
@@ -180,15 +221,17 @@ fn in_chunks<'a, K: Ord + Shared, V: Shared>(
     (pairs_from(pairs_of(chunk), from), chunks)
 }
 
-/// The pairs of these groups from the first key that is not below this one: those of the first chunk, and the chunks and
-/// groups after it.
+/// The pairs of these groups from the first key that is not below this one: those of the first
+/// chunk, and the chunks and groups after it.
 fn in_groups<'a, K: Ord + Shared, V: Shared>(
     groups: &'a [Group<K, V>],
     from: &K,
 ) -> (&'a [(K, V)], &'a [Chunk<K, V>], &'a [Group<K, V>])
     requires whole { All IsWholeGroup groups.now }
     requires ascends { IsAscending K.cmp (flat_map group_pairs groups.now) }
-    ensures pairs { result.0.now ++ (flat_map chunk_pairs result.1.now ++ flat_map group_pairs result.2.now) ≡ entries_from (K.cmp from.now) (flat_map group_pairs groups.now) }
+    ensures pairs { result.0.now
+        ++ (flat_map chunk_pairs result.1.now ++ flat_map group_pairs result.2.now)
+        ≡ entries_from (K.cmp from.now) (flat_map group_pairs groups.now) }
     ensures chunks { All IsWholeChunk result.1.now }
     ensures groups { All IsWholeGroup result.2.now }
 {
@@ -199,8 +242,8 @@ fn in_groups<'a, K: Ord + Shared, V: Shared>(
     (pairs, chunks, groups)
 }
 
-/// The pairs of these sections from the first key that is not below this one: those of the first chunk, and the chunks, groups
-/// and sections after it.
+/// The pairs of these sections from the first key that is not below this one: those of the first
+/// chunk, and the chunks, groups and sections after it.
 fn in_sections<'a, K: Ord + Shared, V: Shared>(
     sections: &'a [Section<K, V>],
     from: &K,
@@ -212,7 +255,10 @@ fn in_sections<'a, K: Ord + Shared, V: Shared>(
 )
     requires whole { All IsWholeSection sections.now }
     requires ascends { IsAscending K.cmp (flat_map section_pairs sections.now) }
-    ensures pairs { result.0.now ++ (flat_map chunk_pairs result.1.now ++ (flat_map group_pairs result.2.now ++ flat_map section_pairs result.3.now)) ≡ entries_from (K.cmp from.now) (flat_map section_pairs sections.now) }
+    ensures pairs { result.0.now
+        ++ (flat_map chunk_pairs result.1.now
+        ++ (flat_map group_pairs result.2.now ++ flat_map section_pairs result.3.now))
+        ≡ entries_from (K.cmp from.now) (flat_map section_pairs sections.now) }
     ensures chunks { All IsWholeChunk result.1.now }
     ensures groups { All IsWholeGroup result.2.now }
     ensures sections { All IsWholeSection result.3.now }
@@ -224,15 +270,20 @@ fn in_sections<'a, K: Ord + Shared, V: Shared>(
     (pairs, chunks, groups, sections)
 }
 
-/// The pairs of these divisions from the first key that is not below this one: those of the first chunk, and the chunks,
-/// groups, sections and divisions after it.
+/// The pairs of these divisions from the first key that is not below this one: those of the first
+/// chunk, and the chunks, groups, sections and divisions after it.
 fn in_divisions<'a, K: Ord + Shared, V: Shared>(
     divisions: &'a [Division<K, V>],
     from: &K,
 ) -> Next<'a, K, V>
     requires whole { All IsWholeDivision divisions.now }
     requires ascends { IsAscending K.cmp (flat_map division_pairs divisions.now) }
-    ensures pairs { result.0.now ++ (flat_map chunk_pairs result.1.now ++ (flat_map group_pairs result.2.now ++ (flat_map section_pairs result.3.now ++ flat_map division_pairs result.4.now))) ≡ entries_from (K.cmp from.now) (flat_map division_pairs divisions.now) }
+    ensures pairs { result.0.now
+        ++ (flat_map chunk_pairs result.1.now
+        ++ (flat_map group_pairs result.2.now
+        ++ (flat_map section_pairs result.3.now
+        ++ flat_map division_pairs result.4.now)))
+        ≡ entries_from (K.cmp from.now) (flat_map division_pairs divisions.now) }
     ensures chunks { All IsWholeChunk result.1.now }
     ensures groups { All IsWholeGroup result.2.now }
     ensures sections { All IsWholeSection result.3.now }
@@ -266,7 +317,8 @@ fn from_chunks<'a, K: Ord + Shared, V: Shared>(
 ) -> (&'a [(K, V)], &'a [Chunk<K, V>])
     requires whole { All IsWholeChunk chunks.now }
     requires ascends { IsAscending K.cmp (pairs.now ++ flat_map chunk_pairs chunks.now) }
-    ensures pairs { result.0.now ++ flat_map chunk_pairs result.1.now ≡ entries_from (K.cmp from.now) (pairs.now ++ flat_map chunk_pairs chunks.now) }
+    ensures pairs { result.0.now ++ flat_map chunk_pairs result.1.now
+        ≡ entries_from (K.cmp from.now) (pairs.now ++ flat_map chunk_pairs chunks.now) }
     ensures whole { All IsWholeChunk result.1.now }
 {
     if begin_by(chunks, from) {
@@ -284,8 +336,12 @@ fn from_groups<'a, K: Ord + Shared, V: Shared>(
 ) -> (&'a [(K, V)], &'a [Chunk<K, V>], &'a [Group<K, V>])
     requires chunks { All IsWholeChunk chunks.now }
     requires groups { All IsWholeGroup groups.now }
-    requires ascends { IsAscending K.cmp ((pairs.now ++ flat_map chunk_pairs chunks.now) ++ flat_map group_pairs groups.now) }
-    ensures pairs { result.0.now ++ (flat_map chunk_pairs result.1.now ++ flat_map group_pairs result.2.now) ≡ entries_from (K.cmp from.now) ((pairs.now ++ flat_map chunk_pairs chunks.now) ++ flat_map group_pairs groups.now) }
+    requires ascends { IsAscending K.cmp
+        ((pairs.now ++ flat_map chunk_pairs chunks.now) ++ flat_map group_pairs groups.now) }
+    ensures pairs { result.0.now
+        ++ (flat_map chunk_pairs result.1.now ++ flat_map group_pairs result.2.now)
+        ≡ entries_from (K.cmp from.now)
+        ((pairs.now ++ flat_map chunk_pairs chunks.now) ++ flat_map group_pairs groups.now) }
     ensures chunks { All IsWholeChunk result.1.now }
     ensures groups { All IsWholeGroup result.2.now }
 {
@@ -312,8 +368,15 @@ fn from_sections<'a, K: Ord + Shared, V: Shared>(
     requires chunks { All IsWholeChunk chunks.now }
     requires groups { All IsWholeGroup groups.now }
     requires sections { All IsWholeSection sections.now }
-    requires ascends { IsAscending K.cmp (((pairs.now ++ flat_map chunk_pairs chunks.now) ++ flat_map group_pairs groups.now) ++ flat_map section_pairs sections.now) }
-    ensures pairs { result.0.now ++ (flat_map chunk_pairs result.1.now ++ (flat_map group_pairs result.2.now ++ flat_map section_pairs result.3.now)) ≡ entries_from (K.cmp from.now) (((pairs.now ++ flat_map chunk_pairs chunks.now) ++ flat_map group_pairs groups.now) ++ flat_map section_pairs sections.now) }
+    requires ascends { IsAscending K.cmp
+        (((pairs.now ++ flat_map chunk_pairs chunks.now) ++ flat_map group_pairs groups.now)
+        ++ flat_map section_pairs sections.now) }
+    ensures pairs { result.0.now
+        ++ (flat_map chunk_pairs result.1.now
+        ++ (flat_map group_pairs result.2.now ++ flat_map section_pairs result.3.now))
+        ≡ entries_from (K.cmp from.now)
+        (((pairs.now ++ flat_map chunk_pairs chunks.now) ++ flat_map group_pairs groups.now)
+        ++ flat_map section_pairs sections.now) }
     ensures chunks { All IsWholeChunk result.1.now }
     ensures groups { All IsWholeGroup result.2.now }
     ensures sections { All IsWholeSection result.3.now }
@@ -338,8 +401,19 @@ fn from_divisions<'a, K: Ord + Shared, V: Shared>(
     requires groups { All IsWholeGroup groups.now }
     requires sections { All IsWholeSection sections.now }
     requires divisions { All IsWholeDivision divisions.now }
-    requires ascends { IsAscending K.cmp ((((pairs.now ++ flat_map chunk_pairs chunks.now) ++ flat_map group_pairs groups.now) ++ flat_map section_pairs sections.now) ++ flat_map division_pairs divisions.now) }
-    ensures pairs { result.0.now ++ (flat_map chunk_pairs result.1.now ++ (flat_map group_pairs result.2.now ++ (flat_map section_pairs result.3.now ++ flat_map division_pairs result.4.now))) ≡ entries_from (K.cmp from.now) ((((pairs.now ++ flat_map chunk_pairs chunks.now) ++ flat_map group_pairs groups.now) ++ flat_map section_pairs sections.now) ++ flat_map division_pairs divisions.now) }
+    requires ascends { IsAscending K.cmp
+        ((((pairs.now ++ flat_map chunk_pairs chunks.now) ++ flat_map group_pairs groups.now)
+        ++ flat_map section_pairs sections.now)
+        ++ flat_map division_pairs divisions.now) }
+    ensures pairs { result.0.now
+        ++ (flat_map chunk_pairs result.1.now
+        ++ (flat_map group_pairs result.2.now
+        ++ (flat_map section_pairs result.3.now
+        ++ flat_map division_pairs result.4.now)))
+        ≡ entries_from (K.cmp from.now) ((((pairs.now ++ flat_map chunk_pairs chunks.now)
+        ++ flat_map group_pairs groups.now)
+        ++ flat_map section_pairs sections.now)
+        ++ flat_map division_pairs divisions.now) }
     ensures chunks { All IsWholeChunk result.1.now }
     ensures groups { All IsWholeGroup result.2.now }
     ensures sections { All IsWholeSection result.3.now }
@@ -484,7 +558,8 @@ impl<'a, K: Ord + Shared, V: Shared> RangeIter<'a, K, V> {
         self.next_value(key)
     }
 
-    /// The next pair; None exactly at the end. Each call counts one step, that at the end too. Takes no memory.
+    /// The next pair; None exactly at the end. Each call counts one step, that at the end too.
+    /// Takes no memory.
     pub fn step<L: Ledger>(&mut self, steps: &mut Steps<L>) -> Option<(&'a K, &'a V)>
         ensures next { IfSome result (λ pair. self.old ≡ (pair.0.now, pair.1.now) ∷ self.new) }
         ensures end { IfNone result ((self.old ≡ []) × (self.new ≡ [])) }

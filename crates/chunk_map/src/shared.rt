@@ -9,7 +9,8 @@ pub trait Shared: Drop {
     fn share(&self) -> Result<Self, Starved>
         ensures { IfOk result (λ equal. equal ≡ self.now) };
 
-    /// Whether a value is numbers alone, so that an equal one costs nothing: chunks of such pairs are larger.
+    /// Whether a value is numbers alone, so that an equal one costs nothing: chunks of such pairs
+    /// are larger.
     fn is_plain() -> bool {
         false
     }

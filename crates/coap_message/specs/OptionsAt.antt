@@ -4,10 +4,12 @@ use Rattle.std.specs.Option.{option_map_or}
 use Rattle.message_model.specs.Message.{Opt}
 use Rattle.message_model.specs.Reading.{option_at}
 
--- At most n options after an option of the number before, up to where no option can be read (RFC 7252 section 3.1).
+-- At most n options after an option of the number before, up to where no option can be read (RFC
+-- 7252 section 3.1).
 unfoldable pub few_options : ℕ → ℕ → List ℕ → List Opt
 few_options zero before bytes = []
-few_options (suc n) before bytes = option_map_or (λ x. x.0 ∷ few_options n x.0.0 x.1) (option_at before bytes) []
+few_options (suc n) before bytes =
+    option_map_or (λ x. x.0 ∷ few_options n x.0.0 x.1) (option_at before bytes) []
 
 -- All of the options that bytes begin with, fewer than there are bytes (RFC 7252 section 3.1).
 unfoldable pub options_at : ℕ → List ℕ → List Opt

@@ -9,7 +9,14 @@ longest_datagram = 1280
 
 -- A message with neither options nor payload (RFC 7252 section 3).
 abbrev pub bare_message : Kind4 → ℕ → ℕ → List ℕ → Message
-bare_message kind code mid token = record { kind = kind; code = code; mid = mid; token = token; options = []; payload = [] }
+bare_message kind code mid token = record {
+  kind = kind;
+  code = code;
+  mid = mid;
+  token = token;
+  options = [];
+  payload = [];
+}
 
 -- The message with one more option at the end (RFC 7252 section 3.1).
 abbrev pub with_last_option : Message → Opt → Message

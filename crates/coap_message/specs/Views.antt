@@ -3,13 +3,14 @@ use Rattle.message_model.specs.Message.{Message}
 use Rattle.coap_message.specs.declared.views.View.{View}
 use Rattle.coap_message.specs.OptionsAt.{options_at}
 
--- Its parts are those of the view, and its options are those that are spelled there (RFC 7252 section 3).
+-- Its parts are those of the view, and its options are those that are spelled there (RFC 7252
+-- section 3).
 abbrev pub message_in : View → Message
 message_in v = record {
   kind = v.kind;
   code = v.code;
   mid = v.mid;
-  token = v.token.now;
+  token = v.token.octets.now;
   options = options_at 0 v.options.now;
   payload = v.payload.now;
 }

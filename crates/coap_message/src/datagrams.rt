@@ -12,7 +12,7 @@ ghost use Rattle.coap_message.specs.Headers.{header_in};
 
 use super::headers::{Header, header_at, is_bad_header};
 use super::prefixes::{byte_at, bytes_at, option_at};
-use super::views::View;
+use super::views::{TokenRef, View};
 use message_model::Unread;
 
 /// The octet before a payload (RFC 7252 section 3).
@@ -38,7 +38,8 @@ fn payload_at(bytes: &[u8]) -> Option<&[u8]>
 
 /// The options and the payload that follow a token (RFC 7252 section 3).
 fn tail_at(bytes: &[u8]) -> Option<(&[u8], &[u8])>
-    ensures { option_map (λ x. (options_at 0 x.0.now, x.1.now)) result ≡ reading.tail_at 0 bytes.now }
+    ensures { option_map (λ x. (options_at 0 x.0.now, x.1.now)) result
+        ≡ reading.tail_at 0 bytes.now }
 {
     let mut before = 0u16;
     let mut rest = bytes;
@@ -62,13 +63,13 @@ fn body_at<'a>(header: &Header, bytes: &'a [u8]) -> Option<View<'a>>
     if is_bad_header(header, bytes) {
         return None;
     }
-    let (token, rest) = bytes_at(header.token_length as usize, bytes)?;
+    let (octets, rest) = bytes_at(header.token_length as usize, bytes)?;
     let (options, payload) = tail_at(rest)?;
     Some(View {
         kind: header.kind,
         code: header.code,
         mid: header.mid,
-        token,
+        token: TokenRef { octets },
         options,
         payload,
     })
@@ -77,12 +78,15 @@ fn body_at<'a>(header: &Header, bytes: &'a [u8]) -> Option<View<'a>>
 /// The message in a datagram, which it borrows (RFC 7252 section 3).
 ///
 /// `Short`: the datagram has fewer than four octets. `Version`: its version is not 1.
-/// `Format`, with its type and Message ID: the class of its code is reserved; its token is longer than eight octets or
-/// cut off; an option is cut off, begins with a nibble of 15, or passes number 65,535; nothing follows the marker; or
+/// `Format`, with its type and Message ID: the class of its code is reserved; its token is longer
+/// than eight octets or
+/// cut off; an option is cut off, begins with a nibble of 15, or passes number 65,535; nothing
+/// follows the marker; or
 /// its code is 0.00 and it is more than a header (RFC 7252 sections 3, 3.1, 4.1 and 4.2).
 #[tactic(auto, unfolding(message_model::specs::Reading::reading))]
 pub fn view(datagram: &[u8]) -> Result<View<'_>, Unread>
-    ensures message { result_map_both message_in (λ fault. fault) result ≡ reading.reading datagram.now }
+    ensures message { result_map_both message_in (λ fault. fault) result
+        ≡ reading.reading datagram.now }
     ensures sound { IfOk result (λ v. IsMessage (message_in v)) }
     ensures spelled { IfOk result (λ v. spelling (message_in v) ≡ datagram.now) }
     ensures unread { OnErr result ((m : Message) → IsMessage m → spelling m ≡ datagram.now → ⊥) }

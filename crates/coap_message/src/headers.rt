@@ -32,7 +32,8 @@ fn kind_of(bits: u8) -> Kind4
 /// The header and the octets after it (RFC 7252 section 3).
 #[tactic(auto, unfolding(message_model::specs::Reading::header_at))]
 pub(crate) fn header_at(bytes: &[u8]) -> Result<(Header, &[u8]), Unread>
-    ensures { result_map_both (λ x. (header_in x.0, x.1.now)) (λ fault. fault) result ≡ reading.header_at bytes.now }
+    ensures { result_map_both (λ x. (header_in x.0, x.1.now)) (λ fault. fault) result
+        ≡ reading.header_at bytes.now }
 {
     match bytes {
         [first, code, high, low, rest @ ..] => {

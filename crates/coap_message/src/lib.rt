@@ -1,4 +1,5 @@
-//! Reading and writing of CoAP messages (RFC 7252 section 3), in borrowed octets and without memory.
+//! Reading and writing of CoAP messages (RFC 7252 section 3), in borrowed octets and without
+//! memory.
 #![tactic(auto)]
 
 mod datagrams;
@@ -14,5 +15,5 @@ pub use datagrams::view;
 pub use message_model::{Kind4, Role, Unread};
 pub use options::{Opt, OptionsIter, options_of};
 pub use roles::role_of;
-pub use views::View;
+pub use views::{TokenRef, View};
 pub use writers::{TooLong, Writer};

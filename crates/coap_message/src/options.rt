@@ -16,7 +16,8 @@ pub struct Opt<'a> {
     pub value: &'a [u8],
 }
 
-/// The options that are left, in order (RFC 7252 section 3.1): a contract sees them by `options_left`.
+/// The options that are left, in order (RFC 7252 section 3.1): a contract sees them by
+/// `options_left`.
 #[derive(Clone, Copy, Debug)]
 pub struct OptionsIter<'a> {
     /// The number of the option before.

@@ -51,7 +51,8 @@ pub(crate) fn extended_at(nibble: u8, bytes: &[u8]) -> Option<(u32, &[u8])>
 /// An option after an option of the number before (RFC 7252 section 3.1).
 #[tactic(auto, unfolding(message_model::specs::Reading::option_at))]
 pub(crate) fn option_at(before: u16, bytes: &[u8]) -> Option<(Opt<'_>, &[u8])>
-    ensures value { option_map (λ x. ((x.0.number, x.0.value.now), x.1.now)) result ≡ reading.option_at before bytes.now }
+    ensures value { option_map (λ x. ((x.0.number, x.0.value.now), x.1.now)) result
+        ≡ reading.option_at before bytes.now }
     ensures most { IfSome result (λ x. x.0.number ≤ last_number) }
 {
     let (nibbles, rest) = byte_at(bytes)?;

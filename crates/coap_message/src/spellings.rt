@@ -1,6 +1,8 @@
-//! The spelling of options and payloads, put into a buffer from an offset on: each step gives the offset after what it put.
+//! The spelling of options and payloads, put into a buffer from an offset on: each step gives the
+//! offset after what it put.
 
 ghost use Rattle.std.specs.Prelude.{◌≡◌, ◌+◌, ◌-◌, ◌<◌, ◌≤◌, [], ◌∷◌, ◌++◌, length, take};
+ghost use Rattle.message_model.specs.Numbers.{AreBytes};
 ghost use Rattle.message_model.specs.Message.{last_number, longest_value};
 ghost use Rattle.message_model.specs.Spelling as spelling_of;
 
@@ -22,6 +24,7 @@ pub(crate) fn put_bytes(octets: &mut [u8], at: usize, bytes: &[u8]) -> usize
     requires { at + length bytes.now ≤ length octets.old }
     ensures end { result ≡ at + length bytes.now }
     ensures put { take result octets.new ≡ take at octets.old ++ bytes.now }
+    ensures bytes { AreBytes bytes.now }
 {
     let end = at + bytes.len();
     octets[at..end].copy_from_slice(bytes);
@@ -97,12 +100,14 @@ pub(crate) fn put_option(
     number: u32,
     value: &[u8],
 ) -> usize
-    requires room { at + length (spelling_of.option_spelling before (number, value.now)) ≤ length octets.old }
+    requires room { at + length (spelling_of.option_spelling before (number, value.now))
+        ≤ length octets.old }
     requires ascends { before ≤ number }
     requires number { number ≤ last_number }
     requires value { length value.now ≤ longest_value }
     ensures end { result ≡ at + length (spelling_of.option_spelling before (number, value.now)) }
-    ensures put { take result octets.new ≡ take at octets.old ++ spelling_of.option_spelling before (number, value.now) }
+    ensures put { take result octets.new
+        ≡ take at octets.old ++ spelling_of.option_spelling before (number, value.now) }
 {
     let delta = number - u32::from(before);
     let size = value.len() as u32;
@@ -128,7 +133,8 @@ pub(crate) fn payload_size(payload: &[u8]) -> usize
 pub(crate) fn put_payload(octets: &mut [u8], at: usize, payload: &[u8]) -> usize
     requires { at + length (spelling_of.payload_spelling payload.now) ≤ length octets.old }
     ensures end { result ≡ at + length (spelling_of.payload_spelling payload.now) }
-    ensures put { take result octets.new ≡ take at octets.old ++ spelling_of.payload_spelling payload.now }
+    ensures put { take result octets.new
+        ≡ take at octets.old ++ spelling_of.payload_spelling payload.now }
 {
     match payload {
         [] => at,

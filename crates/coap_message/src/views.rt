@@ -1,8 +1,20 @@
 //! The view of a message.
 
+ghost use Rattle.std.specs.Prelude.{◌≤◌, length};
+ghost use Rattle.message_model.specs.Message.{longest_token};
+
 use message_model::Kind4;
 
-/// A message in a datagram: its type, code and Message ID, and where the rest of it stands there (RFC 7252 section 3).
+/// A token, of at most eight octets (RFC 7252 section 3).
+#[derive(Clone, Copy, Debug)]
+pub struct TokenRef<'a> {
+    /// The octets.
+    pub octets: &'a [u8],
+    pub ghost short: { length octets.now ≤ longest_token },
+}
+
+/// A message in a datagram: its type, code and Message ID, and where the rest of it stands there
+/// (RFC 7252 section 3).
 #[derive(Clone, Copy, Debug)]
 pub struct View<'a> {
     /// The type.
@@ -11,8 +23,8 @@ pub struct View<'a> {
     pub code: u8,
     /// The Message ID.
     pub mid: u16,
-    /// The token, of at most eight octets.
-    pub token: &'a [u8],
+    /// The token.
+    pub token: TokenRef<'a>,
     /// The options as they are spelled, which [`options_of`](crate::options_of) reads.
     pub options: &'a [u8],
     /// The payload, empty where there is none.

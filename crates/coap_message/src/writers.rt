@@ -1,16 +1,20 @@
 //! Writing of a message.
 
-ghost use Rattle.std.specs.Prelude.{◌≡◌, ◌+◌, ◌<◌, ◌≤◌, false, [], ◌++◌, length, take, IfOk, OnOk, OnErr};
+ghost use Rattle.std.specs.Prelude.{◌≡◌, ◌+◌, ◌<◌, ◌≤◌, false, [], ◌++◌, length, take, IfOk, OnOk};
+ghost use Rattle.std.specs.Prelude.{OnErr};
 ghost use Rattle.message_model.specs.Codes as codes_of;
-ghost use Rattle.message_model.specs.Message.{longest_token, last_number, longest_value, end_number};
+ghost use Rattle.message_model.specs.Numbers.{AreBytes};
+ghost use Rattle.message_model.specs.Message.{last_number, longest_value, end_number};
 ghost use Rattle.message_model.specs.Spelling as spelling_of;
 ghost use Rattle.message_model.specs.Spelling.{spelling};
 ghost use Rattle.message_model.specs.Reading.{reading};
-ghost use Rattle.coap_message.specs.PartialMessages.{longest_datagram, bare_message, with_last_option, with_payload};
+ghost use Rattle.coap_message.specs.PartialMessages.{longest_datagram, bare_message};
+ghost use Rattle.coap_message.specs.PartialMessages.{with_last_option, with_payload};
 ghost use Rattle.coap_message.specs.WriterEnds.{ends_so, EndsAs};
 ghost use Rattle.std.specs.Borrow.{sem};
 
 use super::spellings::{option_size, payload_size, put_byte, put_bytes, put_option, put_payload};
+use super::views::TokenRef;
 use message_model::Kind4;
 use std::marker::Model;
 
@@ -18,7 +22,8 @@ use std::marker::Model;
 #[derive(Clone, Copy, Debug, PartialEq, Eq)]
 pub struct TooLong;
 
-/// A message being written, of at most 1,280 octets (RFC 7252 section 3): a contract sees the message.
+/// A message being written, of at most 1,280 octets (RFC 7252 section 3): a contract sees the
+/// message.
 #[derive(Drop)]
 pub struct Writer {
     octets: [u8; 1280],
@@ -55,29 +60,34 @@ fn kind_number(kind: Kind4) -> u8
 
 /// The header, in the first four octets (RFC 7252 section 3).
 #[tactic(auto, unfolding(message_model::specs::Spelling::header_spelling))]
-fn put_header(octets: &mut [u8], kind: Kind4, code: u8, mid: u16, token: &[u8]) -> usize
-    requires token { length token.now ≤ longest_token }
+fn put_header(octets: &mut [u8], kind: Kind4, code: u8, mid: u16, token: TokenRef<'_>) -> usize
     requires room { 12 ≤ length octets.old }
-    ensures end { result ≡ 4 + length token.now }
-    ensures put { take result octets.new ≡ spelling_of.header_spelling (bare_message kind code mid token.now) ++ token.now }
+    ensures end { result ≡ 4 + length token.entry.octets.now }
+    ensures put { take result octets.new
+        ≡ spelling_of.header_spelling (bare_message kind code mid token.entry.octets.now)
+        ++ token.entry.octets.now }
+    ensures bytes { AreBytes token.entry.octets.now }
 {
-    let first = put_byte(octets, 0, 64 + kind_number(kind) * 16 + token.len() as u8);
+    let first = put_byte(
+        octets,
+        0,
+        64 + kind_number(kind) * 16 + token.octets.len() as u8,
+    );
     let second = put_byte(octets, first, code);
     let third = put_byte(octets, second, (mid / 256) as u8);
     let fourth = put_byte(octets, third, (mid % 256) as u8);
-    put_bytes(octets, fourth, token)
+    put_bytes(octets, fourth, token.octets)
 }
 
 impl Writer {
     /// A message with neither options nor payload.
     ///
-    /// The token has at most eight octets, the class of the code is not a reserved one, and an empty message, of code
-    /// 0.00, has no token (RFC 7252 sections 3 and 4.1).
-    pub fn start(kind: Kind4, code: u8, mid: u16, token: &[u8]) -> Writer
-        requires token { length token.now ≤ longest_token }
+    /// The class of the code is not a reserved one, and an empty message, of code 0.00, has no
+    /// token (RFC 7252 sections 3 and 4.1).
+    pub fn start(kind: Kind4, code: u8, mid: u16, token: TokenRef<'_>) -> Writer
         requires class { codes_of.is_reserved code ≡ false }
-        requires empty { code ≡ codes_of.empty → token.now ≡ [] }
-        ensures { result ≡ bare_message kind code mid token.now }
+        requires empty { code ≡ codes_of.empty → token.octets.now ≡ [] }
+        ensures { result ≡ bare_message kind code mid token.entry.octets.now }
     {
         let mut octets = [0u8; 1280];
         let length = put_header(&mut octets, kind, code, mid, token);
@@ -88,8 +98,9 @@ impl Writer {
         }
     }
 
-    /// One more option (RFC 7252 section 3.1): its number is not below the one before and at most 65,535, and its value
-    /// has at most 65,804 octets. An empty message and one with a payload get none.
+    /// One more option (RFC 7252 section 3.1): its number is not below the one before and at most
+    /// 65,535, and its value has at most 65,804 octets. An empty message and one with a payload get
+    /// none.
     ///
     /// `TooLong`: the message with it would be longer than 1,280 octets; it is then as it was.
     pub fn option(&mut self, number: u32, value: &[u8]) -> Result<(), TooLong>
@@ -139,14 +150,18 @@ impl Writer {
 
     /// The datagram of the message with this payload, which [`view`](crate::view) reads back.
     ///
-    /// An empty message has an empty payload, and a message gets one payload (RFC 7252 sections 3 and 4.1).
+    /// An empty message has an empty payload, and a message gets one payload (RFC 7252 sections 3
+    /// and 4.1).
     /// `TooLong`: the datagram would be longer than 1,280 octets; the message is then as it was.
     pub fn finish(&mut self, payload: &[u8]) -> Result<&[u8], TooLong>
         requires open { self.old.payload ≡ [] }
         requires empty { self.old.code ≡ codes_of.empty → payload.now ≡ [] }
-        ensures* ends { sem 𝓛 (ends_so self.entry (EndsAs result (with_payload self.old payload.now) self.old)) }
-        ensures spelled { IfOk result (λ bytes. bytes.now ≡ spelling (with_payload self.old payload.now)) }
-        ensures read_back { IfOk result (λ bytes. reading bytes.now ≡ Ok (with_payload self.old payload.now)) }
+        ensures* ends { sem 𝓛
+            (ends_so self.entry (EndsAs result (with_payload self.old payload.now) self.old)) }
+        ensures spelled { IfOk result
+            (λ bytes. bytes.now ≡ spelling (with_payload self.old payload.now)) }
+        ensures read_back { IfOk result
+            (λ bytes. reading bytes.now ≡ Ok (with_payload self.old payload.now)) }
         ensures short { IfOk result (λ bytes. length bytes.now ≤ longest_datagram) }
         ensures too_long { OnErr result
             (longest_datagram < length (spelling (with_payload self.old payload.now))) }

@@ -7,3 +7,4 @@ mod ValuesLemmas
 mod RefusalLemmas
 mod KeyLemmas
 mod KeysApart
+pub mod MeaningLaws

@@ -29,21 +29,47 @@ block2_is : definition_of table.block2 ≡ Some (up_to 3)
 unfolding definition_of
 block2_is = refl
 
-found_short : (number most : ℕ) (options : List Opt) (found : Option (Bor (List ℕ))) → definition_of number ≡ Some (up_to most) → option_map (λ v. v.now) found ≡ first_of (values number options) → (x : Bor (List ℕ)) → found ≡ Some x → length x.now ≤ most
+found_short : (number most : ℕ) (options : List Opt) (found : Option (Bor (List ℕ)))
+    → definition_of number ≡ Some (up_to most)
+    → option_map (λ v. v.now) found ≡ first_of (values number options)
+    → (x : Bor (List ℕ))
+    → found ≡ Some x
+    → length x.now ≤ most
 found_short number most options found is e x some =
-    value_short number (up_to most) options (option_map (λ (v : Bor (List ℕ)). v.now) found) is e x.now (ap (option_map (λ (v : Bor (List ℕ)). v.now)) some)
+    value_short number (up_to most) options (option_map (λ (v : Bor (List ℕ)). v.now) found) is e
+    x.now (ap (option_map (λ (v : Bor (List ℕ)). v.now)) some)
 
-pub observe_short : (options : List Opt) (found : Option (Bor (List ℕ))) → option_map (λ v. v.now) found ≡ first_of (values table.observe options) → (x : Bor (List ℕ)) → found ≡ Some x → length x.now ≤ 3
+pub observe_short : (options : List Opt) (found : Option (Bor (List ℕ)))
+    → option_map (λ v. v.now) found ≡ first_of (values table.observe options)
+    → (x : Bor (List ℕ))
+    → found ≡ Some x
+    → length x.now ≤ 3
 observe_short options found = found_short table.observe 3 options found observe_is
 
-pub accept_short : (options : List Opt) (found : Option (Bor (List ℕ))) → option_map (λ v. v.now) found ≡ first_of (values table.accept options) → (x : Bor (List ℕ)) → found ≡ Some x → length x.now ≤ 2
+pub accept_short : (options : List Opt) (found : Option (Bor (List ℕ)))
+    → option_map (λ v. v.now) found ≡ first_of (values table.accept options)
+    → (x : Bor (List ℕ))
+    → found ≡ Some x
+    → length x.now ≤ 2
 accept_short options found = found_short table.accept 2 options found accept_is
 
-pub format_short : (options : List Opt) (found : Option (Bor (List ℕ))) → option_map (λ v. v.now) found ≡ first_of (values table.content_format options) → (x : Bor (List ℕ)) → found ≡ Some x → length x.now ≤ 2
+pub format_short : (options : List Opt) (found : Option (Bor (List ℕ)))
+    → option_map (λ v. v.now) found ≡ first_of (values table.content_format options)
+    → (x : Bor (List ℕ))
+    → found ≡ Some x
+    → length x.now ≤ 2
 format_short options found = found_short table.content_format 2 options found format_is
 
-pub block1_short : (options : List Opt) (found : Option (Bor (List ℕ))) → option_map (λ v. v.now) found ≡ first_of (values table.block1 options) → (x : Bor (List ℕ)) → found ≡ Some x → length x.now ≤ 3
+pub block1_short : (options : List Opt) (found : Option (Bor (List ℕ)))
+    → option_map (λ v. v.now) found ≡ first_of (values table.block1 options)
+    → (x : Bor (List ℕ))
+    → found ≡ Some x
+    → length x.now ≤ 3
 block1_short options found = found_short table.block1 3 options found block1_is
 
-pub block2_short : (options : List Opt) (found : Option (Bor (List ℕ))) → option_map (λ v. v.now) found ≡ first_of (values table.block2 options) → (x : Bor (List ℕ)) → found ≡ Some x → length x.now ≤ 3
+pub block2_short : (options : List Opt) (found : Option (Bor (List ℕ)))
+    → option_map (λ v. v.now) found ≡ first_of (values table.block2 options)
+    → (x : Bor (List ℕ))
+    → found ≡ Some x
+    → length x.now ≤ 3
 block2_short options found = found_short table.block2 3 options found block2_is

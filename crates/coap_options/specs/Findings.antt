@@ -1,9 +1,30 @@
 -- What the code holds of the options up to one of them.
-use Rattle.std.specs.Prelude.{◌≡◌, ℕ, Bool, false, ◌||◌, ◌==◌, List, [], ◌∷◌, ◌++◌, Option, Some, None, if◌then◌else◌}
+use Rattle.std.specs.Prelude.{
+  ◌≡◌,
+  ℕ,
+  Bool,
+  false,
+  ◌||◌,
+  ◌==◌,
+  List,
+  [],
+  ◌∷◌,
+  ◌++◌,
+  Option,
+  Some,
+  None,
+  if◌then◌else◌,
+}
 use Rattle.std.specs.Option.{option_map, option_or}
 use Rattle.message_model.specs.Message.{Opt, end_number}
 use Rattle.message_model.specs.OptionTable as table
-use Rattle.message_model.specs.OptionTable.{stands_in, recognized_options, first_bad_option, values, first_of}
+use Rattle.message_model.specs.OptionTable.{
+  stands_in,
+  recognized_options,
+  first_bad_option,
+  values,
+  first_of,
+}
 use Rattle.coap_options.specs.declared.findings.Found.{Found}
 use Rattle.coap_options.specs.Segments.{AreSegments}
 
@@ -27,7 +48,10 @@ pub record IsFound (options : List Opt) (found : Found) : Type 0 where
   pub format : option_map (λ v. v.now) found.format ≡ first_of (values table.content_format options)
   pub block1 : option_map (λ v. v.now) found.block1 ≡ first_of (values table.block1 options)
   pub block2 : option_map (λ v. v.now) found.block2 ≡ first_of (values table.block2 options)
-  pub proxy : found.proxy ≡ (stands_in table.proxy_uri (recognized_options options) || stands_in table.proxy_scheme (recognized_options options))
+  pub proxy :
+      found.proxy
+      ≡ (stands_in table.proxy_uri (recognized_options options)
+      || stands_in table.proxy_scheme (recognized_options options))
 
 -- The first value: the one that was found, or else that of this option, where it has the number.
 abbrev pub or_value : Option (List ℕ) → ℕ → Opt → Option (List ℕ)
@@ -36,10 +60,24 @@ or_value found number option = option_or found (if option.0 == number then Some 
 -- What is found with one recognized option more.
 pub record IsFoundWith (found : Found) (option : Opt) (more : Found) : Type 0 where
   pub last : more.last ≡ Some option.0
-  pub segments : (segments : List (List ℕ)) → AreSegments found.segments segments → AreSegments more.segments (segments ++ (if option.0 == table.uri_path then option.1 ∷ [] else []))
-  pub observe : option_map (λ v. v.now) more.observe ≡ or_value (option_map (λ v. v.now) found.observe) table.observe option
-  pub accept : option_map (λ v. v.now) more.accept ≡ or_value (option_map (λ v. v.now) found.accept) table.accept option
-  pub format : option_map (λ v. v.now) more.format ≡ or_value (option_map (λ v. v.now) found.format) table.content_format option
-  pub block1 : option_map (λ v. v.now) more.block1 ≡ or_value (option_map (λ v. v.now) found.block1) table.block1 option
-  pub block2 : option_map (λ v. v.now) more.block2 ≡ or_value (option_map (λ v. v.now) found.block2) table.block2 option
-  pub proxy : more.proxy ≡ (found.proxy || (option.0 == table.proxy_uri || option.0 == table.proxy_scheme))
+  pub segments : (segments : List (List ℕ))
+      → AreSegments found.segments segments
+      → AreSegments more.segments
+      (segments ++ (if option.0 == table.uri_path then option.1 ∷ [] else []))
+  pub observe :
+      option_map (λ v. v.now) more.observe
+      ≡ or_value (option_map (λ v. v.now) found.observe) table.observe option
+  pub accept :
+      option_map (λ v. v.now) more.accept
+      ≡ or_value (option_map (λ v. v.now) found.accept) table.accept option
+  pub format :
+      option_map (λ v. v.now) more.format
+      ≡ or_value (option_map (λ v. v.now) found.format) table.content_format option
+  pub block1 :
+      option_map (λ v. v.now) more.block1
+      ≡ or_value (option_map (λ v. v.now) found.block1) table.block1 option
+  pub block2 :
+      option_map (λ v. v.now) more.block2
+      ≡ or_value (option_map (λ v. v.now) found.block2) table.block2 option
+  pub proxy :
+      more.proxy ≡ (found.proxy || (option.0 == table.proxy_uri || option.0 == table.proxy_scheme))

@@ -3,11 +3,20 @@ use Rattle.std.specs.Prelude.{◌≡◌, ◌≤◌, length, option_map, IsSome}
 use Rattle.std.specs.Option.{ForSome}
 use Rattle.message_model.specs.Blocks.{block_read}
 use Rattle.message_model.specs.Message.{Message}
-use Rattle.message_model.specs.Request.{path_in, observe_in, accept_in, format_in, block1_in, block2_in, has_proxy}
+use Rattle.message_model.specs.Request.{
+  path_in,
+  observe_in,
+  accept_in,
+  format_in,
+  block1_in,
+  block2_in,
+  has_proxy,
+}
 use Rattle.coap_message.specs.Views.{message_in}
 use Rattle.coap_options.specs.declared.meanings.Meaning.{Meaning}
 
--- Each part is that of the message (RFC 7252 section 5.10, RFC 7641 section 2, RFC 7959 section 2.1).
+-- Each part is that of the message (RFC 7252 section 5.10, RFC 7641 section 2, RFC 7959 section
+-- 2.1).
 pub record IsMeaning (m : Message) (meaning : Meaning) : Type 0 where
   pub view : message_in meaning.view ≡ m
   pub path : meaning.path ≡ path_in m

@@ -1,24 +1,51 @@
 -- The refusals by the parts of a request.
-use Rattle.std.specs.Prelude.{ℕ, Bool, not, ◌&&◌, ◌||◌, List, Option, Some, None, ◌==◌, if◌then◌else◌}
+use Rattle.std.specs.Prelude.{
+  ℕ,
+  Bool,
+  not,
+  ◌&&◌,
+  ◌||◌,
+  List,
+  Option,
+  Some,
+  None,
+  ◌==◌,
+  if◌then◌else◌,
+}
 use Rattle.message_model.specs.declared.requests.Path.{Path}
 use Rattle.message_model.specs.declared.requests.Refusal.{Refusal}
 use Rattle.message_model.specs.declared.requests.Refusal.TheVariants as refusal
 use Rattle.message_model.specs.Codes as code_named
 use Rattle.message_model.specs.Request.{allowed}
-use Rattle.message_model.specs.Refusals.{is_nowhere, is_rd, says_no_block, is_misfit_of, is_other_format}
+use Rattle.message_model.specs.Refusals.{
+  is_nowhere,
+  is_rd,
+  says_no_block,
+  is_misfit_of,
+  is_other_format,
+}
 
 -- A registration is a POST to `/rd` (RFC 9176 section 5).
 abbrev pub registers : ℕ → Path → Bool
 registers code path = code == code_named.post && is_rd path
 
--- A Block option says no block, or the payload of a registration does not fit its Block1 (RFC 7959 sections 2.2 and 2.5).
+-- A Block option says no block, or the payload of a registration does not fit its Block1 (RFC 7959
+-- sections 2.2 and 2.5).
 abbrev pub has_bad_block : Bool → Option (List ℕ) → Option (List ℕ) → ℕ → Bool
 has_bad_block registration block1 block2 size =
     says_no_block block1 || says_no_block block2 || (registration && is_misfit_of block1 size)
 
--- Of a method, path, proxy, both blocks, accepted format, format and length of a payload, the first refusal after that of
--- an unrecognized critical option.
-unfoldable pub refusal_of_parts : ℕ → Path → Bool → Option (List ℕ) → Option (List ℕ) → Option ℕ → Option ℕ → ℕ → Option Refusal
+-- Of a method, path, proxy, both blocks, accepted format, format and length of a payload, the first
+-- refusal after that of an unrecognized critical option.
+unfoldable pub refusal_of_parts : ℕ
+    → Path
+    → Bool
+    → Option (List ℕ)
+    → Option (List ℕ)
+    → Option ℕ
+    → Option ℕ
+    → ℕ
+    → Option Refusal
 refusal_of_parts code path proxy block1 block2 accept format size =
     if proxy then Some refusal.Proxy
     else if is_nowhere path then Some refusal.Path

@@ -10,7 +10,9 @@ use Rattle.coap_options.specs.declared.values.EtagIter.{EtagIter}
 -- The values of a number that may be repeated, in order: those of a length that the table allows.
 abbrev pub values_left : ℕ → List Opt → List (List ℕ)
 values_left number options =
-    map (λ option. option.1) (filter (λ option. option.0 == number && is_allowed_by (definition_of number) false (length option.1)) options)
+    map (λ option. option.1) (filter (λ option.
+    option.0 == number && is_allowed_by (definition_of number) false (length option.1))
+    options)
 
 -- The query options that will come, in order.
 abbrev pub queries_left : QueryIter → List (List ℕ)

@@ -1,6 +1,7 @@
 //! What is found in the options up to one of them, and one option more.
 
-ghost use Rattle.std.specs.Prelude.{◌≡◌, ◌||◌, ◌==◌, ℕ, List, [], ◌∷◌, ◌++◌, Some, None, if◌then◌else◌, IfOk, IfErr};
+ghost use Rattle.std.specs.Prelude.{◌≡◌, ◌||◌, ◌==◌, ℕ, List, [], ◌∷◌, ◌++◌, Some, None};
+ghost use Rattle.std.specs.Prelude.{if◌then◌else◌, IfOk, IfErr};
 ghost use Rattle.std.specs.Option.{option_map, option_or};
 ghost use Rattle.message_model.specs.Message as model;
 ghost use Rattle.message_model.specs.OptionTable as table;
@@ -16,7 +17,8 @@ use crate::table::{
 };
 use coap_message::Opt;
 
-/// What recognized options say, and the number of the last option, whether or not that one is recognized.
+/// What recognized options say, and the number of the last option, whether or not that one is
+/// recognized.
 #[derive(Clone, Copy)]
 pub(crate) struct Found<'a> {
     /// The number of the last option, whether or not it is recognized.
@@ -46,7 +48,8 @@ pub(crate) fn is_last(last: Option<u32>, number: u32) -> bool
 /// The first value of an option with the number that is looked for.
 fn first_of<'a>(found: Option<&'a [u8]>, wanted: u32, option: &Opt<'a>) -> Option<&'a [u8]>
     ensures { option_map (λ v. v.now) result
-        ≡ option_or (option_map (λ v. v.now) found.entry) (if option.now.number == wanted then Some option.now.value.now else None) }
+        ≡ option_or (option_map (λ v. v.now) found.entry)
+        (if option.now.number == wanted then Some option.now.value.now else None) }
 {
     if found.is_some() {
         return found;
@@ -60,7 +63,9 @@ fn first_of<'a>(found: Option<&'a [u8]>, wanted: u32, option: &Opt<'a>) -> Optio
 /// The segments with that of an option, where it has one.
 fn with_path<'a>(segments: Segments<'a>, option: &Opt<'a>) -> Segments<'a>
     ensures { (values : List (List ℕ)) → AreSegments segments.entry values
-        → AreSegments result (values ++ (if option.now.number == table.uri_path then option.now.value.now ∷ [] else [])) }
+        → AreSegments result (values
+        ++ (if option.now.number
+        == table.uri_path then option.now.value.now ∷ [] else [])) }
 {
     if option.number == URI_PATH {
         return with_segment(segments, option.value);
@@ -112,8 +117,8 @@ pub(crate) fn nothing_found<'a>() -> Found<'a>
 #[derive(Clone, Copy, Debug, PartialEq, Eq)]
 pub struct BadOption(pub u32);
 
-/// What is found with an option more: it counts where it is recognized, and else passed over, unless it is critical
-/// (RFC 7252 section 5.4.1).
+/// What is found with an option more: it counts where it is recognized, and else passed over,
+/// unless it is critical (RFC 7252 section 5.4.1).
 pub(crate) fn with_option<'a>(found: &Found<'a>, option: &Opt<'a>) -> Result<Found<'a>, BadOption>
     ensures found { IfOk result (λ more. (before : List model.Opt) → IsFound before found.now
         → stands_in option.now.number before ≡ is_last found.now.last option.now.number

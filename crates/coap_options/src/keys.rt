@@ -13,7 +13,8 @@ use message_model::Path;
 use rd_base::{Bytes, Key, Starved};
 use std::alloc::Global;
 
-/// One octet for the resource, and the number of a registration in eight after it, the most significant first.
+/// One octet for the resource, and the number of a registration in eight after it, the most
+/// significant first.
 fn push_path(octets: &mut Vec<u8>, path: &Path) -> Result<(), Starved>
     ensures { OnOk result (octets.new.items ≡ octets.old.items ++ keys.path_bytes path.now) }
 {
@@ -57,17 +58,23 @@ fn spelled_key(alloc: Global, meaning: &Meaning<'_>) -> Result<Key, Starved>
     Ok(Key::of(Bytes::of(octets)))
 }
 
-/// The key of a request (RFC 7959 section 2.4): its code, one octet for the resource with eight for the number of a
-/// registration after it, and each query option as its length and its octets. Two requests have the same key exactly
-/// where they have the same method, path and query options.
+/// The key of a request (RFC 7959 section 2.4): its code, one octet for the resource with eight for
+/// the number of a registration after it, and each query option as its length and its octets. Two
+/// requests have the same key exactly where they have the same method, path and query options.
 ///
 /// `Starved`: out of memory.
 pub fn request_key(alloc: Global, meaning: &Meaning<'_>) -> Result<Key, Starved>
     ensures parts { IfOk result (λ key. key ≡ keys.key_of meaning.now.view.code meaning.now.path
         (request.queries_in (message_in meaning.now.view))) }
-    ensures once { (m other : Message) → IsMeaning m meaning.now → IfOk result (λ key. key ≡ keys.key_in other
-        → (m.code ≡ other.code) × (request.path_in m ≡ request.path_in other) × (request.queries_in m ≡ request.queries_in other)) }
-    ensures key { (m : Message) → IsMeaning m meaning.now → IfOk result (λ key. key ≡ keys.key_in m) }
+    ensures once { (m other : Message)
+        → IsMeaning m meaning.now
+        → IfOk result (λ key. key ≡ keys.key_in other
+        → (m.code ≡ other.code)
+        × (request.path_in m ≡ request.path_in other)
+        × (request.queries_in m ≡ request.queries_in other)) }
+    ensures key { (m : Message)
+        → IsMeaning m meaning.now
+        → IfOk result (λ key. key ≡ keys.key_in m) }
 {
     spelled_key(alloc, meaning)
 }

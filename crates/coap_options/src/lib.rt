@@ -1,4 +1,5 @@
-//! What the options of a CoAP request mean, and the first refusal that a request alone decides (RFC 7252 section 5.4).
+//! What the options of a CoAP request mean, and the first refusal that a request alone decides (RFC
+//! 7252 section 5.4).
 #![tactic(auto)]
 
 mod findings;

@@ -14,9 +14,9 @@ pub(crate) const POST: u8 = 2;
 /// The code of DELETE (RFC 7252 section 12.1.1).
 const DELETE: u8 = 4;
 
-/// Whether a resource has the method with this code (RFC 9176 sections 4.3, 5, 5.1, 5.3 and 6): GET at the discovery and
-/// the lookups, POST at both registrations, POST and DELETE at a registration's location; a path that names no resource
-/// has none.
+/// Whether a resource has the method with this code (RFC 9176 sections 4.3, 5, 5.1, 5.3 and 6): GET
+/// at the discovery and the lookups, POST at both registrations, POST and DELETE at a
+/// registration's location; a path that names no resource has none.
 pub fn allowed(path: &Path, code: u8) -> bool
     ensures { result ≡ request.allowed path.now code }
 {

@@ -55,16 +55,17 @@ fn meaning_of<'a>(view: &View<'a>, found: &Found<'a>) -> Meaning<'a>
     }
 }
 
-/// What the options of a message say (RFC 7252 section 5.4). An option is recognized where the table has its number and
-/// allows the length of its value, and where it is no second one of a number that may stand once. An elective option that
-/// is not recognized is passed over.
+/// What the options of a message say (RFC 7252 section 5.4). An option is recognized where the
+/// table has its number and allows the length of its value, and where it is no second one of a
+/// number that may stand once. An elective option that is not recognized is passed over.
 ///
 /// `BadOption(n)`: a critical option is not recognized, and `n` is the number of the first one.
 pub fn meaning<'a>(view: &View<'a>) -> Result<Meaning<'a>, BadOption>
     ensures meaning { IfOk result (λ meaning. IsMeaning (message_in view.now) meaning) }
     ensures short { IfOk result HasShortBlocks }
     ensures good { OnOk result (first_bad_option (message_in view.now).options ≡ None) }
-    ensures bad { IfErr result (λ bad. first_bad_option (message_in view.now).options ≡ Some bad.0) }
+    ensures bad { IfErr result
+        (λ bad. first_bad_option (message_in view.now).options ≡ Some bad.0) }
 {
     let mut found = nothing_found();
     'options: for option in options_of(view) {

@@ -1,6 +1,7 @@
 //! The resource that a path names (RFC 9176 sections 4.3, 5 and 6).
 
-ghost use Rattle.std.specs.Prelude.{◌≡◌, ◌≤◌, ◌<◌, ◌^◌, true, ◌&&◌, nat_le, length, codes, bytes_eq, if◌then◌else◌};
+ghost use Rattle.std.specs.Prelude.{◌≡◌, ◌≤◌, ◌<◌, ◌^◌, true, ◌&&◌, nat_le, length, codes};
+ghost use Rattle.std.specs.Prelude.{bytes_eq, if◌then◌else◌};
 ghost use Rattle.std.specs.List.{list_all};
 ghost use Rattle.std.specs.Char.{is_ascii_digit};
 ghost use Rattle.message_model.specs.Request as request;
@@ -30,7 +31,8 @@ fn has_leading_zero(text: &[u8]) -> bool
 
 /// Some digits, and no more than a registration's number has.
 fn has_good_length(text: &[u8]) -> bool
-    ensures { result ≡ (nat_le 1 (length text.now) && nat_le (length text.now) request.most_digits) }
+    ensures { result
+        ≡ (nat_le 1 (length text.now) && nat_le (length text.now) request.most_digits) }
 {
     1 <= text.len() && text.len() <= MOST_DIGITS
 }

@@ -51,7 +51,8 @@ fn says_no_block(value: Option<&[u8]>) -> bool
     }
 }
 
-/// A block that more follow has exactly the block size, and the last is no longer (RFC 7959 section 2.2).
+/// A block that more follow has exactly the block size, and the last is no longer (RFC 7959 section
+/// 2.2).
 fn is_misfit(block: &Block, size: usize) -> bool
     requires { block.now.szx < blocks.reserved_szx }
     ensures { result ≡ blocks.is_misfit block.now size }
@@ -77,7 +78,8 @@ fn is_misfit_of(value: Option<&[u8]>, size: usize) -> bool
     is_misfit(&block, size)
 }
 
-/// A Block option says no block, or the payload of a registration does not fit its Block1 (RFC 7959 sections 2.2 and 2.5).
+/// A Block option says no block, or the payload of a registration does not fit its Block1 (RFC 7959
+/// sections 2.2 and 2.5).
 fn has_bad_block(
     registration: bool,
     block1: Option<&[u8]>,
@@ -86,7 +88,9 @@ fn has_bad_block(
 ) -> bool
     requires block1 { ForSome block1 (λ v. length v.now ≤ 3) }
     requires block2 { ForSome block2 (λ v. length v.now ≤ 3) }
-    ensures { result ≡ has_bad_block registration (option_map (λ v. v.now) block1.entry) (option_map (λ v. v.now) block2.entry) size }
+    ensures { result
+        ≡ has_bad_block registration (option_map (λ v. v.now) block1.entry)
+        (option_map (λ v. v.now) block2.entry) size }
 {
     if says_no_block(block1) {
         return true;
@@ -110,8 +114,6 @@ fn is_other_format(format: Option<u16>) -> bool
 /// The first refusal after that of an unrecognized critical option.
 #[tactic(auto, unfolding(crate::specs::PartRefusals::refusal_of_parts))]
 fn refusal_after_options(meaning: &Meaning<'_>) -> Option<Refusal>
-    requires block1 { ForSome meaning.now.block1 (λ v. length v.now ≤ 3) }
-    requires block2 { ForSome meaning.now.block2 (λ v. length v.now ≤ 3) }
     ensures { result ≡ refusal_of_parts meaning.now.view.code meaning.now.path meaning.now.proxy
         (option_map (λ v. v.now) meaning.now.block1) (option_map (λ v. v.now) meaning.now.block2)
         meaning.now.accept meaning.now.format (length meaning.now.view.payload.now) }
@@ -140,13 +142,17 @@ fn refusal_after_options(meaning: &Meaning<'_>) -> Option<Refusal>
     None
 }
 
-/// What a request means, or why it is refused before its query is looked at: the first of the refusals in the order of
-/// [`Refusal`] (RFC 7252 section 5.9).
+/// What a request means, or why it is refused before its query is looked at: the first of the
+/// refusals in the order of [`Refusal`] (RFC 7252 section 5.9).
 ///
-/// `BadOption(n)`: a critical option is not recognized, and `n` is the number of the first one. `Proxy`: Proxy-Uri or
-/// Proxy-Scheme stands in it. `Path`: its path names no resource. `Method`: the resource does not have its method.
-/// `Block`: Block1 or Block2 has the exponent 7, or it is a registration whose payload does not fit its Block1. `Accept`:
-/// it is a GET that accepts another format than that of link documents. `Format`: it is a registration whose body has
+/// `BadOption(n)`: a critical option is not recognized, and `n` is the number of the first one.
+/// `Proxy`: Proxy-Uri or
+/// Proxy-Scheme stands in it. `Path`: its path names no resource. `Method`: the resource does not
+/// have its method.
+/// `Block`: Block1 or Block2 has the exponent 7, or it is a registration whose payload does not fit
+/// its Block1. `Accept`:
+/// it is a GET that accepts another format than that of link documents. `Format`: it is a
+/// registration whose body has
 /// another format.
 pub fn request<'a>(view: &View<'a>) -> Result<Meaning<'a>, Refusal>
     ensures meaning { IfOk result (λ meaning. IsMeaning (message_in view.now) meaning) }

@@ -22,7 +22,9 @@ pub(crate) enum Segments<'a> {
 
 /// One segment more.
 pub(crate) fn with_segment<'a>(segments: Segments<'a>, segment: &'a [u8]) -> Segments<'a>
-    ensures { (values : List (List ℕ)) → AreSegments segments.entry values → AreSegments result (values ++ segment.now ∷ []) }
+    ensures { (values : List (List ℕ))
+        → AreSegments segments.entry values
+        → AreSegments result (values ++ segment.now ∷ []) }
 {
     match segments {
         Segments::None => Segments::One(segment),
@@ -35,7 +37,9 @@ pub(crate) fn with_segment<'a>(segments: Segments<'a>, segment: &'a [u8]) -> Seg
 /// The resource that they name.
 #[tactic(auto, unfolding(message_model::specs::Request::path_of))]
 pub(crate) fn path_of(segments: Segments<'_>) -> Path
-    ensures { (values : List (List ℕ)) → AreSegments segments.entry values → result ≡ request.path_of values }
+    ensures { (values : List (List ℕ))
+        → AreSegments segments.entry values
+        → result ≡ request.path_of values }
 {
     match segments {
         Segments::None => Path::Other,

@@ -112,7 +112,8 @@ fn has_length(definition: &Definition, size: usize) -> bool
     definition.least <= size && size <= definition.most
 }
 
-/// The table has the option and allows this length, and that it is a further one where it is (RFC 7252 sections 5.4.3 and
+/// The table has the option and allows this length, and that it is a further one where it is (RFC
+/// 7252 sections 5.4.3 and
 /// 5.4.5).
 pub(crate) fn is_recognized(number: u32, is_further: bool, size: usize) -> bool
     ensures { result ≡ table.is_allowed_by (table.definition_of number) is_further size }

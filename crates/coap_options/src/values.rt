@@ -13,14 +13,15 @@ use crate::table::{ETAG, URI_QUERY, is_recognized};
 use coap_message::{Opt, OptionsIter, options_of};
 use rd_base::Pieces;
 
-/// The query options that are left, in order (RFC 7252 section 5.10.1): a contract sees them by `queries_left`. The
-/// readers of parameters and criteria take them as [`Pieces`].
+/// The query options that are left, in order (RFC 7252 section 5.10.1): a contract sees them by
+/// `queries_left`. The readers of parameters and criteria take them as [`Pieces`].
 #[derive(Clone, Copy, Debug)]
 pub struct QueryIter<'a> {
     options: OptionsIter<'a>,
 }
 
-/// The entity tags that are left, in order (RFC 7252 section 5.10.6): a contract sees them by `etags_left`.
+/// The entity tags that are left, in order (RFC 7252 section 5.10.6): a contract sees them by
+/// `etags_left`.
 #[derive(Clone, Copy, Debug)]
 pub struct EtagIter<'a> {
     options: OptionsIter<'a>,
@@ -28,7 +29,10 @@ pub struct EtagIter<'a> {
 
 /// Whether the option has this number, which may be repeated, and is recognized.
 fn is_value(number: u32, option: &Opt<'_>) -> bool
-    ensures { result ≡ (option.now.number == number && is_allowed_by (definition_of number) false (length option.now.value.now)) }
+    ensures { result
+        ≡ (option.now.number
+        == number
+        && is_allowed_by (definition_of number) false (length option.now.value.now)) }
 {
     if option.number != number {
         return false;
@@ -38,7 +42,9 @@ fn is_value(number: u32, option: &Opt<'_>) -> bool
 
 /// The next value of a number that may be repeated, and the options after it.
 fn next_value<'a>(options: OptionsIter<'a>, number: u32) -> Option<(&'a [u8], OptionsIter<'a>)>
-    ensures some { IfSome result (λ x. values_left number (options_left options.entry) ≡ x.0.now ∷ values_left number (options_left x.1)) }
+    ensures some { IfSome result (λ x.
+        values_left number (options_left options.entry)
+        ≡ x.0.now ∷ values_left number (options_left x.1)) }
     ensures none { IfNone result (values_left number (options_left options.entry) ≡ []) }
 {
     let mut left = options;
@@ -50,7 +56,8 @@ fn next_value<'a>(options: OptionsIter<'a>, number: u32) -> Option<(&'a [u8], Op
     None
 }
 
-/// The query options of a message, in order: those that are recognized (RFC 7252 sections 5.4 and 5.10.1).
+/// The query options of a message, in order: those that are recognized (RFC 7252 sections 5.4 and
+/// 5.10.1).
 pub fn queries<'a>(meaning: &Meaning<'a>) -> QueryIter<'a>
     ensures { queries_left result ≡ request.queries_in (message_in meaning.now.view) }
 {
@@ -59,7 +66,8 @@ pub fn queries<'a>(meaning: &Meaning<'a>) -> QueryIter<'a>
     }
 }
 
-/// The entity tags of a message, in order: those that are recognized (RFC 7252 sections 5.4 and 5.10.6).
+/// The entity tags of a message, in order: those that are recognized (RFC 7252 sections 5.4 and
+/// 5.10.6).
 pub fn etags<'a>(meaning: &Meaning<'a>) -> EtagIter<'a>
     ensures { etags_left result ≡ request.etags_in (message_in meaning.now.view) }
 {

@@ -13,20 +13,27 @@ unfolding rebased
 rebased_again base item = refl
 
 -- links that were resolved against a base
-pub against_rebased : (base : List ℕ) (items : List Item) → AreAgainst base (map (rebased base) items)
+pub against_rebased : (base : List ℕ) (items : List Item)
+    → AreAgainst base (map (rebased base) items)
 against_rebased base [] = refl
-against_rebased base (item ∷ items) = ap₂ (λ (x : Item) (xs : List Item). x ∷ xs) (rebased_again base item) (against_rebased base items)
+against_rebased base (item ∷ items) =
+    ap₂ (λ (x : Item) (xs : List Item). x ∷ xs) (rebased_again base item)
+    (against_rebased base items)
 
-made_again : (base : List ℕ) (link : SubmittedLink) → rebased base (item_of base link) ≡ item_of base link
+made_again : (base : List ℕ) (link : SubmittedLink)
+    → rebased base (item_of base link) ≡ item_of base link
 unfolding rebased item_of
 made_again base link = refl
 
 -- links that were submitted, against their base
 against_made : (base : List ℕ) (links : List SubmittedLink) → AreAgainst base (items_of base links)
 against_made base [] = refl
-against_made base (link ∷ links) = ap₂ (λ (x : Item) (xs : List Item). x ∷ xs) (made_again base link) (against_made base links)
+against_made base (link ∷ links) =
+    ap₂ (λ (x : Item) (xs : List Item). x ∷ xs) (made_again base link) (against_made base links)
 
 -- the links of a draft stand against its base
 pub draft_against : (draft : Draft) → IsDraft draft → AreAgainst draft.base draft.items
 unfolding drafted
-draft_against draft h = subst (λ (d : Draft). AreAgainst d.base d.items) (sym h.made) (against_made (registered_base h.params.base h.peer) h.links)
+draft_against draft h =
+    subst (λ (d : Draft). AreAgainst d.base d.items) (sym h.made)
+    (against_made (registered_base h.params.base h.peer) h.links)

@@ -1,8 +1,9 @@
--- Lists of records: in order (InOrderLaws), under their numbers in a map (RecordMapLaws), with one changed (ChangeLaws), slots of their names (SlotLaws), their leases (LeaseLaws), and the index (IndexLaws).
--- Links and the base that they stand against: AgainstLaws.
--- What lapses and what is live: CountLaws, LapsingLaws, SweptLaws, ReadLaws.
--- Versions: without a record (EmptyLaws), with an entry more (FitLaws, RenewLaws, KeptLaws, EntryLaws), and what each change answers (AnswerLaws).
--- Lookups: PageLaws, SeekerLaws, RaceLaws, CandidateLaws, LookupLaws.
+-- Lists of records: in order (InOrderLaws), under their numbers in a map (RecordMapLaws), with one
+-- changed (ChangeLaws), slots of their names (SlotLaws), their leases (LeaseLaws), and the index
+-- (IndexLaws). Links and the base that they stand against: AgainstLaws. What lapses and what is
+-- live: CountLaws, LapsingLaws, SweptLaws, ReadLaws. Versions: without a record (EmptyLaws), with
+-- an entry more (FitLaws, RenewLaws, KeptLaws, EntryLaws), and what each change answers
+-- (AnswerLaws). Lookups: PageLaws, SeekerLaws, RaceLaws, CandidateLaws, LookupLaws.
 pub mod InOrderLaws
 pub mod RecordMapLaws
 pub mod SlotLaws

@@ -1,5 +1,27 @@
 -- Records under their numbers in a map: what is found, put and taken.
-use Rattle.std.proofs.Common.{◌≡◌, ℕ, ◌<◌, ◌==◌, nat_lt, Bool, true, false, not, cond, List, [], ◌∷◌, filter, refl, sym, ap, ◌∙◌, arith, eqb-true, ne_eqb}
+use Rattle.std.proofs.Common.{
+  ◌≡◌,
+  ℕ,
+  ◌<◌,
+  ◌==◌,
+  nat_lt,
+  Bool,
+  true,
+  false,
+  not,
+  cond,
+  List,
+  [],
+  ◌∷◌,
+  filter,
+  refl,
+  sym,
+  ap,
+  ◌∙◌,
+  arith,
+  eqb-true,
+  ne_eqb,
+}
 use Rattle.std.specs.declared.cmp.Ordering.{Ordering}
 use Rattle.std.specs.declared.cmp.Ordering.TheVariants.{Less, Equal, Greater}
 use Rattle.std.specs.Ordering.{MatchOrdering, match_ordering, nat_cmp, is_eq, is_le}
@@ -37,70 +59,120 @@ less_number a b e = less_ranked a b (nat_cmp a b) (ranks a b) e
 
 -- ---- what is found
 
-pub numbered-lookup : (number : ℕ) (es : List (ℕ × Record)) → AreUnderNumbers es → lookup (is_at (nat_cmp number)) es ≡ numbered number (values_of es)
+pub numbered-lookup : (number : ℕ) (es : List (ℕ × Record))
+    → AreUnderNumbers es
+    → lookup (is_at (nat_cmp number)) es ≡ numbered number (values_of es)
 numbered-lookup number [] under = refl
 numbered-lookup number (e ∷ es) under =
-    let here : is_eq (nat_cmp number e.0) ≡ is_numbered number e.1 = at_number number e.0 ∙ ap (λ k. k == number) under.0 in
+    let here : is_eq (nat_cmp number e.0) ≡ is_numbered number e.1 =
+    at_number number e.0 ∙ ap (λ k. k == number) under.0 in
     let more = numbered-lookup number es under.1 in
     rw (here, more) refl
 
 -- ---- what is put
 
-pub values-insert : (r : Record) (es : List (ℕ × Record)) → AreUnderNumbers es → values_of (insert_entry nat_cmp es r.number r) ≡ with_record r (values_of es)
+pub values-insert : (r : Record) (es : List (ℕ × Record))
+    → AreUnderNumbers es
+    → values_of (insert_entry nat_cmp es r.number r) ≡ with_record r (values_of es)
 unfolding with_record
 values-insert r [] under = refl
-values-insert r (e ∷ es) under = by (nat_cmp r.number e.0) (ranks r.number e.0) (values-insert r es under.1)
+values-insert r (e ∷ es) under =
+    by (nat_cmp r.number e.0) (ranks r.number e.0) (values-insert r es under.1)
   where
-    by : (o : Ordering) → MatchOrdering o (r.number < e.0) (r.number ≡ e.0) (e.0 < r.number) → values_of (insert_entry nat_cmp es r.number r) ≡ with_record r (values_of es)
-        → values_of (match_ordering o ((r.number, r) ∷ e ∷ es) ((e.0, r) ∷ es) (e ∷ insert_entry nat_cmp es r.number r))
-        ≡ cond (nat_lt r.number e.1.number) (r ∷ e.1 ∷ values_of es) (cond (r.number == e.1.number) (r ∷ values_of es) (e.1 ∷ with_record r (values_of es)))
-    by Less h more = let same = under.0 in let test : nat_lt r.number e.1.number ≡ true = grind (arith, nat_tests) in rw test refl
-    by Equal h more = let same = under.0 in let low : nat_lt r.number e.1.number ≡ false = grind (arith, nat_tests) in let test : (r.number == e.1.number) ≡ true = grind (arith, nat_tests) in rw (low, test) refl
-    by Greater h more = let same = under.0 in let low : nat_lt r.number e.1.number ≡ false = grind (arith, nat_tests) in let test : (r.number == e.1.number) ≡ false = grind (arith, nat_tests) in rw (low, test) (ap (λ rest. e.1 ∷ rest) more)
+    by : (o : Ordering)
+        → MatchOrdering o (r.number < e.0) (r.number ≡ e.0) (e.0 < r.number)
+        → values_of (insert_entry nat_cmp es r.number r) ≡ with_record r (values_of es)
+        → values_of (match_ordering o ((r.number, r) ∷ e ∷ es) ((e.0, r) ∷ es)
+        (e ∷ insert_entry nat_cmp es r.number r))
+        ≡ cond (nat_lt r.number e.1.number) (r ∷ e.1 ∷ values_of es)
+        (cond (r.number == e.1.number) (r ∷ values_of es) (e.1 ∷ with_record r (values_of es)))
+    by Less h more =
+        let same = under.0 in
+        let test : nat_lt r.number e.1.number ≡ true = grind (arith, nat_tests) in rw test refl
+    by Equal h more =
+        let same = under.0 in
+        let low : nat_lt r.number e.1.number ≡ false = grind (arith, nat_tests) in
+        let test : (r.number == e.1.number) ≡ true = grind (arith, nat_tests) in rw (low, test) refl
+    by Greater h more =
+        let same = under.0 in
+        let low : nat_lt r.number e.1.number ≡ false = grind (arith, nat_tests) in
+        let test : (r.number == e.1.number) ≡ false = grind (arith, nat_tests) in
+        rw (low, test) (ap (λ rest. e.1 ∷ rest) more)
 
-pub under-insert : (r : Record) (es : List (ℕ × Record)) → AreUnderNumbers es → AreUnderNumbers (insert_entry nat_cmp es r.number r)
+pub under-insert : (r : Record) (es : List (ℕ × Record))
+    → AreUnderNumbers es
+    → AreUnderNumbers (insert_entry nat_cmp es r.number r)
 under-insert r [] under = (refl, tt)
-under-insert r (e ∷ es) under = by (nat_cmp r.number e.0) (ranks r.number e.0) (under-insert r es under.1)
+under-insert r (e ∷ es) under =
+    by (nat_cmp r.number e.0) (ranks r.number e.0) (under-insert r es under.1)
   where
-    by : (o : Ordering) → MatchOrdering o (r.number < e.0) (r.number ≡ e.0) (e.0 < r.number) → AreUnderNumbers (insert_entry nat_cmp es r.number r)
-        → AreUnderNumbers (match_ordering o ((r.number, r) ∷ e ∷ es) ((e.0, r) ∷ es) (e ∷ insert_entry nat_cmp es r.number r))
+    by : (o : Ordering)
+        → MatchOrdering o (r.number < e.0) (r.number ≡ e.0) (e.0 < r.number)
+        → AreUnderNumbers (insert_entry nat_cmp es r.number r)
+        → AreUnderNumbers (match_ordering o ((r.number, r) ∷ e ∷ es) ((e.0, r) ∷ es)
+        (e ∷ insert_entry nat_cmp es r.number r))
     by Less h more = (refl, under)
     by Equal h more = (sym h, under.1)
     by Greater h more = (under.0, more)
 
 -- ---- they rise
 
-pub rising-ascending : (es : List (ℕ × Record)) → AreUnderNumbers es → IsAscending nat_cmp es → PairsByRecursion IsBelow (values_of es)
+pub rising-ascending : (es : List (ℕ × Record))
+    → AreUnderNumbers es
+    → IsAscending nat_cmp es
+    → PairsByRecursion IsBelow (values_of es)
 unfolding IsAscending
 rising-ascending [] under up = tt
 rising-ascending (e ∷ es) under up = (
-  each_map (IsBelow e.1) (λ x. x.1) es (each_both (λ x. x.0 ≡ x.1.number) (λ x. nat_cmp e.0 x.0 ≡ Less) (λ x. IsBelow e.1 x.1)
-      (λ x same less. let mine = under.0 in let low = less_number e.0 x.0 less in omega arith) es under.1 up.0),
+  each_map (IsBelow e.1) (λ x. x.1) es
+      (each_both (λ x. x.0 ≡ x.1.number) (λ x. nat_cmp e.0 x.0 ≡ Less) (λ x. IsBelow e.1 x.1)
+      (λ x same less. let mine = under.0 in let low = less_number e.0 x.0 less in omega arith) es
+      under.1 up.0),
   rising-ascending es under.1 up.1,
 )
 
 -- ---- what is taken
 
-pub values-remove : (number : ℕ) (es : List (ℕ × Record)) → AreUnderNumbers es → PairsByRecursion IsBelow (values_of es)
-    → values_of (remove_entry (is_at (nat_cmp number)) es) ≡ filter (λ r. not (is_numbered number r)) (values_of es)
+pub values-remove : (number : ℕ) (es : List (ℕ × Record))
+    → AreUnderNumbers es
+    → PairsByRecursion IsBelow (values_of es)
+    → values_of (remove_entry (is_at (nat_cmp number)) es)
+    ≡ filter (λ r. not (is_numbered number r)) (values_of es)
 values-remove number [] under up = refl
-values-remove number (e ∷ es) under up = by (is_eq (nat_cmp number e.0)) (is_numbered number e.1) (at_number number e.0 ∙ ap (λ k. k == number) under.0) refl (values-remove number es under.1 up.1)
+values-remove number (e ∷ es) under up =
+    by (is_eq (nat_cmp number e.0)) (is_numbered number e.1)
+    (at_number number e.0 ∙ ap (λ k. k == number) under.0) refl
+    (values-remove number es under.1 up.1)
   where
-    by : (b n : Bool) → b ≡ is_numbered number e.1 → is_numbered number e.1 ≡ n → values_of (remove_entry (is_at (nat_cmp number)) es) ≡ filter (λ r. not (is_numbered number r)) (values_of es)
-        → values_of (cond b es (e ∷ remove_entry (is_at (nat_cmp number)) es)) ≡ cond (not n) (e.1 ∷ filter (λ r. not (is_numbered number r)) (values_of es)) (filter (λ r. not (is_numbered number r)) (values_of es))
+    by : (b n : Bool)
+        → b ≡ is_numbered number e.1
+        → is_numbered number e.1 ≡ n
+        → values_of (remove_entry (is_at (nat_cmp number)) es)
+        ≡ filter (λ r. not (is_numbered number r)) (values_of es)
+        → values_of (cond b es (e ∷ remove_entry (is_at (nat_cmp number)) es))
+        ≡ cond (not n) (e.1 ∷ filter (λ r. not (is_numbered number r)) (values_of es))
+        (filter (λ r. not (is_numbered number r)) (values_of es))
     by true true e1 e2 more =
         let here : e.1.number ≡ number = eqb-true e.1.number number e2 in
-        sym (filter_all (λ r. not (is_numbered number r)) (values_of es) (each_weaker (IsBelow e.1) (λ r. not (is_numbered number r) ≡ true)
-        (λ r below. let other : (r.number == number) ≡ false = ne_eqb r.number number (λ same. omega arith) in rw other refl) (values_of es) up.0))
+        sym (filter_all (λ r. not (is_numbered number r)) (values_of es)
+        (each_weaker (IsBelow e.1) (λ r. not (is_numbered number r) ≡ true)
+        (λ r below. let other :
+        (r.number == number) ≡ false =
+        ne_eqb r.number number (λ same. omega arith) in rw other refl) (values_of es)
+        up.0))
     by true false e1 e2 more = absurd cc
     by false true e1 e2 more = absurd cc
     by false false e1 e2 more = ap (λ rest. e.1 ∷ rest) more
 
-pub under-remove : (test : ℕ → Bool) (es : List (ℕ × Record)) → AreUnderNumbers es → AreUnderNumbers (remove_entry test es)
+pub under-remove : (test : ℕ → Bool) (es : List (ℕ × Record))
+    → AreUnderNumbers es
+    → AreUnderNumbers (remove_entry test es)
 under-remove test [] under = tt
 under-remove test (e ∷ es) under = by (test e.0) (under-remove test es under.1)
   where
-    by : (b : Bool) → AreUnderNumbers (remove_entry test es) → AreUnderNumbers (cond b es (e ∷ remove_entry test es))
+    by : (b : Bool)
+        → AreUnderNumbers (remove_entry test es)
+        → AreUnderNumbers (cond b es (e ∷ remove_entry test es))
     by true more = under.1
     by false more = (under.0, more)
 
@@ -108,7 +180,10 @@ under-remove test (e ∷ es) under = by (test e.0) (under-remove test es under.1
 
 -- no number is below 0
 pub from_zero : {X : Type 0} (es : List (ℕ × X)) → entries_from (nat_cmp 0) es ≡ es
-from_zero es = filter_all (λ e. is_le (nat_cmp 0 e.0)) es (each_one (λ e. is_le (nat_cmp 0 e.0) ≡ true) (λ e. by e.0 (nat_cmp 0 e.0) (ranks 0 e.0)) es)
+from_zero es =
+    filter_all (λ e. is_le (nat_cmp 0 e.0)) es
+    (each_one (λ e. is_le (nat_cmp 0 e.0) ≡ true) (λ e. by e.0 (nat_cmp 0 e.0) (ranks 0 e.0))
+    es)
   where
     by : (n : ℕ) (r : Ordering) → MatchOrdering r (0 < n) (0 ≡ n) (n < 0) → is_le r ≡ true
     by n Less h = refl

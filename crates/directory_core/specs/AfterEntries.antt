@@ -1,5 +1,20 @@
 -- A version after an entry, and what it answers where it has no room.
-use Rattle.std.specs.Prelude.{◌≡◌, ⊤, ℕ, ◌+◌, ◌^◌, ◌<◌, ◌≤◌, true, not, List, filter, Result, Ok, Err}
+use Rattle.std.specs.Prelude.{
+  ◌≡◌,
+  ⊤,
+  ℕ,
+  ◌+◌,
+  ◌^◌,
+  ◌<◌,
+  ◌≤◌,
+  true,
+  not,
+  List,
+  filter,
+  Result,
+  Ok,
+  Err,
+}
 use Rattle.std.specs.List.{list_all}
 use Rattle.rd_base.specs.declared.records.Record.{Record}
 use Rattle.record_model.specs.Parameters.{is_base}
@@ -50,9 +65,12 @@ HasRoom text entries (Err (answer.FullCount count)) = ⊥
 
 -- the same of a version that is made where there is room
 abbrev pub IsMadeWithRoom : ℕ → ℕ → Version → Result Version Refusal → Type 0
-IsMadeWithRoom text entries new (Ok version) = (version ≡ new) × (text ≤ max_text) × (entries < max_entries)
-IsMadeWithRoom text entries new (Err (answer.FullText sum)) = (sum ≡ capped text) × (max_text < text)
-IsMadeWithRoom text entries new (Err answer.FullEntries) = (text ≤ max_text) × (max_entries ≤ entries)
+IsMadeWithRoom text entries new (Ok version) =
+    (version ≡ new) × (text ≤ max_text) × (entries < max_entries)
+IsMadeWithRoom text entries new (Err (answer.FullText sum)) =
+    (sum ≡ capped text) × (max_text < text)
+IsMadeWithRoom text entries new (Err answer.FullEntries) =
+    (text ≤ max_text) × (max_entries ≤ entries)
 IsMadeWithRoom text entries new (Err answer.Starved) = ⊤
 IsMadeWithRoom text entries new (Err (answer.Gone number)) = ⊥
 IsMadeWithRoom text entries new (Err (answer.FullCount count)) = ⊥

@@ -9,14 +9,19 @@ use Rattle.registration.specs.Weights.{capped}
 use Rattle.directory_core.specs.declared.refusals.Refusal.{Refusal}
 use Rattle.directory_core.specs.declared.refusals.Refusal.TheVariants as answer
 
--- the answer is the first refusal of the entry, with the number that it names, how many records are live, or what they
--- would weigh; running out of memory has no cause in the history
+-- the answer is the first refusal of the entry, with the number that it names, how many records are
+-- live, or what they would weigh; running out of memory has no cause in the history
 abbrev pub IsRefusalOf : ℕ → List Entry → Entry → Refusal → Type 0
 IsRefusalOf first history entry (answer.Gone number) =
-    (change_refusal first history entry ≡ Some cause.Registration) × (number ≡ number_about (replay history) entry.moment.0 entry.change)
+    (change_refusal first history entry ≡ Some cause.Registration)
+    × (number ≡ number_about (replay history) entry.moment.0 entry.change)
 IsRefusalOf first history entry (answer.FullCount count) =
-    (change_refusal first history entry ≡ Some cause.Registrations) × (count ≡ length (live history entry.moment.0)) × (count ≡ max_registrations)
+    (change_refusal first history entry ≡ Some cause.Registrations)
+    × (count ≡ length (live history entry.moment.0))
+    × (count ≡ max_registrations)
 IsRefusalOf first history entry (answer.FullText text) =
-    (change_refusal first history entry ≡ Some cause.Text) × (text ≡ capped (text_after (replay history) entry))
-IsRefusalOf first history entry answer.FullEntries = change_refusal first history entry ≡ Some cause.Entries
+    (change_refusal first history entry ≡ Some cause.Text)
+    × (text ≡ capped (text_after (replay history) entry))
+IsRefusalOf first history entry answer.FullEntries =
+    change_refusal first history entry ≡ Some cause.Entries
 IsRefusalOf first history entry answer.Starved = ⊤

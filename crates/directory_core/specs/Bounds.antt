@@ -15,7 +15,8 @@ is_of_attributes criterion = not (is_href criterion) && not (is_anchor_criterion
 abbrev pub attribute_criteria : List Criterion → List Criterion
 attribute_criteria criteria = filter is_of_attributes criteria
 
--- the attributes by which a link of a record or its endpoint can match by itself (RFC 9176 section 6.2)
+-- the attributes by which a link of a record or its endpoint can match by itself (RFC 9176 section
+-- 6.2)
 abbrev pub pairs_of : Record → List Pair
 pairs_of r = endpoint_pairs r ++ flat_map (λ item. item.pairs) r.items
 
@@ -26,4 +27,5 @@ record_entries r = entries_of_all (pairs_of r) r.number
 -- these are the entries of the records, each once
 pub record AreEntriesOf (records : List Record) (entries : List Entry) : Type 0 where
   pub once : IsAscending entries
-  pub there : (e : Entry) → has_entry entries e ≡ list_any (λ r. has_entry (record_entries r) e) records
+  pub there : (e : Entry)
+      → has_entry entries e ≡ list_any (λ r. has_entry (record_entries r) e) records

@@ -1,4 +1,5 @@
--- Which entry of a history a change of a version is (RFC 9176 sections 5, 5.3.1 and 5.3.2). The worker is any.
+-- Which entry of a history a change of a version is (RFC 9176 sections 5, 5.3.1 and 5.3.2). The
+-- worker is any.
 use Rattle.std.specs.Prelude.{◌≡◌, ℕ, List}
 use Rattle.rd_base.specs.declared.moments.Moment.{Moment}
 use Rattle.rd_base.specs.declared.parameters.RegParams.{RegParams}
@@ -10,7 +11,8 @@ use Rattle.registration.specs.Drafts.{drafted}
 use Rattle.history_model.specs.declared.entries.Change.TheVariants as kind
 use Rattle.history_model.specs.declared.entries.Entry.{Entry}
 
--- the entry registers this draft at this moment: its parameters and links, from its peer, make the draft
+-- the entry registers this draft at this moment: its parameters and links, from its peer, make the
+-- draft
 pub record IsRegistrationOf (now : Moment) (draft : Draft) (entry : Entry) : Type 0 where
   pub params : RegParams
   pub links : List SubmittedLink
@@ -18,8 +20,10 @@ pub record IsRegistrationOf (now : Moment) (draft : Draft) (entry : Entry) : Typ
   pub change : entry.change ≡ kind.Register params links
   pub made : draft ≡ drafted entry.peer params links
 
--- the entry updates the registration of this number with what is given, at this moment and from this peer
-pub record IsUpdateOf (now : Moment) (number : ℕ) (given : UpdateParams) (peer : Peer) (entry : Entry) : Type 0 where
+-- the entry updates the registration of this number with what is given, at this moment and from
+-- this peer
+pub record IsUpdateOf (now : Moment) (number : ℕ) (given : UpdateParams) (peer : Peer)
+    (entry : Entry) : Type 0 where
   pub moment : entry.moment ≡ now
   pub source : entry.peer ≡ peer
   pub change : entry.change ≡ kind.Update number given

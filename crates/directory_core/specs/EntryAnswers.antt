@@ -6,8 +6,10 @@ use Rattle.history_model.specs.Versions.{Version, VersionStandsFor}
 use Rattle.directory_core.specs.declared.refusals.Refusal.{Refusal}
 use Rattle.directory_core.specs.Answers.{IsRefusalOf}
 
--- an entry after a history: the version that is made stands for the history with it, or the answer is its first refusal
-pub record AnswersEntry (first : ℕ) (history : List Entry) (entry : Entry) (swept : ℕ) (answer : Result Version Refusal) : Type 0 where
+-- an entry after a history: the version that is made stands for the history with it, or the answer
+-- is its first refusal
+pub record AnswersEntry (first : ℕ) (history : List Entry) (entry : Entry) (swept : ℕ)
+    (answer : Result Version Refusal) : Type 0 where
   pub stands : IfOk answer (λ version. VersionStandsFor first (history ++ entry ∷ []) version)
   pub accepted : OnOk answer (change_refusal first history entry ≡ None)
   pub refused : IfErr answer (λ refusal. IsRefusalOf first history entry refusal)

@@ -3,9 +3,11 @@ use Rattle.std.specs.Prelude.{ℕ, Bool, ◌&&◌, ◌||◌, ◌==◌, nat_lt, L
 use Rattle.rd_base.specs.declared.records.Record.{Record}
 use Rattle.history_model.specs.Leases.{lapse}
 
--- a record stands before another: by a number of each, and where these are equal by the numbers of the records
+-- a record stands before another: by a number of each, and where these are equal by the numbers of
+-- the records
 abbrev pub stands_before : (Record → ℕ) → Record → Record → Bool
-stands_before key r other = nat_lt (key r) (key other) || ((key r == key other) && nat_lt r.number other.number)
+stands_before key r other =
+    nat_lt (key r) (key other) || ((key r == key other) && nat_lt r.number other.number)
 
 -- records with one more, before the first that it stands before
 unfoldable pub placed : (Record → ℕ) → Record → List Record → List Record

@@ -12,4 +12,5 @@ with_lapsing from (Some r) others = if nat_lt from (lapse r) then r ∷ others e
 -- the records of these numbers that lapse after a moment
 unfoldable pub lapsing_left : ℕ → List Record → List ℕ → List Record
 lapsing_left from records [] = []
-lapsing_left from records (n ∷ numbers) = with_lapsing from (numbered n records) (lapsing_left from records numbers)
+lapsing_left from records (n ∷ numbers) =
+    with_lapsing from (numbered n records) (lapsing_left from records numbers)

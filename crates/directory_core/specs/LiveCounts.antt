@@ -11,12 +11,17 @@ use Rattle.directory_core.specs.declared.counts.Counts.{Counts}
 abbrev pub counts_of : List Record → Counts
 counts_of records = record { live = length records; text = text_of records }
 
--- counts of records that were live at a moment, without one that has lapsed since, where it was live
+-- counts of records that were live at a moment, without one that has lapsed since, where it was
+-- live
 abbrev pub without_lapse : ℕ → Counts → Option Record → Counts
 without_lapse from counts None = counts
-without_lapse from counts (Some r) = if is_live_at from r then record { live = counts.live - 1; text = counts.text - weight r } else counts
+without_lapse from counts (Some r) =
+    if is_live_at from r
+    then record { live = counts.live - 1; text = counts.text - weight r }
+    else counts
 
 -- the counts without those of the records that have these numbers
 unfoldable pub without_lapses : ℕ → List Record → Counts → List ℕ → Counts
 without_lapses from records counts [] = counts
-without_lapses from records counts (n ∷ numbers) = without_lapses from records (without_lapse from counts (numbered n records)) numbers
+without_lapses from records counts (n ∷ numbers) =
+    without_lapses from records (without_lapse from counts (numbered n records)) numbers

@@ -1,5 +1,27 @@
 -- The numbers of records by the hashes of their names.
-use Rattle.std.specs.Prelude.{ℕ, ◌*◌, ◌%◌, ◌^◌, ◌==◌, Bool, ◌&&◌, ◌||◌, nat_lt, nat_le, bit_xor, List, [], ◌∷◌, map, filter, fold, Option, Some, None, if◌then◌else◌}
+use Rattle.std.specs.Prelude.{
+  ℕ,
+  ◌*◌,
+  ◌%◌,
+  ◌^◌,
+  ◌==◌,
+  Bool,
+  ◌&&◌,
+  ◌||◌,
+  nat_lt,
+  nat_le,
+  bit_xor,
+  List,
+  [],
+  ◌∷◌,
+  map,
+  filter,
+  fold,
+  Option,
+  Some,
+  None,
+  if◌then◌else◌,
+}
 use Rattle.rd_base.specs.declared.records.Name.{Name}
 use Rattle.rd_base.specs.declared.records.Record.{Record}
 use Rattle.history_model.specs.Replay.{is_live_named, numbered}
@@ -50,11 +72,13 @@ record_or None other = other
 unfoldable pub first_live_named : List Record → Name → ℕ → List ℕ → Option Record
 first_live_named records name moment [] = None
 first_live_named records name moment (n ∷ numbers) =
-    record_or (if_live_named name moment (numbered n records)) (first_live_named records name moment numbers)
+    record_or (if_live_named name moment (numbered n records))
+    (first_live_named records name moment numbers)
 
 -- a slot stands before another
 abbrev pub slot_before : NameSlot → NameSlot → Bool
-slot_before s other = nat_lt s.hash other.hash || ((s.hash == other.hash) && nat_lt s.number other.number)
+slot_before s other =
+    nat_lt s.hash other.hash || ((s.hash == other.hash) && nat_lt s.number other.number)
 
 -- they are one slot
 abbrev pub same_slot : NameSlot → NameSlot → Bool
@@ -63,7 +87,10 @@ same_slot s other = (s.hash == other.hash) && (s.number == other.number)
 -- the slots with one more
 unfoldable pub with_slot : NameSlot → List NameSlot → List NameSlot
 with_slot s [] = s ∷ []
-with_slot s (x ∷ slots) = if slot_before s x then s ∷ x ∷ slots else (if same_slot s x then x ∷ slots else x ∷ with_slot s slots)
+with_slot s (x ∷ slots) =
+    if slot_before s x
+    then s ∷ x ∷ slots
+    else (if same_slot s x then x ∷ slots else x ∷ with_slot s slots)
 
 -- the slots without one
 unfoldable pub without_slot : NameSlot → List NameSlot → List NameSlot

@@ -10,4 +10,7 @@ AreUnderNumbers pairs = AllByRecursion (λ p. p.0 ≡ p.1.number) pairs
 -- the records with one more, which takes the place of that of its number where there is one
 unfoldable pub with_record : Record → List Record → List Record
 with_record r [] = r ∷ []
-with_record r (x ∷ xs) = if nat_lt r.number x.number then r ∷ x ∷ xs else (if r.number == x.number then r ∷ xs else x ∷ with_record r xs)
+with_record r (x ∷ xs) =
+    if nat_lt r.number x.number
+    then r ∷ x ∷ xs
+    else (if r.number == x.number then r ∷ xs else x ∷ with_record r xs)

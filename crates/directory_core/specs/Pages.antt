@@ -1,4 +1,5 @@
--- Pages of listings while they are written, and the lines that live records give to them (RFC 9176 section 6).
+-- Pages of listings while they are written, and the lines that live records give to them (RFC 9176
+-- section 6).
 use Rattle.std.specs.Prelude.{ℕ, List, [], Option, Some, None, if◌then◌else◌}
 use Rattle.std.specs.List.{flat_map}
 use Rattle.rd_base.specs.declared.queries.Query.{Query}
@@ -28,4 +29,5 @@ live_lines query moment records = flat_map (live_part query moment) records
 
 -- the lines that the records of these numbers give, one after another
 unfoldable pub numbered_lines : Query → ℕ → List Record → List ℕ → List (List ℕ)
-numbered_lines query moment records numbers = flat_map (λ n. live_part_or_none query moment (numbered n records)) numbers
+numbered_lines query moment records numbers =
+    flat_map (λ n. live_part_or_none query moment (numbered n records)) numbers

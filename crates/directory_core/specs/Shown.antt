@@ -15,7 +15,8 @@ use Rattle.directory_core.specs.LapseOrder.{in_order_of_lapse}
 use Rattle.directory_core.specs.LinksAgainst.{AreAgainst}
 use Rattle.directory_core.specs.NameSlots.{slots_of}
 
--- the moment at which the live records of a version were counted: that of its last entry or of its last sweep, the later one
+-- the moment at which the live records of a version were counted: that of its last entry or of its
+-- last sweep, the later one
 abbrev pub counted_at : Version → ℕ
 counted_at v = max v.at v.swept
 
@@ -37,9 +38,10 @@ lease_of r = record { lapse = record { 0 = lapse r }; number = r.number }
 abbrev pub leases_of : List Record → List Lease
 leases_of records = map lease_of (in_order_of_lapse records)
 
--- what a version keeps beside its records fits them: their leases, and how many were live and what they weighed when they
--- were counted; and no more are live, weigh more or were counted than may
-pub record IsKept (v : Version) (names : List NameSlot) (leases : List Lease) (count sum : ℕ) : Type 0 where
+-- what a version keeps beside its records fits them: their leases, and how many were live and what
+-- they weighed when they were counted; and no more are live, weigh more or were counted than may
+pub record IsKept (v : Version) (names : List NameSlot) (leases : List Lease) (count sum : ℕ) : Type
+    0 where
   pub rising : PairsByRecursion IsBelow v.records
   pub stored : AllByRecursion (IsStored v) v.records
   pub named : names ≡ slots_of v.records

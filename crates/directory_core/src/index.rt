@@ -22,7 +22,7 @@ fn pair_of(alloc: Global, name: &str, value: &Text) -> Result<Pair, Starved>
     ensures { IfOk result (λ pair. pair ≡ record { name = name.now; value = value.now }) }
 {
     let name = Text::copy_of(alloc, name)?;
-    let value = value.copy(alloc)?;
+    let value = value.clone()?;
     Ok(Pair { name, value })
 }
 

@@ -41,7 +41,7 @@ fn base_after(alloc: Global, given: Option<Text>, old: &Record, peer: Peer) -> R
         Some(base) => Ok(base),
         None => {
             if old.base_given {
-                return old.base.copy(alloc);
+                return Ok(old.base.clone()?);
             }
             base_of_peer(alloc, peer)
         }
@@ -65,7 +65,7 @@ fn left_of(alloc: Global, given: &[Pair], old: &[Pair]) -> Result<Vec<Pair>, Sta
     let mut left = Vec::new(alloc);
     'pairs: for pair in old {
         if !is_replaced(given, pair) {
-            left.push(pair.copy(alloc)?)?;
+            left.push(pair.clone()?)?;
         }
     }
     Ok(left)
@@ -129,7 +129,7 @@ pub(crate) fn updated_draft(
     let base = base_after(alloc, base, old, peer)?;
     let (items, links) = items_against(alloc, old, &base)?;
     let attrs = attributes_after(alloc, attrs, &old.attrs)?;
-    let name = old.name.copy(alloc)?;
+    let name = old.name.clone()?;
     let draft = Draft {
         name,
         lt: lt.unwrap_or(old.lt),

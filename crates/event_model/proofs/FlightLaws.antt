@@ -1,6 +1,36 @@
--- The notice in flight to an observer with one event more, by what that notes: it is formed, sent again, acknowledged, or left as it is.
--- Those of observers that are added or removed, of the notes of a row, and of octets are end theorems, for what keeps the events of a journal: nothing here cites them.
-use Rattle.std.proofs.Common.{◌≡◌, ℕ, ◌+◌, ◌*◌, ◌^◌, suc, Bool, true, false, ◌||◌, cond, List, [], ◌∷◌, length, filter, Option, Some, None, option_map, option_and_then, refl, sym, ap, ◌∙◌, arith, mul_assoc}
+-- The notice in flight to an observer with one event more, by what that notes: it is formed, sent
+-- again, acknowledged, or left as it is. Those of observers that are added or removed, of the notes
+-- of a row, and of octets are end theorems, for what keeps the events of a journal: nothing here
+-- cites them.
+use Rattle.std.proofs.Common.{
+  ◌≡◌,
+  ℕ,
+  ◌+◌,
+  ◌*◌,
+  ◌^◌,
+  suc,
+  Bool,
+  true,
+  false,
+  ◌||◌,
+  cond,
+  List,
+  [],
+  ◌∷◌,
+  length,
+  filter,
+  Option,
+  Some,
+  None,
+  option_map,
+  option_and_then,
+  refl,
+  sym,
+  ap,
+  ◌∙◌,
+  arith,
+  mul_assoc,
+}
 use Rattle.std.specs.List.{list_any}
 use Rattle.std.proofs.Math.Nat.{pow-suc}
 use Rattle.rd_base.specs.declared.peers.Peer.{Peer}
@@ -10,7 +40,22 @@ use Rattle.event_model.specs.declared.notes.Observer.{Observer}
 use Rattle.event_model.specs.Same.{is_same_request}
 use Rattle.event_model.specs.Events.{Event, noted, last_event, has_event, events_since}
 use Rattle.event_model.specs.Observers.{name_of}
-use Rattle.event_model.specs.Flights.{first_wait, Retransmission, retransmission, Sent, OctetsSent, is_forming_for, notice_mid, is_landing_of, is_again_of, Flight, flight_after, flight, notice_sent, waiting_notice}
+use Rattle.event_model.specs.Flights.{
+  first_wait,
+  Retransmission,
+  retransmission,
+  Sent,
+  OctetsSent,
+  is_forming_for,
+  notice_mid,
+  is_landing_of,
+  is_again_of,
+  Flight,
+  flight_after,
+  flight,
+  notice_sent,
+  waiting_notice,
+}
 use Rattle.event_model.proofs.NotedLaws.{event_at}
 use Rattle.event_model.proofs.AsideLaws.{notes_aside}
 
@@ -32,7 +77,8 @@ unless_landed false f = Some f
 
 -- a notice in flight to a peer with one event more that forms nothing for its observer
 abbrev pub flight_with : Peer → Event → Flight → Option Flight
-flight_with peer e f = unless_landed (is_landing_of peer f.mid e.note) (with_again (is_again_of peer f.mid e.note) e f)
+flight_with peer e f =
+    unless_landed (is_landing_of peer f.mid e.note) (with_again (is_again_of peer f.mid e.note) e f)
 
 -- the note is about notices in flight
 abbrev pub about_flights : Note → Bool
@@ -44,25 +90,44 @@ about_flights _ = false
 -- ---- one event more
 
 -- one that forms a body for the observer: its notice, where it is one
-pub flight-formed : (o : Observer) (e : Event) (before : List Event) → is_forming_for (name_of o) e.note ≡ true → flight o (e ∷ before) ≡ option_map (flight_formed e) (notice_mid e.note)
+pub flight-formed : (o : Observer) (e : Event) (before : List Event)
+    → is_forming_for (name_of o) e.note ≡ true
+    → flight o (e ∷ before) ≡ option_map (flight_formed e) (notice_mid e.note)
 unfolding flight events_since
 flight-formed o e before forms = rw forms (by (notice_mid e.note))
   where
-    by : (mid : Option ℕ) → option_and_then (flight_after o.peer e []) mid ≡ option_map (flight_formed e) mid
+    by : (mid : Option ℕ)
+        → option_and_then (flight_after o.peer e []) mid ≡ option_map (flight_formed e) mid
     by None = refl
     by (Some mid) = refl
 
 -- one that forms none for it: the notice that was in flight, unless that was acknowledged
-pub flight-unformed : (o : Observer) (e : Event) (before : List Event) → is_forming_for (name_of o) e.note ≡ false → flight o (e ∷ before) ≡ option_and_then (flight_with o.peer e) (flight o before)
+pub flight-unformed : (o : Observer) (e : Event) (before : List Event)
+    → is_forming_for (name_of o) e.note ≡ false
+    → flight o (e ∷ before) ≡ option_and_then (flight_with o.peer e) (flight o before)
 unfolding flight events_since
-flight-unformed o e before quiet = rw quiet (formed (last_event (is_forming_for (name_of o)) before))
+flight-unformed o e before quiet =
+    rw quiet (formed (last_event (is_forming_for (name_of o)) before))
   where
     later : List Event
     later = events_since (is_forming_for (name_of o)) before
 
     sent : (x : Event) (mid : ℕ) (landed again before_landed : Bool)
-        → cond (landed || before_landed) None (Some (record { mid = mid; formed = x; again = cond again (e ∷ filter (λ y. is_again_of o.peer mid y.note) later) (filter (λ y. is_again_of o.peer mid y.note) later) }))
-        ≡ option_and_then (λ (f : Flight). unless_landed landed (with_again again e f)) (cond before_landed None (Some (record { mid = mid; formed = x; again = filter (λ y. is_again_of o.peer mid y.note) later })))
+        → cond (landed || before_landed) None
+        (Some (record {
+          mid = mid;
+          formed = x;
+          again = cond again
+              (e ∷ filter (λ y. is_again_of o.peer mid y.note) later)
+              (filter (λ y. is_again_of o.peer mid y.note) later);
+        }))
+        ≡ option_and_then (λ (f : Flight). unless_landed landed (with_again again e f))
+        (cond before_landed None (Some (record {
+          mid = mid;
+          formed = x;
+          again = filter (λ y. is_again_of o.peer mid y.note)
+              later;
+        })))
     sent x mid true again true = refl
     sent x mid true again false = refl
     sent x mid false again true = refl
@@ -70,66 +135,118 @@ flight-unformed o e before quiet = rw quiet (formed (last_event (is_forming_for 
     sent x mid false false false = refl
 
     same : (x : Event) (mid : ℕ) (found : Bool)
-        → option_and_then (flight_with o.peer e) (cond found None (Some (record { mid = mid; formed = x; again = filter (λ y. is_again_of o.peer mid y.note) later })))
-        ≡ option_and_then (λ (f : Flight). unless_landed (is_landing_of o.peer mid e.note) (with_again (is_again_of o.peer mid e.note) e f)) (cond found None (Some (record { mid = mid; formed = x; again = filter (λ y. is_again_of o.peer mid y.note) later })))
+        → option_and_then (flight_with o.peer e) (cond found None (Some (record {
+          mid = mid;
+          formed = x;
+          again = filter (λ y. is_again_of o.peer mid y.note)
+              later;
+        })))
+        ≡ option_and_then (λ (f : Flight).
+        unless_landed (is_landing_of o.peer mid e.note)
+        (with_again (is_again_of o.peer mid e.note) e f))
+        (cond found None (Some (record {
+          mid = mid;
+          formed = x;
+          again = filter (λ y. is_again_of o.peer mid y.note)
+              later;
+        })))
     same x mid true = refl
     same x mid false = refl
 
-    with_mid : (x : Event) (mid : Option ℕ) → option_and_then (flight_after o.peer x (e ∷ later)) mid ≡ option_and_then (flight_with o.peer e) (option_and_then (flight_after o.peer x later) mid)
+    with_mid : (x : Event) (mid : Option ℕ)
+        → option_and_then (flight_after o.peer x (e ∷ later)) mid
+        ≡ option_and_then (flight_with o.peer e)
+        (option_and_then (flight_after o.peer x later) mid)
     with_mid x None = refl
     with_mid x (Some mid) =
-        sent x mid (is_landing_of o.peer mid e.note) (is_again_of o.peer mid e.note) (has_event (is_landing_of o.peer mid) later)
+        sent x mid (is_landing_of o.peer mid e.note) (is_again_of o.peer mid e.note)
+        (has_event (is_landing_of o.peer mid) later)
         ∙ sym (same x mid (has_event (is_landing_of o.peer mid) later))
 
-    formed : (last : Option Event) → option_and_then (λ x. option_and_then (flight_after o.peer x (e ∷ later)) (notice_mid x.note)) last
-        ≡ option_and_then (flight_with o.peer e) (option_and_then (λ x. option_and_then (flight_after o.peer x later) (notice_mid x.note)) last)
+    formed : (last : Option Event)
+        → option_and_then
+        (λ x. option_and_then (flight_after o.peer x (e ∷ later)) (notice_mid x.note)) last
+        ≡ option_and_then (flight_with o.peer e) (option_and_then
+        (λ x. option_and_then (flight_after o.peer x later) (notice_mid x.note)) last)
     formed None = refl
     formed (Some x) = with_mid x (notice_mid x.note)
 
 -- ---- by its note
 
 -- a notice for the observer, or a body that an answer carries
-pub flight-Formed : (o : Observer) (place moment word : ℕ) (peer : Peer) (token body : List ℕ) (mid : Option ℕ) (before : List Event) → is_same_request (peer, token) (name_of o) ≡ true
-    → flight o (event_at place moment word (note.Formed peer token body mid) ∷ before) ≡ option_map (flight_formed (event_at place moment word (note.Formed peer token body mid))) mid
-flight-Formed o place moment word peer token body mid before same = flight-formed o (event_at place moment word (note.Formed peer token body mid)) before same
+pub flight-Formed : (o : Observer) (place moment word : ℕ) (peer : Peer) (token body : List ℕ)
+    (mid : Option ℕ) (before : List Event)
+    → is_same_request (peer, token) (name_of o) ≡ true
+    → flight o (event_at place moment word (note.Formed peer token body mid) ∷ before)
+    ≡ option_map (flight_formed (event_at place moment word (note.Formed peer token body mid)))
+    mid
+flight-Formed o place moment word peer token body mid before same =
+    flight-formed o (event_at place moment word (note.Formed peer token body mid)) before same
 
 -- what is neither changes nothing
-none_changed : (peer : Peer) (e : Event) → ((mid : ℕ) → is_landing_of peer mid e.note ≡ false) → ((mid : ℕ) → is_again_of peer mid e.note ≡ false) → (f : Option Flight) → option_and_then (flight_with peer e) f ≡ f
+none_changed : (peer : Peer) (e : Event)
+    → ((mid : ℕ) → is_landing_of peer mid e.note ≡ false)
+    → ((mid : ℕ) → is_again_of peer mid e.note ≡ false)
+    → (f : Option Flight)
+    → option_and_then (flight_with peer e) f ≡ f
 none_changed peer e lands again None = refl
 none_changed peer e lands again (Some f) = rw (lands f.mid) (rw (again f.mid) refl)
 
 -- a body for another observer
-pub flight-Formed_other : (o : Observer) (place moment word : ℕ) (peer : Peer) (token body : List ℕ) (mid : Option ℕ) (before : List Event) → is_same_request (peer, token) (name_of o) ≡ false
-    → flight o (event_at place moment word (note.Formed peer token body mid) ∷ before) ≡ flight o before
+pub flight-Formed_other : (o : Observer) (place moment word : ℕ) (peer : Peer) (token body : List ℕ)
+    (mid : Option ℕ) (before : List Event)
+    → is_same_request (peer, token) (name_of o) ≡ false
+    → flight o (event_at place moment word (note.Formed peer token body mid) ∷ before)
+    ≡ flight o before
 flight-Formed_other o place moment word peer token body mid before other =
     flight-unformed o (event_at place moment word (note.Formed peer token body mid)) before other
-    ∙ none_changed o.peer (event_at place moment word (note.Formed peer token body mid)) (λ m. refl) (λ m. refl) (flight o before)
+    ∙ none_changed o.peer (event_at place moment word (note.Formed peer token body mid)) (λ m. refl)
+    (λ m. refl) (flight o before)
 
 -- a notice that is sent again: the one in flight, where it has this peer and Message ID
-pub flight-Again : (o : Observer) (place moment word : ℕ) (peer : Peer) (mid : ℕ) (before : List Event)
+pub flight-Again : (o : Observer) (place moment word : ℕ) (peer : Peer) (mid : ℕ)
+    (before : List Event)
     → flight o (event_at place moment word (note.Again peer mid) ∷ before)
-    ≡ option_map (λ f. with_again (is_again_of o.peer f.mid (note.Again peer mid)) (event_at place moment word (note.Again peer mid)) f) (flight o before)
-flight-Again o place moment word peer mid before = flight-unformed o (event_at place moment word (note.Again peer mid)) before refl ∙ by (flight o before)
+    ≡ option_map (λ f.
+    with_again (is_again_of o.peer f.mid (note.Again peer mid))
+    (event_at place moment word (note.Again peer mid)) f) (flight o before)
+flight-Again o place moment word peer mid before =
+    flight-unformed o (event_at place moment word (note.Again peer mid)) before refl
+    ∙ by (flight o before)
   where
-    by : (f : Option Flight) → option_and_then (flight_with o.peer (event_at place moment word (note.Again peer mid))) f
-        ≡ option_map (λ x. with_again (is_again_of o.peer x.mid (note.Again peer mid)) (event_at place moment word (note.Again peer mid)) x) f
+    by : (f : Option Flight)
+        → option_and_then (flight_with o.peer (event_at place moment word (note.Again peer mid))) f
+        ≡ option_map (λ x.
+        with_again (is_again_of o.peer x.mid (note.Again peer mid))
+        (event_at place moment word (note.Again peer mid)) x) f
     by None = refl
     by (Some f) = refl
 
 -- a notice that is acknowledged: the one in flight, where it has this peer and Message ID
-pub flight-Landed : (o : Observer) (place moment word : ℕ) (peer : Peer) (mid : ℕ) (before : List Event)
-    → flight o (event_at place moment word (note.Landed peer mid) ∷ before) ≡ option_and_then (λ f. unless_landed (is_landing_of o.peer f.mid (note.Landed peer mid)) f) (flight o before)
-flight-Landed o place moment word peer mid before = flight-unformed o (event_at place moment word (note.Landed peer mid)) before refl ∙ by (flight o before)
+pub flight-Landed : (o : Observer) (place moment word : ℕ) (peer : Peer) (mid : ℕ)
+    (before : List Event)
+    → flight o (event_at place moment word (note.Landed peer mid) ∷ before)
+    ≡ option_and_then (λ f. unless_landed (is_landing_of o.peer f.mid (note.Landed peer mid)) f)
+    (flight o before)
+flight-Landed o place moment word peer mid before =
+    flight-unformed o (event_at place moment word (note.Landed peer mid)) before refl
+    ∙ by (flight o before)
   where
-    by : (f : Option Flight) → option_and_then (flight_with o.peer (event_at place moment word (note.Landed peer mid))) f ≡ option_and_then (λ x. unless_landed (is_landing_of o.peer x.mid (note.Landed peer mid)) x) f
+    by : (f : Option Flight)
+        → option_and_then (flight_with o.peer (event_at place moment word (note.Landed peer mid))) f
+        ≡ option_and_then
+        (λ x. unless_landed (is_landing_of o.peer x.mid (note.Landed peer mid)) x) f
     by None = refl
     by (Some f) = refl
 
 -- any other note leaves it; an observer that is removed or replaced too
-pub flight-quiet : (o : Observer) (e : Event) (before : List Event) → about_flights e.note ≡ false → flight o (e ∷ before) ≡ flight o before
+pub flight-quiet : (o : Observer) (e : Event) (before : List Event)
+    → about_flights e.note ≡ false
+    → flight o (e ∷ before) ≡ flight o before
 flight-quiet o e before other =
     flight-unformed o e before (by e.note other)
-    ∙ none_changed o.peer e (λ mid. lands mid e.note other) (λ mid. again mid e.note other) (flight o before)
+    ∙ none_changed o.peer e (λ mid. lands mid e.note other) (λ mid. again mid e.note other)
+    (flight o before)
   where
     by : (n : Note) → about_flights n ≡ false → is_forming_for (name_of o) n ≡ false
     by (note.Formed peer token body mid) h = absurd cc
@@ -143,16 +260,24 @@ flight-quiet o e before other =
     again mid (note.Again peer m) h = absurd cc
     again mid _ h = refl
 
-pub flight-Watched : (o : Observer) (place moment word : ℕ) (added : Observer) (before : List Event) → flight o (event_at place moment word (note.Watched added) ∷ before) ≡ flight o before
-flight-Watched o place moment word added before = flight-quiet o (event_at place moment word (note.Watched added)) before refl
+pub flight-Watched : (o : Observer) (place moment word : ℕ) (added : Observer) (before : List Event)
+    → flight o (event_at place moment word (note.Watched added) ∷ before) ≡ flight o before
+flight-Watched o place moment word added before =
+    flight-quiet o (event_at place moment word (note.Watched added)) before refl
 
-pub flight-Unwatched : (o : Observer) (place moment word : ℕ) (peer : Peer) (token : List ℕ) (before : List Event) → flight o (event_at place moment word (note.Unwatched peer token) ∷ before) ≡ flight o before
-flight-Unwatched o place moment word peer token before = flight-quiet o (event_at place moment word (note.Unwatched peer token)) before refl
+pub flight-Unwatched : (o : Observer) (place moment word : ℕ) (peer : Peer) (token : List ℕ)
+    (before : List Event)
+    → flight o (event_at place moment word (note.Unwatched peer token) ∷ before) ≡ flight o before
+flight-Unwatched o place moment word peer token before =
+    flight-quiet o (event_at place moment word (note.Unwatched peer token)) before refl
 
 -- the notes of a row, none of which is about notices in flight
-pub flight-noted : (o : Observer) (place moment word : ℕ) (notes : List Note) (before : List Event) → list_any about_flights notes ≡ false → flight o (noted place moment word notes before) ≡ flight o before
+pub flight-noted : (o : Observer) (place moment word : ℕ) (notes : List Note) (before : List Event)
+    → list_any about_flights notes ≡ false
+    → flight o (noted place moment word notes before) ≡ flight o before
 flight-noted o place moment word notes before none =
-    notes_aside about_flights (λ past. flight o past ≡ flight o before) (λ e past other h. flight-quiet o e past other ∙ h) place moment word notes before none refl
+    notes_aside about_flights (λ past. flight o past ≡ flight o before)
+    (λ e past other h. flight-quiet o e past other ∙ h) place moment word notes before none refl
 
 -- ---- as a message that waits
 
@@ -161,97 +286,169 @@ abbrev pub resent_at : ℕ → Retransmission → Retransmission
 resent_at moment r = record { sent = moment; wait = r.wait * 2; again = r.again + 1 }
 
 -- what waits of a message that one event more sends again
-pub retransmission-again : (first e : Event) (again : List Event) → retransmission first (e ∷ again) ≡ resent_at e.moment (retransmission first again)
-retransmission-again first e again = by (first_wait first.word * 2 ^ suc (length again)) (suc (length again)) (twice (first_wait first.word) (length again)) (omega arith)
+pub retransmission-again : (first e : Event) (again : List Event)
+    → retransmission first (e ∷ again) ≡ resent_at e.moment (retransmission first again)
+retransmission-again first e again =
+    by (first_wait first.word * 2 ^ suc (length again)) (suc (length again))
+    (twice (first_wait first.word) (length again)) (omega arith)
   where
     twice : (w n : ℕ) → w * 2 ^ suc n ≡ w * 2 ^ n * 2
     twice w n = ap (λ k. w * k) (pow-suc 2 n) ∙ sym (mul_assoc w (2 ^ n) 2)
 
-    by : (wait count : ℕ) → wait ≡ first_wait first.word * 2 ^ length again * 2 → count ≡ length again + 1 → ◌≡◌ {A = Retransmission} (record { sent = e.moment; wait = wait; again = count }) (resent_at e.moment (retransmission first again))
+    by : (wait count : ℕ)
+        → wait ≡ first_wait first.word * 2 ^ length again * 2
+        → count ≡ length again + 1
+        → ◌≡◌ {A = Retransmission} (record { sent = e.moment; wait = wait; again = count })
+        (resent_at e.moment (retransmission first again))
     by wait count one two = rw one (rw two refl)
 
 -- what waits of a notice that was just formed
 abbrev pub sent_first : OctetsSent → Peer → Event → ℕ → Sent
-sent_first octets peer e mid = record { mid = mid; octets = octets e.place peer mid; resend = record { sent = e.moment; wait = first_wait e.word; again = 0 } }
+sent_first octets peer e mid = record {
+  mid = mid;
+  octets = octets e.place peer mid;
+  resend = record { sent = e.moment; wait = first_wait e.word; again = 0 };
+}
 
-pub notice_sent-formed : (octets : OctetsSent) (peer : Peer) (e : Event) (mid : ℕ) → notice_sent octets peer (flight_formed e mid) ≡ sent_first octets peer e mid
+pub notice_sent-formed : (octets : OctetsSent) (peer : Peer) (e : Event) (mid : ℕ)
+    → notice_sent octets peer (flight_formed e mid) ≡ sent_first octets peer e mid
 notice_sent-formed octets peer e mid = by (first_wait e.word * 2 ^ 0) (omega arith)
   where
-    by : (wait : ℕ) → wait ≡ first_wait e.word → ◌≡◌ {A = Sent} (record { mid = mid; octets = octets e.place peer mid; resend = record { sent = e.moment; wait = wait; again = 0 } }) (sent_first octets peer e mid)
+    by : (wait : ℕ)
+        → wait ≡ first_wait e.word
+        → ◌≡◌ {A = Sent} (record {
+          mid = mid;
+          octets = octets e.place peer mid;
+          resend = record
+              { sent = e.moment; wait = wait; again = 0 };
+        }) (sent_first octets peer e mid)
     by wait same = rw same refl
 
 -- and of one that is sent again
 abbrev pub sent_with : Bool → ℕ → Sent → Sent
-sent_with true moment waits = record { mid = waits.mid; octets = waits.octets; resend = resent_at moment waits.resend }
+sent_with true moment waits = record {
+  mid = waits.mid;
+  octets = waits.octets;
+  resend = resent_at moment waits.resend;
+}
 sent_with false moment waits = waits
 
-pub notice_sent-again : (octets : OctetsSent) (peer : Peer) (again : Bool) (e : Event) (f : Flight) → notice_sent octets peer (with_again again e f) ≡ sent_with again e.moment (notice_sent octets peer f)
+pub notice_sent-again : (octets : OctetsSent) (peer : Peer) (again : Bool) (e : Event) (f : Flight)
+    → notice_sent octets peer (with_again again e f)
+    ≡ sent_with again e.moment (notice_sent octets peer f)
 notice_sent-again octets peer true e f = rw (retransmission-again f.formed e f.again) refl
 notice_sent-again octets peer false e f = refl
 
 -- so it is of what waits for an observer
-pub waiting_notice-Formed : (octets : OctetsSent) (o : Observer) (place moment word : ℕ) (peer : Peer) (token body : List ℕ) (mid : Option ℕ) (before : List Event) → is_same_request (peer, token) (name_of o) ≡ true
-    → waiting_notice octets (event_at place moment word (note.Formed peer token body mid) ∷ before) o ≡ option_map (sent_first octets o.peer (event_at place moment word (note.Formed peer token body mid))) mid
+pub waiting_notice-Formed : (octets : OctetsSent) (o : Observer) (place moment word : ℕ)
+    (peer : Peer) (token body : List ℕ) (mid : Option ℕ) (before : List Event)
+    → is_same_request (peer, token) (name_of o) ≡ true
+    → waiting_notice octets (event_at place moment word (note.Formed peer token body mid) ∷ before)
+    o
+    ≡ option_map (sent_first octets o.peer
+    (event_at place moment word (note.Formed peer token body mid))) mid
 unfolding waiting_notice
 waiting_notice-Formed octets o place moment word peer token body mid before same =
-    ap (option_map (notice_sent octets o.peer)) (flight-Formed o place moment word peer token body mid before same) ∙ by mid
+    ap (option_map (notice_sent octets o.peer))
+    (flight-Formed o place moment word peer token body mid before same)
+    ∙ by mid
   where
     e : Event
     e = event_at place moment word (note.Formed peer token body mid)
 
-    by : (m : Option ℕ) → option_map (notice_sent octets o.peer) (option_map (flight_formed e) m) ≡ option_map (sent_first octets o.peer e) m
+    by : (m : Option ℕ)
+        → option_map (notice_sent octets o.peer) (option_map (flight_formed e) m)
+        ≡ option_map (sent_first octets o.peer e) m
     by None = refl
     by (Some m) = ap (λ (x : Sent). Some x) (notice_sent-formed octets o.peer e m)
 
-pub waiting_notice-Again : (octets : OctetsSent) (o : Observer) (place moment word : ℕ) (peer : Peer) (mid : ℕ) (before : List Event)
+pub waiting_notice-Again : (octets : OctetsSent) (o : Observer) (place moment word : ℕ)
+    (peer : Peer) (mid : ℕ) (before : List Event)
     → waiting_notice octets (event_at place moment word (note.Again peer mid) ∷ before) o
-    ≡ option_map (λ waits. sent_with (is_again_of o.peer waits.mid (note.Again peer mid)) moment waits) (waiting_notice octets before o)
+    ≡ option_map
+    (λ waits. sent_with (is_again_of o.peer waits.mid (note.Again peer mid)) moment waits)
+    (waiting_notice octets before o)
 unfolding waiting_notice
-waiting_notice-Again octets o place moment word peer mid before = ap (option_map (notice_sent octets o.peer)) (flight-Again o place moment word peer mid before) ∙ by (flight o before)
+waiting_notice-Again octets o place moment word peer mid before =
+    ap (option_map (notice_sent octets o.peer)) (flight-Again o place moment word peer mid before)
+    ∙ by (flight o before)
   where
     e : Event
     e = event_at place moment word (note.Again peer mid)
 
-    by : (f : Option Flight) → option_map (notice_sent octets o.peer) (option_map (λ x. with_again (is_again_of o.peer x.mid (note.Again peer mid)) e x) f)
-        ≡ option_map (λ waits. sent_with (is_again_of o.peer waits.mid (note.Again peer mid)) moment waits) (option_map (notice_sent octets o.peer) f)
+    by : (f : Option Flight)
+        → option_map (notice_sent octets o.peer)
+        (option_map (λ x. with_again (is_again_of o.peer x.mid (note.Again peer mid)) e x) f)
+        ≡ option_map
+        (λ waits. sent_with (is_again_of o.peer waits.mid (note.Again peer mid)) moment waits)
+        (option_map (notice_sent octets o.peer) f)
     by None = refl
-    by (Some f) = ap (λ (x : Sent). Some x) (notice_sent-again octets o.peer (is_again_of o.peer f.mid (note.Again peer mid)) e f)
+    by (Some f) =
+        ap (λ (x : Sent). Some x)
+        (notice_sent-again octets o.peer (is_again_of o.peer f.mid (note.Again peer mid)) e f)
 
 -- what waits is no longer waited for, or goes on
 abbrev pub waits_unless : Bool → Sent → Option Sent
 waits_unless true waits = None
 waits_unless false waits = Some waits
 
-pub waiting_notice-Landed : (octets : OctetsSent) (o : Observer) (place moment word : ℕ) (peer : Peer) (mid : ℕ) (before : List Event)
+pub waiting_notice-Landed : (octets : OctetsSent) (o : Observer) (place moment word : ℕ)
+    (peer : Peer) (mid : ℕ) (before : List Event)
     → waiting_notice octets (event_at place moment word (note.Landed peer mid) ∷ before) o
-    ≡ option_and_then (λ waits. waits_unless (is_landing_of o.peer waits.mid (note.Landed peer mid)) waits) (waiting_notice octets before o)
+    ≡ option_and_then
+    (λ waits. waits_unless (is_landing_of o.peer waits.mid (note.Landed peer mid)) waits)
+    (waiting_notice octets before o)
 unfolding waiting_notice
-waiting_notice-Landed octets o place moment word peer mid before = ap (option_map (notice_sent octets o.peer)) (flight-Landed o place moment word peer mid before) ∙ by (flight o before)
+waiting_notice-Landed octets o place moment word peer mid before =
+    ap (option_map (notice_sent octets o.peer)) (flight-Landed o place moment word peer mid before)
+    ∙ by (flight o before)
   where
-    one : (f : Flight) (landed : Bool) → option_map (notice_sent octets o.peer) (unless_landed landed f) ≡ waits_unless landed (notice_sent octets o.peer f)
+    one : (f : Flight) (landed : Bool)
+        → option_map (notice_sent octets o.peer) (unless_landed landed f)
+        ≡ waits_unless landed (notice_sent octets o.peer f)
     one f true = refl
     one f false = refl
 
-    by : (f : Option Flight) → option_map (notice_sent octets o.peer) (option_and_then (λ x. unless_landed (is_landing_of o.peer x.mid (note.Landed peer mid)) x) f)
-        ≡ option_and_then (λ waits. waits_unless (is_landing_of o.peer waits.mid (note.Landed peer mid)) waits) (option_map (notice_sent octets o.peer) f)
+    by : (f : Option Flight)
+        → option_map (notice_sent octets o.peer) (option_and_then
+        (λ x. unless_landed (is_landing_of o.peer x.mid (note.Landed peer mid)) x) f)
+        ≡ option_and_then
+        (λ waits. waits_unless (is_landing_of o.peer waits.mid (note.Landed peer mid)) waits)
+        (option_map (notice_sent octets o.peer) f)
     by None = refl
     by (Some f) = one f (is_landing_of o.peer f.mid (note.Landed peer mid))
 
-pub waiting_notice-Formed_other : (octets : OctetsSent) (o : Observer) (place moment word : ℕ) (peer : Peer) (token body : List ℕ) (mid : Option ℕ) (before : List Event) → is_same_request (peer, token) (name_of o) ≡ false
-    → waiting_notice octets (event_at place moment word (note.Formed peer token body mid) ∷ before) o ≡ waiting_notice octets before o
+pub waiting_notice-Formed_other : (octets : OctetsSent) (o : Observer) (place moment word : ℕ)
+    (peer : Peer) (token body : List ℕ) (mid : Option ℕ) (before : List Event)
+    → is_same_request (peer, token) (name_of o) ≡ false
+    → waiting_notice octets (event_at place moment word (note.Formed peer token body mid) ∷ before)
+    o
+    ≡ waiting_notice octets before o
 unfolding waiting_notice
-waiting_notice-Formed_other octets o place moment word peer token body mid before other = ap (option_map (notice_sent octets o.peer)) (flight-Formed_other o place moment word peer token body mid before other)
+waiting_notice-Formed_other octets o place moment word peer token body mid before other =
+    ap (option_map (notice_sent octets o.peer))
+    (flight-Formed_other o place moment word peer token body mid before other)
 
-pub waiting_notice-quiet : (octets : OctetsSent) (o : Observer) (e : Event) (before : List Event) → about_flights e.note ≡ false → waiting_notice octets (e ∷ before) o ≡ waiting_notice octets before o
+pub waiting_notice-quiet : (octets : OctetsSent) (o : Observer) (e : Event) (before : List Event)
+    → about_flights e.note ≡ false
+    → waiting_notice octets (e ∷ before) o ≡ waiting_notice octets before o
 unfolding waiting_notice
-waiting_notice-quiet octets o e before other = ap (option_map (notice_sent octets o.peer)) (flight-quiet o e before other)
+waiting_notice-quiet octets o e before other =
+    ap (option_map (notice_sent octets o.peer)) (flight-quiet o e before other)
 
 -- two ways to find the octets of rows that agree on the row that formed the notice
-pub waiting_notice-octets : (one two : OctetsSent) (o : Observer) (events : List Event) → ((f : Flight) → flight o events ≡ Some f → one f.formed.place o.peer f.mid ≡ two f.formed.place o.peer f.mid)
+pub waiting_notice-octets : (one two : OctetsSent) (o : Observer) (events : List Event)
+    → ((f : Flight)
+    → flight o events ≡ Some f
+    → one f.formed.place o.peer f.mid ≡ two f.formed.place o.peer f.mid)
     → waiting_notice one events o ≡ waiting_notice two events o
 unfolding waiting_notice
 waiting_notice-octets one two o events agree = by (flight o events) agree
   where
-    by : (found : Option Flight) → ((f : Flight) → found ≡ Some f → one f.formed.place o.peer f.mid ≡ two f.formed.place o.peer f.mid) → option_map (notice_sent one o.peer) found ≡ option_map (notice_sent two o.peer) found
+    by : (found : Option Flight)
+        → ((f : Flight)
+        → found ≡ Some f
+        → one f.formed.place o.peer f.mid ≡ two f.formed.place o.peer f.mid)
+        → option_map (notice_sent one o.peer) found ≡ option_map (notice_sent two o.peer) found
     by None h = refl
     by (Some f) h = rw (h f refl) refl

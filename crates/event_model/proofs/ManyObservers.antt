@@ -1,5 +1,34 @@
--- Many observers, each under a token of its own, for examples at the limits. Those that are added one after the other all stand.
-use Rattle.std.proofs.Common.{◌≡◌, ℕ, ◌+◌, ◌*◌, ◌/◌, ◌%◌, ◌<◌, zero, suc, Bool, true, false, List, [], ◌∷◌, map, flat_map, get_or, Some, None, refl, sym, ◌∙◌, ap, ap₂, subst, arith}
+-- Many observers, each under a token of its own, for examples at the limits. Those that are added
+-- one after the other all stand.
+use Rattle.std.proofs.Common.{
+  ◌≡◌,
+  ℕ,
+  ◌+◌,
+  ◌*◌,
+  ◌/◌,
+  ◌%◌,
+  ◌<◌,
+  zero,
+  suc,
+  Bool,
+  true,
+  false,
+  List,
+  [],
+  ◌∷◌,
+  map,
+  flat_map,
+  get_or,
+  Some,
+  None,
+  refl,
+  sym,
+  ◌∙◌,
+  ap,
+  ap₂,
+  subst,
+  arith,
+}
 use Rattle.std.specs.List.{AllByRecursion, range_with_len}
 use Rattle.std.proofs.Math.Nat.{div-add-mod}
 use Rattle.rd_base.specs.declared.peers.Host.TheVariants as host
@@ -28,7 +57,13 @@ page_query k = record { kind = kind.Endpoint; criteria = []; page = Some k; coun
 
 -- an observer of a query, with the token k
 abbrev pub observer : Query → ℕ → Observer
-observer q k = record { peer = peer 1; token = k / 256 ∷ k % 256 ∷ []; query = q; key = []; szx = 6 }
+observer q k = record {
+  peer = peer 1;
+  token = k / 256 ∷ k % 256 ∷ [];
+  query = q;
+  key = [];
+  szx = 6;
+}
 
 -- so many observers, the one with the token k of the query of k
 abbrev pub observers_of_queries : (ℕ → Query) → ℕ → List Observer
@@ -49,19 +84,26 @@ range-ascends from (suc n) = (ascends (from + 1) n from (omega arith), range-asc
 
 -- tokens of two numbers differ
 tokens_apart : (p q : Query) (x y : ℕ) → x < y → Apart (observer p x) (observer q y)
-tokens_apart p q x y below = by (is_same_request (name_of (observer p x)) (name_of (observer q y))) refl
+tokens_apart p q x y below =
+    by (is_same_request (name_of (observer p x)) (name_of (observer q y))) refl
   where
-    by : (b : Bool) → is_same_request (name_of (observer p x)) (name_of (observer q y)) ≡ b → Apart (observer p x) (observer q y)
+    by : (b : Bool)
+        → is_same_request (name_of (observer p x)) (name_of (observer q y)) ≡ b
+        → Apart (observer p x) (observer q y)
     by false e = e
     by true e =
-        let tokens : x / 256 ∷ x % 256 ∷ [] ≡ y / 256 ∷ y % 256 ∷ [] = ap (λ n. n.1) ((is_same_request-Decides (name_of (observer p x)) (name_of (observer q y))).0 e) in
+        let tokens : x / 256 ∷ x % 256 ∷ [] ≡ y / 256 ∷ y % 256 ∷ [] =
+        ap (λ n. n.1)
+        ((is_same_request-Decides (name_of (observer p x)) (name_of (observer q y))).0 e) in
         let high : x / 256 ≡ y / 256 = ap (λ octets. get_or octets 0 0) tokens in
         let low : x % 256 ≡ y % 256 = ap (λ octets. get_or octets 1 0) tokens in
-        let same : x ≡ y = sym (div-add-mod x 256) ∙ (ap₂ (λ h l. 256 * h + l) high low ∙ div-add-mod y 256) in
+        let same : x ≡ y =
+        sym (div-add-mod x 256) ∙ (ap₂ (λ h l. 256 * h + l) high low ∙ div-add-mod y 256) in
         absurd (omega (same, below, arith))
 
 -- what is noted removes none, and adds these
-none_removed : (added : List Observer) → AllByRecursion (λ n. is_removal n ≡ false) (flat_map adding added)
+none_removed : (added : List Observer)
+    → AllByRecursion (λ n. is_removal n ≡ false) (flat_map adding added)
 none_removed [] = tt
 none_removed (o ∷ added) = (refl, (refl, none_removed added))
 
@@ -70,13 +112,19 @@ these_added [] = refl
 these_added (o ∷ added) = ap (λ rest. o ∷ rest) (these_added added)
 
 -- all that are added stand
-pub all_stand : (query : ℕ → Query) (n : ℕ) → observers (noted 0 0 0 (flat_map adding (observers_of_queries query n)) []) ≡ observers_of_queries query n
+pub all_stand : (query : ℕ → Query) (n : ℕ)
+    → observers (noted 0 0 0 (flat_map adding (observers_of_queries query n)) [])
+    ≡ observers_of_queries query n
 unfolding observers
 all_stand query n =
-    observers_noted 0 0 0 (flat_map adding (observers_of_queries query n)) [] (none_removed (observers_of_queries query n)) (subst (PairsByRecursion Apart) (sym (these_added (observers_of_queries query n))) apart)
+    observers_noted 0 0 0 (flat_map adding (observers_of_queries query n)) []
+    (none_removed (observers_of_queries query n))
+    (subst (PairsByRecursion Apart) (sym (these_added (observers_of_queries query n))) apart)
     ∙ these_added (observers_of_queries query n)
   where
     apart : PairsByRecursion Apart (observers_of_queries query n)
     apart =
-        pairs_map (λ x. Unit {0}) (λ x y. x < y) Apart (λ k. observer (query k) k) (λ x y known also below. tokens_apart (query x) (query y) x y below)
-        (range_with_len 0 n) (each_one (λ x. Unit {0}) (λ x. tt) (range_with_len 0 n)) (range-ascends 0 n)
+        pairs_map (λ x. Unit {0}) (λ x y. x < y) Apart (λ k. observer (query k) k)
+        (λ x y known also below. tokens_apart (query x) (query y) x y below)
+        (range_with_len 0 n) (each_one (λ x. Unit {0}) (λ x. tt) (range_with_len 0 n))
+        (range-ascends 0 n)

@@ -1,5 +1,21 @@
 -- No two observers that stand have the same peer and token.
-use Rattle.std.proofs.Common.{◌≡◌, Bool, true, false, not, List, [], ◌∷◌, ◌++◌, filter, refl, sym, subst, ◌∙◌, append-nil}
+use Rattle.std.proofs.Common.{
+  ◌≡◌,
+  Bool,
+  true,
+  false,
+  not,
+  List,
+  [],
+  ◌∷◌,
+  ◌++◌,
+  filter,
+  refl,
+  sym,
+  subst,
+  ◌∙◌,
+  append-nil,
+}
 use Rattle.std.specs.List.{AllByRecursion}
 use Rattle.std.proofs.lemmas.Bool.{false≢true}
 use Rattle.rd_base.proofs.lemmas.Each.{each_weaker, each_both, each_passes}
@@ -21,7 +37,9 @@ pub apart-sym : (a b : RequestName) → is_same_request a b ≡ false → is_sam
 apart-sym a b h = by (is_same_request b a) refl
   where
     by : (t : Bool) → is_same_request b a ≡ t → is_same_request b a ≡ false
-    by true e = absurd (false≢true (sym h ∙ (is_same_request-Decides a b).1 (sym ((is_same_request-Decides b a).0 e))))
+    by true e =
+        absurd (false≢true
+        (sym h ∙ (is_same_request-Decides a b).1 (sym ((is_same_request-Decides b a).0 e))))
     by false e = e
 
 -- a negated test
@@ -38,22 +56,40 @@ observers-apart (e ∷ before) = by e.note (observers-apart before)
     Left : Note → List Observer
     Left n = filter (λ o. not (is_end_of n (name_of o))) (observers before)
 
-    by : (n : Note) → PairsByRecursion Apart (observers before) → PairsByRecursion Apart (Left n ++ observer_added n)
+    by : (n : Note)
+        → PairsByRecursion Apart (observers before)
+        → PairsByRecursion Apart (Left n ++ observer_added n)
     by (note.Watched o) h =
-        pairs_push Apart (Left (note.Watched o)) o (pairs_filter Apart (λ x. not (is_same_request (name_of o) (name_of x))) (observers before) h)
+        pairs_push Apart (Left (note.Watched o)) o
+        (pairs_filter Apart (λ x. not (is_same_request (name_of o) (name_of x)))
+        (observers before) h)
         (each_weaker (λ x. not (is_same_request (name_of o) (name_of x)) ≡ true) (λ x. Apart x o)
-        (λ x passes. apart-sym (name_of o) (name_of x) (not_true (is_same_request (name_of o) (name_of x)) passes))
-        (Left (note.Watched o)) (each_passes (λ x. not (is_same_request (name_of o) (name_of x))) (observers before)))
-    by n h = subst (PairsByRecursion Apart) (sym (append-nil (Left n))) (pairs_filter Apart (λ o. not (is_end_of n (name_of o))) (observers before) h)
+        (λ x passes. apart-sym (name_of o) (name_of x)
+        (not_true (is_same_request (name_of o) (name_of x)) passes))
+        (Left (note.Watched o))
+        (each_passes (λ x. not (is_same_request (name_of o) (name_of x))) (observers before)))
+    by n h =
+        subst (PairsByRecursion Apart) (sym (append-nil (Left n)))
+        (pairs_filter Apart (λ o. not (is_end_of n (name_of o))) (observers before) h)
 
 -- among these, only an observer itself has its name
 abbrev pub Only : Observer → List Observer → Type 0
-Only o standing = AllByRecursion (λ x. is_same_request (name_of x) (name_of o) ≡ true → x ≡ o) standing
+Only o standing =
+    AllByRecursion (λ x. is_same_request (name_of x) (name_of o) ≡ true → x ≡ o) standing
 
 -- so it is of each that stands
-pub apart_only : (standing : List Observer) → PairsByRecursion Apart standing → AllByRecursion (λ o. Only o standing) standing
+pub apart_only : (standing : List Observer)
+    → PairsByRecursion Apart standing
+    → AllByRecursion (λ o. Only o standing) standing
 apart_only [] h = tt
 apart_only (x ∷ standing) h = (
-  (λ same. refl, each_weaker (Apart x) (λ y. is_same_request (name_of y) (name_of x) ≡ true → y ≡ x) (λ y apart same. absurd (false≢true (sym (apart-sym (name_of x) (name_of y) apart) ∙ same))) standing h.0),
-  each_both (Apart x) (λ o. Only o standing) (λ o. Only o (x ∷ standing)) (λ o apart only. (λ same. absurd (false≢true (sym apart ∙ same)), only)) standing h.0 (apart_only standing h.1),
+  (
+    λ same. refl,
+    each_weaker (Apart x) (λ y. is_same_request (name_of y) (name_of x) ≡ true → y ≡ x)
+        (λ y apart same. absurd (false≢true (sym (apart-sym (name_of x) (name_of y) apart) ∙ same)))
+        standing h.0,
+  ),
+  each_both (Apart x) (λ o. Only o standing) (λ o. Only o (x ∷ standing))
+      (λ o apart only. (λ same. absurd (false≢true (sym apart ∙ same)), only)) standing h.0
+      (apart_only standing h.1),
 )

@@ -1,4 +1,5 @@
--- Events whose admissions are in order, with one event more: what a journal needs to show that its events are.
+-- Events whose admissions are in order, with one event more: what a journal needs to show that its
+-- events are.
 use Rattle.std.proofs.Common.{◌≡◌, ℕ, false, List, [], ◌∷◌, sym, subst}
 use Rattle.std.proofs.lemmas.Bool.{false≢true}
 use Rattle.rd_base.specs.declared.peers.Peer.{Peer}
@@ -14,7 +15,10 @@ unfolding IsOrderly
 IsOrderly-none = tt
 
 -- one that admits no write
-pub IsOrderly-other : (e : Event) (events : List Event) → is_admitting e.note ≡ false → IsOrderly events → IsOrderly (e ∷ events)
+pub IsOrderly-other : (e : Event) (events : List Event)
+    → is_admitting e.note ≡ false
+    → IsOrderly events
+    → IsOrderly (e ∷ events)
 unfolding IsOrderly
 IsOrderly-other e events other orderly = (by e.note other, orderly)
   where
@@ -23,6 +27,11 @@ IsOrderly-other e events other orderly = (by e.note other, orderly)
     by _ h = tt
 
 -- one that admits a new write
-pub IsOrderly-admitted : (peer : Peer) (mid : ℕ) (e : Event) (events : List Event) → e.note ≡ note.Admitted peer mid → AdmitsNew peer mid e events → IsOrderly events → IsOrderly (e ∷ events)
+pub IsOrderly-admitted : (peer : Peer) (mid : ℕ) (e : Event) (events : List Event)
+    → e.note ≡ note.Admitted peer mid
+    → AdmitsNew peer mid e events
+    → IsOrderly events
+    → IsOrderly (e ∷ events)
 unfolding IsOrderly
-IsOrderly-admitted peer mid e events is new orderly = (subst (λ n. AdmitsInOrder n e events) (sym is) new, orderly)
+IsOrderly-admitted peer mid e events is new orderly =
+    (subst (λ n. AdmitsInOrder n e events) (sym is) new, orderly)

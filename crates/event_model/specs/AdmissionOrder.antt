@@ -13,7 +13,8 @@ NoneAfter moment events = AllByRecursion (λ e. e.moment ≤ moment) events
 
 -- a place that no event has, and whose answer no event notes
 abbrev pub IsNewPlace : ℕ → List Event → Type 0
-IsNewPlace place events = AllByRecursion (λ e. (e.place ≢ place) × (answer_noted place e.note ≡ None)) events
+IsNewPlace place events =
+    AllByRecursion (λ e. (e.place ≢ place) × (answer_noted place e.note ≡ None)) events
 
 -- an admission after these events: it is new as a write, and as a place, and not before them
 pub record AdmitsNew (peer : Peer) (mid : ℕ) (e : Event) (before : List Event) : Type 0 where
@@ -33,13 +34,16 @@ IsOrderly (e ∷ before) = AdmitsInOrder e.note e before × IsOrderly before
 
 -- the admission of a write at a place and a moment
 abbrev pub is_admitted_event : ℕ → Peer → ℕ → ℕ → Event → Bool
-is_admitted_event place peer mid moment a = a.place == place && is_admission_of peer mid a.note && a.moment == moment
+is_admitted_event place peer mid moment a =
+    a.place == place && is_admission_of peer mid a.note && a.moment == moment
 
 -- a write was admitted at a place and a moment, and that admission has not failed
 abbrev pub HasAdmission : ℕ → Peer → ℕ → ℕ → List Event → Type 0
-HasAdmission place peer mid moment events = list_any (is_admitted_event place peer mid moment) (admissions events) ≡ true
+HasAdmission place peer mid moment events =
+    list_any (is_admitted_event place peer mid moment) (admissions events) ≡ true
 
--- where admissions are in order, a write that was admitted at a place and a moment and has not failed: what a table asks of the write that it answers
+-- where admissions are in order, a write that was admitted at a place and a moment and has not
+-- failed: what a table asks of the write that it answers
 pub record IsOpen (place : ℕ) (peer : Peer) (mid moment : ℕ) (events : List Event) : Type 0 where
   pub orderly : IsOrderly events
   pub admission : HasAdmission place peer mid moment events

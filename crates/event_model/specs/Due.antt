@@ -1,5 +1,24 @@
--- When an observer is due: its listing changed since it was last looked at (RFC 7641 section 1.3). And the observers, as they stand.
-use Rattle.std.specs.Prelude.{ℕ, Bool, true, false, not, ◌&&◌, ◌==◌, nat_lt, List, [], ◌∷◌, filter, Option, Some, None, bytes_eq, map}
+-- When an observer is due: its listing changed since it was last looked at (RFC 7641 section 1.3).
+-- And the observers, as they stand.
+use Rattle.std.specs.Prelude.{
+  ℕ,
+  Bool,
+  true,
+  false,
+  not,
+  ◌&&◌,
+  ◌==◌,
+  nat_lt,
+  List,
+  [],
+  ◌∷◌,
+  filter,
+  Option,
+  Some,
+  None,
+  bytes_eq,
+  map,
+}
 use Rattle.std.specs.List.{list_any}
 use Rattle.rd_base.specs.declared.queries.Query.{Query}
 use Rattle.history_model.specs.declared.entries.Entry.{Entry}
@@ -12,7 +31,8 @@ use Rattle.event_model.specs.Events.{Event, last_event}
 use Rattle.event_model.specs.Observers.{name_of, observers, last_body_formed}
 use Rattle.event_model.specs.Flights.{Sent, OctetsSent, waiting_notice}
 
--- a row whose step is no look, as observers see it: its place, and the history and the moment before it and after it
+-- a row whose step is no look, as observers see it: its place, and the history and the moment
+-- before it and after it
 pub record Transition : Type 0 where
   pub place : ℕ
   pub before : List Entry
@@ -25,13 +45,17 @@ abbrev pub are_same_lines : List (ℕ × List ℕ) → List (ℕ × List ℕ) �
 are_same_lines [] [] = true
 are_same_lines [] (other ∷ others) = false
 are_same_lines (line ∷ lines) [] = false
-are_same_lines (line ∷ lines) (other ∷ others) = line.0 == other.0 && bytes_eq line.1 other.1 && are_same_lines lines others
+are_same_lines (line ∷ lines) (other ∷ others) =
+    line.0 == other.0 && bytes_eq line.1 other.1 && are_same_lines lines others
 
 -- the row changed the lines of a query, before page and count
 unfoldable pub is_change_of : Query → Transition → Bool
-is_change_of query t = not (are_same_lines (all_lines query t.before t.moment_before) (all_lines query t.after t.moment_after))
+is_change_of query t =
+    not (are_same_lines (all_lines query t.before t.moment_before)
+    (all_lines query t.after t.moment_after))
 
--- the listing of the observer of a peer and a token was looked at: it was formed, or found unchanged
+-- the listing of the observer of a peer and a token was looked at: it was formed, or found
+-- unchanged
 abbrev pub is_looking_for : RequestName → Note → Bool
 is_looking_for name (note.Formed peer token body mid) = is_same_request (peer, token) name
 is_looking_for name (note.Unchanged peer token) = is_same_request (peer, token) name
@@ -40,13 +64,16 @@ is_looking_for name _ = false
 -- a row after a place changed the lines of the query
 abbrev pub is_changed_since : Query → List Transition → Option Event → Bool
 is_changed_since query transitions None = false
-is_changed_since query transitions (Some looked) = list_any (is_change_of query) (filter (λ t. nat_lt looked.place t.place) transitions)
+is_changed_since query transitions (Some looked) =
+    list_any (is_change_of query) (filter (λ t. nat_lt looked.place t.place) transitions)
 
 -- the observer is due: since its listing was last looked at, a row changed the lines of its query
 unfoldable pub is_due : Observer → List Event → List Transition → Bool
-is_due o events transitions = is_changed_since o.query transitions (last_event (is_looking_for (name_of o)) events)
+is_due o events transitions =
+    is_changed_since o.query transitions (last_event (is_looking_for (name_of o)) events)
 
--- an observer that stands: who it is, whether it is due, the body that was last formed for it, and its notice in flight
+-- an observer that stands: who it is, whether it is due, the body that was last formed for it, and
+-- its notice in flight
 pub record Watching : Type 0 where
   pub observer : Observer
   pub due : Bool
@@ -64,4 +91,5 @@ watching octets events transitions o = record {
 
 -- the observers that stand, in the order in which they were added
 unfoldable pub observers_standing : OctetsSent → List Event → List Transition → List Watching
-observers_standing octets events transitions = map (watching octets events transitions) (observers events)
+observers_standing octets events transitions =
+    map (watching octets events transitions) (observers events)

@@ -1,9 +1,27 @@
--- What a journal notes, as events. A list of events has the newest first: the last event of a kind is the first that is found.
-use Rattle.std.specs.Prelude.{ℕ, ◌+◌, Bool, nat_lt, List, [], ◌∷◌, find, fold, Option, Some, None, option_map, unwrap_or, if◌then◌else◌}
+-- What a journal notes, as events. A list of events has the newest first: the last event of a kind
+-- is the first that is found.
+use Rattle.std.specs.Prelude.{
+  ℕ,
+  ◌+◌,
+  Bool,
+  nat_lt,
+  List,
+  [],
+  ◌∷◌,
+  find,
+  fold,
+  Option,
+  Some,
+  None,
+  option_map,
+  unwrap_or,
+  if◌then◌else◌,
+}
 use Rattle.std.specs.List.{list_any}
 use Rattle.event_model.specs.declared.notes.Note.{Note}
 
--- a note with its place, which is the number of the rows before its own, and with the moment and the word of its row
+-- a note with its place, which is the number of the rows before its own, and with the moment and
+-- the word of its row
 pub record Event : Type 0 where
   pub place : ℕ
   pub moment : ℕ
@@ -12,7 +30,9 @@ pub record Event : Type 0 where
 
 -- events with the notes of one row after them, which it notes in this order
 abbrev pub noted : ℕ → ℕ → ℕ → List Note → List Event → List Event
-noted place moment word notes before = fold (λ events n. record { place = place; moment = moment; word = word; note = n } ∷ events) before notes
+noted place moment word notes before =
+    fold (λ events n. record { place = place; moment = moment; word = word; note = n } ∷ events)
+    before notes
 
 -- the last event with a note of a kind
 abbrev pub last_event : (Note → Bool) → List Event → Option Event
@@ -41,7 +61,8 @@ last_said says (e ∷ before) = or_else (says e.note) (last_said says before)
 abbrev pub event_moment : Option Event → ℕ
 event_moment e = unwrap_or (option_map (λ e. e.moment) e) 0
 
--- how long an exchange, an upload and a kept answer live, in milliseconds (RFC 7252 section 4.8.2, EXCHANGE_LIFETIME)
+-- how long an exchange, an upload and a kept answer live, in milliseconds (RFC 7252 section 4.8.2,
+-- EXCHANGE_LIFETIME)
 abbrev pub exchange_lifetime : ℕ
 exchange_lifetime = 247_000
 

@@ -1,5 +1,31 @@
--- Fetches of simple registrations (RFC 9176 section 5.1): which run, what each collected, and until when it waits.
-use Rattle.std.specs.Prelude.{ℕ, ◌+◌, ◌%◌, ◌^◌, Bool, false, not, ◌&&◌, ◌==◌, List, [], ◌∷◌, ◌++◌, reverse, filter, flat_map, filter_map, count_by, Option, Some, None, option_map, option_and_then, if◌then◌else◌}
+-- Fetches of simple registrations (RFC 9176 section 5.1): which run, what each collected, and until
+-- when it waits.
+use Rattle.std.specs.Prelude.{
+  ℕ,
+  ◌+◌,
+  ◌%◌,
+  ◌^◌,
+  Bool,
+  false,
+  not,
+  ◌&&◌,
+  ◌==◌,
+  List,
+  [],
+  ◌∷◌,
+  ◌++◌,
+  reverse,
+  filter,
+  flat_map,
+  filter_map,
+  count_by,
+  Option,
+  Some,
+  None,
+  option_map,
+  option_and_then,
+  if◌then◌else◌,
+}
 use Rattle.std.specs.List.{list_any}
 use Rattle.std.specs.Int.{bytes_high_first}
 use Rattle.rd_base.specs.declared.peers.Peer.{Peer}
@@ -14,7 +40,8 @@ use Rattle.event_model.specs.Flights.{deadline, Sent, OctetsSent, retransmission
 abbrev pub max_fetches : ℕ
 max_fetches = 64
 
--- how long a fetch waits for a response that comes apart, in milliseconds (RFC 7252 section 4.8.2, MAX_TRANSMIT_WAIT)
+-- how long a fetch waits for a response that comes apart, in milliseconds (RFC 7252 section 4.8.2,
+-- MAX_TRANSMIT_WAIT)
 abbrev pub response_wait : ℕ
 response_wait = 93_000
 
@@ -30,7 +57,8 @@ is_start_of peer _ = false
 
 -- the note starts or ends the fetch of a peer
 abbrev pub starts_or_ends_fetch : Note → Peer → Bool
-starts_or_ends_fetch (note.Asked p token mid params number) peer = number == 0 && is_same_peer p peer
+starts_or_ends_fetch (note.Asked p token mid params number) peer =
+    number == 0 && is_same_peer p peer
 starts_or_ends_fetch (note.Ceased p) peer = is_same_peer p peer
 starts_or_ends_fetch _ peer = false
 
@@ -42,7 +70,8 @@ started_by _ = []
 -- the peers whose fetch started and did not end since, in the order of their starts
 unfoldable pub fetches : List Event → List Peer
 fetches [] = []
-fetches (e ∷ before) = filter (λ peer. not (starts_or_ends_fetch e.note peer)) (fetches before) ++ started_by e.note
+fetches (e ∷ before) =
+    filter (λ peer. not (starts_or_ends_fetch e.note peer)) (fetches before) ++ started_by e.note
 
 -- a fetch of the peer runs
 abbrev pub is_fetching : Peer → List Event → Bool
@@ -67,7 +96,8 @@ abbrev pub is_waiting_for : Peer → Note → Bool
 is_waiting_for peer (note.Waiting p) = is_same_peer p peer
 is_waiting_for peer _ = false
 
--- a request for a block: token, Message ID, the parameters of the registration, and the block's number
+-- a request for a block: token, Message ID, the parameters of the registration, and the block's
+-- number
 pub record Request : Type 0 where
   pub token : List ℕ
   pub mid : ℕ
@@ -76,7 +106,8 @@ pub record Request : Type 0 where
 
 -- the request that a note makes
 abbrev pub request_noted : Note → Option Request
-request_noted (note.Asked p token mid params number) = Some (record { token = token; mid = mid; params = params; number = number })
+request_noted (note.Asked p token mid params number) =
+    Some (record { token = token; mid = mid; params = params; number = number })
 request_noted _ = None
 
 -- the last request of the fetch of a peer, as an event
@@ -89,12 +120,14 @@ since_request peer events = events_since (is_request_to peer) events
 
 -- a block of a body that came to the fetch of a peer: its octets, and its entity tag
 abbrev pub block_noted : Peer → Note → Option (List ℕ × Option (List ℕ))
-block_noted peer (note.Gathered p octets tag) = if is_same_peer p peer then Some (octets, tag) else None
+block_noted peer (note.Gathered p octets tag) =
+    if is_same_peer p peer then Some (octets, tag) else None
 block_noted peer _ = None
 
 -- the blocks that came to the fetch of a peer since it started, in order
 unfoldable pub gathered : Peer → List Event → List (List ℕ × Option (List ℕ))
-gathered peer events = filter_map (λ e. block_noted peer e.note) (reverse (events_since (is_start_of peer) events))
+gathered peer events =
+    filter_map (λ e. block_noted peer e.note) (reverse (events_since (is_start_of peer) events))
 
 -- what is collected of the body: these blocks, joined
 unfoldable pub collected : Peer → List Event → List ℕ
@@ -115,14 +148,18 @@ is_waiting peer events = has_event (is_waiting_for peer) (since_request peer eve
 
 -- until when the fetch of a peer waits after an event that made its last request
 unfoldable pub fetch_deadline : Peer → Event → List Event → ℕ
-fetch_deadline peer request events = if is_waiting peer events then request.moment + response_wait else deadline request (resendings peer events)
+fetch_deadline peer request events =
+    if is_waiting peer events
+    then request.moment + response_wait
+    else deadline request (resendings peer events)
 
 -- how many fetches started, as 64 bits count
 unfoldable pub fetches_started : List Event → ℕ
 fetches_started events = count_by (λ e. is_start e.note) events % 2 ^ 64
 
--- a fetch that runs: its peer; its last request, with its token, the parameters of the registration, the block's number, its moment and the message that waits;
--- whether that was acknowledged; what is collected, and the entity tag of the first block
+-- a fetch that runs: its peer; its last request, with its token, the parameters of the
+-- registration, the block's number, its moment and the message that waits; whether that was
+-- acknowledged; what is collected, and the entity tag of the first block
 pub record Fetch : Type 0 where
   pub peer : Peer
   pub token : List ℕ
@@ -142,7 +179,11 @@ fetch_asked octets events peer e request = record {
   params = request.params;
   number = request.number;
   asked = e.moment;
-  waits = record { mid = request.mid; octets = octets e.place peer request.mid; resend = retransmission e (resendings peer events) };
+  waits = record {
+    mid = request.mid;
+    octets = octets e.place peer request.mid;
+    resend = retransmission e (resendings peer events);
+  };
   acknowledged = is_waiting peer events;
   body = collected peer events;
   tag = tag_of_first (gathered peer events);
@@ -150,7 +191,9 @@ fetch_asked octets events peer e request = record {
 
 -- the fetch of a peer, where it made a request
 abbrev pub fetch_of : OctetsSent → List Event → Peer → Option Fetch
-fetch_of octets events peer = option_and_then (λ e. option_map (fetch_asked octets events peer e) (request_noted e.note)) (last_request peer events)
+fetch_of octets events peer =
+    option_and_then (λ e. option_map (fetch_asked octets events peer e) (request_noted e.note))
+    (last_request peer events)
 
 -- the fetches that run, in the order in which they started
 unfoldable pub fetches_running : OctetsSent → List Event → List Fetch

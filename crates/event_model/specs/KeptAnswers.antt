@@ -1,5 +1,24 @@
 -- Answers that are kept so that their blocks come from one state (RFC 7959 section 2.4).
-use Rattle.std.specs.Prelude.{ℕ, Bool, false, not, ◌&&◌, List, [], ◌∷◌, ◌++◌, take, filter, filter_map, Option, Some, None, option_map, option_and_then, if◌then◌else◌}
+use Rattle.std.specs.Prelude.{
+  ℕ,
+  Bool,
+  false,
+  not,
+  ◌&&◌,
+  List,
+  [],
+  ◌∷◌,
+  ◌++◌,
+  take,
+  filter,
+  filter_map,
+  Option,
+  Some,
+  None,
+  option_map,
+  option_and_then,
+  if◌then◌else◌,
+}
 use Rattle.std.specs.List.{list_any}
 use Rattle.event_model.specs.declared.notes.Note.{Note}
 use Rattle.event_model.specs.declared.notes.Note.TheVariants as note
@@ -17,7 +36,8 @@ pub record Answer : Type 0 where
 
 -- the answer that a note keeps under a name
 abbrev pub answer_kept : RequestName → Note → Option Answer
-answer_kept name (note.Kept peer key body tag) = if is_same_request (peer, key) name then Some (record { body = body; tag = tag }) else None
+answer_kept name (note.Kept peer key body tag) =
+    if is_same_request (peer, key) name then Some (record { body = body; tag = tag }) else None
 answer_kept name _ = None
 
 -- the name that a note uses: keeping an answer is a use, and so is reading it
@@ -37,11 +57,14 @@ is_use_of name n = is_named_among (used_by n) name
 -- the names that were used, that of the latest use first
 unfoldable pub names_used : List Event → List RequestName
 names_used [] = []
-names_used (e ∷ before) = used_by e.note ++ filter (λ name. not (is_use_of name e.note)) (names_used before)
+names_used (e ∷ before) =
+    used_by e.note ++ filter (λ name. not (is_use_of name e.note)) (names_used before)
 
 -- the name is among the 64 that were used last, and its last use is young enough
 abbrev pub is_live_answer : ℕ → RequestName → List Event → Bool
-is_live_answer now name events = is_named_among (take max_answers (names_used events)) name && is_lately (last_event (is_use_of name) events)
+is_live_answer now name events =
+    is_named_among (take max_answers (names_used events)) name
+    && is_lately (last_event (is_use_of name) events)
   where
     is_lately : Option Event → Bool
     is_lately None = false
@@ -49,7 +72,9 @@ is_live_answer now name events = is_named_among (take max_answers (names_used ev
 
 -- the kept answer of a name is the one that was kept last, where it lives
 unfoldable pub kept_answer : ℕ → RequestName → List Event → Option Answer
-kept_answer now name events = option_and_then (λ a. if is_live_answer now name events then Some a else None) (last_said (answer_kept name) events)
+kept_answer now name events =
+    option_and_then (λ a. if is_live_answer now name events then Some a else None)
+    (last_said (answer_kept name) events)
 
 -- a kept answer that lives: its name, the answer, and the moment of its last use
 pub record KeptAnswer : Type 0 where
@@ -60,7 +85,13 @@ pub record KeptAnswer : Type 0 where
 -- the kept answer of a name, where it lives
 abbrev pub kept_answer_of : ℕ → List Event → RequestName → Option KeptAnswer
 kept_answer_of now events name =
-    option_map (λ answer. record { name = name; answer = answer; moment = event_moment (last_event (is_use_of name) events) }) (kept_answer now name events)
+    option_map (λ answer.
+    record {
+      name = name;
+      answer = answer;
+      moment = event_moment
+          (last_event (is_use_of name) events);
+    }) (kept_answer now name events)
 
 -- the kept answers that live at a moment, that of the latest use first
 unfoldable pub kept_answers_at : ℕ → List Event → List KeptAnswer

@@ -1,5 +1,28 @@
 -- Who observes a lookup (RFC 7641 section 4.1), and what was formed for whom.
-use Rattle.std.specs.Prelude.{ℕ, ◌+◌, ◌%◌, ◌^◌, Bool, true, false, not, ◌&&◌, ◌||◌, nat_lt, List, [], ◌∷◌, ◌++◌, length, filter, count_by, Option, Some, None, if◌then◌else◌}
+use Rattle.std.specs.Prelude.{
+  ℕ,
+  ◌+◌,
+  ◌%◌,
+  ◌^◌,
+  Bool,
+  true,
+  false,
+  not,
+  ◌&&◌,
+  ◌||◌,
+  nat_lt,
+  List,
+  [],
+  ◌∷◌,
+  ◌++◌,
+  length,
+  filter,
+  count_by,
+  Option,
+  Some,
+  None,
+  if◌then◌else◌,
+}
 use Rattle.std.specs.List.{list_any}
 use Rattle.rd_base.specs.declared.queries.Query.{Query}
 use Rattle.event_model.specs.declared.notes.Observer.{Observer}
@@ -34,7 +57,8 @@ observer_added _ = []
 -- the observers that no later note replaces or removes, in the order in which they were added
 unfoldable pub observers : List Event → List Observer
 observers [] = []
-observers (e ∷ before) = filter (λ o. not (is_end_of e.note (name_of o))) (observers before) ++ observer_added e.note
+observers (e ∷ before) =
+    filter (λ o. not (is_end_of e.note (name_of o))) (observers before) ++ observer_added e.note
 
 -- an observer of this peer and token stands
 abbrev pub is_observer : RequestName → List Observer → Bool
@@ -47,18 +71,22 @@ is_watched query standing = list_any (λ o. is_same_query o.query query) standin
 -- how many queries are observed, each counted once
 abbrev pub number_watched : List Observer → ℕ
 number_watched [] = 0
-number_watched (o ∷ standing) = if is_watched o.query standing then number_watched standing else 1 + number_watched standing
+number_watched (o ∷ standing) =
+    if is_watched o.query standing then number_watched standing else 1 + number_watched standing
 
 -- one more observer of the query has room beside those that stand
 unfoldable pub has_room_for : Query → List Observer → Bool
-has_room_for query standing = nat_lt (length standing) max_observers && (is_watched query standing || nat_lt (number_watched standing) max_watched)
+has_room_for query standing =
+    nat_lt (length standing) max_observers
+    && (is_watched query standing || nat_lt (number_watched standing) max_watched)
 
 -- a body was formed for an observer
 abbrev pub is_forming : Note → Bool
 is_forming (note.Formed peer token body mid) = true
 is_forming _ = false
 
--- the Observe value that is sent next: one more than were sent before, in its low 24 bits (RFC 7641 section 3.4)
+-- the Observe value that is sent next: one more than were sent before, in its low 24 bits (RFC 7641
+-- section 3.4)
 unfoldable pub observe_value : List Event → ℕ
 observe_value events = (count_by (λ e. is_forming e.note) events + 1) % 2 ^ 24
 
@@ -68,7 +96,8 @@ observe_values_sent events = count_by (λ e. is_forming e.note) events % 2 ^ 64
 
 -- the body that a note forms for the observer of a peer and a token
 abbrev pub body_formed : RequestName → Note → Option (List ℕ)
-body_formed name (note.Formed peer token body mid) = if is_same_request (peer, token) name then Some body else None
+body_formed name (note.Formed peer token body mid) =
+    if is_same_request (peer, token) name then Some body else None
 body_formed name _ = None
 
 -- the body that was last formed for the observer of a peer and a token

@@ -1,5 +1,26 @@
--- Writes that come again (RFC 7252 section 4.5): which admissions are kept, and what a repeat finds.
-use Rattle.std.specs.Prelude.{ℕ, Bool, true, false, not, ◌&&◌, ◌==◌, nat_le, List, [], ◌∷◌, ◌++◌, length, filter, Option, Some, None, option_and_then, if◌then◌else◌}
+-- Writes that come again (RFC 7252 section 4.5): which admissions are kept, and what a repeat
+-- finds.
+use Rattle.std.specs.Prelude.{
+  ℕ,
+  Bool,
+  true,
+  false,
+  not,
+  ◌&&◌,
+  ◌==◌,
+  nat_le,
+  List,
+  [],
+  ◌∷◌,
+  ◌++◌,
+  length,
+  filter,
+  Option,
+  Some,
+  None,
+  option_and_then,
+  if◌then◌else◌,
+}
 use Rattle.std.specs.List.{filter_map, list_any}
 use Rattle.rd_base.specs.declared.peers.Peer.{Peer}
 use Rattle.event_model.specs.declared.notes.Note.{Note}
@@ -34,7 +55,8 @@ is_failure_of place _ = false
 -- the admissions that no later failure follows, the newest first
 unfoldable pub admissions : List Event → List Event
 admissions [] = []
-admissions (e ∷ before) = admission_noted e.note e ++ filter (λ a. not (is_failure_of a.place e.note)) (admissions before)
+admissions (e ∷ before) =
+    admission_noted e.note e ++ filter (λ a. not (is_failure_of a.place e.note)) (admissions before)
 
 -- the admissions that are kept at a moment: no failure follows them, and they are young enough
 unfoldable pub kept : ℕ → List Event → List Event
@@ -46,7 +68,9 @@ is_kept now events a = list_any (λ other. other.place == a.place) (kept now eve
 
 -- a write is a repeat where the last admission of its peer and Message ID is kept: that admission
 unfoldable pub repeated : ℕ → Peer → ℕ → List Event → Option Event
-repeated now peer mid events = option_and_then (λ a. if is_kept now events a then Some a else None) (last_event (is_admission_of peer mid) events)
+repeated now peer mid events =
+    option_and_then (λ a. if is_kept now events a then Some a else None)
+    (last_event (is_admission_of peer mid) events)
 
 -- what the note says of the answer to the admission of a place
 abbrev pub answer_noted : ℕ → Note → Option (List ℕ)
@@ -67,7 +91,8 @@ is_ending_of place _ = false
 abbrev pub is_full_of_exchanges : ℕ → List Event → Bool
 is_full_of_exchanges now events = nat_le max_exchanges (length (kept now events))
 
--- an exchange that is kept: who wrote, under which Message ID, when it was admitted, and the octets of the answer; none while it is in flight
+-- an exchange that is kept: who wrote, under which Message ID, when it was admitted, and the octets
+-- of the answer; none while it is in flight
 pub record Exchange : Type 0 where
   pub peer : Peer
   pub mid : ℕ
@@ -76,7 +101,8 @@ pub record Exchange : Type 0 where
 
 -- an admission at a moment with its answer, as an exchange
 abbrev pub exchange_admitted : ℕ → Option (List ℕ) → Note → Option Exchange
-exchange_admitted moment reply (note.Admitted peer mid) = Some (record { peer = peer; mid = mid; moment = moment; reply = reply })
+exchange_admitted moment reply (note.Admitted peer mid) =
+    Some (record { peer = peer; mid = mid; moment = moment; reply = reply })
 exchange_admitted moment reply _ = None
 
 -- an admission with what the events say of its answer

@@ -1,5 +1,19 @@
 -- When two peers, two requests, or two queries are the same.
-use Rattle.std.specs.Prelude.{ℕ, Bool, true, false, ◌&&◌, ◌==◌, List, [], ◌∷◌, Option, Some, None, bytes_eq}
+use Rattle.std.specs.Prelude.{
+  ℕ,
+  Bool,
+  true,
+  false,
+  ◌&&◌,
+  ◌==◌,
+  List,
+  [],
+  ◌∷◌,
+  Option,
+  Some,
+  None,
+  bytes_eq,
+}
 use Rattle.rd_base.specs.declared.peers.Host.{Host}
 use Rattle.rd_base.specs.declared.peers.Host.TheVariants as host
 use Rattle.rd_base.specs.declared.peers.Peer.{Peer}
@@ -40,7 +54,9 @@ are_same_criteria [] [] = true
 are_same_criteria [] (other ∷ others) = false
 are_same_criteria (criterion ∷ criteria) [] = false
 are_same_criteria (criterion ∷ criteria) (other ∷ others) =
-    bytes_eq criterion.name other.name && bytes_eq criterion.pattern other.pattern && are_same_criteria criteria others
+    bytes_eq criterion.name other.name
+    && bytes_eq criterion.pattern other.pattern
+    && are_same_criteria criteria others
 
 -- the same number, or none
 abbrev pub is_same_number : Option ℕ → Option ℕ → Bool

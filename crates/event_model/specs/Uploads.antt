@@ -1,5 +1,27 @@
--- Bodies that come in blocks (RFC 7959 section 2.5): what is collected of each, and which uploads live.
-use Rattle.std.specs.Prelude.{ℕ, Bool, false, not, ◌&&◌, ◌==◌, List, [], ◌∷◌, ◌++◌, length, filter, filter_map, Option, Some, None, is_some, option_map, option_and_then, if◌then◌else◌}
+-- Bodies that come in blocks (RFC 7959 section 2.5): what is collected of each, and which uploads
+-- live.
+use Rattle.std.specs.Prelude.{
+  ℕ,
+  Bool,
+  false,
+  not,
+  ◌&&◌,
+  ◌==◌,
+  List,
+  [],
+  ◌∷◌,
+  ◌++◌,
+  length,
+  filter,
+  filter_map,
+  Option,
+  Some,
+  None,
+  is_some,
+  option_map,
+  option_and_then,
+  if◌then◌else◌,
+}
 use Rattle.event_model.specs.declared.notes.Note.{Note}
 use Rattle.event_model.specs.declared.notes.Note.TheVariants as note
 use Rattle.event_model.specs.Same.{RequestName, is_same_request}
@@ -13,13 +35,15 @@ max_uploads = 64
 abbrev pub max_body : ℕ
 max_body = 8_192
 
--- what a note makes of what is collected under a name: its first block begins anew, a further one goes on, its end leaves nothing
+-- what a note makes of what is collected under a name: its first block begins anew, a further one
+-- goes on, its end leaves nothing
 abbrev pub collected_after : RequestName → Note → Option (List ℕ) → Option (List ℕ)
 collected_after name (note.Piece peer key number octets) before =
     if is_same_request (peer, key) name
     then (if number == 0 then Some octets else option_map (λ collected. collected ++ octets) before)
     else before
-collected_after name (note.Finished peer key) before = if is_same_request (peer, key) name then None else before
+collected_after name (note.Finished peer key) before =
+    if is_same_request (peer, key) name then None else before
 collected_after name _ before = before
 
 -- the upload of a name: its blocks joined from the last first one on, where no end follows
@@ -42,11 +66,14 @@ is_live_upload now name events = is_lately (last_event (is_piece_of name) events
 
 -- the upload of a name, where it lives
 unfoldable pub live_upload : ℕ → RequestName → List Event → Option (List ℕ)
-live_upload now name events = option_and_then (λ body. if is_live_upload now name events then Some body else None) (upload name events)
+live_upload now name events =
+    option_and_then (λ body. if is_live_upload now name events then Some body else None)
+    (upload name events)
 
 -- the note begins or ends the upload of a name
 abbrev pub starts_or_ends_upload : Note → RequestName → Bool
-starts_or_ends_upload (note.Piece peer key number octets) name = number == 0 && is_same_request (peer, key) name
+starts_or_ends_upload (note.Piece peer key number octets) name =
+    number == 0 && is_same_request (peer, key) name
 starts_or_ends_upload (note.Finished peer key) name = is_same_request (peer, key) name
 starts_or_ends_upload _ name = false
 
@@ -58,11 +85,13 @@ begun_by _ = []
 -- the names that have an upload
 unfoldable pub uploads : List Event → List RequestName
 uploads [] = []
-uploads (e ∷ before) = filter (λ name. not (starts_or_ends_upload e.note name)) (uploads before) ++ begun_by e.note
+uploads (e ∷ before) =
+    filter (λ name. not (starts_or_ends_upload e.note name)) (uploads before) ++ begun_by e.note
 
 -- how many uploads live
 unfoldable pub live_uploads : ℕ → List Event → ℕ
-live_uploads now events = length (filter (λ name. is_some (live_upload now name events)) (uploads events))
+live_uploads now events =
+    length (filter (λ name. is_some (live_upload now name events)) (uploads events))
 
 -- an upload that lives: its name, what is collected, and the moment of its last block
 pub record Upload : Type 0 where
@@ -73,7 +102,13 @@ pub record Upload : Type 0 where
 -- the upload of a name, where it lives
 abbrev pub upload_of : ℕ → List Event → RequestName → Option Upload
 upload_of now events name =
-    option_map (λ body. record { name = name; body = body; moment = event_moment (last_event (is_piece_of name) events) }) (live_upload now name events)
+    option_map (λ body.
+    record {
+      name = name;
+      body = body;
+      moment = event_moment
+          (last_event (is_piece_of name) events);
+    }) (live_upload now name events)
 
 -- the uploads that live at a moment, in the order in which they began
 unfoldable pub uploads_at : ℕ → List Event → List Upload

@@ -1,4 +1,5 @@
-//! What the journal of the directory notes, and what is found by looking back through it. Definitions and their laws; no function.
+//! What the journal of the directory notes, and what is found by looking back through it.
+//! Definitions and their laws; no function.
 #![tactic(auto)]
 
 mod notes;

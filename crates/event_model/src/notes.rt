@@ -1,7 +1,8 @@
 //! The notes of a journal.
 //!
-//! No value of these types is made at run time: they are Rust types so that the contracts of code and the definitions in antt share one type.
-//! The same holds of the types of the history (history_model) and of the steps and rows of the journal (journal_model).
+//! No value of these types is made at run time: they are Rust types so that the contracts of code
+//! and the definitions in antt share one type. The same holds of the types of the history
+//! (history_model) and of the steps and rows of the journal (journal_model).
 use history_model::Entry;
 use rd_base::{Peer, Query, RegParams};
 use std::collections::LinkedList;

@@ -9,7 +9,9 @@ use Rattle.exchange_core.specs.ExchangeEvents.{keyed_as, keyed_after}
 
 -- a write that is answered as a new one is no repeat
 -- An end theorem: nothing here cites it.
-pub fresh-no_repeat : (now : ℕ) (peer : Peer) (mid : ℕ) (events : List Event) → keyed.Fresh ≡ keyed_after now peer mid events → repeated now peer mid events ≡ None
+pub fresh-no_repeat : (now : ℕ) (peer : Peer) (mid : ℕ) (events : List Event)
+    → keyed.Fresh ≡ keyed_after now peer mid events
+    → repeated now peer mid events ≡ None
 unfolding keyed_after
 fresh-no_repeat now peer mid events fresh = by (repeated now peer mid events) fresh
   where

@@ -1,5 +1,27 @@
--- How exchanges are found by peer and Message ID: each has a bucket, and each bucket knows its latest.
-use Rattle.std.specs.Prelude.{◌≡◌, ℕ, ◌+◌, ◌*◌, ◌/◌, ◌%◌, ◌^◌, ◌<◌, ◌==◌, List, [], ◌∷◌, length, fold, Option, Some, None, slice_index, bit_xor, if◌then◌else◌}
+-- How exchanges are found by peer and Message ID: each has a bucket, and each bucket knows its
+-- latest.
+use Rattle.std.specs.Prelude.{
+  ◌≡◌,
+  ℕ,
+  ◌+◌,
+  ◌*◌,
+  ◌/◌,
+  ◌%◌,
+  ◌^◌,
+  ◌<◌,
+  ◌==◌,
+  List,
+  [],
+  ◌∷◌,
+  length,
+  fold,
+  Option,
+  Some,
+  None,
+  slice_index,
+  bit_xor,
+  if◌then◌else◌,
+}
 use Rattle.rd_base.specs.declared.peers.Host.{Host}
 use Rattle.rd_base.specs.declared.peers.Host.TheVariants as host
 use Rattle.rd_base.specs.declared.peers.Peer.{Peer}
@@ -28,10 +50,12 @@ bucket_of peer mid = mixed (mixed (host_hash peer.host) peer.port) mid % buckets
 abbrev pub bucket : Exchange → ℕ
 bucket x = bucket_of x.peer x.mid
 
--- exchanges are numbered in the order of their admission, the oldest with the first number: the number of the latest in a bucket
+-- exchanges are numbered in the order of their admission, the oldest with the first number: the
+-- number of the latest in a bucket
 unfoldable pub latest_in : ℕ → ℕ → List Exchange → Option ℕ
 latest_in first b [] = None
-latest_in first b (x ∷ before) = if bucket x == b then Some (first + length before) else latest_in first b before
+latest_in first b (x ∷ before) =
+    if bucket x == b then Some (first + length before) else latest_in first b before
 
 -- a number says which: that number, or one below the first where there is none
 abbrev pub Says : ℕ → ℕ → Option ℕ → Type 0
@@ -41,10 +65,12 @@ Says first n (Some m) = n ≡ m
 -- each exchange, the latest first, has the number of the next older one in its bucket
 unfoldable pub AreLinked : ℕ → List ℕ → List Exchange → Type 0
 AreLinked first [] [] = Unit {0}
-AreLinked first (n ∷ ns) (x ∷ before) = Says first n (latest_in first (bucket x) before) × AreLinked first ns before
+AreLinked first (n ∷ ns) (x ∷ before) =
+    Says first n (latest_in first (bucket x) before) × AreLinked first ns before
 AreLinked first _ _ = ⊥
 
--- the exchanges, the latest first, are found by these numbers: of each bucket that of its latest, and of each exchange that of the next older one in its bucket
+-- the exchanges, the latest first, are found by these numbers: of each bucket that of its latest,
+-- and of each exchange that of the next older one in its bucket
 pub record AreFoundBy (first : ℕ) (latest older : List ℕ) (xs : List Exchange) : Type 0 where
   pub as_many : length latest ≡ buckets
   pub heads : (b : ℕ) → b < buckets → Says first (slice_index latest b) (latest_in first b xs)

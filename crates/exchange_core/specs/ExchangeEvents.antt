@@ -9,7 +9,8 @@ use Rattle.exchange_core.specs.declared.writes.Keyed.{Keyed}
 use Rattle.exchange_core.specs.declared.writes.Keyed.TheVariants as keyed
 use Rattle.exchange_core.specs.Table.{Table, young, repeating}
 
--- a table stands for events at a moment: of its exchanges those that are young then are those that are kept then, with their answers
+-- a table stands for events at a moment: of its exchanges those that are young then are those that
+-- are kept then, with their answers
 pub record ExchangesStandFor (moment : ℕ) (events : List Event) (t : Table) : Type 0 where
   pub kept : young moment t.exchanges ≡ exchanges_at moment events
 
@@ -27,16 +28,28 @@ keyed_as None moment events = keyed_new (is_full_of_exchanges moment events)
 unfoldable pub keyed_after : ℕ → Peer → ℕ → List Event → Keyed
 keyed_after moment peer mid events = keyed_as (repeated moment peer mid events) moment events
 
--- a write of a peer under a Message ID was handed to a table at a moment: how it is answered, and what the table stands for afterwards,
--- whatever events the table stood for at that moment
-pub record IsKeyedAt (now : ℕ) (peer : Peer) (mid : ℕ) (before after : Table) (answer : Keyed) : Type 0 where
+-- a write of a peer under a Message ID was handed to a table at a moment: how it is answered, and
+-- what the table stands for afterwards, whatever events the table stood for at that moment
+pub record IsKeyedAt (now : ℕ) (peer : Peer) (mid : ℕ) (before after : Table) (answer : Keyed) :
+    Type 0 where
   -- it is answered as it is after those events
-  pub answered : (events : List Event) → IsOrderly events → NoneAfter now events → ExchangesStandFor now events before → answer ≡ keyed_after now peer mid events
+  pub answered : (events : List Event)
+      → IsOrderly events
+      → NoneAfter now events
+      → ExchangesStandFor now events before
+      → answer ≡ keyed_after now peer mid events
   -- one that is admitted is an event more
-  pub admitted : (events : List Event) (e : Event) → answer ≡ keyed.Fresh → e.note ≡ note.Admitted peer mid → e.moment ≡ now → IsNewPlace e.place events
+  pub admitted : (events : List Event) (e : Event)
+      → answer ≡ keyed.Fresh
+      → e.note ≡ note.Admitted peer mid
+      → e.moment ≡ now
+      → IsNewPlace e.place events
       → ExchangesStandFor now events before → ExchangesStandFor now (e ∷ events) after
   -- any other leaves the events as they are
-  pub aside : (events : List Event) → answer ≢ keyed.Fresh → ExchangesStandFor now events before → ExchangesStandFor now events after
+  pub aside : (events : List Event)
+      → answer ≢ keyed.Fresh
+      → ExchangesStandFor now events before
+      → ExchangesStandFor now events after
   -- a repeat changes nothing
   pub repeated : answer ≢ keyed.Fresh → answer ≢ keyed.FullExchanges → after ≡ before
   -- the table was changed at no later moment

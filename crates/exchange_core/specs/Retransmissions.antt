@@ -1,7 +1,14 @@
--- When a message is sent again, from what events note and from what is kept of it (RFC 7252 section 4.2).
+-- When a message is sent again, from what events note and from what is kept of it (RFC 7252 section
+-- 4.2).
 use Rattle.std.specs.Prelude.{◌≡◌, ℕ, ◌+◌, ◌*◌, ◌^◌, nat_lt, List, length, if◌then◌else◌}
 use Rattle.event_model.specs.Events.{Event}
-use Rattle.event_model.specs.Flights.{Retransmission, max_again, first_wait, moment_of_last, deadline}
+use Rattle.event_model.specs.Flights.{
+  Retransmission,
+  max_again,
+  first_wait,
+  moment_of_last,
+  deadline,
+}
 use Rattle.exchange_core.specs.declared.resends.Again.{Again}
 use Rattle.exchange_core.specs.declared.resends.Again.TheVariants as again
 
@@ -11,15 +18,28 @@ pub record Resends (first : Event) (others : List Event) (r : Retransmission) : 
   pub wait : r.wait ≡ first_wait first.word * 2 ^ length others
   pub again : r.again ≡ length others
 
--- what is due of such a message at a moment: nothing before the deadline, then a retransmission while there were fewer than four, else its end
+-- what is due of such a message at a moment: nothing before the deadline, then a retransmission
+-- while there were fewer than four, else its end
 unfoldable pub due_at : ℕ → Event → List Event → Again
-due_at now first others = if nat_lt now (deadline first others) then again.Wait else if nat_lt (length others) max_again then again.Send else again.GaveUp
+due_at now first others =
+    if nat_lt now (deadline first others)
+    then again.Wait
+    else if nat_lt (length others) max_again
+    then again.Send
+    else again.GaveUp
 
--- the same from what is kept of a message: nothing before its wait ends, then a retransmission while there were fewer than four, else its end
+-- the same from what is kept of a message: nothing before its wait ends, then a retransmission
+-- while there were fewer than four, else its end
 unfoldable pub kept_due : ℕ → Retransmission → Again
-kept_due now r = if nat_lt now (r.sent + r.wait) then again.Wait else if nat_lt r.again max_again then again.Send else again.GaveUp
+kept_due now r =
+    if nat_lt now (r.sent + r.wait)
+    then again.Wait
+    else if nat_lt r.again max_again
+    then again.Send
+    else again.GaveUp
 
--- what is kept of a message after what was due of it at a moment: a retransmission is made then, and waits twice as long
+-- what is kept of a message after what was due of it at a moment: a retransmission is made then,
+-- and waits twice as long
 abbrev pub kept_after : Again → ℕ → Retransmission → Retransmission
 kept_after again.Send now r = record { sent = now; wait = r.wait * 2; again = r.again + 1 }
 kept_after _ now r = r

@@ -1,5 +1,21 @@
 -- The exchanges of the table, the latest first: which is found, and what changes.
-use Rattle.std.specs.Prelude.{ℕ, ◌≤◌, Bool, ◌&&◌, ◌==◌, List, [], ◌∷◌, find, filter, Option, Some, None, option_and_then, if◌then◌else◌}
+use Rattle.std.specs.Prelude.{
+  ℕ,
+  ◌≤◌,
+  Bool,
+  ◌&&◌,
+  ◌==◌,
+  List,
+  [],
+  ◌∷◌,
+  find,
+  filter,
+  Option,
+  Some,
+  None,
+  option_and_then,
+  if◌then◌else◌,
+}
 use Rattle.rd_base.specs.declared.moments.Moment.{Moment}
 use Rattle.rd_base.specs.declared.peers.Peer.{Peer}
 use Rattle.event_model.specs.Same.{is_same_peer}
@@ -8,7 +24,8 @@ use Rattle.event_model.specs.Repeats.{Exchange}
 use Rattle.exchange_core.specs.declared.writes.Keyed.{Keyed}
 use Rattle.exchange_core.specs.declared.writes.Keyed.TheVariants as keyed
 
--- what a table of exchanges shows: the greatest moment that was handed to a call that changed it, and its exchanges, the latest first
+-- what a table of exchanges shows: the greatest moment that was handed to a call that changed it,
+-- and its exchanges, the latest first
 pub record Table : Type 0 where
   pub moment : ℕ
   pub exchanges : List Exchange

@@ -1,5 +1,6 @@
 //! By which exchanges are found: of each bucket its exchanges, from the latest on.
-ghost use Rattle.std.specs.Prelude.{◌≡◌, ◌+◌, ◌-◌, ◌<◌, ◌≤◌, ◌^◌, ◌∷◌, [], ℕ, length, take, slice_index, slice_set, IfOk, EachIndex};
+ghost use Rattle.std.specs.Prelude.{◌≡◌, ◌+◌, ◌-◌, ◌<◌, ◌≤◌, ◌^◌, ◌∷◌, [], ℕ, length, take};
+ghost use Rattle.std.specs.Prelude.{slice_index, slice_set, IfOk, EachIndex};
 ghost use Rattle.std.specs.VecDeque.{deque_len, deque_capacity};
 
 use crate::buckets::BUCKETS;
@@ -14,7 +15,8 @@ pub(crate) struct Chains {
     pub(crate) first: u64,
     /// Of each bucket the number of its latest exchange; one below the first where it has none.
     pub(crate) latest: Vec<u64>,
-    /// Of each exchange, the latest first, the number of the next older one in its bucket; one below the first where there is none.
+    /// Of each exchange, the latest first, the number of the next older one in its bucket; one
+    /// below the first where there is none.
     pub(crate) older: VecDeque<u64>,
 }
 
@@ -23,7 +25,8 @@ impl Chains {
     pub(crate) fn make(alloc: Global, room: usize) -> Result<Chains, Starved>
         ensures first { IfOk result (λ c. c.first ≡ 1) }
         ensures buckets { IfOk result (λ c. length c.latest.items ≡ 8_192) }
-        ensures none { IfOk result (λ c. EachIndex c.latest.items (λ b. slice_index c.latest.items b ≡ 0)) }
+        ensures none { IfOk result
+            (λ c. EachIndex c.latest.items (λ b. slice_index c.latest.items b ≡ 0)) }
         ensures empty { IfOk result (λ c. c.older.items ≡ []) }
         ensures room { IfOk result (λ c. room ≤ deque_capacity c.older) }
     {
@@ -50,8 +53,11 @@ impl Chains {
         requires counted { self.old.first + length self.old.older.items < 2 ^ 64 }
         requires room { length self.old.older.items < deque_capacity self.old.older }
         ensures first { self.new.first ≡ self.old.first }
-        ensures older { self.new.older.items ≡ slice_index self.old.latest.items bucket ∷ self.old.older.items }
-        ensures latest { self.new.latest.items ≡ slice_set self.old.latest.items bucket (self.old.first + length self.old.older.items) }
+        ensures older { self.new.older.items
+            ≡ slice_index self.old.latest.items bucket ∷ self.old.older.items }
+        ensures latest { self.new.latest.items
+            ≡ slice_set self.old.latest.items bucket
+            (self.old.first + length self.old.older.items) }
         ensures room { deque_capacity self.new.older ≡ deque_capacity self.old.older }
     {
         let number = self.next();
@@ -64,7 +70,8 @@ impl Chains {
     pub(crate) fn pop(&mut self)
         requires { self.old.first + 1 < 2 ^ 64 }
         ensures first { self.new.first ≡ self.old.first + 1 }
-        ensures older { self.new.older.items ≡ take (length self.old.older.items - 1) self.old.older.items }
+        ensures older { self.new.older.items
+            ≡ take (length self.old.older.items - 1) self.old.older.items }
         ensures latest { self.new.latest.items ≡ self.old.latest.items }
         ensures room { deque_capacity self.new.older ≡ deque_capacity self.old.older }
     {
@@ -76,7 +83,8 @@ impl Chains {
     pub(crate) fn clear(&mut self)
         ensures first { self.new.first ≡ 1 }
         ensures buckets { length self.new.latest.items ≡ length self.old.latest.items }
-        ensures none { EachIndex self.new.latest.items (λ b. slice_index self.new.latest.items b ≡ 0) }
+        ensures none { EachIndex self.new.latest.items
+            (λ b. slice_index self.new.latest.items b ≡ 0) }
         ensures empty { self.new.older.items ≡ [] }
         ensures room { deque_capacity self.new.older ≡ deque_capacity self.old.older }
     {

@@ -1,5 +1,7 @@
-//! Exchanges in the order of their admission, which are found by peer and Message ID without a search from end to end.
-ghost use Rattle.std.specs.Prelude.{◌≡◌, ◌+◌, ◌-◌, ◌<◌, ◌≤◌, ◌^◌, ◌↔◌, ◌∷◌, [], ℕ, List, length, take, slice_set, slice_index_or, IfOk, IfSome, IsSome};
+//! Exchanges in the order of their admission, which are found by peer and Message ID without a
+//! search from end to end.
+ghost use Rattle.std.specs.Prelude.{◌≡◌, ◌+◌, ◌-◌, ◌<◌, ◌≤◌, ◌^◌, ◌↔◌, ◌∷◌, [], ℕ, List, length};
+ghost use Rattle.std.specs.Prelude.{take, slice_set, slice_index_or, IfOk, IfSome, IsSome};
 ghost use Rattle.std.specs.List.{position, remove};
 ghost use Rattle.std.specs.VecDeque.{deque_len, deque_capacity};
 ghost use Rattle.event_model.specs.Repeats.{Exchange as Admission};
@@ -36,7 +38,9 @@ impl Model for ExchangeQueue {
 
     ghost view = { λ q. q.rows.items };
 
-    ghost invariant = { λ q. (4_096 ≤ deque_capacity q.rows) × (4_096 ≤ deque_capacity q.chains.older) × (deque_len q.rows ≤ 4_096)
+    ghost invariant = { λ q. (4_096 ≤ deque_capacity q.rows)
+        × (4_096 ≤ deque_capacity q.chains.older)
+        × (deque_len q.rows ≤ 4_096)
         × AreFoundBy q.chains.first q.chains.latest.items q.chains.older.items q.rows.items };
 }
 
@@ -69,12 +73,14 @@ impl ExchangeQueue {
     /// The oldest exchange.
     pub(crate) fn oldest(&self) -> Option<&Exchange>
         ensures variant { IsSome result ↔ (0 < length self.now) }
-        ensures lookup { IfSome result (λ x. x.now ≡ slice_index_or self.now (length self.now - 1) x.now) }
+        ensures lookup { IfSome result
+            (λ x. x.now ≡ slice_index_or self.now (length self.now - 1) x.now) }
     {
         self.rows.back()
     }
 
-    /// The index of the latest exchange of a peer and a Message ID, and of this moment where one is given.
+    /// The index of the latest exchange of a peer and a Message ID, and of this moment where one is
+    /// given.
     pub(crate) fn index_of(&self, peer: Peer, mid: u16, admitted: Option<Moment>) -> Option<usize>
         ensures { result ≡ position (is_sought peer mid admitted) self.now }
     {
@@ -103,12 +109,15 @@ impl ExchangeQueue {
     /// The exchange at an index gets this reply.
     pub(crate) fn answer(&mut self, index: usize, reply: Reply)
         requires { index < length self.old }
-        ensures { (x : Admission) → self.new ≡ slice_set self.old index (answered reply (slice_index_or self.old index x)) }
+        ensures { (x : Admission)
+            → self.new
+            ≡ slice_set self.old index (answered reply (slice_index_or self.old index x)) }
     {
         self.rows[index].answer(reply);
     }
 
-    /// The exchange at an index is gone. The others are numbered anew, which takes a step for each of them.
+    /// The exchange at an index is gone. The others are numbered anew, which takes a step for each
+    /// of them.
     pub(crate) fn remove(&mut self, index: usize)
         requires { index < length self.old }
         ensures { self.new ≡ remove self.old index }
@@ -118,7 +127,8 @@ impl ExchangeQueue {
     }
 }
 
-/// The index of the latest exchange of a peer and a Message ID, and of this moment where one is given: from the latest of its bucket to the next older one.
+/// The index of the latest exchange of a peer and a Message ID, and of this moment where one is
+/// given: from the latest of its bucket to the next older one.
 fn index_in(
     rows: &VecDeque<Exchange>,
     chains: &Chains,
@@ -126,7 +136,8 @@ fn index_in(
     mid: u16,
     admitted: Option<Moment>,
 ) -> Option<usize>
-    requires { AreFoundBy chains.now.first chains.now.latest.items chains.now.older.items rows.now.items }
+    requires { AreFoundBy chains.now.first chains.now.latest.items chains.now.older.items
+        rows.now.items }
     ensures { result ≡ position (is_sought peer mid admitted) rows.now.items }
 {
     let next = chains.next();
@@ -143,10 +154,12 @@ fn index_in(
 
 /// One exchange more can be numbered: where the numbers are used up, all are numbered anew.
 fn count_on(rows: &VecDeque<Exchange>, chains: &mut Chains)
-    requires found { AreFoundBy chains.old.first chains.old.latest.items chains.old.older.items rows.now.items }
+    requires found { AreFoundBy chains.old.first chains.old.latest.items chains.old.older.items
+        rows.now.items }
     requires few { length rows.now.items ≤ 4_096 }
     requires room { 4_096 ≤ deque_capacity chains.old.older }
-    ensures found { AreFoundBy chains.new.first chains.new.latest.items chains.new.older.items rows.now.items }
+    ensures found { AreFoundBy chains.new.first chains.new.latest.items chains.new.older.items
+        rows.now.items }
     ensures counted { chains.new.first + length rows.now.items + 1 < 2 ^ 64 }
     ensures room { deque_capacity chains.new.older ≡ deque_capacity chains.old.older }
 {
@@ -161,7 +174,8 @@ fn number_anew(rows: &VecDeque<Exchange>, chains: &mut Chains)
     requires buckets { length chains.old.latest.items ≡ 8_192 }
     requires few { length rows.now.items ≤ 4_096 }
     requires room { 4_096 ≤ deque_capacity chains.old.older }
-    ensures found { AreFoundBy chains.new.first chains.new.latest.items chains.new.older.items rows.now.items }
+    ensures found { AreFoundBy chains.new.first chains.new.latest.items chains.new.older.items
+        rows.now.items }
     ensures first { chains.new.first ≡ 1 }
     ensures room { deque_capacity chains.new.older ≡ deque_capacity chains.old.older }
 {

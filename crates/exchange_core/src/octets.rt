@@ -1,4 +1,5 @@
-//! Octets that are kept in a room of their own and take no memory: tokens, and the answers to writes.
+//! Octets that are kept in a room of their own and take no memory: tokens, and the answers to
+//! writes.
 ghost use Rattle.std.specs.Prelude.{◌≡◌, ◌≤◌, length, nat_eq};
 ghost use Rattle.std.proofs.Common.{rules};
 ghost use Rattle.std.specs.Cmp.Rules.{comparing, hashing};
@@ -17,7 +18,8 @@ pub struct Octets<const N: usize> {
     octets: ArrayVec<u8, N>,
 }
 
-/// A token, by which a response is matched with its request: at most 8 octets (RFC 7252 section 5.3.1).
+/// A token, by which a response is matched with its request: at most 8 octets (RFC 7252 section
+/// 5.3.1).
 pub type Token = Octets<8>;
 
 /// The octets of the answer to a write, at most 64.

@@ -26,7 +26,8 @@ pub enum Again {
     GaveUp,
 }
 
-/// When a message is sent again: after a first wait, and then after waits that are each twice as long (RFC 7252 section 4.2).
+/// When a message is sent again: after a first wait, and then after waits that are each twice as
+/// long (RFC 7252 section 4.2).
 #[derive(Debug, Drop)]
 pub struct Resend {
     /// When it was last sent.
@@ -51,7 +52,10 @@ impl Model for Resend {
 impl Resend {
     /// Of a message that is sent first now, with the word that its first wait is made from.
     pub fn start(now: Moment, word: u32) -> Resend
-        ensures { (first : Event) → first.moment ≡ now.0 → first.word ≡ word → Resends first [] result }
+        ensures { (first : Event)
+            → first.moment ≡ now.0
+            → first.word ≡ word
+            → Resends first [] result }
     {
         Resend {
             sent: now,
@@ -78,7 +82,8 @@ impl Resend {
     }
 }
 
-/// A message that waits for its acknowledgement: its Message ID, its octets, and when it is sent again.
+/// A message that waits for its acknowledgement: its Message ID, its octets, and when it is sent
+/// again.
 #[derive(Debug, Drop)]
 pub struct Sent {
     /// The Message ID, by which it is acknowledged.

@@ -4,7 +4,8 @@ ghost use Rattle.rd_base.specs.declared.peers.Peer.{Peer};
 ghost use Rattle.event_model.specs.declared.notes.Note.TheVariants as note;
 ghost use Rattle.event_model.specs.Events.{Event};
 ghost use Rattle.rd_base.specs.Firsts.{changed_first, without_first};
-ghost use Rattle.exchange_core.specs.Table.{is_with, is_admitted_at, InOrder, young, repeat_among, answered};
+ghost use Rattle.exchange_core.specs.Table.{is_with, is_admitted_at, InOrder, young, repeat_among};
+ghost use Rattle.exchange_core.specs.Table.{answered};
 ghost use Rattle.event_model.specs.AdmissionOrder.{IsOpen};
 ghost use Rattle.exchange_core.specs.ExchangeEvents.{ExchangesStandFor, IsKeyedAt};
 
@@ -14,7 +15,8 @@ use rd_base::{Moment, Peer, Starved};
 use std::alloc::Global;
 use std::marker::Model;
 
-/// The writes that were admitted and how they were answered, by which a repeat is recognized (RFC 7252 section 4.5).
+/// The writes that were admitted and how they were answered, by which a repeat is recognized (RFC
+/// 7252 section 4.5).
 #[derive(Drop)]
 pub struct Exchanges {
     /// The greatest moment that was handed to a call which changed it.
@@ -34,7 +36,8 @@ impl Model for Exchanges {
 }
 
 impl Exchanges {
-    /// No exchanges, with room for as many as are kept at most, 4,096. `Starved` where memory ran out, and then nothing is kept.
+    /// No exchanges, with room for as many as are kept at most, 4,096. `Starved` where memory ran
+    /// out, and then nothing is kept.
     pub fn make(alloc: Global) -> Result<Exchanges, Starved>
         ensures moment { IfOk result (λ t. t.moment ≡ 0) }
         ensures stands { IfOk result (λ t. ExchangesStandFor 0 [] t) }
@@ -46,8 +49,9 @@ impl Exchanges {
         })
     }
 
-    /// How a write of a peer under a Message ID is answered (RFC 7252 section 4.5). One that is new is admitted now, in flight, if there is room.
-    /// Now is not before the moments that the table was changed at. Takes no memory.
+    /// How a write of a peer under a Message ID is answered (RFC 7252 section 4.5). One that is new
+    /// is admitted now, in flight, if there is room. Now is not before the moments that the table
+    /// was changed at. Takes no memory.
     pub fn admit_key(&mut self, now: Moment, peer: Peer, mid: u16) -> Keyed
         requires { self.old.moment ≤ now.0 }
         ensures { IsKeyedAt now.0 peer mid self.old self.new result }
@@ -63,28 +67,45 @@ impl Exchanges {
         Keyed::Fresh
     }
 
-    /// Keeps the reply of the write that was admitted at a moment, where it is still there. Takes no memory.
+    /// Keeps the reply of the write that was admitted at a moment, where it is still there. Takes
+    /// no memory.
     pub fn settle(&mut self, peer: Peer, mid: u16, admitted: Moment, reply: Reply)
-        ensures stands { (at : ℕ) (events : List Event) (e : Event) (place : ℕ) → IsOpen place peer mid admitted.0 events → e.note ≡ note.Settled place reply → ExchangesStandFor at events self.old → ExchangesStandFor at (e ∷ events) self.new }
-        ensures answered { self.new.exchanges ≡ changed_first (is_admitted_at peer mid admitted.0) (answered reply) self.old.exchanges }
+        ensures stands { (at : ℕ) (events : List Event) (e : Event) (place : ℕ)
+            → IsOpen place peer mid admitted.0 events
+            → e.note ≡ note.Settled place reply
+            → ExchangesStandFor at events self.old
+            → ExchangesStandFor at (e ∷ events) self.new }
+        ensures answered { self.new.exchanges
+            ≡ changed_first (is_admitted_at peer mid admitted.0) (answered reply)
+            self.old.exchanges }
         ensures moment { self.new.moment ≡ self.old.moment }
     {
         answer_first(&mut self.queue, peer, mid, admitted, reply);
     }
 
-    /// Forgets the write that was admitted at a moment, where it is still there: it comes again as a new one.
+    /// Forgets the write that was admitted at a moment, where it is still there: it comes again as
+    /// a new one.
     pub fn forget(&mut self, peer: Peer, mid: u16, admitted: Moment)
-        ensures stands { (at : ℕ) (events : List Event) (e : Event) (place : ℕ) → IsOpen place peer mid admitted.0 events → e.note ≡ note.Failed place → ExchangesStandFor at events self.old → ExchangesStandFor at (e ∷ events) self.new }
-        ensures forgotten { self.new.exchanges ≡ without_first (is_admitted_at peer mid admitted.0) self.old.exchanges }
+        ensures stands { (at : ℕ) (events : List Event) (e : Event) (place : ℕ)
+            → IsOpen place peer mid admitted.0 events
+            → e.note ≡ note.Failed place
+            → ExchangesStandFor at events self.old
+            → ExchangesStandFor at (e ∷ events) self.new }
+        ensures forgotten { self.new.exchanges
+            ≡ without_first (is_admitted_at peer mid admitted.0) self.old.exchanges }
         ensures moment { self.new.moment ≡ self.old.moment }
     {
         drop_first(&mut self.queue, peer, mid, admitted);
     }
 
-    /// Drops the exchanges that are older than an exchange lives. Now is not before the moments that the table was changed at.
+    /// Drops the exchanges that are older than an exchange lives. Now is not before the moments
+    /// that the table was changed at.
     pub fn age(&mut self, now: Moment)
         requires { self.old.moment ≤ now.0 }
-        ensures stands { (at : ℕ) (events : List Event) → at ≤ now.0 → ExchangesStandFor at events self.old → ExchangesStandFor now.0 events self.new }
+        ensures stands { (at : ℕ) (events : List Event)
+            → at ≤ now.0
+            → ExchangesStandFor at events self.old
+            → ExchangesStandFor now.0 events self.new }
         ensures left { self.new.exchanges ≡ young now.0 self.old.exchanges }
         ensures moment { self.new.moment ≡ now.0 }
     {
@@ -123,7 +144,8 @@ fn drop_old(queue: &mut ExchangeQueue, now: Moment)
 
 /// Keeps the reply of the write that was admitted at a moment.
 fn answer_first(queue: &mut ExchangeQueue, peer: Peer, mid: u16, admitted: Moment, reply: Reply)
-    ensures { queue.new ≡ changed_first (is_admitted_at peer mid admitted.0) (answered reply) queue.old }
+    ensures { queue.new
+        ≡ changed_first (is_admitted_at peer mid admitted.0) (answered reply) queue.old }
 {
     if let Some(index) = queue.index_of(peer, mid, Some(admitted)) {
         queue.answer(index, reply);

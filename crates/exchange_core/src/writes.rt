@@ -1,7 +1,8 @@
 //! A write that was admitted, and how one that repeats it is answered.
 ghost use Rattle.std.specs.Prelude.{◌≡◌, ◌<◌, Option};
 ghost use Rattle.event_model.specs.Events.{is_young};
-ghost use Rattle.exchange_core.specs.Table.{admitted_now, is_with, is_admitted_at, is_sought, repeating, answered};
+ghost use Rattle.exchange_core.specs.Table.{admitted_now, is_with, is_admitted_at, is_sought};
+ghost use Rattle.exchange_core.specs.Table.{repeating, answered};
 ghost use Rattle.exchange_core.specs.Buckets.{bucket};
 
 use crate::Reply;
@@ -43,7 +44,8 @@ impl Model for Exchange {
 
     ghost Value = { Admission };
 
-    ghost view = { λ x. record { peer = x.peer; mid = x.mid; moment = x.admitted.0; reply = x.reply } };
+    ghost view = { λ x. record
+        { peer = x.peer; mid = x.mid; moment = x.admitted.0; reply = x.reply } };
 }
 
 impl Exchange {
@@ -73,7 +75,8 @@ impl Exchange {
         self.is_with(peer, mid) && self.admitted == admitted
     }
 
-    /// Whether it is the latest that is sought: of this peer under this Message ID, and admitted at this moment where one is given.
+    /// Whether it is the latest that is sought: of this peer under this Message ID, and admitted at
+    /// this moment where one is given.
     pub(crate) fn is_sought(&self, peer: Peer, mid: u16, admitted: Option<Moment>) -> bool
         ensures { result ≡ is_sought peer mid admitted self.now }
     {

@@ -1,34 +1,52 @@
--- The five sentences of the headline, of every journal of the machine and so of every trace, and the files that serve each. What holds of rows of steps in whatever
--- journal, and so of those of desks, stands below, in `journal_model`, under the same names of folders; its map says what.
+-- The five sentences of the headline, of every journal of the machine and so of every trace, and
+-- the files that serve each. What holds of rows of steps in whatever journal, and so of those of
+-- desks, stands below, in `journal_model`, under the same names of folders; its map says what.
 --
 -- HeadlineLaw: all five, of journals and of traces. Its laws of traces nothing here cites.
 --
--- HoldsEachOnce: each accepted request stands once in one legal history; of journals of the machine, and of those of desks.
---   Below: EntryOrigins says which steps note an entry, where it comes from, and that it comes next, by ChangeEntries (commits: an entry stands beside
---   an answer that reports a change), ResponseEntries (responses that complete a fetch) and QuietSteps (all others); RowLaws and JournalLaws lift it to
---   rows of steps and journals; CommitPlaces has that a commit is of a row that admitted its own write, CommitsOnce that an admission of a desk is committed once.
---   entries: CommitLaws has that of the machine, EntryChanges that an entry is the change that its request asks for; Admissions and FailedLaws that a repeat
---   is recognized, Failures that what failed ended in 5.00, which was sent; HoldsEachOnce, the sentence.
+-- HoldsEachOnce: each accepted request stands once in one legal history; of journals of the
+-- machine, and of those of desks.
+--   Below: EntryOrigins says which steps note an entry, where it comes from, and that it comes
+-- next, by ChangeEntries (commits: an entry stands beside
+--   an answer that reports a change), ResponseEntries (responses that complete a fetch) and
+-- QuietSteps (all others); RowLaws and JournalLaws lift it to
+--   rows of steps and journals; CommitPlaces has that a commit is of a row that admitted its own
+-- write, CommitsOnce that an admission of a desk is committed once.
+--   entries: CommitLaws has that of the machine, EntryChanges that an entry is the change that its
+-- request asks for; Admissions and FailedLaws that a repeat
+--   is recognized, Failures that what failed ended in 5.00, which was sent; HoldsEachOnce, the
+-- sentence.
 --
 -- TagsDecideStates: equal tags mean one state, and blocks of one listing.
---   entries: TagStates (the tags of rows of steps). rows: TaggedAnswers (the tags that are read in answers), and the sentence; of a desk it holds of answers that were formed in rows.
+--   entries: TagStates (the tags of rows of steps). rows: TaggedAnswers (the tags that are read in
+-- answers), and the sentence; of a desk it holds of answers that were formed in rows.
 --
--- ObserversKnow: an observer that is not due knows the listing; of journals of the machine, and of those of desks. It stands below whole, in observers.
+-- ObserversKnow: an observer that is not due knows the listing; of journals of the machine, and of
+-- those of desks. It stands below whole, in observers.
 --
 -- AnswersAsFormed: each lookup answers the listing of the row that formed it.
---   Below, in sends: BodyAnswers (an answer bears the block of its body that is wanted), PlainSteps (what refusals, writes and changes send is neither 2.05 nor 2.03),
---   TickSends (what is sent again), ValidSends (2.03); in flights: WaitedPeers and NoticesAgain (the first part of a tick).
---   sends: LookupSends (looks, lookups, keeps), PlainCommits (commits and responses), StepOutcomes (one table of what each step but a tick sends);
+--   Below, in sends: BodyAnswers (an answer bears the block of its body that is wanted), PlainSteps
+-- (what refusals, writes and changes send is neither 2.05 nor 2.03),
+--   TickSends (what is sent again), ValidSends (2.03); in flights: WaitedPeers and NoticesAgain
+-- (the first part of a tick).
+--   sends: LookupSends (looks, lookups, keeps), PlainCommits (commits and responses), StepOutcomes
+-- (one table of what each step but a tick sends);
 --   RowSends and ValidLaw have that 2.03 is sent exactly where a look names the tag.
---   flights: TickNotices, FreshNotices and TickFolds (one record of what a tick did so far, and each notice more), KnownFlights and TickFlights (the row that formed
---   each notice in flight), FirstBodies (other rows form no notice), CarriedListings (what it is to carry the listing of the row that formed it).
+--   flights: TickNotices, FreshNotices and TickFolds (one record of what a tick did so far, and
+-- each notice more), KnownFlights and TickFlights (the row that formed
+--   each notice in flight), FirstBodies (other rows form no notice), CarriedListings (what it is to
+-- carry the listing of the row that formed it).
 --   notes: TickNotes (what a tick keeps is as it was asked).
---   rows: each row carries what was formed as the headline says: RowCarries (looks and plain rows), LookupRows, KeepRows, TickRows; Validations has what
+--   rows: each row carries what was formed as the headline says: RowCarries (looks and plain rows),
+-- LookupRows, KeepRows, TickRows; Validations has what
 --   2.03 carries; and AnswersAsFormed, the sentence.
 --
--- SendsToWhoAsked: each datagram can be read, fits, and goes to who asked or observes; and what is noted as formed is sent.
---   Below, in datagrams: FittingReplies (replies that can be read and fit), OwnSends (what each step but a tick sends), TickedSends (what a tick sends), NotedSends (what
---   notes say of that), SentRows (rows of steps, one after the other), and DatagramRows (of a desk: that each datagram can be read and fits, and that what is formed is sent).
+-- SendsToWhoAsked: each datagram can be read, fits, and goes to who asked or observes; and what is
+-- noted as formed is sent.
+--   Below, in datagrams: FittingReplies (replies that can be read and fit), OwnSends (what each
+-- step but a tick sends), TickedSends (what a tick sends), NotedSends (what
+--   notes say of that), SentRows (rows of steps, one after the other), and DatagramRows (of a desk:
+-- that each datagram can be read and fits, and that what is formed is sent).
 --   datagrams: DatagramLaws, the sentence.
 --
 -- WrongRows and WrongDatagrams: rows with wrong answers, none of which has the headline.

@@ -1,5 +1,29 @@
--- Rows with a wrong answer: none of them has the headline. Beside each datagram its parts are shown: type, code, Message ID, token, options, payload.
-use Rattle.std.proofs.Common.{◌≡◌, inl, inr, ℕ, Bool, true, false, List, [], ◌∷◌, Option, Some, None, Result, Ok, codes, refl, sym, ap, subst, ◌∙◌, arith}
+-- Rows with a wrong answer: none of them has the headline. Beside each datagram its parts are
+-- shown: type, code, Message ID, token, options, payload.
+use Rattle.std.proofs.Common.{
+  ◌≡◌,
+  inl,
+  inr,
+  ℕ,
+  Bool,
+  true,
+  false,
+  List,
+  [],
+  ◌∷◌,
+  Option,
+  Some,
+  None,
+  Result,
+  Ok,
+  codes,
+  refl,
+  sym,
+  ap,
+  subst,
+  ◌∙◌,
+  arith,
+}
 use Rattle.rd_base.specs.declared.peers.Peer.{Peer}
 use Rattle.message_model.specs.declared.messages.Kind4.TheVariants.{Con, Ack, Rst}
 use Rattle.message_model.specs.declared.messages.Role.TheVariants as role
@@ -29,7 +53,14 @@ use Rattle.journal_model.specs.Journal.{entries}
 use Rattle.journal_model.specs.Requests.{query_of, asked_block}
 use Rattle.journal_model.specs.PlacedRows.{Placed}
 use Rattle.journal_model.specs.HoldsEachOnce.{EndedWithoutMemory, IsEntryOf, AdmittedAt}
-use Rattle.journal_model.specs.AnswersAsFormed.{Asked, IsBlockOf, asked_at, Sent, FormedAs, Validates}
+use Rattle.journal_model.specs.AnswersAsFormed.{
+  Asked,
+  IsBlockOf,
+  asked_at,
+  Sent,
+  FormedAs,
+  Validates,
+}
 use Rattle.journal_model.specs.TagsDecideStates.{AreBlocksOfOne}
 use Rattle.journal_model.specs.Headline.{Headline}
 use Rattle.headline_law.proofs.entries.FailedLaws.{within_cases, nothing_within}
@@ -39,7 +70,15 @@ use Rattle.headline_law.proofs.entries.FailedLaws.{within_cases, nothing_within}
 -- the row of a step with the datagram of a peer
 abbrev pub row_of : StepKind → List ℕ → Bool → List (Peer × List ℕ) → List Note → Row
 row_of kind datagram starved sent notes = record {
-  step = record { kind = kind; worker = 0; handed = record { 0 = 0 }; word = 0; peer = peer 1; datagram = datagram; drawn = 0 };
+  step = record {
+    kind = kind;
+    worker = 0;
+    handed = record { 0 = 0 };
+    word = 0;
+    peer = peer 1;
+    datagram = datagram;
+    drawn = 0;
+  };
   moment = record { 0 = 0 };
   starved = starved;
   sent = sent;
@@ -47,27 +86,43 @@ row_of kind datagram starved sent notes = record {
   drew = 0;
 }
 
--- a lookup of the endpoints, in blocks of 16 octets: CON 0.01 m=0010 t=c1 [11 rd-lookup][11 ep][23 0/0/0]
+-- a lookup of the endpoints, in blocks of 16 octets: CON 0.01 m=0010 t=c1 [11 rd-lookup][11 ep][23
+-- 0/0/0]
 abbrev pub lookup : Message
 lookup = record {
   kind = Con;
   code = codes_of.get;
   mid = 16;
   token = 193 ∷ [];
-  options = (table.uri_path, codes "rd-lookup") ∷ (table.uri_path, codes "ep") ∷ (table.block2, 0 ∷ []) ∷ [];
+  options =
+      (table.uri_path, codes "rd-lookup")
+      ∷ (table.uri_path, codes "ep")
+      ∷ (table.block2, 0 ∷ [])
+      ∷ [];
   payload = [];
 }
 
 -- an answer to it: ACK m=0010
 abbrev pub answer : ℕ → List ℕ → List Opt → List ℕ → Message
-answer code token options payload = record { kind = Ack; code = code; mid = 16; token = token; options = options; payload = payload }
+answer code token options payload = record {
+  kind = Ack;
+  code = code;
+  mid = 16;
+  token = token;
+  options = options;
+  payload = payload;
+}
 
 -- a look that sends such an answer to a peer
 abbrev pub look_with : Peer → Message → Row
 look_with to m = row_of step.Look (spelling lookup) false ((to, spelling m) ∷ []) []
 
 -- a message that the one row of a journal sends first
-abbrev pub sent_first : (r : Row) (to : Peer) (octets : List ℕ) (m : Message) (others : List (Peer × List ℕ)) → r.sent ≡ (to, octets) ∷ others → reading octets ≡ Ok m → Sent (r ∷ [])
+abbrev pub sent_first : (r : Row) (to : Peer) (octets : List ℕ) (m : Message)
+    (others : List (Peer × List ℕ))
+    → r.sent ≡ (to, octets) ∷ others
+    → reading octets ≡ Ok m
+    → Sent (r ∷ [])
 sent_first r to octets m others is read = record {
   here = record { row = r; before = [] };
   within = record { later = []; whole = refl };
@@ -89,7 +144,9 @@ pub untagged_falls : Headline (look_with (peer 1) untagged ∷ []) → ⊥
 unfolding messages_on_literals
 untagged_falls h =
     let f : FormedAs (record { row = look_with (peer 1) untagged; before = [] }) (peer 1) untagged =
-    h.answers.carried (sent_first (look_with (peer 1) untagged) (peer 1) (spelling untagged) untagged [] refl refl) refl in
+    h.answers.carried
+    (sent_first (look_with (peer 1) untagged) (peer 1) (spelling untagged) untagged [] refl
+    refl) refl in
     let none : [] ≡ tag _ _ ∷ [] = f.carries.tag in
     absurd cc
 
@@ -105,8 +162,11 @@ tagged token = answer codes_of.content token ((table.etag, eight) ∷ []) []
 pub other_peer_falls : Headline (look_with (peer 2) (tagged (193 ∷ [])) ∷ []) → ⊥
 unfolding messages_on_literals
 other_peer_falls h =
-    let f : FormedAs (record { row = look_with (peer 2) (tagged (193 ∷ [])); before = [] }) (peer 2) (tagged (193 ∷ [])) =
-    h.answers.carried (sent_first (look_with (peer 2) (tagged (193 ∷ []))) (peer 2) (spelling (tagged (193 ∷ []))) (tagged (193 ∷ [])) [] refl refl) refl in
+    let f : FormedAs (record { row = look_with (peer 2) (tagged (193 ∷ [])); before = [] }) (peer 2)
+    (tagged (193 ∷ [])) =
+    h.answers.carried
+    (sent_first (look_with (peer 2) (tagged (193 ∷ []))) (peer 2) (spelling (tagged (193 ∷ [])))
+    (tagged (193 ∷ [])) [] refl refl) refl in
     let none : None ≡ Some f.asked = f.asks in
     absurd cc
 
@@ -115,12 +175,16 @@ other_peer_falls h =
 pub other_token_falls : Headline (look_with (peer 1) (tagged (194 ∷ [])) ∷ []) → ⊥
 unfolding messages_on_literals
 other_token_falls h =
-    let f : FormedAs (record { row = look_with (peer 1) (tagged (194 ∷ [])); before = [] }) (peer 1) (tagged (194 ∷ [])) =
-    h.answers.carried (sent_first (look_with (peer 1) (tagged (194 ∷ []))) (peer 1) (spelling (tagged (194 ∷ []))) (tagged (194 ∷ [])) [] refl refl) refl in
+    let f : FormedAs (record { row = look_with (peer 1) (tagged (194 ∷ [])); before = [] }) (peer 1)
+    (tagged (194 ∷ [])) =
+    h.answers.carried
+    (sent_first (look_with (peer 1) (tagged (194 ∷ []))) (peer 1) (spelling (tagged (194 ∷ [])))
+    (tagged (194 ∷ [])) [] refl refl) refl in
     let none : None ≡ Some f.asked = f.asks in
     absurd cc
 
--- a block of another size than that which is asked for: ACK 2.05 t=c1 [4 0000000000000000][23 0/0/1024]
+-- a block of another size than that which is asked for: ACK 2.05 t=c1 [4 0000000000000000][23
+-- 0/0/1024]
 abbrev larger : Message
 larger = answer codes_of.content (193 ∷ []) ((table.etag, eight) ∷ (table.block2, 6 ∷ []) ∷ []) []
 
@@ -129,7 +193,9 @@ pub other_size_falls : Headline (look_with (peer 1) larger ∷ []) → ⊥
 unfolding messages_on_literals
 other_size_falls h =
     let f : FormedAs (record { row = look_with (peer 1) larger; before = [] }) (peer 1) larger =
-    h.answers.carried (sent_first (look_with (peer 1) larger) (peer 1) (spelling larger) larger [] refl refl) refl in
+    h.answers.carried
+    (sent_first (look_with (peer 1) larger) (peer 1) (spelling larger) larger [] refl refl)
+    refl in
     let asks : Some 0 ≡ Some f.asked.szx = ap (szx_of_asked) f.asks in
     let named : 6 ≡ f.asked.szx = f.carries.block.asked.1 in
     let small : 0 ≡ f.asked.szx = cc in
@@ -139,21 +205,36 @@ other_size_falls h =
     szx_of_asked None = None
     szx_of_asked (Some a) = Some a.szx
 
--- what a message of a look with nothing before it must carry: the block that it names of the listing of no entries
+-- what a message of a look with nothing before it must carry: the block that it names of the
+-- listing of no entries
 abbrev CarriesNothing : Message → Type 0
-CarriesNothing m = IsBlockOf (asked_block m) (listing (query_of lookup) (entries (look_with (peer 1) m ∷ [])) 0) m.payload
+CarriesNothing m =
+    IsBlockOf (asked_block m) (listing (query_of lookup) (entries (look_with (peer 1) m ∷ [])) 0)
+    m.payload
 
-carried_nothing : (m : Message) → reading (spelling m) ≡ Ok m → m.code ≡ codes_of.content → m.token ≡ 193 ∷ [] → Headline (look_with (peer 1) m ∷ []) → CarriesNothing m
+carried_nothing : (m : Message)
+    → reading (spelling m) ≡ Ok m
+    → m.code ≡ codes_of.content
+    → m.token ≡ 193 ∷ []
+    → Headline (look_with (peer 1) m ∷ [])
+    → CarriesNothing m
 unfolding messages_on_literals
 carried_nothing m read content token h =
-    subst (λ (q : Query). IsBlockOf (asked_block m) (listing q (entries (look_with (peer 1) m ∷ [])) 0) m.payload) (sym query)
-    (subst (λ (p : Placed). IsBlockOf (asked_block m) (listing f.asked.query (entries (p.row ∷ p.before)) p.row.moment.0) m.payload) (sym former) f.carries.block.block)
+    subst (λ (q : Query).
+    IsBlockOf (asked_block m) (listing q (entries (look_with (peer 1) m ∷ [])) 0) m.payload)
+    (sym query)
+    (subst (λ (p : Placed).
+    IsBlockOf (asked_block m)
+    (listing f.asked.query (entries (p.row ∷ p.before)) p.row.moment.0) m.payload)
+    (sym former) f.carries.block.block)
   where
     here : Placed
     here = record { row = look_with (peer 1) m; before = [] }
 
     f : FormedAs here (peer 1) m
-    f = h.answers.carried (sent_first (look_with (peer 1) m) (peer 1) (spelling m) m [] refl read) (rw content refl)
+    f =
+        h.answers.carried (sent_first (look_with (peer 1) m) (peer 1) (spelling m) m [] refl read)
+        (rw content refl)
 
     former : here ≡ f.former
     former = same_Some here f.former f.formed
@@ -162,11 +243,14 @@ carried_nothing m read content token h =
     asked = record { query = query_of lookup; number = 0; szx = 0 }
 
     query : query_of lookup ≡ f.asked.query
-    query = ap (λ (a : Asked). a.query) (same_Some asked f.asked (subst (λ t. asked_at step.Look (peer 1, t) here ≡ Some f.asked) token f.asks))
+    query =
+        ap (λ (a : Asked). a.query) (same_Some asked f.asked
+        (subst (λ t. asked_at step.Look (peer 1, t) here ≡ Some f.asked) token f.asks))
 
 -- more is said to follow where nothing does: ACK 2.05 t=c1 [4 0000000000000000][23 0/1/16]
 abbrev more_claimed : Message
-more_claimed = answer codes_of.content (193 ∷ []) ((table.etag, eight) ∷ (table.block2, 8 ∷ []) ∷ []) []
+more_claimed =
+    answer codes_of.content (193 ∷ []) ((table.etag, eight) ∷ (table.block2, 8 ∷ []) ∷ []) []
 
 -- An end theorem: nothing here cites it.
 pub more_claimed_falls : Headline (look_with (peer 1) more_claimed ∷ []) → ⊥
@@ -180,14 +264,16 @@ more_claimed_falls h =
 
 -- another body than the listing: ACK 2.05 t=c1 [4 0000000000000000][23 0/0/16] a
 abbrev other_body : Message
-other_body = answer codes_of.content (193 ∷ []) ((table.etag, eight) ∷ (table.block2, []) ∷ []) (97 ∷ [])
+other_body =
+    answer codes_of.content (193 ∷ []) ((table.etag, eight) ∷ (table.block2, []) ∷ []) (97 ∷ [])
 
 -- An end theorem: nothing here cites it.
 pub other_body_falls : Headline (look_with (peer 1) other_body ∷ []) → ⊥
 unfolding machine_on_literals history_on_literals
 other_body_falls h =
     let it : CarriesNothing other_body = carried_nothing other_body refl refl refl h in
-    let empty : ◌≡◌ {A = List ℕ} [] (97 ∷ []) = ap (λ (part : List ℕ × Bool). part.0) (same_Some ([], false) (97 ∷ [], false) it) in
+    let empty : ◌≡◌ {A = List ℕ} [] (97 ∷ []) =
+    ap (λ (part : List ℕ × Bool). part.0) (same_Some ([], false) (97 ∷ [], false) it) in
     absurd cc
 
 -- ---- 2.03
@@ -197,14 +283,19 @@ abbrev valid : List Opt → Message
 valid options = answer codes_of.valid (193 ∷ []) options []
 
 abbrev starved_valid : Row
-starved_valid = row_of step.Admit (spelling lookup) true ((peer 1, spelling (valid ((table.etag, eight) ∷ []))) ∷ []) []
+starved_valid =
+    row_of step.Admit (spelling lookup) true
+    ((peer 1, spelling (valid ((table.etag, eight) ∷ []))) ∷ []) []
 
 -- An end theorem: nothing here cites it.
 pub starved_valid_falls : Headline (starved_valid ∷ []) → ⊥
 unfolding messages_on_literals
 starved_valid_falls h =
-    let v : Validates (record { row = starved_valid; before = [] }) (peer 1) (valid ((table.etag, eight) ∷ [])) =
-    h.answers.validated (sent_first starved_valid (peer 1) (spelling (valid ((table.etag, eight) ∷ []))) (valid ((table.etag, eight) ∷ [])) [] refl refl) refl in
+    let v : Validates (record { row = starved_valid; before = [] }) (peer 1)
+    (valid ((table.etag, eight) ∷ [])) =
+    h.answers.validated
+    (sent_first starved_valid (peer 1) (spelling (valid ((table.etag, eight) ∷ [])))
+    (valid ((table.etag, eight) ∷ [])) [] refl refl) refl in
     let no : false ≡ true = v.looks in
     absurd cc
 
@@ -213,8 +304,11 @@ starved_valid_falls h =
 pub bare_valid_falls : Headline (look_with (peer 1) (valid []) ∷ []) → ⊥
 unfolding messages_on_literals
 bare_valid_falls h =
-    let v : Validates (record { row = look_with (peer 1) (valid []); before = [] }) (peer 1) (valid []) =
-    h.answers.validated (sent_first (look_with (peer 1) (valid [])) (peer 1) (spelling (valid [])) (valid []) [] refl refl) refl in
+    let v : Validates (record { row = look_with (peer 1) (valid []); before = [] }) (peer 1)
+    (valid []) =
+    h.answers.validated
+    (sent_first (look_with (peer 1) (valid [])) (peer 1) (spelling (valid [])) (valid []) []
+    refl refl) refl in
     let none : ◌≡◌ {A = List Opt} [] ((table.etag, tag (entries []) 0) ∷ []) = v.options in
     absurd cc
 
@@ -225,13 +319,17 @@ abbrev body_of : ℕ → Message
 body_of c = answer codes_of.content (193 ∷ []) ((table.etag, eight) ∷ []) (c ∷ [])
 
 abbrev two_bodies : Row
-two_bodies = row_of step.Look (spelling lookup) false ((peer 1, spelling (body_of 97)) ∷ (peer 1, spelling (body_of 98)) ∷ []) []
+two_bodies =
+    row_of step.Look (spelling lookup) false
+    ((peer 1, spelling (body_of 97)) ∷ (peer 1, spelling (body_of 98)) ∷ []) []
 
 -- An end theorem: nothing here cites it.
 pub two_bodies_fall : Headline (two_bodies ∷ []) → ⊥
 unfolding messages_on_literals
 two_bodies_fall h =
-    let one : Sent (two_bodies ∷ []) = sent_first two_bodies (peer 1) (spelling (body_of 97)) (body_of 97) ((peer 1, spelling (body_of 98)) ∷ []) refl refl in
+    let one : Sent (two_bodies ∷ []) =
+    sent_first two_bodies (peer 1) (spelling (body_of 97)) (body_of 97)
+    ((peer 1, spelling (body_of 98)) ∷ []) refl refl in
     let other : Sent (two_bodies ∷ []) = record {
       here = record { row = two_bodies; before = [] };
       within = record { later = []; whole = refl };
@@ -267,9 +365,12 @@ admission = row_of step.Admit [] false [] (note.Admitted (peer 1) 16 ∷ [])
 pub twice_admitted_falls : Headline (admission ∷ admission ∷ []) → ⊥
 twice_admitted_falls h =
     let ended : EndedWithoutMemory (admission ∷ []) 0 =
-    h.changes.failed (admission ∷ []) [] admission admission (peer 1) 16 (record { later = []; whole = refl }) (record { later = []; whole = refl }) refl refl (omega arith) in
+    h.changes.failed (admission ∷ []) [] admission admission (peer 1) 16
+    (record { later = []; whole = refl }) (record { later = []; whole = refl }) refl refl
+    (omega arith) in
     elim (within_cases admission [] ended.before ended.row ended.within) [
-      | inl here ↦ let no : step.Admit ≡ step.Commit 0 = ap (λ (r : Row). r.step.kind) here.0 ∙ ended.commits in absurd cc
+      | inl here ↦ let no : step.Admit ≡ step.Commit 0 =
+          ap (λ (r : Row). r.step.kind) here.0 ∙ ended.commits in absurd cc
       | inr further ↦ absurd (nothing_within ended.before ended.row further)
     ]
 
@@ -278,7 +379,9 @@ abbrev removed : Entry
 removed = record { moment = record { 0 = 0 }; worker = 0; peer = peer 1; change = change.Remove 1 }
 
 abbrev reset_entry : Row
-reset_entry = row_of step.Admit (spelling (empty_message Rst 16)) false [] (note.Entered removed ∷ note.Ceased (peer 1) ∷ [])
+reset_entry =
+    row_of step.Admit (spelling (empty_message Rst 16)) false []
+    (note.Entered removed ∷ note.Ceased (peer 1) ∷ [])
 
 -- An end theorem: nothing here cites it.
 pub reset_entry_falls : Headline (reset_entry ∷ []) → ⊥
@@ -286,23 +389,35 @@ unfolding messages_on_literals
 reset_entry_falls h =
     elim (h.changes.origin [] reset_entry (record { later = []; whole = refl }) (omega arith)) [
       | inl commit ↦ let no : step.Admit ≡ step.Commit commit.0 = commit.1 in absurd cc
-      | inr completion ↦ different completion.answers.message (same (empty_message Rst 16) completion.answers.message (let it : reading (spelling (empty_message Rst 16)) ≡ Ok completion.answers.message = completion.answers.read in it)) completion.answers.response
+      | inr completion ↦ different completion.answers.message
+          (same (empty_message Rst 16) completion.answers.message
+          (let it :
+          reading (spelling (empty_message Rst 16)) ≡ Ok completion.answers.message =
+          completion.answers.read in it)) completion.answers.response
     ]
   where
     same : (m n : Message) → ◌≡◌ {A = Result Message Unread} (Ok m) (Ok n) → m ≡ n
     same m n e = cc
 
     different : (m : Message) → empty_message Rst 16 ≡ m → role_of m.kind m.code ≡ role.Response → ⊥
-    different m is responds = let no : role.Reset ≡ role.Response = ap (λ (n : Message). role_of n.kind n.code) is ∙ responds in absurd cc
+    different m is responds =
+        let no : role.Reset ≡ role.Response =
+        ap (λ (n : Message). role_of n.kind n.code) is ∙ responds in
+        absurd cc
 
 -- an entry of another worker than that of its row
 abbrev strange_entry : Row
-strange_entry = row_of step.Admit [] false [] (note.Entered (record { moment = record { 0 = 0 }; worker = 1; peer = peer 1; change = change.Remove 1 }) ∷ [])
+strange_entry =
+    row_of step.Admit [] false [] (note.Entered (record
+    { moment = record { 0 = 0 }; worker = 1; peer = peer 1; change = change.Remove 1 })
+    ∷ [])
 
 -- An end theorem: nothing here cites it.
 pub strange_entry_falls : Headline (strange_entry ∷ []) → ⊥
 strange_entry_falls h =
-    let it : IsEntryOf [] 0 strange_entry.step (record { moment = record { 0 = 0 }; worker = 1; peer = peer 1; change = change.Remove 1 }) =
+    let it : IsEntryOf [] 0 strange_entry.step
+    (record { moment = record { 0 = 0 }; worker = 1; peer = peer 1; change = change.Remove 1 })
+    =
     h.changes.entry [] strange_entry _ (record { later = []; whole = refl }) refl in
     let one : ◌≡◌ {A = ℕ} 1 0 = ap (λ (e : Entry). e.worker) it.stamped in
     absurd (omega (arith, one))
@@ -314,5 +429,6 @@ stray_commit = row_of (step.Commit 0) [] false [] []
 -- An end theorem: nothing here cites it.
 pub stray_commit_falls : Headline (stray_commit ∷ []) → ⊥
 stray_commit_falls h =
-    let at : AdmittedAt [] 0 stray_commit.step = h.changes.place [] stray_commit 0 (record { later = []; whole = refl }) refl in
+    let at : AdmittedAt [] 0 stray_commit.step =
+    h.changes.place [] stray_commit 0 (record { later = []; whole = refl }) refl in
     nothing_within at.before at.row at.within

@@ -8,5 +8,6 @@ use Rattle.history_model.specs.Refusals.{refusal_in, change_refusal}
 
 -- the definitions of histories
 unfoldable pub history_on_literals : ⊤
-unfolding record_on_literals apply replay live last_moment all_lines listing lapsed_since tag_from refusal_in change_refusal
+unfolding record_on_literals apply replay live last_moment all_lines listing lapsed_since tag_from
+    refusal_in change_refusal
 history_on_literals = tt

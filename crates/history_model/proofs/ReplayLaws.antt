@@ -1,5 +1,25 @@
 -- The entries of a history, one after another, and what one of them makes of a state.
-use Rattle.std.proofs.Common.{◌≡◌, ℕ, ◌+◌, Bool, true, false, not, cond, List, [], ◌∷◌, ◌++◌, filter, Option, Some, None, refl, sym, eqb-true}
+use Rattle.std.proofs.Common.{
+  ◌≡◌,
+  ℕ,
+  ◌+◌,
+  Bool,
+  true,
+  false,
+  not,
+  cond,
+  List,
+  [],
+  ◌∷◌,
+  ◌++◌,
+  filter,
+  Option,
+  Some,
+  None,
+  refl,
+  sym,
+  eqb-true,
+}
 use Rattle.std.proofs.lemmas.List.Sums.{fold_push}
 use Rattle.rd_base.specs.declared.moments.Moment.{Moment}
 use Rattle.rd_base.specs.declared.parameters.RegParams.{RegParams}
@@ -11,7 +31,17 @@ use Rattle.record_model.specs.Records.{registered, updated}
 use Rattle.history_model.specs.declared.entries.Change.{Change}
 use Rattle.history_model.specs.declared.entries.Change.TheVariants as change
 use Rattle.history_model.specs.declared.entries.Entry.{Entry}
-use Rattle.history_model.specs.Replay.{State, empty, is_numbered, number_named, with_changed, registered_under, changed, apply, replay}
+use Rattle.history_model.specs.Replay.{
+  State,
+  empty,
+  is_numbered,
+  number_named,
+  with_changed,
+  registered_under,
+  changed,
+  apply,
+  replay,
+}
 use Rattle.history_model.specs.Live.{last_moment}
 
 -- ---- histories
@@ -22,7 +52,8 @@ unfolding replay
 replay-nil = refl
 
 -- with one entry more, a history makes what the entry makes of what it made before
-pub replay_push : (history : List Entry) (entry : Entry) → replay (history ++ entry ∷ []) ≡ apply (replay history) entry
+pub replay_push : (history : List Entry) (entry : Entry)
+    → replay (history ++ entry ∷ []) ≡ apply (replay history) entry
 unfolding replay
 replay_push history entry = fold_push apply empty history entry
 
@@ -30,7 +61,8 @@ pub last_moment-nil : last_moment [] ≡ 0
 unfolding last_moment
 last_moment-nil = refl
 
-pub last_moment_push : (history : List Entry) (entry : Entry) → last_moment (history ++ entry ∷ []) ≡ entry.moment.0
+pub last_moment_push : (history : List Entry) (entry : Entry)
+    → last_moment (history ++ entry ∷ []) ≡ entry.moment.0
 unfolding last_moment
 last_moment_push history entry = fold_push (λ (before : ℕ) (e : Entry). e.moment.0) 0 history entry
 
@@ -38,20 +70,35 @@ last_moment_push history entry = fold_push (λ (before : ℕ) (e : Entry). e.mom
 
 -- by the kind of the change
 -- An end theorem: nothing here cites it.
-pub apply-Register : (state : State) (now : Moment) (worker : ℕ) (peer : Peer) (params : RegParams) (links : List SubmittedLink)
-    → apply state (record { moment = now; worker = worker; peer = peer; change = change.Register params links }) ≡ registered_under (number_named params.name now.0 state.records) state now peer params links
+pub apply-Register : (state : State) (now : Moment) (worker : ℕ) (peer : Peer) (params : RegParams)
+    (links : List SubmittedLink)
+    → apply state (record
+    { moment = now; worker = worker; peer = peer; change = change.Register params links })
+    ≡ registered_under (number_named params.name now.0 state.records) state now peer params
+    links
 unfolding apply
 apply-Register state now worker peer params links = refl
 
 -- An end theorem: nothing here cites it.
-pub apply-Update : (state : State) (now : Moment) (worker : ℕ) (peer : Peer) (number : ℕ) (given : UpdateParams)
-    → apply state (record { moment = now; worker = worker; peer = peer; change = change.Update number given }) ≡ record { records = with_changed number (updated now peer given) state.records; last_number = state.last_number }
+pub apply-Update : (state : State) (now : Moment) (worker : ℕ) (peer : Peer) (number : ℕ)
+    (given : UpdateParams)
+    → apply state (record
+    { moment = now; worker = worker; peer = peer; change = change.Update number given })
+    ≡ record {
+      records = with_changed number (updated now peer given) state.records;
+      last_number = state.last_number;
+    }
 unfolding apply
 apply-Update state now worker peer number given = refl
 
 -- An end theorem: nothing here cites it.
 pub apply-Remove : (state : State) (now : Moment) (worker : ℕ) (peer : Peer) (number : ℕ)
-    → apply state (record { moment = now; worker = worker; peer = peer; change = change.Remove number }) ≡ record { records = filter (λ r. not (is_numbered number r)) state.records; last_number = state.last_number }
+    → apply state
+    (record { moment = now; worker = worker; peer = peer; change = change.Remove number })
+    ≡ record {
+      records = filter (λ r. not (is_numbered number r)) state.records;
+      last_number = state.last_number;
+    }
 unfolding apply
 apply-Remove state now worker peer number = refl
 
@@ -60,34 +107,56 @@ pub record KeepsNumber (moment number : ℕ) (new : Record → Record) : Type 0 
   pub keeps : (r : Record) → r.number ≡ number → (new r).number ≡ r.number
   pub granted : (r : Record) → (new r).granted.0 ≡ moment
 
-pub registered-KeepsNumber : (number : ℕ) (now : Moment) (peer : Peer) (params : RegParams) (links : List SubmittedLink) → KeepsNumber now.0 number (λ r. registered number now peer params links)
+pub registered-KeepsNumber : (number : ℕ) (now : Moment) (peer : Peer) (params : RegParams)
+    (links : List SubmittedLink)
+    → KeepsNumber now.0 number (λ r. registered number now peer params links)
 unfolding registered
-registered-KeepsNumber number now peer params links = record { keeps = λ r e. sym e; granted = λ r. refl }
+registered-KeepsNumber number now peer params links = record {
+  keeps = λ r e. sym e;
+  granted = λ r. refl;
+}
 
-pub updated-KeepsNumber : (number : ℕ) (now : Moment) (peer : Peer) (given : UpdateParams) → KeepsNumber now.0 number (updated now peer given)
+pub updated-KeepsNumber : (number : ℕ) (now : Moment) (peer : Peer) (given : UpdateParams)
+    → KeepsNumber now.0 number (updated now peer given)
 unfolding updated
 updated-KeepsNumber number now peer given = record { keeps = λ r e. refl; granted = λ r. refl }
 
 -- what holds after each kind of change, holds after an entry
 pub by_change : (P : State → Type 0) (state : State) (entry : Entry)
-    → ((number : ℕ) (new : Record → Record) → KeepsNumber entry.moment.0 number new → P (record state { records = with_changed number new state.records }))
-    → ((r : Record) → r.number ≡ state.last_number + 1 → r.granted.0 ≡ entry.moment.0 → P (record { records = state.records ++ r ∷ []; last_number = state.last_number + 1 }))
-    → ((number : ℕ) → P (record state { records = filter (λ r. not (is_numbered number r)) state.records }))
+    → ((number : ℕ) (new : Record → Record)
+    → KeepsNumber entry.moment.0 number new
+    → P (record state { records = with_changed number new state.records }))
+    → ((r : Record)
+    → r.number ≡ state.last_number + 1
+    → r.granted.0 ≡ entry.moment.0
+    → P (record { records = state.records ++ r ∷ []; last_number = state.last_number + 1 }))
+    → ((number : ℕ)
+    → P (record state { records = filter (λ r. not (is_numbered number r)) state.records }))
     → P (apply state entry)
 unfolding apply registered
 by_change P state entry replaces appends removes = of_change entry.change
   where
-    of_number : (o : Option ℕ) (params : RegParams) (links : List SubmittedLink) → P (registered_under o state entry.moment entry.peer params links)
-    of_number (Some number) params links = replaces number (λ r. registered number entry.moment entry.peer params links) (registered-KeepsNumber number entry.moment entry.peer params links)
-    of_number None params links = appends (registered (state.last_number + 1) entry.moment entry.peer params links) refl refl
+    of_number : (o : Option ℕ) (params : RegParams) (links : List SubmittedLink)
+        → P (registered_under o state entry.moment entry.peer params links)
+    of_number (Some number) params links =
+        replaces number (λ r. registered number entry.moment entry.peer params links)
+        (registered-KeepsNumber number entry.moment entry.peer params links)
+    of_number None params links =
+        appends (registered (state.last_number + 1) entry.moment entry.peer params links) refl refl
 
     of_change : (c : Change) → P (changed state entry.moment entry.peer c)
-    of_change (change.Register params links) = of_number (number_named params.name entry.moment.0 state.records) params links
-    of_change (change.Update number given) = replaces number (updated entry.moment entry.peer given) (updated-KeepsNumber number entry.moment entry.peer given)
+    of_change (change.Register params links) =
+        of_number (number_named params.name entry.moment.0 state.records) params links
+    of_change (change.Update number given) =
+        replaces number (updated entry.moment entry.peer given)
+        (updated-KeepsNumber number entry.moment entry.peer given)
     of_change (change.Remove number) = removes number
 
 -- a record that a change may be about keeps its number
-pub changed_number : (moment number : ℕ) (new : Record → Record) → KeepsNumber moment number new → (r : Record) → (cond (is_numbered number r) (new r) r).number ≡ r.number
+pub changed_number : (moment number : ℕ) (new : Record → Record)
+    → KeepsNumber moment number new
+    → (r : Record)
+    → (cond (is_numbered number r) (new r) r).number ≡ r.number
 changed_number moment number new keeps r = by (is_numbered number r) refl
   where
     by : (b : Bool) → is_numbered number r ≡ b → (cond b (new r) r).number ≡ r.number

@@ -30,11 +30,21 @@ registers ms peer queries body = record {
 
 -- a peer updates the registration of a number at a moment, with these query options
 abbrev pub updates : ℕ → Peer → ℕ → List (List ℕ) → Entry
-updates ms peer number queries = record { moment = record { 0 = ms }; worker = 0; peer = peer; change = change.Update number (update_values queries) }
+updates ms peer number queries = record {
+  moment = record { 0 = ms };
+  worker = 0;
+  peer = peer;
+  change = change.Update number (update_values queries);
+}
 
 -- the device removes the registration of a number at a moment
 abbrev pub removes : ℕ → ℕ → Entry
-removes ms number = record { moment = record { 0 = ms }; worker = 0; peer = device; change = change.Remove number }
+removes ms number = record {
+  moment = record { 0 = ms };
+  worker = 0;
+  peer = device;
+  change = change.Remove number;
+}
 
 -- the query options of a registration for ten minutes
 abbrev pub for_ten_minutes : List (List ℕ)

@@ -1,5 +1,31 @@
--- A tag determines the front and the live records of one history: so equal tags mean equal listings.
-use Rattle.std.proofs.Common.{◌≡◌, ℕ, ◌+◌, ◌^◌, ◌<◌, ◌≤◌, not, List, map, filter, length, take, nat_lt, nat_le, refl, sym, ap, subst, ◌∙◌, ◌⊎◌, inl, inr, arith, take_at}
+-- A tag determines the front and the live records of one history: so equal tags mean equal
+-- listings.
+use Rattle.std.proofs.Common.{
+  ◌≡◌,
+  ℕ,
+  ◌+◌,
+  ◌^◌,
+  ◌<◌,
+  ◌≤◌,
+  not,
+  List,
+  map,
+  filter,
+  length,
+  take,
+  nat_lt,
+  nat_le,
+  refl,
+  sym,
+  ap,
+  subst,
+  ◌∙◌,
+  ◌⊎◌,
+  inl,
+  inr,
+  arith,
+  take_at,
+}
 use Rattle.std.proofs.lemmas.Bool.{cases_lt}
 use Rattle.std.proofs.lemmas.Bool.Decides.{nat_tests}
 use Rattle.std.proofs.lemmas.List.Filters.{length-filter_both}
@@ -25,28 +51,48 @@ not_lapsed : (a b : ℕ) → nat_lt a b ≡ not (nat_le b a)
 not_lapsed a b = grind (arith, nat_tests)
 
 -- a record that was live after the last entry has lapsed, or is live
-pub lapsed_since-live : (history : List Entry) (moment : ℕ) → last_moment history ≤ moment → lapsed_since history moment + length (live history moment) ≡ length (live history (last_moment history))
+pub lapsed_since-live : (history : List Entry) (moment : ℕ)
+    → last_moment history ≤ moment
+    → lapsed_since history moment + length (live history moment)
+    ≡ length (live history (last_moment history))
 unfolding live lapsed_since
 lapsed_since-live history moment order =
     let last = live_among (last_moment history) (replay history).records in
-    let both : length (filter (λ (r : Record). nat_le (lapse r) moment) last) + length (live_among moment last) ≡ length last
-    = length-filter_both (λ r. nat_le (lapse r) moment) (is_live_at moment) (λ r. not_lapsed moment (lapse r)) last in
+    let both :
+    length (filter (λ (r : Record). nat_le (lapse r) moment) last)
+    + length (live_among moment last)
+    ≡ length last
+    = length-filter_both (λ r. nat_le (lapse r) moment) (is_live_at moment)
+    (λ r. not_lapsed moment (lapse r)) last in
     let same = live_among_live (last_moment history) moment (replay history).records order in
-    subst (λ (records : List Record). length (filter (λ (r : Record). nat_le (lapse r) moment) last) + length records ≡ length last) same both
+    subst (λ (records : List Record).
+    length (filter (λ (r : Record). nat_le (lapse r) moment) last) + length records
+    ≡ length last) same both
 
 -- later as many records are live: then they are the same
-later_live : (history : List Entry) (moment later : ℕ) → moment ≤ later → length (live history later) ≡ length (live history moment) → live history later ≡ live history moment
+later_live : (history : List Entry) (moment later : ℕ)
+    → moment ≤ later
+    → length (live history later) ≡ length (live history moment)
+    → live history later ≡ live history moment
 unfolding live
 later_live history moment later order e =
     let same = live_among_live moment later (replay history).records order in
-    sym same ∙ filter_full (is_live_at later) (live_among moment (replay history).records) (ap length same ∙ e)
+    sym same
+    ∙ filter_full (is_live_at later) (live_among moment (replay history).records)
+    (ap length same ∙ e)
 
 -- of one history, the number of those that have lapsed determines which are live
-pub lapsed_since_tells : (history : List Entry) (moment later : ℕ) → last_moment history ≤ moment → last_moment history ≤ later → lapsed_since history moment ≡ lapsed_since history later → live history moment ≡ live history later
+pub lapsed_since_tells : (history : List Entry) (moment later : ℕ)
+    → last_moment history ≤ moment
+    → last_moment history ≤ later
+    → lapsed_since history moment ≡ lapsed_since history later
+    → live history moment ≡ live history later
 lapsed_since_tells history moment later low high e = by (cases_lt moment later)
   where
     count : length (live history later) ≡ length (live history moment)
-    count = let a = lapsed_since-live history moment low in let b = lapsed_since-live history later high in omega (arith, a, b)
+    count =
+        let a = lapsed_since-live history moment low in
+        let b = lapsed_since-live history later high in omega (arith, a, b)
 
     by : (moment < later) ⊎ (later ≤ moment) → live history moment ≡ live history later
     by (inl before) = sym (later_live history moment later (omega arith) count)
@@ -55,54 +101,96 @@ lapsed_since_tells history moment later low high e = by (cases_lt moment later)
 -- ---- fronts
 
 -- fronts of one history that are as long are the same
-pub same_front : (history front other : List Entry) → IsFront front history → IsFront other history → length front ≡ length other → front ≡ other
+pub same_front : (history front other : List Entry)
+    → IsFront front history
+    → IsFront other history
+    → length front ≡ length other
+    → front ≡ other
 same_front history front other begins also e =
-    sym (take_at front begins.0 (length front) refl) ∙ ap (take (length front)) (begins.1 ∙ sym (also.1)) ∙ take_at other also.0 (length front) (sym e)
+    sym (take_at front begins.0 (length front) refl)
+    ∙ ap (take (length front)) (begins.1 ∙ sym (also.1))
+    ∙ take_at other also.0 (length front) (sym e)
 
 -- ---- tags
 
 -- no more records have lapsed since the last entry than were live after it
-lapsed_below : (first : ℕ) (history : List Entry) (moment : ℕ) → IsLegalFrom first history → last_moment history ≤ moment → lapsed_since history moment < 2 ^ 16
+lapsed_below : (first : ℕ) (history : List Entry) (moment : ℕ)
+    → IsLegalFrom first history
+    → last_moment history ≤ moment
+    → lapsed_since history moment < 2 ^ 16
 lapsed_below first history moment legal order =
     let all = lapsed_since-live history moment order in
     let few = (live-IsBounded first history (last_moment history) legal (omega arith)).count in
     omega (arith, all, few)
 
--- Two fronts of one legal history, each with a moment that is not below its last: where their tags are equal, they are the same front, and the same records are live.
-pub tag_from_tells : (first : ℕ) (history front other : List Entry) (moment later : ℕ) → first ≤ max_entries → IsLegalFrom first history → IsFront front history → IsFront other history
-    → last_moment front ≤ moment → last_moment other ≤ later → tag_from first front moment ≡ tag_from first other later → (front ≡ other) × (live front moment ≡ live other later)
+-- Two fronts of one legal history, each with a moment that is not below its last: where their tags
+-- are equal, they are the same front, and the same records are live.
+pub tag_from_tells : (first : ℕ) (history front other : List Entry) (moment later : ℕ)
+    → first ≤ max_entries
+    → IsLegalFrom first history
+    → IsFront front history
+    → IsFront other history
+    → last_moment front ≤ moment
+    → last_moment other ≤ later
+    → tag_from first front moment ≡ tag_from first other later
+    → (front ≡ other) × (live front moment ≡ live other later)
 unfolding tag_from
 tag_from_tells first history front other moment later counted legal begins also low high e =
     let legal_front = IsLegalFrom-IsFront first front history begins legal in
     let legal_other = IsLegalFrom-IsFront first other history also legal in
     let few = length-le-max_entries first front counted legal_front in
     let fewer = length-le-max_entries first other counted legal_other in
-    let numbers = tag_octets_tell (first + length front) (lapsed_since front moment) (first + length other) (lapsed_since other later) (omega (arith, few)) (omega (arith, fewer))
-    (lapsed_below first front moment legal_front low) (lapsed_below first other later legal_other high) e in
+    let numbers =
+    tag_octets_tell (first + length front) (lapsed_since front moment) (first + length other)
+    (lapsed_since other later) (omega (arith, few)) (omega (arith, fewer))
+    (lapsed_below first front moment legal_front low)
+    (lapsed_below first other later legal_other high) e in
     let as_long : length front ≡ length other = let count = numbers.0 in omega (arith, count) in
     let same = same_front history front other begins also as_long in
     (same, of_equal_fronts front other same low high numbers.1)
   where
-    of_equal_fronts : (front other : List Entry) → front ≡ other → last_moment front ≤ moment → last_moment other ≤ later → lapsed_since front moment ≡ lapsed_since other later → live front moment ≡ live other later
+    of_equal_fronts : (front other : List Entry)
+        → front ≡ other
+        → last_moment front ≤ moment
+        → last_moment other ≤ later
+        → lapsed_since front moment ≡ lapsed_since other later
+        → live front moment ≡ live other later
     of_equal_fronts front other same low high lapsed =
         let low_other : last_moment other ≤ moment = subst (λ h. last_moment h ≤ moment) same low in
-        ap (λ h. live h moment) same ∙ lapsed_since_tells other moment later low_other high (ap (λ h. lapsed_since h moment) (sym same) ∙ lapsed)
+        ap (λ h. live h moment) same
+        ∙ lapsed_since_tells other moment later low_other high
+        (ap (λ h. lapsed_since h moment) (sym same) ∙ lapsed)
 
 -- the same records give the same lines and the same listing
-pub all_lines-live : (query : Query) (front other : List Entry) (moment later : ℕ) → live front moment ≡ live other later → all_lines query front moment ≡ all_lines query other later
+pub all_lines-live : (query : Query) (front other : List Entry) (moment later : ℕ)
+    → live front moment ≡ live other later
+    → all_lines query front moment ≡ all_lines query other later
 unfolding all_lines
 all_lines-live query front other moment later same = ap (lines_of query) same
 
-pub listing-live : (query : Query) (front other : List Entry) (moment later : ℕ) → live front moment ≡ live other later → listing query front moment ≡ listing query other later
+pub listing-live : (query : Query) (front other : List Entry) (moment later : ℕ)
+    → live front moment ≡ live other later
+    → listing query front moment ≡ listing query other later
 unfolding listing
-listing-live query front other moment later same = ap (λ lines. shown query (map_lines lines)) (all_lines-live query front other moment later same)
+listing-live query front other moment later same =
+    ap (λ lines. shown query (map_lines lines)) (all_lines-live query front other moment later same)
   where
     map_lines : List (ℕ × List ℕ) → List (List ℕ)
     map_lines lines = map (λ numbered. numbered.1) lines
 
 -- equal tags of fronts of one legal history mean equal listings for an equal query
 -- An end theorem: nothing here cites it.
-pub listing-tag_from : (first : ℕ) (history front other : List Entry) (moment later : ℕ) (query : Query) → first ≤ max_entries → IsLegalFrom first history → IsFront front history → IsFront other history
-    → last_moment front ≤ moment → last_moment other ≤ later → tag_from first front moment ≡ tag_from first other later → listing query front moment ≡ listing query other later
+pub listing-tag_from : (first : ℕ) (history front other : List Entry) (moment later : ℕ)
+    (query : Query)
+    → first ≤ max_entries
+    → IsLegalFrom first history
+    → IsFront front history
+    → IsFront other history
+    → last_moment front ≤ moment
+    → last_moment other ≤ later
+    → tag_from first front moment ≡ tag_from first other later
+    → listing query front moment ≡ listing query other later
 listing-tag_from first history front other moment later query counted legal begins also low high e =
-    listing-live query front other moment later (tag_from_tells first history front other moment later counted legal begins also low high e).1
+    listing-live query front other moment later
+    (tag_from_tells first history front other moment later counted legal begins also low high
+    e).1

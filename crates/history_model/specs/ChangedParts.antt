@@ -1,4 +1,5 @@
--- What changes the lines of a query: records that lapse as time passes, and the one record that an entry is about.
+-- What changes the lines of a query: records that lapse as time passes, and the one record that an
+-- entry is about.
 use Rattle.std.specs.Prelude.{ℕ, Bool, not, List, Option, Some, None}
 use Rattle.std.specs.List.{list_any}
 use Rattle.rd_base.specs.declared.queries.Query.{Query}
@@ -12,4 +13,5 @@ is_other_part query old new = not (same_lines (part_or_none query old) (part_or_
 
 -- some record that lapses after one moment and not after another gives lines to the query
 abbrev pub is_lapse_of : Query → ℕ → ℕ → List Record → Bool
-is_lapse_of query from to records = list_any (λ r. is_other_part query (Some r) None) (lapsing_among from to records)
+is_lapse_of query from to records =
+    list_any (λ r. is_other_part query (Some r) None) (lapsing_among from to records)

@@ -2,7 +2,8 @@
 use Rattle.std.specs.Prelude.{ℕ, ◌+◌, ◌*◌, Bool, ◌&&◌, nat_lt, nat_le, List, length, filter}
 use Rattle.rd_base.specs.declared.records.Record.{Record}
 
--- the moment at which the lease of a record lapses, in milliseconds: its lifetime in seconds after it was granted
+-- the moment at which the lease of a record lapses, in milliseconds: its lifetime in seconds after
+-- it was granted
 abbrev pub lapse : Record → ℕ
 lapse r = r.granted.0 + 1000 * r.lt
 

@@ -1,4 +1,5 @@
--- Legal histories: moments do not fall, no body is refused, and no entry is refused after those before it.
+-- Legal histories: moments do not fall, no body is refused, and no entry is refused after those
+-- before it.
 use Rattle.std.specs.Prelude.{◌≡◌, ℕ, false, ◌<◌, ◌≤◌, List, ◌∷◌, ◌++◌, Some, None, IfSome, ⊤}
 use Rattle.record_model.specs.Bodies.{linked_references}
 use Rattle.record_model.specs.Refusals.{is_refused_as_limited}
@@ -8,21 +9,28 @@ use Rattle.history_model.specs.declared.entries.Entry.{Entry}
 use Rattle.history_model.specs.Live.{last_moment}
 use Rattle.history_model.specs.Refusals.{change_refusal}
 
--- the links of a registration are those of a body that is not refused (RFC 6690 section 2, RFC 9176 appendix C)
+-- the links of a registration are those of a body that is not refused (RFC 6690 section 2, RFC 9176
+-- appendix C)
 abbrev pub HasGoodBody : Change → Type 0
-HasGoodBody (change.Register params links) = (body : List ℕ) × (linked_references body ≡ Some links) × (is_refused_as_limited body ≡ false)
+HasGoodBody (change.Register params links) =
+    (body : List ℕ) × (linked_references body ≡ Some links) × (is_refused_as_limited body ≡ false)
 HasGoodBody (change.Update number given) = ⊤
 HasGoodBody (change.Remove number) = ⊤
 
--- an entry may come after a history: its moment is not below the last one, its body is not refused, and it meets no refusal
+-- an entry may come after a history: its moment is not below the last one, its body is not refused,
+-- and it meets no refusal
 pub record IsNext (first : ℕ) (history : List Entry) (entry : Entry) : Type 0 where
   pub in_time : last_moment history ≤ entry.moment.0
   pub body : HasGoodBody entry.change
   pub accepted : change_refusal first history entry ≡ None
 
--- a history in which each entry may come after those before it, where so many entries were counted before the first
+-- a history in which each entry may come after those before it, where so many entries were counted
+-- before the first
 abbrev pub IsLegalFrom : ℕ → List Entry → Type 0
-IsLegalFrom first history = (before after : List Entry) (entry : Entry) → before ++ entry ∷ after ≡ history → IsNext first before entry
+IsLegalFrom first history =
+    (before after : List Entry) (entry : Entry)
+    → before ++ entry ∷ after ≡ history
+    → IsNext first before entry
 
 -- a history in which each entry may come after those before it
 abbrev pub IsLegal : List Entry → Type 0

@@ -1,4 +1,5 @@
--- What a lookup answers from a history at a moment: the listing and its entity tag (RFC 9176 section 6, RFC 7252 section 5.10.6).
+-- What a lookup answers from a history at a moment: the listing and its entity tag (RFC 9176
+-- section 6, RFC 7252 section 5.10.6).
 use Rattle.std.specs.Prelude.{ℕ, ◌+◌, List, ◌++◌, map, filter, flat_map, length, nat_le}
 use Rattle.std.specs.Int.{bytes_high_first}
 use Rattle.rd_base.specs.declared.queries.Query.{Query}
@@ -22,17 +23,20 @@ all_lines query history moment = lines_of query (live history moment)
 
 -- the listing of a query at a moment: its lines, cut by page and count, and joined by commas
 unfoldable pub listing : Query → List Entry → ℕ → List ℕ
-listing query history moment = shown query (map (λ numbered. numbered.1) (all_lines query history moment))
+listing query history moment =
+    shown query (map (λ numbered. numbered.1) (all_lines query history moment))
 
 -- how many of the records that were live after the last entry have lapsed at a moment
 unfoldable pub lapsed_since : List Entry → ℕ → ℕ
-lapsed_since history moment = length (filter (λ r. nat_le (lapse r) moment) (live history (last_moment history)))
+lapsed_since history moment =
+    length (filter (λ r. nat_le (lapse r) moment) (live history (last_moment history)))
 
 -- an entity tag: a number of entries in six octets, and a number of lapsed records in two
 abbrev pub tag_octets : ℕ → ℕ → List ℕ
 tag_octets entries lapsed = bytes_high_first 6 entries ++ bytes_high_first 2 lapsed
 
--- the tag of a history at a moment that is not below its last, where so many entries were counted before its first
+-- the tag of a history at a moment that is not below its last, where so many entries were counted
+-- before its first
 unfoldable pub tag_from : ℕ → List Entry → ℕ → List ℕ
 tag_from first history moment = tag_octets (first + length history) (lapsed_since history moment)
 

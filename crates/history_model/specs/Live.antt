@@ -1,4 +1,5 @@
--- What a history shows at a moment: the registrations that are live, and what stands before (RFC 9176 section 5).
+-- What a history shows at a moment: the registrations that are live, and what stands before (RFC
+-- 9176 section 5).
 use Rattle.std.specs.Prelude.{◌≢◌, ℕ, ◌<◌, List, fold, AllPairs}
 use mathlib.Core.List.{IsPrefix}
 use Rattle.rd_base.specs.declared.records.Record.{Record}

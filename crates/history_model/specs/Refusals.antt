@@ -1,5 +1,23 @@
 -- Why a change is refused at its moment, in the order in which it is looked for.
-use Rattle.std.specs.Prelude.{ℕ, ◌+◌, ◌-◌, ◌^◌, Bool, false, not, ◌&&◌, nat_lt, nat_le, List, length, sum_by, Option, Some, None, if◌then◌else◌}
+use Rattle.std.specs.Prelude.{
+  ℕ,
+  ◌+◌,
+  ◌-◌,
+  ◌^◌,
+  Bool,
+  false,
+  not,
+  ◌&&◌,
+  nat_lt,
+  nat_le,
+  List,
+  length,
+  sum_by,
+  Option,
+  Some,
+  None,
+  if◌then◌else◌,
+}
 use Rattle.std.specs.List.{list_any}
 use Rattle.rd_base.specs.declared.records.Name.{Name}
 use Rattle.rd_base.specs.declared.records.Record.{Record}
@@ -45,7 +63,8 @@ is_gone live (change.Remove number) = not (has_number number live)
 
 -- a registration comes with a new name while as many records are live as may be
 abbrev pub is_full_of_records : List Record → Change → Bool
-is_full_of_records live (change.Register params links) = nat_le max_registrations (length live) && not (has_name params.name live)
+is_full_of_records live (change.Register params links) =
+    nat_le max_registrations (length live) && not (has_name params.name live)
 is_full_of_records live (change.Update number given) = false
 is_full_of_records live (change.Remove number) = false
 
@@ -53,7 +72,8 @@ is_full_of_records live (change.Remove number) = false
 abbrev pub only_live : ℕ → State → State
 only_live moment state = record state { records = live_among moment state.records }
 
--- what the live records would weigh after an entry: those that are live at its moment, with the one that it is about in its new form
+-- what the live records would weigh after an entry: those that are live at its moment, with the one
+-- that it is about in its new form
 abbrev pub text_after : State → Entry → ℕ
 text_after state entry = text_of (apply (only_live entry.moment.0 state) entry).records
 
@@ -73,6 +93,7 @@ refusal_in state entries entry =
     else if nat_le max_entries entries then Some refusal.Entries
     else None
 
--- the first refusal of an entry after a history, where so many entries were counted before the first of the history
+-- the first refusal of an entry after a history, where so many entries were counted before the
+-- first of the history
 unfoldable pub change_refusal : ℕ → List Entry → Entry → Option Refusal
 change_refusal first history entry = refusal_in (replay history) (first + length history) entry

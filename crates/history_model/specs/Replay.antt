@@ -1,5 +1,26 @@
 -- What the entries of a history make of the directory (RFC 9176 sections 5, 5.3.1 and 5.3.2).
-use Rattle.std.specs.Prelude.{ℕ, ◌+◌, Bool, not, ◌&&◌, ◌==◌, List, [], ◌∷◌, ◌++◌, map, filter, find, fold, Option, Some, None, option_map, unwrap_or, if◌then◌else◌}
+use Rattle.std.specs.Prelude.{
+  ℕ,
+  ◌+◌,
+  Bool,
+  not,
+  ◌&&◌,
+  ◌==◌,
+  List,
+  [],
+  ◌∷◌,
+  ◌++◌,
+  map,
+  filter,
+  find,
+  fold,
+  Option,
+  Some,
+  None,
+  option_map,
+  unwrap_or,
+  if◌then◌else◌,
+}
 use Rattle.rd_base.specs.declared.moments.Moment.{Moment}
 use Rattle.rd_base.specs.declared.parameters.RegParams.{RegParams}
 use Rattle.rd_base.specs.declared.peers.Peer.{Peer}
@@ -13,7 +34,8 @@ use Rattle.history_model.specs.declared.entries.Entry.{Entry}
 use Rattle.history_model.specs.Leases.{is_live_at}
 use Rattle.history_model.specs.Names.{is_same_name}
 
--- what entries make: the records in ascending number, lapsed ones too, and the last number that a registration got
+-- what entries make: the records in ascending number, lapsed ones too, and the last number that a
+-- registration got
 pub record State : Type 0 where
   pub records : List Record
   pub last_number : ℕ
@@ -32,11 +54,14 @@ is_live_named name moment r = is_same_name r.name name && is_live_at moment r
 
 -- the number of the record of this name that is live at a moment, where there is one
 abbrev pub number_named : Name → ℕ → List Record → Option ℕ
-number_named name moment records = option_map (λ r. r.number) (find (is_live_named name moment) records)
+number_named name moment records =
+    option_map (λ r. r.number) (find (is_live_named name moment) records)
 
--- the number that a registration of this name has at a moment: that of the live record of the name, and else the next one (RFC 9176 section 5)
+-- the number that a registration of this name has at a moment: that of the live record of the name,
+-- and else the next one (RFC 9176 section 5)
 abbrev pub number_for : Name → ℕ → State → ℕ
-number_for name moment state = unwrap_or (number_named name moment state.records) (state.last_number + 1)
+number_for name moment state =
+    unwrap_or (number_named name moment state.records) (state.last_number + 1)
 
 -- the record of a number, where there is one
 abbrev pub numbered : ℕ → List Record → Option Record
@@ -52,10 +77,19 @@ number_about state moment (change.Remove number) = number
 abbrev pub with_changed : ℕ → (Record → Record) → List Record → List Record
 with_changed number new records = map (λ r. if is_numbered number r then new r else r) records
 
--- after a registration: where its name has a number, the record keeps the number and all else is replaced, and else a record of the next number is appended
-abbrev pub registered_under : Option ℕ → State → Moment → Peer → RegParams → List SubmittedLink → State
+-- after a registration: where its name has a number, the record keeps the number and all else is
+-- replaced, and else a record of the next number is appended
+abbrev pub registered_under : Option ℕ
+    → State
+    → Moment
+    → Peer
+    → RegParams
+    → List SubmittedLink
+    → State
 registered_under (Some number) state now peer params links =
-    record state { records = with_changed number (λ r. registered number now peer params links) state.records }
+    record state {
+      records = with_changed number (λ r. registered number now peer params links) state.records;
+    }
 registered_under None state now peer params links = record {
   records = state.records ++ registered (state.last_number + 1) now peer params links ∷ [];
   last_number = state.last_number + 1;
@@ -63,9 +97,14 @@ registered_under None state now peer params links = record {
 
 -- after a change at a moment, from a peer
 abbrev pub changed : State → Moment → Peer → Change → State
-changed state now peer (change.Register params links) = registered_under (number_named params.name now.0 state.records) state now peer params links
-changed state now peer (change.Update number given) = record state { records = with_changed number (updated now peer given) state.records }
-changed state now peer (change.Remove number) = record state { records = filter (λ r. not (is_numbered number r)) state.records }
+changed state now peer (change.Register params links) =
+    registered_under (number_named params.name now.0 state.records) state now peer params links
+changed state now peer (change.Update number given) = record state {
+  records = with_changed number (updated now peer given) state.records;
+}
+changed state now peer (change.Remove number) = record state {
+  records = filter (λ r. not (is_numbered number r)) state.records;
+}
 
 -- what an entry makes of a state
 unfoldable pub apply : State → Entry → State

@@ -7,8 +7,9 @@ use Rattle.history_model.specs.Replay.{State, replay}
 use Rattle.history_model.specs.Live.{last_moment}
 use Rattle.history_model.specs.Listing.{lapsed_since}
 
--- what a version shows: its records, the number of its entries, the moment of the last entry, the last number that a registration got,
--- how many records were dropped since the last entry that were live after it, and the moment up to which lapsed records were dropped
+-- what a version shows: its records, the number of its entries, the moment of the last entry, the
+-- last number that a registration got, how many records were dropped since the last entry that were
+-- live after it, and the moment up to which lapsed records were dropped
 pub record Version : Type 0 where
   pub records : List Record
   pub entries : ℕ
@@ -21,8 +22,9 @@ pub record Version : Type 0 where
 abbrev pub state_of : Version → State
 state_of version = record { records = version.records; last_number = version.last_number }
 
--- the version stands for a history, where so many entries were counted before the first: it has the records of the history
--- that had not lapsed when it was swept, and counts those of the dropped ones that were live after the last entry
+-- the version stands for a history, where so many entries were counted before the first: it has the
+-- records of the history that had not lapsed when it was swept, and counts those of the dropped
+-- ones that were live after the last entry
 pub record VersionStandsFor (first : ℕ) (history : List Entry) (version : Version) : Type 0 where
   pub records : version.records ≡ live_among version.swept (replay history).records
   pub entries : version.entries ≡ first + length history

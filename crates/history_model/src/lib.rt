@@ -1,4 +1,5 @@
-//! What happens to the directory, as a history of accepted changes: definitions, and the laws that show them right. No function.
+//! What happens to the directory, as a history of accepted changes: definitions, and the laws that
+//! show them right. No function.
 #![tactic(auto)]
 
 mod entries;

@@ -74,14 +74,21 @@ abbrev pub are : (Note → Bool) → List Note → Bool
 are kind notes = list_all kind notes
 
 -- one after the other
-pub are-append : (kind : Note → Bool) (notes more : List Note) → are kind notes ≡ true → are kind more ≡ true → are kind (notes ++ more) ≡ true
+pub are-append : (kind : Note → Bool) (notes more : List Note)
+    → are kind notes ≡ true
+    → are kind more ≡ true
+    → are kind (notes ++ more) ≡ true
 are-append kind [] more h g = g
 are-append kind (n ∷ notes) more h g =
     let both = and_parts (kind n) (are kind notes) h in
     and_from (kind n) (are kind (notes ++ more)) both.0 (are-append kind notes more both.1 g)
 
 -- of a wider kind
-pub are-weaker : (kind other : Note → Bool) → ((n : Note) → kind n ≡ true → other n ≡ true) → (notes : List Note) → are kind notes ≡ true → are other notes ≡ true
+pub are-weaker : (kind other : Note → Bool)
+    → ((n : Note) → kind n ≡ true → other n ≡ true)
+    → (notes : List Note)
+    → are kind notes ≡ true
+    → are other notes ≡ true
 are-weaker kind other wider [] h = refl
 are-weaker kind other wider (n ∷ notes) h =
     let both = and_parts (kind n) (are kind notes) h in
@@ -105,14 +112,22 @@ resent_tick notes h = are-weaker of_resent of_tick wider notes h
     wider _ e = absurd (let h : false ≡ true = e in cc)
 
 -- what no note of a kind is, none of them is
-pub none_of : (kind test : Note → Bool) → ((n : Note) → kind n ≡ true → test n ≡ false) → (notes : List Note) → are kind notes ≡ true → list_any test notes ≡ false
+pub none_of : (kind test : Note → Bool)
+    → ((n : Note) → kind n ≡ true → test n ≡ false)
+    → (notes : List Note)
+    → are kind notes ≡ true
+    → list_any test notes ≡ false
 none_of kind test never [] h = refl
 none_of kind test never (n ∷ notes) h =
     let both = and_parts (kind n) (are kind notes) h in
     rw (never n both.0) (none_of kind test never notes both.1)
 
 -- where no note of a kind is an entry, notes of the kind hold none
-pub entries_in-none : (kind : Note → Bool) → ((n : Note) → kind n ≡ true → entry_noted n ≡ None) → (notes : List Note) → are kind notes ≡ true → entries_in notes ≡ []
+pub entries_in-none : (kind : Note → Bool)
+    → ((n : Note) → kind n ≡ true → entry_noted n ≡ None)
+    → (notes : List Note)
+    → are kind notes ≡ true
+    → entries_in notes ≡ []
 entries_in-none kind never [] h = refl
 entries_in-none kind never (n ∷ notes) h =
     let both = and_parts (kind n) (are kind notes) h in

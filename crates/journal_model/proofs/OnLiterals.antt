@@ -14,12 +14,23 @@ use Rattle.journal_model.specs.Registrations.{block_uploaded, registering}
 use Rattle.journal_model.specs.Commits.{commit_effects}
 use Rattle.journal_model.specs.EmptyMessages.{acknowledged, reset}
 use Rattle.journal_model.specs.Responses.{response_effects}
-use Rattle.journal_model.specs.Ticks.{octets_sent, notices_again, notices, requests_again, tick_effects}
+use Rattle.journal_model.specs.Ticks.{
+  octets_sent,
+  notices_again,
+  notices,
+  requests_again,
+  tick_effects,
+}
 use Rattle.journal_model.specs.Rows.{served, effects, row_moment, row}
 use Rattle.journal_model.specs.Machine.{is_look_datagram, job_of, mids_drawn, run}
 use Rattle.journal_model.specs.Seats.{rows_of}
 
 -- the definitions of the machine
 unfoldable pub machine_on_literals : ⊤
-unfolding messages_on_literals events_on_literals events entries now latest row_at transitions answering refusal_of_request is_look_request body_reply look look_effects keep_effects later_block observed unobserved lookup_effects write_effects body_read registration block_uploaded registering commit_effects acknowledged reset response_effects notices_again notices requests_again tick_effects served effects row_moment row is_look_datagram job_of mids_drawn run rows_of octets_sent
+unfolding messages_on_literals events_on_literals events entries now latest row_at transitions
+    answering refusal_of_request is_look_request body_reply look look_effects keep_effects
+    later_block observed unobserved lookup_effects write_effects body_read registration
+    block_uploaded registering commit_effects acknowledged reset response_effects notices_again
+    notices requests_again tick_effects served effects row_moment row is_look_datagram job_of
+    mids_drawn run rows_of octets_sent
 machine_on_literals = tt

@@ -1,5 +1,29 @@
--- The second sentence of the headline: each lookup answers the listing of the history at the row that formed it.
-use Rattle.std.specs.Prelude.{◌≡◌, ℕ, ◌≤◌, Bool, true, false, ◌&&◌, ◌||◌, ◌==◌, List, [], ◌∷◌, length, find, Option, Some, None, option_map, Result, Ok, Err, if◌then◌else◌}
+-- The second sentence of the headline: each lookup answers the listing of the history at the row
+-- that formed it.
+use Rattle.std.specs.Prelude.{
+  ◌≡◌,
+  ℕ,
+  ◌≤◌,
+  Bool,
+  true,
+  false,
+  ◌&&◌,
+  ◌||◌,
+  ◌==◌,
+  List,
+  [],
+  ◌∷◌,
+  length,
+  find,
+  Option,
+  Some,
+  None,
+  option_map,
+  Result,
+  Ok,
+  Err,
+  if◌then◌else◌,
+}
 use Rattle.std.specs.List.{list_any, IsAmong}
 use Rattle.rd_base.specs.declared.peers.Peer.{Peer}
 use Rattle.rd_base.specs.declared.queries.Query.{Query}
@@ -21,7 +45,14 @@ use Rattle.journal_model.specs.declared.steps.StepKind.{StepKind}
 use Rattle.journal_model.specs.declared.steps.StepKind.TheVariants as step
 use Rattle.journal_model.specs.declared.rows.Row.{Row}
 use Rattle.journal_model.specs.Journal.{is_look, events, entries}
-use Rattle.journal_model.specs.Requests.{is_lookup, is_look_request, query_of, asked_block, number_of, szx_of}
+use Rattle.journal_model.specs.Requests.{
+  is_lookup,
+  is_look_request,
+  query_of,
+  asked_block,
+  number_of,
+  szx_of,
+}
 use Rattle.journal_model.specs.Looks.{names_tag}
 use Rattle.journal_model.specs.PlacedRows.{Within, Placed, code_sent}
 use Rattle.journal_model.specs.BodyFormers.{repeats_body, former_at, asker_at, is_formed_in_rows}
@@ -30,7 +61,8 @@ use Rattle.journal_model.specs.BodyFormers.{repeats_body, former_at, asker_at, i
 abbrev pub observer_named : RequestName → List Row → Option Observer
 observer_named name rows = find (λ o. is_same_request (name_of o) name) (observers (events rows))
 
--- what is asked for: a query, and of its listing a block, by its number and the exponent of its size
+-- what is asked for: a query, and of its listing a block, by its number and the exponent of its
+-- size
 pub record Asked : Type 0 where
   pub query : Query
   pub number : ℕ
@@ -44,12 +76,20 @@ asked_by_observer o = record { query = o.query; number = 0; szx = o.szx }
 abbrev pub asked_in : RequestName → Peer → Result Message Unread → Option Asked
 asked_in name peer (Err fault) = None
 asked_in name peer (Ok m) =
-    if is_same_request (peer, m.token) name then Some (record { query = query_of m; number = number_of (asked_block m); szx = szx_of (asked_block m) }) else None
+    if is_same_request (peer, m.token) name
+    then Some (record {
+      query = query_of m;
+      number = number_of (asked_block m);
+      szx = szx_of
+          (asked_block m);
+    })
+    else None
 
--- what is asked for in the message to a peer and a token that a row sends: by the observer who has them, where it is a notice,
--- and else by the request that has them
+-- what is asked for in the message to a peer and a token that a row sends: by the observer who has
+-- them, where it is a notice, and else by the request that has them
 abbrev pub asked_at : StepKind → RequestName → Placed → Option Asked
-asked_at step.Tick name here = option_map (λ o. asked_by_observer o) (observer_named name here.before)
+asked_at step.Tick name here =
+    option_map (λ o. asked_by_observer o) (observer_named name here.before)
 asked_at _ name here = asked_in name here.row.step.peer (reading here.row.step.datagram)
 
 -- the datagram is a request whose path is a lookup
@@ -57,7 +97,8 @@ abbrev pub names_lookup : Result Message Unread → Bool
 names_lookup (Err fault) = false
 names_lookup (Ok m) = is_lookup (path_in m)
 
--- what a row sends answers a lookup, or is a notice: time passes in it, or its datagram names a lookup
+-- what a row sends answers a lookup, or is a notice: time passes in it, or its datagram names a
+-- lookup
 abbrev pub answers_lookup : StepKind → Result Message Unread → Bool
 answers_lookup step.Tick read = true
 answers_lookup _ read = names_lookup read
@@ -83,18 +124,21 @@ abbrev pub IsBlockOf : Option Block → List ℕ → List ℕ → Type 0
 IsBlockOf None body payload = payload ≡ body
 IsBlockOf (Some b) body payload = block_of body b.num b.szx ≡ Some (payload, b.more)
 
--- the block that is named is the one that is asked for; none is named only where that is the first, and the body fits it
+-- the block that is named is the one that is asked for; none is named only where that is the first,
+-- and the body fits it
 abbrev pub IsAsked : ℕ → ℕ → Option Block → List ℕ → Type 0
 IsAsked number szx None body = (number ≡ 0) × (length body ≤ block_size szx)
 IsAsked number szx (Some b) body = (b.num ≡ number) × (b.szx ≡ szx)
 
--- the message carries the block of a body that its own Block2 names, and this is the one that is asked for
+-- the message carries the block of a body that its own Block2 names, and this is the one that is
+-- asked for
 pub record CarriesBlock (m : Message) (number szx : ℕ) (body : List ℕ) : Type 0 where
   pub block : IsBlockOf (asked_block m) body m.payload
   pub asked : IsAsked number szx (asked_block m) body
   pub fits : length m.payload ≤ longest_payload
 
--- the message carries a block of the listing of what is asked for, from a history at a moment, under its tag
+-- the message carries a block of the listing of what is asked for, from a history at a moment,
+-- under its tag
 pub record Carries (m : Message) (asked : Asked) (history : List Entry) (moment : ℕ) : Type 0 where
   pub block : CarriesBlock m asked.number asked.szx (listing asked.query history moment)
   pub tag : etags_in m ≡ tag history moment ∷ []
@@ -130,25 +174,38 @@ pub record Sent (rows : List Row) : Type 0 where
 -- it is a 2.05: to a lookup, as a notice, or with an entity tag
 abbrev pub is_listing : {rows : List Row} → Sent rows → Bool
 is_listing it =
-    is_content it.message && (answers_lookup it.here.row.step.kind (reading it.here.row.step.datagram) || is_tagged it.message)
+    is_content it.message
+    && (answers_lookup it.here.row.step.kind (reading it.here.row.step.datagram)
+    || is_tagged it.message)
 
--- 2.03 as a look sends it: where it names the tag at its own row, to the peer and the token of the request, with this tag and nothing else
+-- 2.03 as a look sends it: where it names the tag at its own row, to the peer and the token of the
+-- request, with this tag and nothing else
 pub record Validates (here : Placed) (peer : Peer) (m : Message) : Type 0 where
   pub looks : is_look here.row.step.kind ≡ true
-  pub named : looks_with_tag (tag (entries here.before) here.row.moment.0) (reading here.row.step.datagram) ≡ true
+  pub named :
+      looks_with_tag (tag (entries here.before) here.row.moment.0) (reading here.row.step.datagram)
+      ≡ true
   pub asked : Asked
   pub asks : asked_at here.row.step.kind (peer, m.token) here ≡ Some asked
   pub options : m.options ≡ (table.etag, tag (entries here.before) here.row.moment.0) ∷ []
   pub payload : m.payload ≡ []
 
--- Each lookup answers the listing of the history at the row that formed it: every 2.05 to a lookup, as a notice or with a tag
--- carries the block that is asked for of the listing, and the tag, of the entries up to the row that formed its body, at the moment of that row;
--- and 2.03 is sent exactly where a look names the tag at its own row, with this tag and nothing else; where memory ran out, only there.
+-- Each lookup answers the listing of the history at the row that formed it: every 2.05 to a lookup,
+-- as a notice or with a tag carries the block that is asked for of the listing, and the tag, of the
+-- entries up to the row that formed its body, at the moment of that row; and 2.03 is sent exactly
+-- where a look names the tag at its own row, with this tag and nothing else; where memory ran out,
+-- only there.
 pub record AnswersAsFormed (rows : List Row) : Type 0 where
-  pub carried : (sent : Sent rows) → is_listing sent ≡ true → FormedAs sent.here sent.peer sent.message
-  pub validated : (sent : Sent rows) → sent.message.code ≡ codes_of.valid → Validates sent.here sent.peer sent.message
+  pub carried : (sent : Sent rows)
+      → is_listing sent ≡ true
+      → FormedAs sent.here sent.peer sent.message
+  pub validated : (sent : Sent rows)
+      → sent.message.code ≡ codes_of.valid
+      → Validates sent.here sent.peer sent.message
   pub valid : (before : List Row) (r : Row) → Within rows before r → r.starved ≡ false
-      → (code_sent r.sent == codes_of.valid) ≡ (is_look r.step.kind && looks_with_tag (tag (entries before) r.moment.0) (reading r.step.datagram))
+      → (code_sent r.sent == codes_of.valid)
+      ≡ (is_look r.step.kind
+      && looks_with_tag (tag (entries before) r.moment.0) (reading r.step.datagram))
 
 -- The same of a journal of a desk, whose keeps may have any body and tag: each such 2.05 whose body
 -- was formed in a row carries the block that is asked for of the listing, and the tag, of the

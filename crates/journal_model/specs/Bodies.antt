@@ -1,5 +1,20 @@
 -- Answers with a body, whole or a block of it (RFC 7959 section 2.4, RFC 7641 section 3).
-use Rattle.std.specs.Prelude.{ℕ, Bool, true, nat_lt, List, [], ◌∷◌, ◌++◌, length, codes, Option, Some, None, if◌then◌else◌}
+use Rattle.std.specs.Prelude.{
+  ℕ,
+  Bool,
+  true,
+  nat_lt,
+  List,
+  [],
+  ◌∷◌,
+  ◌++◌,
+  length,
+  codes,
+  Option,
+  Some,
+  None,
+  if◌then◌else◌,
+}
 use Rattle.message_model.specs.declared.blocks.Block.{Block}
 use Rattle.message_model.specs.Message.{Opt}
 use Rattle.message_model.specs.Numbers.{uint_bytes}
@@ -27,21 +42,29 @@ block2_option (Some b) = (table.block2, block_value b) ∷ []
 
 -- the block is named in the answer where one was asked for, or where more follow
 abbrev pub answered_block : Option Block → Bool → Option Block
-answered_block None more = if more then Some (record { num = 0; more = true; szx = szx_of None }) else None
+answered_block None more =
+    if more then Some (record { num = 0; more = true; szx = szx_of None }) else None
 answered_block (Some b) more = Some (record { num = b.num; more = more; szx = b.szx })
 
--- 2.05 with a part of a body, which more may follow; 4.00 where the block that was asked for lies after the end
+-- 2.05 with a part of a body, which more may follow; 4.00 where the block that was asked for lies
+-- after the end
 abbrev pub part_reply : Option (List ℕ) → Option ℕ → Option Block → Option (List ℕ × Bool) → Reply
 part_reply tag observe asked None = diagnostic codes_of.bad_request (codes "block")
 part_reply tag observe asked (Some part) = record {
   code = codes_of.content;
-  options = tag_option tag ++ (observe_option observe ++ ((table.content_format, uint_bytes link_format) ∷ block2_option (answered_block asked part.1)));
+  options =
+      tag_option tag
+      ++ (observe_option observe
+      ++ ((table.content_format, uint_bytes link_format)
+      ∷ block2_option (answered_block asked part.1)));
   payload = part.0;
 }
 
--- the answer with the block of a body that is asked for, the first where none is, under a tag and an Observe value
+-- the answer with the block of a body that is asked for, the first where none is, under a tag and
+-- an Observe value
 unfoldable pub body_reply : Option (List ℕ) → Option ℕ → Option Block → List ℕ → Reply
-body_reply tag observe asked body = part_reply tag observe asked (block_of body (number_of asked) (szx_of asked))
+body_reply tag observe asked body =
+    part_reply tag observe asked (block_of body (number_of asked) (szx_of asked))
 
 -- the body is longer than the block size
 abbrev pub is_long : Option Block → List ℕ → Bool

@@ -1,5 +1,22 @@
--- Changes of the directory: the entry that a request makes, or why it is refused (RFC 9176 sections 5, 5.3.1 and 5.3.2).
-use Rattle.std.specs.Prelude.{ℕ, Bool, true, false, List, [], ◌∷◌, ◌++◌, codes, decimal, Option, Some, None, is_some, unwrap_or}
+-- Changes of the directory: the entry that a request makes, or why it is refused (RFC 9176 sections
+-- 5, 5.3.1 and 5.3.2).
+use Rattle.std.specs.Prelude.{
+  ℕ,
+  Bool,
+  true,
+  false,
+  List,
+  [],
+  ◌∷◌,
+  ◌++◌,
+  codes,
+  decimal,
+  Option,
+  Some,
+  None,
+  is_some,
+  unwrap_or,
+}
 use Rattle.rd_base.specs.declared.parameters.RegParams.{RegParams}
 use Rattle.rd_base.specs.declared.records.Name.{Name}
 use Rattle.rd_base.specs.declared.submitted_links.SubmittedLink.{SubmittedLink}
@@ -38,18 +55,27 @@ refused_as refusal.Entries = refused codes_of.service_unavailable (codes "entrie
 
 -- a change with the moment, the worker and the peer of a step
 abbrev pub entry_of_step : ℕ → Step → Change → Entry
-entry_of_step moment s what = record { moment = record { 0 = moment }; worker = s.worker; peer = s.peer; change = what }
+entry_of_step moment s what = record {
+  moment = record { 0 = moment };
+  worker = s.worker;
+  peer = s.peer;
+  change = what;
+}
 
 -- the change is refused, or it is entered and answered
 abbrev pub entered_unless : Option Refusal → Entry → Outcome → Outcome
 entered_unless (Some why) entry done = refused_as why
-entered_unless None entry done = record { reply = done.reply; notes = note.Entered entry ∷ done.notes }
+entered_unless None entry done = record {
+  reply = done.reply;
+  notes = note.Entered entry ∷ done.notes;
+}
 
 -- a change after a history, and what comes of it where nothing refuses it
 abbrev pub change_made : List Entry → Entry → Outcome → Outcome
 change_made history entry done = entered_unless (change_refusal 0 history entry) entry done
 
--- the links of a body, or the word of its refusal: no document of references, or not in the Limited Link Format
+-- the links of a body, or the word of its refusal: no document of references, or not in the Limited
+-- Link Format
 pub data BodyRead : Type 0 where
   bad_body : List ℕ → BodyRead
   good_body : List SubmittedLink → BodyRead
@@ -74,23 +100,50 @@ number_after name moment history = unwrap_or (number_named name moment (replay h
 
 -- the location of a registration (RFC 9176 section 5)
 abbrev pub location_options : ℕ → List Opt
-location_options number = (table.location_path, codes "rd") ∷ (table.location_path, decimal number) ∷ []
+location_options number =
+    (table.location_path, codes "rd") ∷ (table.location_path, decimal number) ∷ []
 
 -- 2.01 with the location of the name's registration, and further options
 abbrev pub created_at : ℕ → List Opt → Reply
-created_at number further = record { code = codes_of.created; options = location_options number ++ further; payload = [] }
+created_at number further = record {
+  code = codes_of.created;
+  options = location_options number ++ further;
+  payload = [];
+}
 
--- a registration of links after a history, answered with further options; where it is accepted, this is noted beside its entry
+-- a registration of links after a history, answered with further options; where it is accepted,
+-- this is noted beside its entry
 abbrev pub registration_made : List Entry → ℕ → Entry → Name → List Opt → List Note → Outcome
 registration_made history moment entry name further notes =
-    change_made history entry (record { reply = created_at (number_after name moment (history ++ entry ∷ [])) further; notes = notes })
+    change_made history entry (record {
+      reply = created_at (number_after name moment (history ++ entry ∷ [])) further;
+      notes =
+          notes;
+    })
 
 -- the registration of what was read of a body
-abbrev pub registered_links : List Entry → ℕ → Step → RegParams → List Opt → List Note → BodyRead → Outcome
-registered_links history moment s params further notes (bad_body word) = refused codes_of.bad_request word
+abbrev pub registered_links : List Entry
+    → ℕ
+    → Step
+    → RegParams
+    → List Opt
+    → List Note
+    → BodyRead
+    → Outcome
+registered_links history moment s params further notes (bad_body word) =
+    refused codes_of.bad_request word
 registered_links history moment s params further notes (good_body links) =
-    registration_made history moment (entry_of_step moment s (change.Register params links)) params.name further notes
+    registration_made history moment (entry_of_step moment s (change.Register params links))
+    params.name further notes
 
 -- the registration of a whole body: refused for its links, refused as a change, or entered
-unfoldable pub registration : List Entry → ℕ → Step → RegParams → List ℕ → List Opt → List Note → Outcome
-registration history moment s params body further notes = registered_links history moment s params further notes (body_read body)
+unfoldable pub registration : List Entry
+    → ℕ
+    → Step
+    → RegParams
+    → List ℕ
+    → List Opt
+    → List Note
+    → Outcome
+registration history moment s params body further notes =
+    registered_links history moment s params further notes (body_read body)

@@ -1,5 +1,22 @@
--- Writes as they are done: the change and its answer, or the refusal; in both cases the answer is kept for repeats.
-use Rattle.std.specs.Prelude.{ℕ, ◌+◌, Bool, true, false, nat_le, List, [], ◌∷◌, ◌++◌, length, codes, Option, Some, None}
+-- Writes as they are done: the change and its answer, or the refusal; in both cases the answer is
+-- kept for repeats.
+use Rattle.std.specs.Prelude.{
+  ℕ,
+  ◌+◌,
+  Bool,
+  true,
+  false,
+  nat_le,
+  List,
+  [],
+  ◌∷◌,
+  ◌++◌,
+  length,
+  codes,
+  Option,
+  Some,
+  None,
+}
 use Rattle.rd_base.specs.declared.parameters.RegParams.{RegParams}
 use Rattle.message_model.specs.declared.blocks.Block.{Block}
 use Rattle.message_model.specs.declared.messages.Kind4.TheVariants.{Con}
@@ -19,37 +36,54 @@ use Rattle.event_model.specs.Fetches.{max_fetches, fetches, is_fetching, next_to
 use Rattle.journal_model.specs.declared.steps.Step.{Step}
 use Rattle.journal_model.specs.declared.rows.Row.{Row}
 use Rattle.journal_model.specs.Journal.{events, entries}
-use Rattle.journal_model.specs.Effects.{Effects, nothing, joined, bare, mid_of, drawn_for, answer, answering}
+use Rattle.journal_model.specs.Effects.{
+  Effects,
+  nothing,
+  joined,
+  bare,
+  mid_of,
+  drawn_for,
+  answer,
+  answering,
+}
 use Rattle.journal_model.specs.Requests.{Method, get, post, put, delete, other_method, method_of}
 use Rattle.journal_model.specs.Changes.{Outcome, refused, entry_of_step, change_made}
 use Rattle.journal_model.specs.Registrations.{registering}
 
 -- the answer is sent and settled, and what came of the write is noted
 abbrev pub settling : ℕ → Step → Message → Outcome → Effects
-settling place s m done = answering s m done.reply (done.notes ++ note.Settled place (spelling (answer s m done.reply)) ∷ [])
+settling place s m done =
+    answering s m done.reply
+    (done.notes ++ note.Settled place (spelling (answer s m done.reply)) ∷ [])
 
 -- an update (RFC 9176 section 5.3.1)
 abbrev pub updating : List Row → ℕ → Step → Message → ℕ → Outcome
 updating rows moment s m number =
-    change_made (entries rows) (entry_of_step moment s (change.Update number (update_values (queries_in m)))) (record { reply = bare codes_of.changed; notes = [] })
+    change_made (entries rows)
+    (entry_of_step moment s (change.Update number (update_values (queries_in m))))
+    (record { reply = bare codes_of.changed; notes = [] })
 
 -- a removal (RFC 9176 section 5.3.2)
 abbrev pub removing : List Row → ℕ → Step → ℕ → Outcome
-removing rows moment s number = change_made (entries rows) (entry_of_step moment s (change.Remove number)) (record { reply = bare codes_of.deleted; notes = [] })
+removing rows moment s number =
+    change_made (entries rows) (entry_of_step moment s (change.Remove number))
+    (record { reply = bare codes_of.deleted; notes = [] })
 
 -- the block that a fetch asks for, where it is not the first
 abbrev pub fetched_block : Option Block → List Opt
 fetched_block None = []
 fetched_block (Some b) = (table.block2, block_value b) ∷ []
 
--- the request of a fetch: a confirmable GET of /.well-known/core, with no other option (RFC 9176 section 5.1)
+-- the request of a fetch: a confirmable GET of /.well-known/core, with no other option (RFC 9176
+-- section 5.1)
 abbrev pub fetch_request : ℕ → List ℕ → Option Block → Message
 fetch_request mid token b = record {
   kind = Con;
   code = codes_of.get;
   mid = mid;
   token = token;
-  options = (table.uri_path, codes ".well-known") ∷ (table.uri_path, codes "core") ∷ fetched_block b;
+  options =
+      (table.uri_path, codes ".well-known") ∷ (table.uri_path, codes "core") ∷ fetched_block b;
   payload = [];
 }
 
@@ -61,31 +95,39 @@ asking s drawn token params number b = record {
   drew = 1;
 }
 
--- a simple registration is refused while a fetch with its peer runs, or while as many run as may; else its 2.04 is sent,
--- and a fetch starts after it (RFC 9176 section 5.1)
+-- a simple registration is refused while a fetch with its peer runs, or while as many run as may;
+-- else its 2.04 is sent, and a fetch starts after it (RFC 9176 section 5.1)
 abbrev pub simple_unless : Bool → Bool → List Event → ℕ → Step → Message → Effects
-simple_unless true too_many events place s m = settling place s m (refused codes_of.service_unavailable (codes "fetching"))
-simple_unless false true events place s m = settling place s m (refused codes_of.service_unavailable (codes "fetches"))
+simple_unless true too_many events place s m =
+    settling place s m (refused codes_of.service_unavailable (codes "fetching"))
+simple_unless false true events place s m =
+    settling place s m (refused codes_of.service_unavailable (codes "fetches"))
 simple_unless false false events place s m =
     joined (settling place s m (record { reply = bare codes_of.changed; notes = [] }))
-    (asking s (s.drawn + drawn_for m.kind) (next_token events) (registration_values (queries_in m)) 0 None)
+    (asking s (s.drawn + drawn_for m.kind) (next_token events) (registration_values (queries_in m))
+    0 None)
 
 -- a simple registration
 abbrev pub registering_simply : List Event → ℕ → Step → Message → Effects
-registering_simply events place s m = simple_unless (is_fetching s.peer events) (nat_le max_fetches (length (fetches events))) events place s m
+registering_simply events place s m =
+    simple_unless (is_fetching s.peer events) (nat_le max_fetches (length (fetches events))) events
+    place s m
 
--- a write on a registration, by its method: POST updates it, and DELETE removes it; any other is refused before it is admitted, and would remove it too
+-- a write on a registration, by its method: POST updates it, and DELETE removes it; any other is
+-- refused before it is admitted, and would remove it too
 abbrev pub on_location : Method → List Row → ℕ → ℕ → Step → Message → ℕ → Effects
 on_location get rows moment place s m number = settling place s m (removing rows moment s number)
 on_location post rows moment place s m number = settling place s m (updating rows moment s m number)
 on_location put rows moment place s m number = settling place s m (removing rows moment s number)
 on_location delete rows moment place s m number = settling place s m (removing rows moment s number)
-on_location other_method rows moment place s m number = settling place s m (removing rows moment s number)
+on_location other_method rows moment place s m number =
+    settling place s m (removing rows moment s number)
 
 -- what a write does, by its path
 abbrev pub write_done : Path → List Row → ℕ → ℕ → Step → Message → Effects
 write_done path.Rd rows moment place s m = settling place s m (registering rows moment s m)
-write_done (path.Location number) rows moment place s m = on_location (method_of m.code) rows moment place s m number
+write_done (path.Location number) rows moment place s m =
+    on_location (method_of m.code) rows moment place s m number
 write_done path.SimpleRd rows moment place s m = registering_simply (events rows) place s m
 write_done path.Core rows moment place s m = nothing
 write_done path.Res rows moment place s m = nothing

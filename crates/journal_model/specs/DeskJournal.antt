@@ -1,5 +1,6 @@
--- The journals of a desk: which steps follow which rows, be they those of a replay or of workers that look beside the desk.
--- It says neither who holds which job nor who drew how many Message IDs, and looks may stand in it or not.
+-- The journals of a desk: which steps follow which rows, be they those of a replay or of workers
+-- that look beside the desk. It says neither who holds which job nor who drew how many Message IDs,
+-- and looks may stand in it or not.
 use Rattle.std.specs.Prelude.{◌≡◌, ℕ, ◌<◌, ◌≤◌, max, Bool, true, false, List, [], ◌∷◌, Some}
 use Rattle.std.specs.List.{list_any}
 use Rattle.event_model.specs.Events.{has_event}
@@ -15,7 +16,8 @@ use Rattle.journal_model.specs.Rows.{row}
 abbrev pub max_workers : ℕ
 max_workers = 16
 
--- the row of a place admitted a write of the worker, the peer and the datagram of a step, and no Settled or Failed ended that since
+-- the row of a place admitted a write of the worker, the peer and the datagram of a step, and no
+-- Settled or Failed ended that since
 pub record IsOpenFor (s : Step) (place : ℕ) (rows : List Row) : Type 0 where
   pub admission : Row
   pub found : row_at place rows ≡ Some admission
@@ -40,7 +42,8 @@ ends_job _ = false
 abbrev pub NoLaterLook : ℕ → List Row → Type 0
 NoLaterLook handed rows = latest rows ≤ max handed (now rows)
 
--- what is handed in with a step: a moment that is not below those of looks, one of the workers, and the word 0 where it ends a job
+-- what is handed in with a step: a moment that is not below those of looks, one of the workers, and
+-- the word 0 where it ends a job
 pub record IsHanded (rows : List Row) (s : Step) : Type 0 where
   pub in_time : NoLaterLook s.handed.0 rows
   pub worker : s.worker < max_workers
@@ -51,7 +54,12 @@ pub record MayFollow (rows : List Row) (s : Step) : Type 0 where
   pub commits : CommitsOpen rows s s.kind
   pub handed : IsHanded rows s
 
--- a journal of a desk: each row is that of the rows before it and its own step, which may follow them
+-- a journal of a desk: each row is that of the rows before it and its own step, which may follow
+-- them
 pub data IsDeskJournal : List Row → Type 0 where
   begun : IsDeskJournal []
-  made : {rows : List Row} → (s : Step) (starved : Bool) → IsDeskJournal rows → MayFollow rows s → IsDeskJournal (row rows s starved ∷ rows)
+  made : {rows : List Row}
+      → (s : Step) (starved : Bool)
+      → IsDeskJournal rows
+      → MayFollow rows s
+      → IsDeskJournal (row rows s starved ∷ rows)

@@ -1,4 +1,5 @@
--- What a step does, and what it sends: answers, Resets and acknowledgements, and which Message IDs they have (RFC 7252 sections 4.2, 4.3, 4.4 and 5.2).
+-- What a step does, and what it sends: answers, Resets and acknowledgements, and which Message IDs
+-- they have (RFC 7252 sections 4.2, 4.3, 4.4 and 5.2).
 use Rattle.std.specs.Prelude.{ℕ, ◌+◌, ◌*◌, ◌%◌, List, [], ◌∷◌, ◌++◌}
 use Rattle.rd_base.specs.declared.peers.Peer.{Peer}
 use Rattle.message_model.specs.declared.messages.Kind4.{Kind4}
@@ -21,7 +22,11 @@ nothing = record { sent = []; notes = []; drew = 0 }
 
 -- one thing is done, and then another
 abbrev pub joined : Effects → Effects → Effects
-joined first second = record { sent = first.sent ++ second.sent; notes = first.notes ++ second.notes; drew = first.drew + second.drew }
+joined first second = record {
+  sent = first.sent ++ second.sent;
+  notes = first.notes ++ second.notes;
+  drew = first.drew + second.drew;
+}
 
 -- nothing is sent, and this is noted
 abbrev pub noting : List Note → Effects
@@ -53,7 +58,8 @@ bare code = record { code = code; options = []; payload = [] }
 abbrev pub diagnostic : ℕ → List ℕ → Reply
 diagnostic code word = record { code = code; options = []; payload = word }
 
--- a confirmable request is answered in the acknowledgement, any other in a message that is not confirmable (RFC 7252 section 5.2)
+-- a confirmable request is answered in the acknowledgement, any other in a message that is not
+-- confirmable (RFC 7252 section 5.2)
 abbrev pub answer_kind : Kind4 → Kind4
 answer_kind Con = Ack
 answer_kind _ = Non
@@ -81,7 +87,11 @@ answer s m reply = record {
 
 -- a request is answered, and this is noted
 unfoldable pub answering : Step → Message → Reply → List Note → Effects
-answering s m reply notes = record { sent = (s.peer, spelling (answer s m reply)) ∷ []; notes = notes; drew = drawn_for m.kind }
+answering s m reply notes = record {
+  sent = (s.peer, spelling (answer s m reply)) ∷ [];
+  notes = notes;
+  drew = drawn_for m.kind;
+}
 
 -- out of memory: a request is answered 5.00 (RFC 7252 section 5.9.3.1)
 abbrev pub without_memory : Step → Message → Effects
@@ -89,7 +99,14 @@ without_memory s m = answering s m (bare codes_of.internal_server_error) []
 
 -- a message without code, token, options and payload (RFC 7252 section 4.1)
 abbrev pub empty_message : Kind4 → ℕ → Message
-empty_message kind mid = record { kind = kind; code = codes_of.empty; mid = mid; token = []; options = []; payload = [] }
+empty_message kind mid = record {
+  kind = kind;
+  code = codes_of.empty;
+  mid = mid;
+  token = [];
+  options = [];
+  payload = [];
+}
 
 -- a Reset of a message (RFC 7252 section 4.2)
 abbrev pub resetting : Step → ℕ → Effects

@@ -1,5 +1,22 @@
--- Empty acknowledgements and Resets: what they say of notices in flight and of fetches (RFC 7252 sections 4.2 and 5.2.2, RFC 7641 section 3.6).
-use Rattle.std.specs.Prelude.{ℕ, Bool, false, ◌&&◌, ◌==◌, List, [], ◌∷◌, ◌++◌, map, filter, Option, Some, None, if◌then◌else◌}
+-- Empty acknowledgements and Resets: what they say of notices in flight and of fetches (RFC 7252
+-- sections 4.2 and 5.2.2, RFC 7641 section 3.6).
+use Rattle.std.specs.Prelude.{
+  ℕ,
+  Bool,
+  false,
+  ◌&&◌,
+  ◌==◌,
+  List,
+  [],
+  ◌∷◌,
+  ◌++◌,
+  map,
+  filter,
+  Option,
+  Some,
+  None,
+  if◌then◌else◌,
+}
 use Rattle.rd_base.specs.declared.peers.Peer.{Peer}
 use Rattle.event_model.specs.declared.notes.Note.TheVariants as note
 use Rattle.event_model.specs.declared.notes.Observer.{Observer}
@@ -17,7 +34,8 @@ is_flight_of mid (Some f) = f.mid == mid
 
 -- the observers of a peer whose notice in flight has this Message ID: at most one
 abbrev pub waited_for : Peer → ℕ → List Event → List Observer
-waited_for peer mid events = filter (λ o. is_same_peer o.peer peer && is_flight_of mid (flight o events)) (observers events)
+waited_for peer mid events =
+    filter (λ o. is_same_peer o.peer peer && is_flight_of mid (flight o events)) (observers events)
 
 -- the request has this Message ID
 abbrev pub is_request_of : ℕ → Option Request → Bool
@@ -31,14 +49,18 @@ made_request mid (Some e) = is_request_of mid (request_noted e.note)
 
 -- the last request of a running fetch of the peer has this Message ID
 abbrev pub is_last_request : Peer → ℕ → List Event → Bool
-is_last_request peer mid events = is_fetching peer events && made_request mid (last_request peer events)
+is_last_request peer mid events =
+    is_fetching peer events && made_request mid (last_request peer events)
 
--- an acknowledgement ends the flight of a notice, and makes a fetch wait for a response that comes apart
+-- an acknowledgement ends the flight of a notice, and makes a fetch wait for a response that comes
+-- apart
 unfoldable pub acknowledged : Peer → ℕ → List Event → Effects
 acknowledged peer mid events =
-    noting (map (λ o. note.Landed peer mid) (waited_for peer mid events) ++ (if is_last_request peer mid events then note.Waiting peer ∷ [] else []))
+    noting (map (λ o. note.Landed peer mid) (waited_for peer mid events)
+    ++ (if is_last_request peer mid events then note.Waiting peer ∷ [] else []))
 
 -- a Reset removes the observer, and ends the fetch
 unfoldable pub reset : Peer → ℕ → List Event → Effects
 reset peer mid events =
-    noting (map (λ o. note.Unwatched o.peer o.token) (waited_for peer mid events) ++ (if is_last_request peer mid events then note.Ceased peer ∷ [] else []))
+    noting (map (λ o. note.Unwatched o.peer o.token) (waited_for peer mid events)
+    ++ (if is_last_request peer mid events then note.Ceased peer ∷ [] else []))

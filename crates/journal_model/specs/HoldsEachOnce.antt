@@ -1,5 +1,30 @@
--- The first sentence of the headline: registrations are the replay of one legal history that holds each accepted request once, despite repeats.
-use Rattle.std.specs.Prelude.{◌≡◌, ◌⊎◌, ℕ, ◌+◌, ◌<◌, ◌≤◌, Bool, true, false, ◌&&◌, ◌||◌, ◌==◌, List, [], ◌∷◌, ◌++◌, length, Option, Some, None, Result, Ok, Err}
+-- The first sentence of the headline: registrations are the replay of one legal history that holds
+-- each accepted request once, despite repeats.
+use Rattle.std.specs.Prelude.{
+  ◌≡◌,
+  ◌⊎◌,
+  ℕ,
+  ◌+◌,
+  ◌<◌,
+  ◌≤◌,
+  Bool,
+  true,
+  false,
+  ◌&&◌,
+  ◌||◌,
+  ◌==◌,
+  List,
+  [],
+  ◌∷◌,
+  ◌++◌,
+  length,
+  Option,
+  Some,
+  None,
+  Result,
+  Ok,
+  Err,
+}
 use Rattle.std.specs.List.{list_any}
 use Rattle.rd_base.specs.declared.peers.Peer.{Peer}
 use Rattle.rd_base.specs.declared.submitted_links.SubmittedLink.{SubmittedLink}
@@ -41,7 +66,8 @@ abbrev pub is_end_of_fetch : Peer → Note → Bool
 is_end_of_fetch peer (note.Ceased p) = is_same_peer p peer
 is_end_of_fetch peer _ = false
 
--- a datagram that is heard after rows is a response to the last request of the running fetch with its peer
+-- a datagram that is heard after rows is a response to the last request of the running fetch with
+-- its peer
 pub record AnswersFetch (before : List Row) (s : Step) : Type 0 where
   pub kind : s.kind ≡ step.Admit
   pub message : Message
@@ -73,7 +99,10 @@ names_location (Ok m) = is_location (path_in m)
 
 -- the code says that a change was made: 2.01, 2.02, or 2.04 of an update
 abbrev pub is_code_of_change : ℕ → Bool → Bool
-is_code_of_change code of_location = code == codes_of.created || code == codes_of.deleted || (code == codes_of.changed && of_location)
+is_code_of_change code of_location =
+    code
+    == codes_of.created || code
+    == codes_of.deleted || (code == codes_of.changed && of_location)
 
 -- the answer that a row sent says that a change was made
 abbrev pub answers_change : Row → Bool
@@ -82,27 +111,35 @@ answers_change r = is_code_of_change (code_sent r.sent) (names_location (reading
 -- what is collected before a block of a body: nothing before a whole one
 abbrev pub IsCollected : Option Block → List Row → ℕ → Step → Message → List ℕ → Type 0
 IsCollected None rows moment s m collected = collected ≡ []
-IsCollected (Some b) rows moment s m collected = collected_before b (live_upload moment (s.peer, key_in m) (events rows)) ≡ Some collected
+IsCollected (Some b) rows moment s m collected =
+    collected_before b (live_upload moment (s.peer, key_in m) (events rows)) ≡ Some collected
 
 -- the links are those of the body of a registration, which is whole: its payload, after what is
 -- collected before it, and no more follows
-pub record RegistersLinks (rows : List Row) (moment : ℕ) (s : Step) (m : Message) (links : List SubmittedLink) : Type 0 where
+pub record RegistersLinks (rows : List Row) (moment : ℕ) (s : Step) (m : Message)
+    (links : List SubmittedLink) : Type 0 where
   pub last : more_follow (sent_block m) ≡ false
   pub collected : List ℕ
   pub before : IsCollected (sent_block m) rows moment s m collected
   pub read : body_read (collected ++ m.payload) ≡ good_body links
 
--- the change is the one that a request asks for: a registration of its links, or an update or a removal of the registration that its location names
+-- the change is the one that a request asks for: a registration of its links, or an update or a
+-- removal of the registration that its location names
 abbrev pub AsksChange : Path → List Row → ℕ → Step → Message → Change → Type 0
-AsksChange path.Rd rows moment s m (change.Register params links) = (params ≡ registration_values (queries_in m)) × RegistersLinks rows moment s m links
-AsksChange (path.Location number) rows moment s m (change.Update n params) = (m.code ≡ codes_of.post) × (n ≡ number) × (params ≡ update_values (queries_in m))
-AsksChange (path.Location number) rows moment s m (change.Remove n) = ((m.code == codes_of.post) ≡ false) × (n ≡ number)
+AsksChange path.Rd rows moment s m (change.Register params links) =
+    (params ≡ registration_values (queries_in m)) × RegistersLinks rows moment s m links
+AsksChange (path.Location number) rows moment s m (change.Update n params) =
+    (m.code ≡ codes_of.post) × (n ≡ number) × (params ≡ update_values (queries_in m))
+AsksChange (path.Location number) rows moment s m (change.Remove n) =
+    ((m.code == codes_of.post) ≡ false) × (n ≡ number)
 AsksChange _ rows moment s m _ = ⊥
 
--- the change is the one that a fetch was made for: a registration of what it collected, with the parameters of its first request
+-- the change is the one that a fetch was made for: a registration of what it collected, with the
+-- parameters of its first request
 abbrev pub FetchesChange : List Row → Step → Message → Request → Change → Type 0
 FetchesChange rows s m request (change.Register params links) =
-    (params ≡ request.params) × (body_read (collected s.peer (events rows) ++ m.payload) ≡ good_body links)
+    (params ≡ request.params)
+    × (body_read (collected s.peer (events rows) ++ m.payload) ≡ good_body links)
 FetchesChange rows s m request _ = ⊥
 
 -- a step that commits a write asks for the change
@@ -129,7 +166,8 @@ pub record IsEntryOf (rows : List Row) (moment : ℕ) (s : Step) (entry : Entry)
   pub stamped : entry ≡ entry_of_step moment s entry.change
   pub asked : IsAskedBy s.kind rows moment s entry.change
 
--- the write that was admitted at a place ended in 5.00, which was sent: a row commits it, and notes that it failed
+-- the write that was admitted at a place ended in 5.00, which was sent: a row commits it, and notes
+-- that it failed
 pub record EndedWithoutMemory (rows : List Row) (place : ℕ) : Type 0 where
   pub before : List Row
   pub row : Row
@@ -138,8 +176,8 @@ pub record EndedWithoutMemory (rows : List Row) (place : ℕ) : Type 0 where
   pub failed : list_any (is_failure_of place) row.notes ≡ true
   pub sent : code_sent row.sent ≡ codes_of.internal_server_error
 
--- the row at a place admitted its own write: that of its peer, with the Message ID of the request in its datagram;
--- and its worker, peer and datagram are those of a later step
+-- the row at a place admitted its own write: that of its peer, with the Message ID of the request
+-- in its datagram; and its worker, peer and datagram are those of a later step
 pub record AdmittedAt (rows : List Row) (place : ℕ) (s : Step) : Type 0 where
   pub before : List Row
   pub row : Row
@@ -167,11 +205,34 @@ pub record HoldsEachOnce (rows : List Row) : Type 0 where
   pub single : (before : List Row) (r : Row) → Within rows before r → length (entries_of r) ≤ 1
   pub origin : (before : List Row) (r : Row) → Within rows before r → 0 < length (entries_of r)
       → ((place : ℕ) × Commits r place) ⊎ IsCompletion before r
-  pub entry : (before : List Row) (r : Row) (entry : Entry) → Within rows before r → entries_of r ≡ entry ∷ [] → IsEntryOf before r.moment.0 r.step entry
-  pub answered : (before : List Row) (r : Row) (place : ℕ) → Within rows before r → Commits r place → answers_change r ≡ true → length (entries_of r) ≡ 1
-  pub enters_none : (before : List Row) (r : Row) (place : ℕ) → Within rows before r → Commits r place → answers_change r ≡ false → entries_of r ≡ []
-  pub place : (before : List Row) (r : Row) (place : ℕ) → Within rows before r → Commits r place → AdmittedAt before place r.step
-  pub once : (before earlier : List Row) (r other : Row) (place : ℕ) → Within rows before r → Within before earlier other → Commits r place → Commits other place → ⊥
-  pub failed : (before earlier : List Row) (r other : Row) (peer : Peer) (mid : ℕ) → Within rows before r → Within before earlier other
-      → admits peer mid r ≡ true → admits peer mid other ≡ true → r.moment.0 < other.moment.0 + exchange_lifetime
+  pub entry : (before : List Row) (r : Row) (entry : Entry)
+      → Within rows before r
+      → entries_of r ≡ entry ∷ []
+      → IsEntryOf before r.moment.0 r.step entry
+  pub answered : (before : List Row) (r : Row) (place : ℕ)
+      → Within rows before r
+      → Commits r place
+      → answers_change r ≡ true
+      → length (entries_of r) ≡ 1
+  pub enters_none : (before : List Row) (r : Row) (place : ℕ)
+      → Within rows before r
+      → Commits r place
+      → answers_change r ≡ false
+      → entries_of r ≡ []
+  pub place : (before : List Row) (r : Row) (place : ℕ)
+      → Within rows before r
+      → Commits r place
+      → AdmittedAt before place r.step
+  pub once : (before earlier : List Row) (r other : Row) (place : ℕ)
+      → Within rows before r
+      → Within before earlier other
+      → Commits r place
+      → Commits other place
+      → ⊥
+  pub failed : (before earlier : List Row) (r other : Row) (peer : Peer) (mid : ℕ)
+      → Within rows before r
+      → Within before earlier other
+      → admits peer mid r ≡ true
+      → admits peer mid other ≡ true
+      → r.moment.0 < other.moment.0 + exchange_lifetime
       → EndedWithoutMemory before (length earlier)

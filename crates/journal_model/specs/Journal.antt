@@ -1,5 +1,24 @@
--- The journal: a list of rows, one for each step, with the newest first. The place of a row is the number of the rows before it.
-use Rattle.std.specs.Prelude.{ℕ, Bool, true, false, not, ◌==◌, max, List, [], ◌∷◌, ◌++◌, length, filter_map, Option, Some, None, if◌then◌else◌}
+-- The journal: a list of rows, one for each step, with the newest first. The place of a row is the
+-- number of the rows before it.
+use Rattle.std.specs.Prelude.{
+  ℕ,
+  Bool,
+  true,
+  false,
+  not,
+  ◌==◌,
+  max,
+  List,
+  [],
+  ◌∷◌,
+  ◌++◌,
+  length,
+  filter_map,
+  Option,
+  Some,
+  None,
+  if◌then◌else◌,
+}
 use Rattle.history_model.specs.declared.entries.Entry.{Entry}
 use Rattle.event_model.specs.declared.notes.Note.{Note}
 use Rattle.event_model.specs.declared.notes.Note.TheVariants as note
@@ -76,4 +95,5 @@ transition_of r before = record {
 -- the rows that are none of a look, as observers see them
 unfoldable pub transitions : List Row → List Transition
 transitions [] = []
-transitions (r ∷ before) = if is_desk_row r then transition_of r before ∷ transitions before else transitions before
+transitions (r ∷ before) =
+    if is_desk_row r then transition_of r before ∷ transitions before else transitions before

@@ -1,5 +1,22 @@
--- Lookups and discovery that are answered from the registrations alone (RFC 9176 sections 4.1 and 6, RFC 7252 section 5.10.6.2).
-use Rattle.std.specs.Prelude.{ℕ, Bool, true, false, List, [], ◌∷◌, Option, Some, None, Result, Ok, Err, option_map, bytes_eq}
+-- Lookups and discovery that are answered from the registrations alone (RFC 9176 sections 4.1 and
+-- 6, RFC 7252 section 5.10.6.2).
+use Rattle.std.specs.Prelude.{
+  ℕ,
+  Bool,
+  true,
+  false,
+  List,
+  [],
+  ◌∷◌,
+  Option,
+  Some,
+  None,
+  Result,
+  Ok,
+  Err,
+  option_map,
+  bytes_eq,
+}
 use Rattle.std.specs.List.{list_any}
 use Rattle.message_model.specs.declared.messages.Unread.{Unread}
 use Rattle.message_model.specs.Message.{Message}
@@ -15,7 +32,8 @@ use Rattle.journal_model.specs.Requests.{asked_block}
 use Rattle.journal_model.specs.Bodies.{tag_option, body_reply, is_long}
 use Rattle.journal_model.specs.Sought.{Sought, sought_in, body, body_tag}
 
--- what a look gives: an answer, or a body under its tag, which the worker then holds the job to keep
+-- what a look gives: an answer, or a body under its tag, which the worker then holds the job to
+-- keep
 pub data Look : Type 0 where
   answered : Reply → Look
   held : Answer → Look
@@ -26,7 +44,11 @@ names_tag current m = list_any (bytes_eq current) (etags_in m)
 
 -- 2.03: what the client has is still the listing
 abbrev pub still_valid : List ℕ → Reply
-still_valid current = record { code = codes_of.valid; options = tag_option (Some current); payload = [] }
+still_valid current = record {
+  code = codes_of.valid;
+  options = tag_option (Some current);
+  payload = [];
+}
 
 -- a body that is longer than the block size is not sent: it is held, to be kept first
 abbrev pub unless_long : Bool → Message → Answer → Look
@@ -41,11 +63,13 @@ unless_valid false m found = unless_long (is_long (asked_block m) found.body) m 
 -- what is found under a tag, or under none
 abbrev pub found_under : Option (List ℕ) → Message → List ℕ → Look
 found_under None m what = answered (body_reply None None (asked_block m) what)
-found_under (Some current) m what = unless_valid (names_tag current m) m (record { body = what; tag = current })
+found_under (Some current) m what =
+    unless_valid (names_tag current m) m (record { body = what; tag = current })
 
 -- what a look for this gives, from a history at a moment
 abbrev pub look_for : List Entry → ℕ → Message → Sought → Look
-look_for history moment m sought = found_under (body_tag sought history moment) m (body sought history moment)
+look_for history moment m sought =
+    found_under (body_tag sought history moment) m (body sought history moment)
 
 -- what a look gives from a front at a moment: nothing where nothing is sought
 unfoldable pub look : List Entry → ℕ → Message → Option Look
@@ -82,4 +106,5 @@ held_after false history moment (Ok m) = body_held (look history moment m)
 -- the body of a look is kept under its tag, and its first block is sent
 unfoldable pub keep_effects : Step → Message → List ℕ → List ℕ → Effects
 keep_effects s m body current =
-    answering s m (body_reply (Some current) None (asked_block m) body) (note.Kept s.peer (key_in m) body current ∷ [])
+    answering s m (body_reply (Some current) None (asked_block m) body)
+    (note.Kept s.peer (key_in m) body current ∷ [])

@@ -1,5 +1,22 @@
--- Lookups that the journal takes part in: further blocks of a body, and observation (RFC 7959 section 2.4, RFC 7641 sections 3 and 4.1).
-use Rattle.std.specs.Prelude.{ℕ, Bool, true, false, not, ◌==◌, List, [], ◌∷◌, ◌++◌, filter, Option, Some, None, if◌then◌else◌}
+-- Lookups that the journal takes part in: further blocks of a body, and observation (RFC 7959
+-- section 2.4, RFC 7641 sections 3 and 4.1).
+use Rattle.std.specs.Prelude.{
+  ℕ,
+  Bool,
+  true,
+  false,
+  not,
+  ◌==◌,
+  List,
+  [],
+  ◌∷◌,
+  ◌++◌,
+  filter,
+  Option,
+  Some,
+  None,
+  if◌then◌else◌,
+}
 use Rattle.message_model.specs.Message.{Message}
 use Rattle.message_model.specs.Request.{observe_in}
 use Rattle.message_model.specs.RequestKey.{key_in}
@@ -10,34 +27,59 @@ use Rattle.event_model.specs.declared.notes.Note.TheVariants as note
 use Rattle.event_model.specs.declared.notes.Observer.{Observer}
 use Rattle.event_model.specs.Same.{RequestName, is_same_request}
 use Rattle.event_model.specs.KeptAnswers.{Answer, kept_answer}
-use Rattle.event_model.specs.Observers.{name_of, observers, is_observer, has_room_for, observe_value}
+use Rattle.event_model.specs.Observers.{
+  name_of,
+  observers,
+  is_observer,
+  has_room_for,
+  observe_value,
+}
 use Rattle.journal_model.specs.declared.steps.Step.{Step}
 use Rattle.journal_model.specs.declared.rows.Row.{Row}
 use Rattle.journal_model.specs.Journal.{events, entries}
 use Rattle.journal_model.specs.Effects.{Effects, answering}
-use Rattle.journal_model.specs.Requests.{query_of, asked_block, number_of, szx_of, is_later_block, register, deregister}
+use Rattle.journal_model.specs.Requests.{
+  query_of,
+  asked_block,
+  number_of,
+  szx_of,
+  is_later_block,
+  register,
+  deregister,
+}
 use Rattle.journal_model.specs.Bodies.{body_reply, part_reply, is_long}
 use Rattle.journal_model.specs.Sought.{listing_of, body}
 use Rattle.journal_model.specs.Looks.{look_effects}
 
 -- the listing of a lookup now, and its tag
 abbrev pub listing_now : List Row → ℕ → Message → Answer
-listing_now rows moment m = record { body = body (listing_of (query_of m)) (entries rows) moment; tag = tag (entries rows) moment }
+listing_now rows moment m = record {
+  body = body (listing_of (query_of m)) (entries rows) moment;
+  tag = tag (entries rows) moment;
+}
 
 -- a block of the listing now, which is kept where it has that block
 abbrev pub block_now : Step → Message → Answer → Option (List ℕ × Bool) → Effects
-block_now s m answer None = answering s m (part_reply (Some answer.tag) None (asked_block m) None) []
+block_now s m answer None =
+    answering s m (part_reply (Some answer.tag) None (asked_block m) None) []
 block_now s m answer (Some part) =
-    answering s m (part_reply (Some answer.tag) None (asked_block m) (Some part)) (note.Kept s.peer (key_in m) answer.body answer.tag ∷ [])
+    answering s m (part_reply (Some answer.tag) None (asked_block m) (Some part))
+    (note.Kept s.peer (key_in m) answer.body answer.tag ∷ [])
 
--- a further block: of the kept answer, which is a use of it also after its end, and else of the listing now
+-- a further block: of the kept answer, which is a use of it also after its end, and else of the
+-- listing now
 abbrev pub block_of_kept : Step → Message → Answer → Option Answer → Effects
-block_of_kept s m fresh (Some answer) = answering s m (body_reply (Some answer.tag) None (asked_block m) answer.body) (note.Used s.peer (key_in m) ∷ [])
-block_of_kept s m fresh None = block_now s m fresh (block_of fresh.body (number_of (asked_block m)) (szx_of (asked_block m)))
+block_of_kept s m fresh (Some answer) =
+    answering s m (body_reply (Some answer.tag) None (asked_block m) answer.body)
+    (note.Used s.peer (key_in m) ∷ [])
+block_of_kept s m fresh None =
+    block_now s m fresh (block_of fresh.body (number_of (asked_block m)) (szx_of (asked_block m)))
 
 -- a lookup of a further block
 unfoldable pub later_block : List Row → ℕ → Step → Message → Effects
-later_block rows moment s m = block_of_kept s m (listing_now rows moment m) (kept_answer moment (s.peer, key_in m) (events rows))
+later_block rows moment s m =
+    block_of_kept s m (listing_now rows moment m)
+    (kept_answer moment (s.peer, key_in m) (events rows))
 
 -- an observer of the same peer and token is removed
 abbrev pub removal : RequestName → List Observer → List Note
@@ -49,7 +91,13 @@ without name standing = filter (λ o. not (is_same_request (name_of o) name)) st
 
 -- the observer that a request asks to be
 abbrev pub observer_of : Step → Message → Observer
-observer_of s m = record { peer = s.peer; token = m.token; query = query_of m; key = key_in m; szx = szx_of (asked_block m) }
+observer_of s m = record {
+  peer = s.peer;
+  token = m.token;
+  query = query_of m;
+  key = key_in m;
+  szx = szx_of (asked_block m);
+}
 
 -- an observer is added, and its first listing was formed
 abbrev pub addition : Observer → List ℕ → List Note
@@ -57,21 +105,29 @@ addition o body = note.Watched o ∷ note.Formed o.peer o.token body None ∷ []
 
 -- an answer that is longer than the block size is kept
 abbrev pub keeping : Step → Message → Answer → List Note
-keeping s m answer = if is_long (asked_block m) answer.body then note.Kept s.peer (key_in m) answer.body answer.tag ∷ [] else []
+keeping s m answer =
+    if is_long (asked_block m) answer.body
+    then note.Kept s.peer (key_in m) answer.body answer.tag ∷ []
+    else []
 
--- the answer to a request that asks to observe: with an Observe value where the observer is added, and else without
+-- the answer to a request that asks to observe: with an Observe value where the observer is added,
+-- and else without
 abbrev pub observed_if : Bool → List Row → Step → Message → Answer → Effects
 observed_if true rows s m answer =
-    answering s m (body_reply (Some answer.tag) (Some (observe_value (events rows))) (asked_block m) answer.body)
-    (removal (s.peer, m.token) (observers (events rows)) ++ (addition (observer_of s m) answer.body ++ keeping s m answer))
+    answering s m (body_reply (Some answer.tag) (Some (observe_value (events rows))) (asked_block m)
+    answer.body)
+    (removal (s.peer, m.token) (observers (events rows))
+    ++ (addition (observer_of s m) answer.body ++ keeping s m answer))
 observed_if false rows s m answer =
     answering s m (body_reply (Some answer.tag) None (asked_block m) answer.body)
     (removal (s.peer, m.token) (observers (events rows)) ++ keeping s m answer)
 
--- a lookup that asks to observe: an observer of the same peer and token is removed first, and one is added where it has room
+-- a lookup that asks to observe: an observer of the same peer and token is removed first, and one
+-- is added where it has room
 unfoldable pub observed : List Row → ℕ → Step → Message → Effects
 observed rows moment s m =
-    observed_if (has_room_for (query_of m) (without (s.peer, m.token) (observers (events rows)))) rows s m (listing_now rows moment m)
+    observed_if (has_room_for (query_of m) (without (s.peer, m.token) (observers (events rows))))
+    rows s m (listing_now rows moment m)
 
 -- a lookup that asks to observe no more
 unfoldable pub unobserved : List Row → ℕ → Step → Message → Effects
@@ -86,7 +142,8 @@ observation_effects false false rows moment s m = look_effects (entries rows) mo
 -- a lookup of a first block, by its Observe value
 abbrev pub first_block_effects : Option ℕ → List Row → ℕ → Step → Message → Effects
 first_block_effects None rows moment s m = look_effects (entries rows) moment s m
-first_block_effects (Some value) rows moment s m = observation_effects (value == register) (value == deregister) rows moment s m
+first_block_effects (Some value) rows moment s m =
+    observation_effects (value == register) (value == deregister) rows moment s m
 
 -- a lookup of a further block, beside which Observe is ignored, or of a first one
 abbrev pub block_effects : Bool → List Row → ℕ → Step → Message → Effects

@@ -1,5 +1,29 @@
--- The machine: which jobs workers hold, which steps they may make, and the journals that come of it.
-use Rattle.std.specs.Prelude.{◌≡◌, ℕ, ◌+◌, ◌%◌, ◌^◌, Bool, false, ◌==◌, List, [], ◌∷◌, length, map, fold, Option, Some, None, Result, Ok, Err, ⊤, if◌then◌else◌}
+-- The machine: which jobs workers hold, which steps they may make, and the journals that come of
+-- it.
+use Rattle.std.specs.Prelude.{
+  ◌≡◌,
+  ℕ,
+  ◌+◌,
+  ◌%◌,
+  ◌^◌,
+  Bool,
+  false,
+  ◌==◌,
+  List,
+  [],
+  ◌∷◌,
+  length,
+  map,
+  fold,
+  Option,
+  Some,
+  None,
+  Result,
+  Ok,
+  Err,
+  ⊤,
+  if◌then◌else◌,
+}
 use Rattle.rd_base.specs.declared.peers.Peer.{Peer}
 use Rattle.message_model.specs.declared.messages.Role.{Role}
 use Rattle.message_model.specs.declared.messages.Role.TheVariants as role
@@ -63,7 +87,8 @@ keep_job (Some found) r = job_from_row (step.Keep found.body found.tag) r
 -- the job that a row of a worker leaves it with, where it had another before
 abbrev pub job_after : StepKind → Row → List Row → Option Job → Option Job
 job_after step.Admit r before held = write_job r.notes r before
-job_after step.Look r before held = keep_job (held_after r.starved (entries before) r.moment.0 (reading r.step.datagram)) r
+job_after step.Look r before held =
+    keep_job (held_after r.starved (entries before) r.moment.0 (reading r.step.datagram)) r
 job_after (step.Commit place) r before held = None
 job_after (step.Keep body tag) r before held = None
 job_after step.Tick r before held = held
@@ -71,17 +96,26 @@ job_after step.Tick r before held = held
 -- the job that a worker holds: that of its last row but ticks
 unfoldable pub job_of : ℕ → List Row → Option Job
 job_of worker [] = None
-job_of worker (r ∷ before) = if r.step.worker == worker then job_after r.step.kind r before (job_of worker before) else job_of worker before
+job_of worker (r ∷ before) =
+    if r.step.worker == worker
+    then job_after r.step.kind r before (job_of worker before)
+    else job_of worker before
 
 -- how many Message IDs a worker drew
 unfoldable pub mids_drawn : ℕ → List Row → ℕ
 mids_drawn worker [] = 0
-mids_drawn worker (r ∷ before) = if r.step.worker == worker then (mids_drawn worker before + r.drew) % 2 ^ 64 else mids_drawn worker before
+mids_drawn worker (r ∷ before) =
+    if r.step.worker == worker
+    then (mids_drawn worker before + r.drew) % 2 ^ 64
+    else mids_drawn worker before
 
--- a step that a worker may make: a tick at any time, a datagram where it holds no job, or the job that it holds
+-- a step that a worker may make: a tick at any time, a datagram where it holds no job, or the job
+-- that it holds
 pub data MayBegin (rows : List Row) : Step → Type 0 where
   hears : {s : Step} → job_of s.worker rows ≡ None → s.kind ≡ hearing s.datagram → MayBegin rows s
-  goes : {s : Step} → job_of s.worker rows ≡ Some (record { kind = s.kind; peer = s.peer; datagram = s.datagram }) → MayBegin rows s
+  goes : {s : Step}
+      → job_of s.worker rows ≡ Some (record { kind = s.kind; peer = s.peer; datagram = s.datagram })
+      → MayBegin rows s
   ticks : {s : Step} → s.kind ≡ step.Tick → MayBegin rows s
 
 -- and it names how many Message IDs its worker drew before
@@ -92,7 +126,11 @@ pub record MayMake (rows : List Row) (s : Step) : Type 0 where
 -- a journal of the machine: each row is that of a step that might be made after the rows before it
 pub data IsJournal : List Row → Type 0 where
   begun : IsJournal []
-  made : {rows : List Row} {s : Step} → (starved : Bool) → IsJournal rows → MayMake rows s → IsJournal (row rows s starved ∷ rows)
+  made : {rows : List Row} {s : Step}
+      → (starved : Bool)
+      → IsJournal rows
+      → MayMake rows s
+      → IsJournal (row rows s starved ∷ rows)
 
 -- the journal of steps, each with whether memory ran out in it
 unfoldable pub run : List (Step × Bool) → List Row

@@ -3,7 +3,8 @@ use Rattle.std.specs.Prelude.{ℕ, ◌+◌, ◌-◌, List, [], ◌∷◌, length
 use Rattle.message_model.specs.Message.{Message, Opt}
 use Rattle.message_model.specs.Spelling.{first_extended, first_long}
 
--- the most octets of a datagram that the directory sends: what a link carries at least (RFC 7252 section 4.6, RFC 8200 section 5)
+-- the most octets of a datagram that the directory sends: what a link carries at least (RFC 7252
+-- section 4.6, RFC 8200 section 5)
 abbrev pub longest_datagram : ℕ
 longest_datagram = 1_280
 
@@ -11,9 +12,11 @@ longest_datagram = 1_280
 unfoldable pub extension_size : ℕ → ℕ
 extension_size n = if nat_lt n first_extended then 0 else if nat_lt n first_long then 1 else 2
 
--- how many octets spell an option after an option of the number before: one for both nibbles, what extends them, the value
+-- how many octets spell an option after an option of the number before: one for both nibbles, what
+-- extends them, the value
 abbrev pub option_size : ℕ → Opt → ℕ
-option_size before option = 1 + (extension_size (option.0 - before) + (extension_size (length option.1) + length option.1))
+option_size before option =
+    1 + (extension_size (option.0 - before) + (extension_size (length option.1) + length option.1))
 
 -- how many octets spell options after an option of the number before
 abbrev pub options_size : ℕ → List Opt → ℕ

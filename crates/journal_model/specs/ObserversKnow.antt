@@ -1,4 +1,5 @@
--- The fourth sentence of the headline: an observer with no notice due was last given the listing now.
+-- The fourth sentence of the headline: an observer with no notice due was last given the listing
+-- now.
 use Rattle.std.specs.Prelude.{◌≡◌, false, List, Some}
 use Rattle.std.specs.List.{IsAmong}
 use Rattle.history_model.specs.Listing.{listing}
@@ -10,5 +11,8 @@ use Rattle.journal_model.specs.Journal.{events, entries, now, transitions}
 
 -- Where no notice is due to an observer, the body that was last formed for it is the listing now.
 pub record ObserversKnow (rows : List Row) : Type 0 where
-  pub last_formed : (o : Observer) → IsAmong (observers (events rows)) o → is_due o (events rows) (transitions rows) ≡ false
-      → last_body_formed (name_of o) (events rows) ≡ Some (listing o.query (entries rows) (now rows))
+  pub last_formed : (o : Observer)
+      → IsAmong (observers (events rows)) o
+      → is_due o (events rows) (transitions rows) ≡ false
+      → last_body_formed (name_of o) (events rows)
+      ≡ Some (listing o.query (entries rows) (now rows))

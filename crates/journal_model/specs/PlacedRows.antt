@@ -38,4 +38,5 @@ pub record Placed : Type 0 where
 -- the last row of a kind, with the rows before it
 unfoldable pub last_row : (Row → Bool) → List Row → Option Placed
 last_row is_kind [] = None
-last_row is_kind (r ∷ before) = if is_kind r then Some (record { row = r; before = before }) else last_row is_kind before
+last_row is_kind (r ∷ before) =
+    if is_kind r then Some (record { row = r; before = before }) else last_row is_kind before

@@ -1,5 +1,28 @@
 -- What comes of a registration: its body comes whole, or in blocks (RFC 7959 sections 2.5 and 2.9).
-use Rattle.std.specs.Prelude.{ℕ, ◌+◌, ◌*◌, Bool, true, false, ◌&&◌, ◌==◌, nat_lt, nat_le, List, [], ◌∷◌, ◌++◌, length, codes, Option, Some, None, is_none, option_and_then, if◌then◌else◌}
+use Rattle.std.specs.Prelude.{
+  ℕ,
+  ◌+◌,
+  ◌*◌,
+  Bool,
+  true,
+  false,
+  ◌&&◌,
+  ◌==◌,
+  nat_lt,
+  nat_le,
+  List,
+  [],
+  ◌∷◌,
+  ◌++◌,
+  length,
+  codes,
+  Option,
+  Some,
+  None,
+  is_none,
+  option_and_then,
+  if◌then◌else◌,
+}
 use Rattle.message_model.specs.declared.blocks.Block.{Block}
 use Rattle.message_model.specs.Message.{Message, Opt}
 use Rattle.message_model.specs.Codes as codes_of
@@ -20,11 +43,14 @@ use Rattle.journal_model.specs.Changes.{Outcome, refused, registration}
 abbrev pub continues_at : ℕ → List ℕ → Option (List ℕ)
 continues_at offset body = if length body == offset then Some body else None
 
--- what is collected before a block: nothing before the first, and else the live upload, where it ends there
+-- what is collected before a block: nothing before the first, and else the live upload, where it
+-- ends there
 abbrev pub collected_before : Block → Option (List ℕ) → Option (List ℕ)
-collected_before b upload = if b.num == 0 then Some [] else option_and_then (continues_at (b.num * block_size b.szx)) upload
+collected_before b upload =
+    if b.num == 0 then Some [] else option_and_then (continues_at (b.num * block_size b.szx)) upload
 
--- the block begins an upload that more follows, and there are as many live ones as may be beside the upload of its name
+-- the block begins an upload that more follows, and there are as many live ones as may be beside
+-- the upload of its name
 abbrev pub is_one_too_many : Block → Option (List ℕ) → ℕ → Bool
 is_one_too_many b upload live = b.num == 0 && b.more && is_none upload && nat_le max_uploads live
 
@@ -39,32 +65,48 @@ block_taken true rows moment s m b body = record {
   notes = note.Piece s.peer (key_in m) b.num m.payload ∷ [];
 }
 block_taken false rows moment s m b body =
-    registration (entries rows) moment s (registration_values (queries_in m)) body (block1_option b) (note.Finished s.peer (key_in m) ∷ [])
+    registration (entries rows) moment s (registration_values (queries_in m)) body (block1_option b)
+    (note.Finished s.peer (key_in m) ∷ [])
 
--- why a block is refused that goes on with what is collected: too much is collected, or too many uploads live
+-- why a block is refused that goes on with what is collected: too much is collected, or too many
+-- uploads live
 abbrev pub block_unless : Bool → Bool → List Row → ℕ → Step → Message → Block → List ℕ → Outcome
-block_unless true too_many rows moment s m b body = refused codes_of.request_entity_too_large (codes "size")
-block_unless false true rows moment s m b body = refused codes_of.service_unavailable (codes "uploads")
+block_unless true too_many rows moment s m b body =
+    refused codes_of.request_entity_too_large (codes "size")
+block_unless false true rows moment s m b body =
+    refused codes_of.service_unavailable (codes "uploads")
 block_unless false false rows moment s m b body = block_taken b.more rows moment s m b body
 
 -- a block, by what is collected before it: refused where that does not end where the block begins
-abbrev pub block_after : Option (List ℕ) → Option (List ℕ) → List Row → ℕ → Step → Message → Block → Outcome
-block_after None upload rows moment s m b = refused codes_of.request_entity_incomplete (codes "order")
+abbrev pub block_after : Option (List ℕ)
+    → Option (List ℕ)
+    → List Row
+    → ℕ
+    → Step
+    → Message
+    → Block
+    → Outcome
+block_after None upload rows moment s m b =
+    refused codes_of.request_entity_incomplete (codes "order")
 block_after (Some collected) upload rows moment s m b =
-    block_unless (nat_lt max_body (length collected + length m.payload)) (is_one_too_many b upload (live_uploads moment (events rows)))
+    block_unless (nat_lt max_body (length collected + length m.payload))
+    (is_one_too_many b upload (live_uploads moment (events rows)))
     rows moment s m b (collected ++ m.payload)
 
 -- a block of a registration, by the live upload of its name
 abbrev pub block_with : Option (List ℕ) → List Row → ℕ → Step → Message → Block → Outcome
-block_with upload rows moment s m b = block_after (collected_before b upload) upload rows moment s m b
+block_with upload rows moment s m b =
+    block_after (collected_before b upload) upload rows moment s m b
 
 -- a block of a registration
 unfoldable pub block_uploaded : List Row → ℕ → Step → Message → Block → Outcome
-block_uploaded rows moment s m b = block_with (live_upload moment (s.peer, key_in m) (events rows)) rows moment s m b
+block_uploaded rows moment s m b =
+    block_with (live_upload moment (s.peer, key_in m) (events rows)) rows moment s m b
 
 -- a registration: whole, or a block of one
 abbrev pub registration_outcome : Option Block → List Row → ℕ → Step → Message → Outcome
-registration_outcome None rows moment s m = registration (entries rows) moment s (registration_values (queries_in m)) m.payload [] []
+registration_outcome None rows moment s m =
+    registration (entries rows) moment s (registration_values (queries_in m)) m.payload [] []
 registration_outcome (Some b) rows moment s m = block_uploaded rows moment s m b
 
 -- what comes of a registration

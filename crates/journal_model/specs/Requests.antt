@@ -1,5 +1,24 @@
--- What a request asks for, and the refusals that it alone decides, in the order in which they are looked for.
-use Rattle.std.specs.Prelude.{ℕ, Bool, true, false, not, ◌&&◌, ◌||◌, ◌==◌, nat_lt, codes, Option, Some, None, is_some, is_none, option_and_then, if◌then◌else◌}
+-- What a request asks for, and the refusals that it alone decides, in the order in which they are
+-- looked for.
+use Rattle.std.specs.Prelude.{
+  ℕ,
+  Bool,
+  true,
+  false,
+  not,
+  ◌&&◌,
+  ◌||◌,
+  ◌==◌,
+  nat_lt,
+  codes,
+  Option,
+  Some,
+  None,
+  is_some,
+  is_none,
+  option_and_then,
+  if◌then◌else◌,
+}
 use Rattle.rd_base.specs.declared.queries.Kind.{Kind}
 use Rattle.rd_base.specs.declared.queries.Kind.TheVariants as kind
 use Rattle.rd_base.specs.declared.queries.Query.{Query}
@@ -35,7 +54,8 @@ method_of code =
     else if code == codes_of.delete then delete
     else other_method
 
--- as what the query options of a request on a registration are read: those of an update alone are read
+-- as what the query options of a request on a registration are read: those of an update alone are
+-- read
 abbrev pub reading_on_location : Method → Option Reading
 reading_on_location get = None
 reading_on_location post = Some reading.Update
@@ -55,7 +75,9 @@ reading_of path.Other code = None
 
 -- the query options of a request are refused
 abbrev pub has_bad_query : Message → Bool
-has_bad_query m = is_some (option_and_then (λ as_what. fault_of as_what (queries_in m)) (reading_of (path_in m) m.code))
+has_bad_query m =
+    is_some (option_and_then (λ as_what. fault_of as_what (queries_in m))
+    (reading_of (path_in m) m.code))
 
 -- an update has no payload (RFC 9176 section 5.3.1)
 abbrev pub is_update : Method → Bool
@@ -91,7 +113,8 @@ abbrev pub refusal_or_next : Option Refusal → Message → Option Reply
 refusal_or_next (Some refusal) m = Some (diagnostic (refusal_code refusal) (refusal_word refusal))
 refusal_or_next None m = refusal_of_query_or_payload m
 
--- the first refusal that a request alone decides: option, proxy, path, method, block, accept, format, query, payload
+-- the first refusal that a request alone decides: option, proxy, path, method, block, accept,
+-- format, query, payload
 unfoldable pub refusal_of_request : Message → Option Reply
 refusal_of_request m = refusal_or_next (refusal_of m) m
 
@@ -147,7 +170,8 @@ asked_block m = option_and_then block_read (block2_in m)
 abbrev pub sent_block : Message → Option Block
 sent_block m = option_and_then block_read (block1_in m)
 
--- the exponent of the greatest block size, 1,024 octets, which is taken where none is asked for (RFC 7959 section 2.2)
+-- the exponent of the greatest block size, 1,024 octets, which is taken where none is asked for
+-- (RFC 7959 section 2.2)
 abbrev pub greatest_szx : ℕ
 greatest_szx = 6
 
@@ -178,9 +202,12 @@ abbrev pub is_heeded : Option ℕ → Bool
 is_heeded None = false
 is_heeded (Some value) = value == register || value == deregister
 
--- a lookup of a first block that neither begins nor ends an observation, or a discovery: it is answered from the registrations alone
+-- a lookup of a first block that neither begins nor ends an observation, or a discovery: it is
+-- answered from the registrations alone
 abbrev pub only_looks : Message → Bool
-only_looks m = is_discovery (path_in m) || (is_lookup (path_in m) && not (is_later_block m) && not (is_heeded (observe_in m)))
+only_looks m =
+    is_discovery (path_in m)
+    || (is_lookup (path_in m) && not (is_later_block m) && not (is_heeded (observe_in m)))
 
 -- such a request that meets no refusal
 unfoldable pub is_look_request : Message → Bool

@@ -1,5 +1,20 @@
 -- The row of a step: what each kind of step sends and notes after a journal.
-use Rattle.std.specs.Prelude.{ℕ, Bool, true, false, max, List, [], ◌∷◌, Option, Some, None, Result, Ok, Err}
+use Rattle.std.specs.Prelude.{
+  ℕ,
+  Bool,
+  true,
+  false,
+  max,
+  List,
+  [],
+  ◌∷◌,
+  Option,
+  Some,
+  None,
+  Result,
+  Ok,
+  Err,
+}
 use Rattle.message_model.specs.declared.messages.Kind4.{Kind4}
 use Rattle.message_model.specs.declared.messages.Kind4.TheVariants.{Con, Non}
 use Rattle.message_model.specs.declared.messages.Role.{Role}
@@ -19,7 +34,15 @@ use Rattle.journal_model.specs.declared.steps.StepKind.{StepKind}
 use Rattle.journal_model.specs.declared.steps.StepKind.TheVariants as step
 use Rattle.journal_model.specs.declared.rows.Row.{Row}
 use Rattle.journal_model.specs.Journal.{events, entries, latest}
-use Rattle.journal_model.specs.Effects.{Effects, Reply, nothing, bare, answering, without_memory, resetting}
+use Rattle.journal_model.specs.Effects.{
+  Effects,
+  Reply,
+  nothing,
+  bare,
+  answering,
+  without_memory,
+  resetting,
+}
 use Rattle.journal_model.specs.Requests.{refusal_of_request}
 use Rattle.journal_model.specs.Looks.{look_effects, looked, keep_effects}
 use Rattle.journal_model.specs.Lookups.{lookup_effects}
@@ -39,28 +62,33 @@ served path.Rd rows moment s m = write_effects (events rows) moment s m
 served (path.Location number) rows moment s m = write_effects (events rows) moment s m
 served path.Other rows moment s m = nothing
 
--- a refusal is answered; an unrecognized critical option in a message that is not confirmable is answered by nothing (RFC 7252 section 5.4.1)
+-- a refusal is answered; an unrecognized critical option in a message that is not confirmable is
+-- answered by nothing (RFC 7252 section 5.4.1)
 abbrev pub refusal_answered : Kind4 → Option ℕ → Step → Message → Reply → Effects
 refusal_answered Non (Some number) s m refusal = nothing
 refusal_answered _ _ s m refusal = answering s m refusal []
 
 -- a request: refused, or served
 abbrev pub request_answered : Option Reply → List Row → ℕ → Step → Message → Effects
-request_answered (Some refusal) rows moment s m = refusal_answered m.kind (first_bad_option m.options) s m refusal
+request_answered (Some refusal) rows moment s m =
+    refusal_answered m.kind (first_bad_option m.options) s m refusal
 request_answered None rows moment s m = served (path_in m) rows moment s m
 
 -- what a message does, by what it is for (RFC 7252 section 4)
 abbrev pub message_effects : Role → Bool → List Row → ℕ → Step → Message → Effects
 message_effects role.Ping starved rows moment s m = resetting s m.mid
-message_effects role.Acknowledgement starved rows moment s m = acknowledged s.peer m.mid (events rows)
+message_effects role.Acknowledgement starved rows moment s m =
+    acknowledged s.peer m.mid (events rows)
 message_effects role.Reset starved rows moment s m = reset s.peer m.mid (events rows)
 message_effects role.Request true rows moment s m = without_memory s m
-message_effects role.Request false rows moment s m = request_answered (refusal_of_request m) rows moment s m
+message_effects role.Request false rows moment s m =
+    request_answered (refusal_of_request m) rows moment s m
 message_effects role.Response true rows moment s m = nothing
 message_effects role.Response false rows moment s m = response_effects rows moment s m
 message_effects role.Ignored starved rows moment s m = nothing
 
--- a confirmable message with a format error is rejected, and what else is no message is ignored (RFC 7252 section 4.2)
+-- a confirmable message with a format error is rejected, and what else is no message is ignored
+-- (RFC 7252 section 4.2)
 abbrev pub unread_answered : Step → Unread → Effects
 unread_answered s (unread.Format Con mid) = resetting s mid
 unread_answered s _ = nothing
@@ -73,7 +101,8 @@ heard starved rows moment s (Ok m) = message_effects (role_of m.kind m.code) sta
 -- a write that is done; where memory ran out it ends in 5.00, and its admission with it
 abbrev pub done : Bool → List Row → ℕ → ℕ → Step → Result Message Unread → Effects
 done starved rows moment place s (Err fault) = nothing
-done true rows moment place s (Ok m) = answering s m (bare codes_of.internal_server_error) (note.Failed place ∷ [])
+done true rows moment place s (Ok m) =
+    answering s m (bare codes_of.internal_server_error) (note.Failed place ∷ [])
 done false rows moment place s (Ok m) = commit_effects rows moment place s m
 
 -- a body that is kept
@@ -85,9 +114,12 @@ kept_body false s (Ok m) body tag = keep_effects s m body tag
 -- what a step does, by its kind, after a journal at a moment
 unfoldable pub effects : StepKind → Bool → List Row → ℕ → Step → Effects
 effects step.Admit starved rows moment s = heard starved rows moment s (reading s.datagram)
-effects step.Look starved rows moment s = looked starved (entries rows) moment s (reading s.datagram)
-effects (step.Commit place) starved rows moment s = done starved rows moment place s (reading s.datagram)
-effects (step.Keep body tag) starved rows moment s = kept_body starved s (reading s.datagram) body tag
+effects step.Look starved rows moment s =
+    looked starved (entries rows) moment s (reading s.datagram)
+effects (step.Commit place) starved rows moment s =
+    done starved rows moment place s (reading s.datagram)
+effects (step.Keep body tag) starved rows moment s =
+    kept_body starved s (reading s.datagram) body tag
 effects step.Tick starved rows moment s = tick_effects starved rows moment s
 
 -- the moment of a step: the greatest that was handed in so far
@@ -107,9 +139,14 @@ row_with s moment starved e = record {
 
 -- the row of a step after a journal, in which memory ran out or did not
 unfoldable pub row : List Row → Step → Bool → Row
-row rows s starved = row_with s (row_moment rows s) starved (effects s.kind starved rows (row_moment rows s) s)
+row rows s starved =
+    row_with s (row_moment rows s) starved (effects s.kind starved rows (row_moment rows s) s)
 
--- each row is that of the rows before it and of a step, whoever may make which step: so it is in journals of the machine, and in those of desks
+-- each row is that of the rows before it and of a step, whoever may make which step: so it is in
+-- journals of the machine, and in those of desks
 pub data AreRows : List Row → Type 0 where
   empty : AreRows []
-  added : {rows : List Row} → (s : Step) (starved : Bool) → AreRows rows → AreRows (row rows s starved ∷ rows)
+  added : {rows : List Row}
+      → (s : Step) (starved : Bool)
+      → AreRows rows
+      → AreRows (row rows s starved ∷ rows)

@@ -1,6 +1,26 @@
--- Seats: a worker's share in a desk that many drive. Its desk steps are rows of one journal, each made at a turn of the seat;
--- its looks take no turn: each is answered from a front of the history that holds all that the seat had seen.
-use Rattle.std.specs.Prelude.{◌≡◌, ◌⊎◌, ℕ, ◌+◌, ◌%◌, ◌^◌, ◌≤◌, Bool, false, ◌==◌, max, List, [], ◌∷◌, ◌++◌, filter, Option, None}
+-- Seats: a worker's share in a desk that many drive. Its desk steps are rows of one journal, each
+-- made at a turn of the seat; its looks take no turn: each is answered from a front of the history
+-- that holds all that the seat had seen.
+use Rattle.std.specs.Prelude.{
+  ◌≡◌,
+  ◌⊎◌,
+  ℕ,
+  ◌+◌,
+  ◌%◌,
+  ◌^◌,
+  ◌≤◌,
+  Bool,
+  false,
+  ◌==◌,
+  max,
+  List,
+  [],
+  ◌∷◌,
+  ◌++◌,
+  filter,
+  Option,
+  None,
+}
 use Rattle.std.specs.List.{All}
 use Rattle.rd_base.specs.declared.peers.Peer.{Peer}
 use Rattle.message_model.specs.Reading.{reading}
@@ -35,7 +55,15 @@ pub record Seat : Type 0 where
 
 -- a seat that made no step
 abbrev pub new_seat : ℕ → Seat
-new_seat worker = record { worker = worker; seen = []; mine = []; shown = []; front = []; last = 0; drawn = 0 }
+new_seat worker = record {
+  worker = worker;
+  seen = [];
+  mine = [];
+  shown = [];
+  front = [];
+  last = 0;
+  drawn = 0;
+}
 
 -- the rows of a journal that a worker made
 unfoldable pub rows_of : ℕ → List Row → List Row
@@ -46,7 +74,8 @@ pub record GoesOn (earlier later : List Row) : Type 0 where
   pub further : List Row
   pub whole : later ≡ further ++ earlier
 
--- of two histories one is a front of the other, so neither has an entry where the other has another one
+-- of two histories one is a front of the other, so neither has an entry where the other has another
+-- one
 abbrev pub Agree : List Entry → List Entry → Type 0
 Agree history other = IsFront history other ⊎ IsFront other history
 
@@ -77,10 +106,12 @@ after_row seat found r = record {
   drawn = drawn_more seat.drawn r.drew;
 }
 
--- One desk step of a seat, at its turn. The journal that it finds goes on from what the seat had seen, by rows of other workers;
--- of its history and of each front that was shown since the last turn one is a front of the other.
--- The seat makes the row of its step after that journal, and sends what the row sends.
-pub record MakesRow (before : Seat) (s : Step) (starved : Bool) (sent : List (Peer × List ℕ)) (after : Seat) : Type 0 where
+-- One desk step of a seat, at its turn. The journal that it finds goes on from what the seat had
+-- seen, by rows of other workers; of its history and of each front that was shown since the last
+-- turn one is a front of the other. The seat makes the row of its step after that journal, and
+-- sends what the row sends.
+pub record MakesRow (before : Seat) (s : Step) (starved : Bool) (sent : List (Peer × List ℕ))
+    (after : Seat) : Type 0 where
   pub found : List Row
   pub goes_on : GoesOn before.seen found
   pub by_others : rows_of before.worker found ≡ rows_of before.worker before.seen
@@ -92,17 +123,20 @@ pub record MakesRow (before : Seat) (s : Step) (starved : Bool) (sent : List (Pe
 
 -- ---- looks
 
--- the moment of a look from a front: the greatest of the moment handed in, of that of the seat's last row or look, and of that of the front's last entry
+-- the moment of a look from a front: the greatest of the moment handed in, of that of the seat's
+-- last row or look, and of that of the front's last entry
 abbrev pub look_moment : Seat → Step → List Entry → ℕ
 look_moment seat s front = max s.handed.0 (max seat.last (last_moment front))
 
 -- what a look of a seat does, from a front
 abbrev pub seat_looked : Seat → Step → Bool → List Entry → Effects
-seat_looked seat s starved front = looked starved front (look_moment seat s front) s (reading s.datagram)
+seat_looked seat s starved front =
+    looked starved front (look_moment seat s front) s (reading s.datagram)
 
 -- the body that it leaves the worker with the job to keep
 abbrev pub seat_held : Seat → Step → Bool → List Entry → Option Answer
-seat_held seat s starved front = held_after starved front (look_moment seat s front) (reading s.datagram)
+seat_held seat s starved front =
+    held_after starved front (look_moment seat s front) (reading s.datagram)
 
 -- a seat after a look from a front
 abbrev pub after_look : Seat → Step → Bool → List Entry → Seat
@@ -116,8 +150,10 @@ after_look seat s starved front = record {
   drawn = drawn_more seat.drawn (seat_looked seat s starved front).drew;
 }
 
--- One look of a seat. It is answered from a front that holds all entries that the seat had seen, and all of the front of its last look.
-pub record LooksFrom (before : Seat) (s : Step) (starved : Bool) (sent : List (Peer × List ℕ)) (held : Option Answer) (after : Seat) : Type 0 where
+-- One look of a seat. It is answered from a front that holds all entries that the seat had seen,
+-- and all of the front of its last look.
+pub record LooksFrom (before : Seat) (s : Step) (starved : Bool) (sent : List (Peer × List ℕ))
+    (held : Option Answer) (after : Seat) : Type 0 where
   pub front : List Entry
   pub holds_seen : IsFront (entries before.seen) front
   pub holds_shown : IsFront before.front front
@@ -129,8 +165,9 @@ pub record LooksFrom (before : Seat) (s : Step) (starved : Bool) (sent : List (P
 
 -- ---- what holds of every seat
 
--- Its own rows are those of its worker in what it has seen, each once and in their order; no row of it has a later moment than its last;
--- and each front that it showed since its last turn is a front of that of its last look.
+-- Its own rows are those of its worker in what it has seen, each once and in their order; no row of
+-- it has a later moment than its last; and each front that it showed since its last turn is a front
+-- of that of its last look.
 pub record IsSeat (seat : Seat) : Type 0 where
   pub mine : seat.mine ≡ rows_of seat.worker seat.seen
   pub moments : All (λ r. r.moment.0 ≤ seat.last) seat.mine

@@ -1,5 +1,6 @@
--- The fifth sentence of the headline, of every datagram that a row sends: it can be read and fits a link; an answer has the peer and the token of its request,
--- and a notice those of its observer; and a body that is noted as formed is sent.
+-- The fifth sentence of the headline, of every datagram that a row sends: it can be read and fits a
+-- link; an answer has the peer and the token of its request, and a notice those of its observer;
+-- and a body that is noted as formed is sent.
 use Rattle.std.specs.Prelude.{◌≡◌, ◌⊎◌, ℕ, ◌≤◌, Bool, true, false, List, length, Option, Some, Ok}
 use Rattle.std.specs.List.{IsAmong}
 use Rattle.rd_base.specs.declared.peers.Peer.{Peer}
@@ -52,7 +53,8 @@ pub record AnswersRequest (s : Step) (m : Message) : Type 0 where
   pub asks : role_of request.kind request.code ≡ role.Request
   pub token : m.token ≡ request.token
 
--- the datagram of a step is a request that comes again: an earlier row admitted one of the same peer with the same Message ID. A response has the token of that one
+-- the datagram of a step is a request that comes again: an earlier row admitted one of the same
+-- peer with the same Message ID. A response has the token of that one
 pub record AnswersRepeat (before : List Row) (s : Step) (m : Message) : Type 0 where
   pub again : Message
   pub read : reading s.datagram ≡ Ok again
@@ -66,7 +68,8 @@ pub record AnswersRepeat (before : List Row) (s : Step) (m : Message) : Type 0 w
   pub admitted : admits first.row.step.peer request.mid first.row ≡ true
   pub token : m.token ≡ request.token
 
--- a response goes to the peer of the step, and has the token of its request, or of the write that it repeats
+-- a response goes to the peer of the step, and has the token of its request, or of the write that
+-- it repeats
 pub record IsAnswer (here : Placed) (peer : Peer) (m : Message) : Type 0 where
   pub to : peer ≡ here.row.step.peer
   pub answers : AnswersRequest here.row.step m ⊎ AnswersRepeat here.before here.row.step m
@@ -85,7 +88,8 @@ IsAddressed (step.Commit place) here peer m = IsAnswer here peer m
 IsAddressed (step.Keep body tag) here peer m = IsAnswer here peer m
 IsAddressed step.Tick here peer m = IsNotice here peer m
 
--- the message is a 2.05 that carries the first block of a body: the one that its own Block2 names, and the whole body where it has none
+-- the message is a 2.05 that carries the first block of a body: the one that its own Block2 names,
+-- and the whole body where it has none
 pub record CarriesFirst (m : Message) (body : List ℕ) : Type 0 where
   pub content : is_content m ≡ true
   pub number : number_of (asked_block m) ≡ 0
@@ -100,13 +104,17 @@ pub record SendsFirst (r : Row) (peer : Peer) (token body : List ℕ) : Type 0 w
   pub token_is : message.token ≡ token
   pub carries : CarriesFirst message body
 
--- Each datagram that a row sends can be read, and has at most 1,280 octets; each response in it has the peer and the token of its request,
--- or, in a tick, is a 2.05 with those of an observer; and a row that notes that it formed a body for an observer sends that peer a message
--- with that token that carries the first block of that body.
+-- Each datagram that a row sends can be read, and has at most 1,280 octets; each response in it has
+-- the peer and the token of its request, or, in a tick, is a 2.05 with those of an observer; and a
+-- row that notes that it formed a body for an observer sends that peer a message with that token
+-- that carries the first block of that body.
 pub record SendsToWhoAsked (rows : List Row) : Type 0 where
   pub fitting : (datagram : Datagram rows) → IsFitting datagram.octets
-  pub addressed : (sent : Sent rows) → is_response sent.message ≡ true → IsAddressed sent.here.row.step.kind sent.here sent.peer sent.message
-  pub formed : (before : List Row) (r : Row) (peer : Peer) (token body : List ℕ) (mid : Option ℕ) → Within rows before r
+  pub addressed : (sent : Sent rows)
+      → is_response sent.message ≡ true
+      → IsAddressed sent.here.row.step.kind sent.here sent.peer sent.message
+  pub formed : (before : List Row) (r : Row) (peer : Peer) (token body : List ℕ) (mid : Option ℕ)
+      → Within rows before r
       → IsAmong r.notes (note.Formed peer token body mid) → SendsFirst r peer token body
 
 -- a step that answers what it does not hear first is made for a request, the message in its

@@ -1,4 +1,5 @@
--- What a lookup or a discovery seeks, and what is found of it in a history at a moment (RFC 9176 sections 4.1 and 6).
+-- What a lookup or a discovery seeks, and what is found of it in a history at a moment (RFC 9176
+-- sections 4.1 and 6).
 use Rattle.std.specs.Prelude.{ℕ, List, Option, Some, None}
 use Rattle.rd_base.specs.declared.queries.Query.{Query}
 use Rattle.message_model.specs.declared.requests.Path.{Path}

@@ -13,7 +13,9 @@ use Rattle.journal_model.specs.AnswersAsFormed.{asked_at, IsBlockOf, FormedAs, S
 
 -- the query that a message answers
 abbrev pub query_of_sent : {rows : List Row} → Sent rows → Option Query
-query_of_sent it = option_map (λ asked. asked.query) (asked_at it.here.row.step.kind (it.peer, it.message.token) it.here)
+query_of_sent it =
+    option_map (λ asked. asked.query)
+    (asked_at it.here.row.step.kind (it.peer, it.message.token) it.here)
 
 -- two messages carry blocks of one listing: that of a query over the entries up to one row of the
 -- journal, at the moment of that row, whose tag both carry
@@ -32,26 +34,37 @@ pub record AreBlocksOfOne (rows : List Row) (query : Query) (one other : Message
 -- histories and the live registrations; and where the tags that are read in two answers to one
 -- query are equal, both carry blocks of one listing of it, whose tag this is.
 pub record TagsDecideStates (rows : List Row) : Type 0 where
-  pub histories : (before other_before : List Row) (r other : Row) → Within rows before r → Within rows other_before other
+  pub histories : (before other_before : List Row) (r other : Row)
+      → Within rows before r
+      → Within rows other_before other
       → tag (entries (r ∷ before)) r.moment.0 ≡ tag (entries (other ∷ other_before)) other.moment.0
       → entries (r ∷ before) ≡ entries (other ∷ other_before)
-  pub records : (before other_before : List Row) (r other : Row) → Within rows before r → Within rows other_before other
+  pub records : (before other_before : List Row) (r other : Row)
+      → Within rows before r
+      → Within rows other_before other
       → tag (entries (r ∷ before)) r.moment.0 ≡ tag (entries (other ∷ other_before)) other.moment.0
-      → live (entries (r ∷ before)) r.moment.0 ≡ live (entries (other ∷ other_before)) other.moment.0
+      → live (entries (r ∷ before)) r.moment.0
+      ≡ live (entries (other ∷ other_before)) other.moment.0
   pub answers : (one other : Sent rows) (query : Query)
       → is_listing one ≡ true → is_listing other ≡ true
       → etags_in one.message ≡ etags_in other.message
       → query_of_sent one ≡ Some query → query_of_sent other ≡ Some query
       → AreBlocksOfOne rows query one.message other.message
 
--- The same where a keep may have any body and tag, as in a journal of a desk: of rows, and of two answers whose bodies were formed in rows.
+-- The same where a keep may have any body and tag, as in a journal of a desk: of rows, and of two
+-- answers whose bodies were formed in rows.
 pub record FormedTagsDecideStates (rows : List Row) : Type 0 where
-  pub histories : (before other_before : List Row) (r other : Row) → Within rows before r → Within rows other_before other
+  pub histories : (before other_before : List Row) (r other : Row)
+      → Within rows before r
+      → Within rows other_before other
       → tag (entries (r ∷ before)) r.moment.0 ≡ tag (entries (other ∷ other_before)) other.moment.0
       → entries (r ∷ before) ≡ entries (other ∷ other_before)
-  pub records : (before other_before : List Row) (r other : Row) → Within rows before r → Within rows other_before other
+  pub records : (before other_before : List Row) (r other : Row)
+      → Within rows before r
+      → Within rows other_before other
       → tag (entries (r ∷ before)) r.moment.0 ≡ tag (entries (other ∷ other_before)) other.moment.0
-      → live (entries (r ∷ before)) r.moment.0 ≡ live (entries (other ∷ other_before)) other.moment.0
+      → live (entries (r ∷ before)) r.moment.0
+      ≡ live (entries (other ∷ other_before)) other.moment.0
   pub answers : (one other : Sent rows) (query : Query)
       → FormedAs one.here one.peer one.message → FormedAs other.here other.peer other.message
       → etags_in one.message ≡ etags_in other.message

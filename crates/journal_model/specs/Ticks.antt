@@ -1,6 +1,32 @@
--- What a tick does, part after part: notices are sent again, due observers get new ones, and requests of fetches are sent again
--- (RFC 7252 section 4.2, RFC 7641 sections 1.3 and 4.5).
-use Rattle.std.specs.Prelude.{ℕ, ◌+◌, ◌*◌, ◌/◌, Bool, true, false, not, ◌&&◌, ◌||◌, ◌==◌, nat_le, List, [], ◌∷◌, length, fold, find, Option, Some, None, option_map, unwrap_or, bytes_eq, if◌then◌else◌}
+-- What a tick does, part after part: notices are sent again, due observers get new ones, and
+-- requests of fetches are sent again (RFC 7252 section 4.2, RFC 7641 sections 1.3 and 4.5).
+use Rattle.std.specs.Prelude.{
+  ℕ,
+  ◌+◌,
+  ◌*◌,
+  ◌/◌,
+  Bool,
+  true,
+  false,
+  not,
+  ◌&&◌,
+  ◌||◌,
+  ◌==◌,
+  nat_le,
+  List,
+  [],
+  ◌∷◌,
+  length,
+  fold,
+  find,
+  Option,
+  Some,
+  None,
+  option_map,
+  unwrap_or,
+  bytes_eq,
+  if◌then◌else◌,
+}
 use Rattle.rd_base.specs.declared.peers.Peer.{Peer}
 use Rattle.message_model.specs.declared.blocks.Block.{Block}
 use Rattle.message_model.specs.declared.messages.Kind4.TheVariants.{Con}
@@ -14,9 +40,24 @@ use Rattle.event_model.specs.Same.{is_same_peer}
 use Rattle.event_model.specs.Events.{Event, noted}
 use Rattle.event_model.specs.KeptAnswers.{Answer}
 use Rattle.event_model.specs.Observers.{name_of, observers, observe_value, last_body_formed}
-use Rattle.event_model.specs.Flights.{Flight, OctetsSent, max_again, deadline, flight, is_waited_for}
+use Rattle.event_model.specs.Flights.{
+  Flight,
+  OctetsSent,
+  max_again,
+  deadline,
+  flight,
+  is_waited_for,
+}
 use Rattle.event_model.specs.Due.{Transition, is_due}
-use Rattle.event_model.specs.Fetches.{Request, fetches, last_request, request_noted, is_waiting, resendings, fetch_deadline}
+use Rattle.event_model.specs.Fetches.{
+  Request,
+  fetches,
+  last_request,
+  request_noted,
+  is_waiting,
+  resendings,
+  fetch_deadline,
+}
 use Rattle.journal_model.specs.declared.steps.Step.{Step}
 use Rattle.journal_model.specs.declared.rows.Row.{Row}
 use Rattle.journal_model.specs.Journal.{events, entries, now, row_at, transitions}
@@ -27,19 +68,24 @@ use Rattle.journal_model.specs.Bodies.{body_reply, is_long}
 abbrev pub max_notices : ℕ
 max_notices = 64
 
--- the octets begin a confirmable message with this Message ID: version 1, type 0 (RFC 7252 section 3)
+-- the octets begin a confirmable message with this Message ID: version 1, type 0 (RFC 7252 section
+-- 3)
 abbrev pub is_confirmable_with : ℕ → List ℕ → Bool
-is_confirmable_with mid (first ∷ code ∷ high ∷ low ∷ others) = first / 16 == 4 && high * 256 + low == mid
+is_confirmable_with mid (first ∷ code ∷ high ∷ low ∷ others) =
+    first / 16 == 4 && high * 256 + low == mid
 is_confirmable_with mid _ = false
 
 -- the confirmable message with this Message ID that a row sent to a peer
 abbrev pub confirmable_sent : Option Row → Peer → ℕ → Option (Peer × List ℕ)
 confirmable_sent None peer mid = None
-confirmable_sent (Some r) peer mid = find (λ d. is_same_peer d.0 peer && is_confirmable_with mid d.1) r.sent
+confirmable_sent (Some r) peer mid =
+    find (λ d. is_same_peer d.0 peer && is_confirmable_with mid d.1) r.sent
 
--- the octets that the row of a place sent to a peer in the confirmable message with a Message ID; none where it sent no such message
+-- the octets that the row of a place sent to a peer in the confirmable message with a Message ID;
+-- none where it sent no such message
 unfoldable pub octets_sent : List Row → OctetsSent
-octets_sent rows place peer mid = unwrap_or (option_map (λ d. d.1) (confirmable_sent (row_at place rows) peer mid)) []
+octets_sent rows place peer mid =
+    unwrap_or (option_map (λ d. d.1) (confirmable_sent (row_at place rows) peer mid)) []
 
 -- the same octets are sent once more, and this is noted
 abbrev pub sent_again : Option (Peer × List ℕ) → Note → Effects
@@ -59,19 +105,23 @@ each_of does (x ∷ xs) = joined (does x) (each_of does xs)
 abbrev pub notice_again : Bool → Bool → List Row → Observer → Flight → Effects
 notice_again false given_up rows o f = nothing
 notice_again true true rows o f = noting (note.Unwatched o.peer o.token ∷ [])
-notice_again true false rows o f = repeating rows f.formed.place o.peer f.mid (note.Again o.peer f.mid)
+notice_again true false rows o f =
+    repeating rows f.formed.place o.peer f.mid (note.Again o.peer f.mid)
 
 -- the notice in flight to an observer, at a moment
 abbrev pub flight_again : List Row → ℕ → Observer → Option Flight → Effects
 flight_again rows moment o None = nothing
 flight_again rows moment o (Some f) =
-    notice_again (nat_le (deadline f.formed f.again) moment) (nat_le max_again (length f.again)) rows o f
+    notice_again (nat_le (deadline f.formed f.again) moment) (nat_le max_again (length f.again))
+    rows o f
 
 -- the first thing that a tick does: notices in flight whose wait has ended are sent again
 unfoldable pub notices_again : List Row → ℕ → Effects
-notices_again rows moment = each_of (λ o. flight_again rows moment o (flight o (events rows))) (observers (events rows))
+notices_again rows moment =
+    each_of (λ o. flight_again rows moment o (flight o (events rows))) (observers (events rows))
 
--- what the notices of a tick are made from: the rows before it, its moment and step, and the transitions up to its own
+-- what the notices of a tick are made from: the rows before it, its moment and step, and the
+-- transitions up to its own
 pub record Ticking : Type 0 where
   pub rows : List Row
   pub moment : ℕ
@@ -90,7 +140,12 @@ transition_of_tick rows moment = record {
 
 -- what the notices of a tick are made from, by its step and moment
 abbrev pub ticking : List Row → ℕ → Step → Ticking
-ticking rows moment s = record { rows = rows; moment = moment; step = s; transitions = transition_of_tick rows moment ∷ transitions rows }
+ticking rows moment s = record {
+  rows = rows;
+  moment = moment;
+  step = s;
+  transitions = transition_of_tick rows moment ∷ transitions rows;
+}
 
 -- the events with what the tick noted so far
 abbrev pub events_with : Ticking → Effects → List Event
@@ -118,9 +173,16 @@ notice_of o mid reply = record {
 -- a notice of a new listing, which is kept where it is longer than the block size
 abbrev pub noticed : Ticking → Effects → Observer → Answer → ℕ → Effects
 noticed t done o answer mid = record {
-  sent = (o.peer, spelling (notice_of o mid (body_reply (Some answer.tag) (Some (observe_value (events_with t done))) (block_shown o answer.body) answer.body))) ∷ [];
+  sent = (
+    o.peer,
+    spelling
+        (notice_of o mid (body_reply (Some answer.tag) (Some (observe_value (events_with t done)))
+        (block_shown o answer.body) answer.body)),
+  )
+      ∷ [];
   notes = note.Formed o.peer o.token answer.body (Some mid)
-      ∷ (if is_long (first_block o) answer.body then note.Kept o.peer o.key answer.body answer.tag ∷ [] else []);
+      ∷ (if is_long (first_block o) answer.body then note.Kept o.peer o.key answer.body answer.tag
+      ∷ [] else []);
   drew = 1;
 }
 
@@ -129,53 +191,72 @@ abbrev pub is_unchanged : Option (List ℕ) → List ℕ → Bool
 is_unchanged None body = false
 is_unchanged (Some last) body = bytes_eq last body
 
--- the observer gets the listing where that is new, and else it is noted that the listing is unchanged
+-- the observer gets the listing where that is new, and else it is noted that the listing is
+-- unchanged
 abbrev pub noticed_unless : Bool → Ticking → Effects → Observer → Answer → Effects
 noticed_unless true t done o answer = noting (note.Unchanged o.peer o.token ∷ [])
-noticed_unless false t done o answer = noticed t done o answer (mid_of t.step.worker (t.step.drawn + done.drew))
+noticed_unless false t done o answer =
+    noticed t done o answer (mid_of t.step.worker (t.step.drawn + done.drew))
 
 -- the listing of an observer at the moment of the tick
 abbrev pub listing_for : Ticking → Observer → Answer
-listing_for t o = record { body = listing o.query (entries t.rows) t.moment; tag = tag (entries t.rows) t.moment }
+listing_for t o = record {
+  body = listing o.query (entries t.rows) t.moment;
+  tag = tag (entries t.rows) t.moment;
+}
 
 -- an observer that is not looked at gets nothing
 abbrev pub noticed_if : Bool → Ticking → Effects → Observer → Effects
 noticed_if false t done o = nothing
 noticed_if true t done o =
-    noticed_unless (is_unchanged (last_body_formed (name_of o) (events_with t done)) (listing_for t o).body) t done o (listing_for t o)
+    noticed_unless
+    (is_unchanged (last_body_formed (name_of o) (events_with t done)) (listing_for t o).body) t
+    done o (listing_for t o)
 
--- an observer is looked at where it is due, no notice is in flight to its peer, and the tick has not formed as many as it may
+-- an observer is looked at where it is due, no notice is in flight to its peer, and the tick has
+-- not formed as many as it may
 abbrev pub is_looked_at : Ticking → Effects → Observer → Bool
 is_looked_at t done o =
-    not (nat_le max_notices done.drew) && is_due o (events_with t done) t.transitions && not (is_waited_for o.peer (events_with t done))
+    not (nat_le max_notices done.drew)
+    && is_due o (events_with t done) t.transitions
+    && not (is_waited_for o.peer (events_with t done))
 
 -- one observer after others, with what the tick did for those
 abbrev pub notice_next : Ticking → Effects → Observer → Effects
 notice_next t done o = joined done (noticed_if (is_looked_at t done o) t done o)
 
--- the second thing that a tick does, after the first: due observers get a notice, one after the other
+-- the second thing that a tick does, after the first: due observers get a notice, one after the
+-- other
 unfoldable pub notices : Ticking → Effects → Effects
 notices t done = fold (notice_next t) done (observers (events_with t done))
 
--- a request of a fetch whose wait has ended is sent again; after the last time, and where the response came apart and did not come, the fetch ends
+-- a request of a fetch whose wait has ended is sent again; after the last time, and where the
+-- response came apart and did not come, the fetch ends
 abbrev pub request_again : Bool → Bool → List Row → Peer → Event → Option Request → Effects
 request_again false given_up rows peer e request = nothing
 request_again true given_up rows peer e None = nothing
 request_again true true rows peer e (Some request) = noting (note.Ceased peer ∷ [])
-request_again true false rows peer e (Some request) = repeating rows e.place peer request.mid (note.Resent peer)
+request_again true false rows peer e (Some request) =
+    repeating rows e.place peer request.mid (note.Resent peer)
 
 -- the fetch with a peer, at a moment
 abbrev pub fetch_again : List Row → ℕ → Peer → Option Event → Effects
 fetch_again rows moment peer None = nothing
 fetch_again rows moment peer (Some e) =
     request_again (nat_le (fetch_deadline peer e (events rows)) moment)
-    (is_waiting peer (events rows) || nat_le max_again (length (resendings peer (events rows)))) rows peer e (request_noted e.note)
+    (is_waiting peer (events rows) || nat_le max_again (length (resendings peer (events rows))))
+    rows peer e (request_noted e.note)
 
 -- the third thing that a tick does: requests of fetches whose wait has ended are sent again
 unfoldable pub requests_again : List Row → ℕ → Effects
-requests_again rows moment = each_of (λ peer. fetch_again rows moment peer (last_request peer (events rows))) (fetches (events rows))
+requests_again rows moment =
+    each_of (λ peer. fetch_again rows moment peer (last_request peer (events rows)))
+    (fetches (events rows))
 
--- what a tick does: one thing strictly after the other. Where memory ran out, the new notices are left out
+-- what a tick does: one thing strictly after the other. Where memory ran out, the new notices are
+-- left out
 unfoldable pub tick_effects : Bool → List Row → ℕ → Step → Effects
 tick_effects true rows moment s = joined (notices_again rows moment) (requests_again rows moment)
-tick_effects false rows moment s = joined (notices (ticking rows moment s) (notices_again rows moment)) (requests_again rows moment)
+tick_effects false rows moment s =
+    joined (notices (ticking rows moment s) (notices_again rows moment))
+    (requests_again rows moment)

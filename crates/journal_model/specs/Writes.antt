@@ -1,4 +1,5 @@
--- Writes as they are heard: repeats are recognized, and a new write leaves the worker with a job (RFC 7252 sections 4.2 and 4.5).
+-- Writes as they are heard: repeats are recognized, and a new write leaves the worker with a job
+-- (RFC 7252 sections 4.2 and 4.5).
 use Rattle.std.specs.Prelude.{ℕ, Bool, true, false, List, [], ◌∷◌, codes, Option, Some, None}
 use Rattle.message_model.specs.Message.{Message}
 use Rattle.message_model.specs.Codes as codes_of
@@ -15,7 +16,8 @@ again_answered s (Some octets) = sending s.peer octets
 
 -- a new write is admitted where there is room for one more exchange
 abbrev pub admitted_unless : Bool → Step → Message → Effects
-admitted_unless true s m = answering s m (diagnostic codes_of.service_unavailable (codes "exchanges")) []
+admitted_unless true s m =
+    answering s m (diagnostic codes_of.service_unavailable (codes "exchanges")) []
 admitted_unless false s m = noting (note.Admitted s.peer m.mid ∷ [])
 
 -- a write, by the admission that it repeats
@@ -25,4 +27,5 @@ write_unless None events moment s m = admitted_unless (is_full_of_exchanges mome
 
 -- a write: a repeat, one too many, or one that is admitted
 unfoldable pub write_effects : List Event → ℕ → Step → Message → Effects
-write_effects events moment s m = write_unless (repeated moment s.peer m.mid events) events moment s m
+write_effects events moment s m =
+    write_unless (repeated moment s.peer m.mid events) events moment s m

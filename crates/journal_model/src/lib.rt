@@ -1,4 +1,5 @@
-//! What the directory does: the steps of its machine, the row that each step adds to the journal, and what a journal shows. Definitions and their laws; no function.
+//! What the directory does: the steps of its machine, the row that each step adds to the journal,
+//! and what a journal shows. Definitions and their laws; no function.
 #![tactic(auto)]
 
 mod rows;

@@ -1,4 +1,5 @@
-//! The rows of the journal. No value of this type is made at run time: see the notes of event_model.
+//! The rows of the journal. No value of this type is made at run time: see the notes of
+//! event_model.
 use crate::Step;
 use event_model::Note;
 use rd_base::{Moment, Peer};

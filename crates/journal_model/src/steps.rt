@@ -1,4 +1,5 @@
-//! The steps of the machine. No value of these types is made at run time: see the notes of event_model.
+//! The steps of the machine. No value of these types is made at run time: see the notes of
+//! event_model.
 use rd_base::{Moment, Peer};
 use std::collections::LinkedList;
 

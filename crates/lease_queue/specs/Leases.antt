@@ -1,9 +1,27 @@
 -- Leases in the order in which they lapse.
-use Rattle.std.specs.Prelude.{◌≡◌, ℕ, Bool, true, not, ◌==◌, ◌&&◌, ◌||◌, nat_lt, nat_le, List, [], ◌∷◌, ◌++◌, map, filter}
+use Rattle.std.specs.Prelude.{
+  ◌≡◌,
+  ℕ,
+  Bool,
+  true,
+  not,
+  ◌==◌,
+  ◌&&◌,
+  ◌||◌,
+  nat_lt,
+  nat_le,
+  List,
+  [],
+  ◌∷◌,
+  ◌++◌,
+  map,
+  filter,
+}
 use Rattle.std.specs.List.{AllByRecursion}
 use Rattle.lease_queue.specs.declared.leases.Lease.{Lease}
 
--- the first stands before the second: it lapses earlier, or at the same moment and has the smaller number
+-- the first stands before the second: it lapses earlier, or at the same moment and has the smaller
+-- number
 abbrev pub is_before : Lease → Lease → Bool
 is_before x y = nat_lt x.lapse.0 y.lapse.0 || ((x.lapse.0 == y.lapse.0) && nat_lt x.number y.number)
 

@@ -1,5 +1,37 @@
 -- No field of a printed line has a space.
-use Rattle.std.proofs.Common.{◌≡◌, ◌≢◌, ℕ, zero, suc, lit<, ◌/◌, ◌%◌, ◌<◌, ◌^◌, ◌==◌, inl, inr, false, List, [], ◌∷◌, ◌++◌, codes, take, drop, decimal, slice_index, bytes_eq, refl, sym, ap, ◌∙◌, arith, true, subst}
+use Rattle.std.proofs.Common.{
+  ◌≡◌,
+  ◌≢◌,
+  ℕ,
+  zero,
+  suc,
+  lit<,
+  ◌/◌,
+  ◌%◌,
+  ◌<◌,
+  ◌^◌,
+  ◌==◌,
+  inl,
+  inr,
+  false,
+  List,
+  [],
+  ◌∷◌,
+  ◌++◌,
+  codes,
+  take,
+  drop,
+  decimal,
+  slice_index,
+  bytes_eq,
+  refl,
+  sym,
+  ap,
+  ◌∙◌,
+  arith,
+  true,
+  subst,
+}
 use Rattle.std.proofs.lemmas.Bool.{ne_eqb, cond_both, both_ways}
 use Rattle.std.proofs.lemmas.Option.{none-some}
 use Rattle.std.proofs.lemmas.Fmt.{decimal_is_IsNumeral}
@@ -8,9 +40,21 @@ use Rattle.std.proofs.lemmas.List.Elements.{All-from_get_or, recursion_from_All,
 use Rattle.std.specs.List.{AllByRecursion, AllPass}
 use Rattle.std.specs.Net.Addr.{octets_of}
 use Rattle.std.specs.Net.Text.{ipv4_text, ipv6_text, hex_groups_text, socket_text}
-use Rattle.std.proofs.NetLemmas.Alphabet.{IsDigitOrDot, IsHexOrColon, All-ipv4_text, All-hex_groups_text}
+use Rattle.std.proofs.NetLemmas.Alphabet.{
+  IsDigitOrDot,
+  IsHexOrColon,
+  All-ipv4_text,
+  All-hex_groups_text,
+}
 use Rattle.std.proofs.NetLemmas.Texts.{AllSegments, AllSegments-drop}
-use Rattle.hex.specs.Hex.{IsBytes, encode_with, encode_lower, lower_digits, hex_digit_value, is_hex_digit}
+use Rattle.hex.specs.Hex.{
+  IsBytes,
+  encode_with,
+  encode_lower,
+  lower_digits,
+  hex_digit_value,
+  is_hex_digit,
+}
 use Rattle.hex.proofs.HexLemmas.{IsDigits-lower_digits, decode_of-ok}
 use Rattle.rd_base.specs.declared.peers.Host.{Host}
 use Rattle.rd_base.specs.declared.peers.Host.TheVariants as host
@@ -48,10 +92,17 @@ hex_or_colon : (b : ℕ) → IsHexOrColon b → IsNoSpace b
 hex_or_colon b (inl r) = other b (λ e. omega (arith, e, r))
 hex_or_colon b (inr r) = other b (λ e. omega (arith, e, r))
 
-ipv4_spaceless : (octets : List ℕ) → ((k : ℕ) → slice_index octets k < 2 ^ 8) → HasNoSpace (ipv4_text octets)
-ipv4_spaceless octets fits = recursion_from_All IsNoSpace (ipv4_text octets) (λ k d h. digit_or_dot _ (All-ipv4_text octets fits k d h))
+ipv4_spaceless : (octets : List ℕ)
+    → ((k : ℕ) → slice_index octets k < 2 ^ 8)
+    → HasNoSpace (ipv4_text octets)
+ipv4_spaceless octets fits =
+    recursion_from_All IsNoSpace (ipv4_text octets)
+    (λ k d h. digit_or_dot _ (All-ipv4_text octets fits k d h))
 
-pub octets_fit : (groups : List ℕ) → AllSegments groups → (k : ℕ) → slice_index (octets_of groups) k < 2 ^ 8
+pub octets_fit : (groups : List ℕ)
+    → AllSegments groups
+    → (k : ℕ)
+    → slice_index (octets_of groups) k < 2 ^ 8
 octets_fit [] fits k = lit< tt
 octets_fit (g ∷ groups) fits zero = let small = fits 0 in omega (arith, small)
 octets_fit (g ∷ groups) fits (suc zero) = omega arith
@@ -61,11 +112,38 @@ ipv6_spaceless : (groups : List ℕ) → AllSegments groups → HasNoSpace (ipv6
 unfolding ipv6_text
 ipv6_spaceless groups fits =
     let tail = octets_of (drop 6 groups) in
-    cond_both (bytes_eq (take 6 groups) (0 ∷ 0 ∷ 0 ∷ 0 ∷ 0 ∷ 0xffff ∷ [])) (codes "::ffff:" ++ ipv4_text tail) (hex_groups_text groups) HasNoSpace
-    (λ _. (refl, (refl, (refl, (refl, (refl, (refl, (refl, ipv4_spaceless tail (octets_fit (drop 6 groups) (AllSegments-drop 6 groups fits))))))))))
-    (λ _. recursion_from_All IsNoSpace (hex_groups_text groups) (λ k d h. hex_or_colon _ (All-hex_groups_text groups fits k d h)))
+    cond_both (bytes_eq (take 6 groups) (0 ∷ 0 ∷ 0 ∷ 0 ∷ 0 ∷ 0xffff ∷ []))
+    (codes "::ffff:" ++ ipv4_text tail) (hex_groups_text groups) HasNoSpace
+    (λ _. (
+      refl,
+      (
+        refl,
+        (
+          refl,
+          (
+            refl,
+            (
+              refl,
+              (
+                refl,
+                (
+                  refl,
+                  ipv4_spaceless tail (octets_fit (drop 6 groups)
+                      (AllSegments-drop 6 groups fits)),
+                ),
+              ),
+            ),
+          ),
+        ),
+      ),
+    ))
+    (λ _. recursion_from_All IsNoSpace (hex_groups_text groups)
+    (λ k d h. hex_or_colon _ (All-hex_groups_text groups fits k d h)))
 
-host_spaceless : (h : Host) (port : ℕ) → IsHost h → port < 2 ^ 16 → HasNoSpace (socket_text (socket_of h port))
+host_spaceless : (h : Host) (port : ℕ)
+    → IsHost h
+    → port < 2 ^ 16
+    → HasNoSpace (socket_text (socket_of h port))
 host_spaceless (host.V4 octets) port fits small =
     joined_spaceless (ipv4_text octets ++ codes ":") (decimal port)
     (joined_spaceless (ipv4_text octets) (codes ":") (ipv4_spaceless octets fits.1) (refl, tt))
@@ -73,7 +151,9 @@ host_spaceless (host.V4 octets) port fits small =
 host_spaceless (host.V6 groups) port fits small = (
   refl,
   joined_spaceless (ipv6_text groups ++ [] ++ codes "]:") (decimal port)
-      (joined_spaceless (ipv6_text groups ++ []) (codes "]:") (joined_spaceless (ipv6_text groups) [] (ipv6_spaceless groups fits.1) tt) (refl, (refl, tt)))
+      (joined_spaceless (ipv6_text groups ++ []) (codes "]:")
+      (joined_spaceless (ipv6_text groups) [] (ipv6_spaceless groups fits.1) tt)
+      (refl, (refl, tt)))
       (decimal_spaceless port (omega arith)),
 )
 
@@ -89,8 +169,14 @@ encode_spaceless : (octets : List ℕ) → IsBytes octets → HasNoSpace (encode
 unfolding encode_with
 encode_spaceless [] h = tt
 encode_spaceless (octet ∷ octets) h =
-    let small : octet < 256 = h 0 in
-    (other _ (lower_digit (octet / 16) (omega arith)), (other _ (lower_digit (octet % 16) (omega arith)), encode_spaceless octets (λ k. h (suc k))))
+    let small : octet < 256 = h 0 in (
+      other _ (lower_digit (octet / 16) (omega arith)),
+      (
+        other _ (lower_digit (octet % 16) (omega arith)),
+        encode_spaceless octets
+            (λ k. h (suc k)),
+      ),
+    )
 
 pub datagram_spaceless : (octets : List ℕ) → IsBytes octets → HasNoSpace (datagram_text octets)
 datagram_spaceless [] h = (refl, tt)
@@ -102,9 +188,14 @@ digit_no_space c h e = both_ways (is_hex_digit space) refl (ap is_hex_digit (sym
 
 digits_spaceless : (text : List ℕ) → AllPass is_hex_digit text → HasNoSpace text
 digits_spaceless [] h = tt
-digits_spaceless (c ∷ cs) h = (other c (digit_no_space c (All-head (λ x. is_hex_digit x ≡ true) c cs h)), digits_spaceless cs (All-tail (λ x. is_hex_digit x ≡ true) c cs h))
+digits_spaceless (c ∷ cs) h = (
+  other c (digit_no_space c (All-head (λ x. is_hex_digit x ≡ true) c cs h)),
+  digits_spaceless cs
+      (All-tail (λ x. is_hex_digit x ≡ true) c cs h),
+)
 
 -- nor is a text that writes a datagram
 pub IsDatagramText_spaceless : (text octets : List ℕ) → IsDatagramText text octets → HasNoSpace text
 IsDatagramText_spaceless text octets (inl h) = subst HasNoSpace (sym h.0) (refl, tt)
-IsDatagramText_spaceless text octets (inr h) = digits_spaceless text (decode_of-ok text octets h.0).1
+IsDatagramText_spaceless text octets (inr h) =
+    digits_spaceless text (decode_of-ok text octets h.0).1

@@ -1,5 +1,25 @@
 -- Datagrams as text: hexadecimal digits, or a dash for the empty datagram.
-use Rattle.std.specs.Prelude.{◌⊎◌, ◌≤◌, ◌≡◌, ℕ, ◌&&◌, List, [], ◌∷◌, length, codes, Option, Some, None, Result, Ok, Err, if◌then◌else◌, nat_le, bytes_eq}
+use Rattle.std.specs.Prelude.{
+  ◌⊎◌,
+  ◌≤◌,
+  ◌≡◌,
+  ℕ,
+  ◌&&◌,
+  List,
+  [],
+  ◌∷◌,
+  length,
+  codes,
+  Option,
+  Some,
+  None,
+  Result,
+  Ok,
+  Err,
+  if◌then◌else◌,
+  nat_le,
+  bytes_eq,
+}
 use Rattle.hex.specs.Hex.{decode_of, encode_lower}
 use Rattle.hex.specs.declared.error.FromHexError.{FromHexError}
 
@@ -18,7 +38,8 @@ datagram_text (octet ∷ octets) = encode_lower (octet ∷ octets)
 
 -- what was decoded, where it is 1 to 4,096 octets
 abbrev pub if_sized : Result (List ℕ) FromHexError → Option (List ℕ)
-if_sized (Ok octets) = if nat_le 1 (length octets) && nat_le (length octets) max_datagram then Some octets else None
+if_sized (Ok octets) =
+    if nat_le 1 (length octets) && nat_le (length octets) max_datagram then Some octets else None
 if_sized (Err _) = None
 
 -- the datagram that a text writes, in digits of either case

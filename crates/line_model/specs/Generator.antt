@@ -1,6 +1,25 @@
--- The trace that is generated for a number of devices: each registers and is served at once, and each tenth is followed by an observer.
--- A make run replays it. Devices are numbered from 1, moments are milliseconds.
-use Rattle.std.specs.Prelude.{ℕ, zero, suc, ◌+◌, ◌*◌, ◌/◌, ◌%◌, ◌==◌, Bool, List, [], ◌∷◌, ◌++◌, flat_map, codes, decimal, if◌then◌else◌}
+-- The trace that is generated for a number of devices: each registers and is served at once, and
+-- each tenth is followed by an observer. A make run replays it. Devices are numbered from 1,
+-- moments are milliseconds.
+use Rattle.std.specs.Prelude.{
+  ℕ,
+  zero,
+  suc,
+  ◌+◌,
+  ◌*◌,
+  ◌/◌,
+  ◌%◌,
+  ◌==◌,
+  Bool,
+  List,
+  [],
+  ◌∷◌,
+  ◌++◌,
+  flat_map,
+  codes,
+  decimal,
+  if◌then◌else◌,
+}
 use Rattle.std.specs.Int.{bytes_high_first}
 use Rattle.rd_base.specs.declared.peers.Host.TheVariants as host
 use Rattle.rd_base.specs.declared.peers.Peer.{Peer}
@@ -36,7 +55,9 @@ kind_text i = codes "kind" ++ decimal (i % 7)
 
 -- the links of a device
 abbrev pub device_links : ℕ → List ℕ
-device_links i = codes "</t>;rt=\"temp\",</s" ++ (decimal (i % 10) ++ (codes ">;rt=\"" ++ (kind_text i ++ codes "\"")))
+device_links i =
+    codes "</t>;rt=\"temp\",</s"
+    ++ (decimal (i % 10) ++ (codes ">;rt=\"" ++ (kind_text i ++ codes "\"")))
 
 -- the registration of a device (RFC 9176 section 5)
 abbrev pub device_registration : ℕ → Message
@@ -45,7 +66,11 @@ device_registration i = record {
   code = codes_of.post;
   mid = i;
   token = i % 256 ∷ [];
-  options = (table.uri_path, codes "rd") ∷ (table.uri_query, codes "ep=dev" ++ decimal i) ∷ (table.uri_query, codes "lt=" ++ decimal (lifetime i)) ∷ [];
+  options =
+      (table.uri_path, codes "rd")
+      ∷ (table.uri_query, codes "ep=dev" ++ decimal i)
+      ∷ (table.uri_query, codes "lt=" ++ decimal (lifetime i))
+      ∷ [];
   payload = device_links i;
 }
 
@@ -56,7 +81,12 @@ observation i = record {
   code = codes_of.get;
   mid = 20_000 + i;
   token = bytes_high_first 2 i;
-  options = (table.observe, []) ∷ (table.uri_path, codes "rd-lookup") ∷ (table.uri_path, codes "res") ∷ (table.uri_query, codes "rt=" ++ kind_text i) ∷ [];
+  options =
+      (table.observe, [])
+      ∷ (table.uri_path, codes "rd-lookup")
+      ∷ (table.uri_path, codes "res")
+      ∷ (table.uri_query, codes "rt=" ++ kind_text i)
+      ∷ [];
   payload = [];
 }
 
@@ -67,11 +97,16 @@ divides d i = i % d == 0
 -- an observer comes with each tenth device
 abbrev pub observer_lines : ℕ → ℕ → List Line
 observer_lines workers i =
-    if divides 10 i then line.Come (i % workers) (record { 0 = pace * i + 2 }) onlooker (spelling (observation i)) ∷ [] else []
+    if divides 10 i
+    then line.Come (i % workers) (record { 0 = pace * i + 2 }) onlooker
+    (spelling (observation i))
+    ∷ []
+    else []
 
 -- time passes with each hundredth, and its number is the word
 abbrev pub tick_lines : ℕ → ℕ → List Line
-tick_lines workers i = if divides 100 i then line.Tick (i % workers) (record { 0 = pace * i + 3 }) i ∷ [] else []
+tick_lines workers i =
+    if divides 100 i then line.Tick (i % workers) (record { 0 = pace * i + 3 }) i ∷ [] else []
 
 -- the lines of a device: the workers take turns
 abbrev pub device_lines : ℕ → ℕ → List Line
@@ -87,7 +122,8 @@ lines_up_to workers (suc n) = lines_up_to workers n ++ device_lines workers (suc
 
 -- the lines of a generated trace: those of its devices, and a last tick
 unfoldable pub generated_lines : ℕ → ℕ → List Line
-generated_lines devices workers = lines_up_to workers devices ++ line.Tick 0 (record { 0 = pace * devices + 10 }) 0 ∷ []
+generated_lines devices workers =
+    lines_up_to workers devices ++ line.Tick 0 (record { 0 = pace * devices + 10 }) 0 ∷ []
 
 -- the text of lines, each with its line feed
 abbrev pub text_of : List Line → List ℕ

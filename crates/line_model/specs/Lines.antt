@@ -1,5 +1,26 @@
 -- One line of a trace: what it says, and how it is printed.
-use Rattle.std.specs.Prelude.{◌≡◌, ℕ, ◌≤◌, ◌==◌, List, [], ◌∷◌, length, codes, decimal, Option, Some, None, Result, Err, ok_or, option_and_then, if◌then◌else◌, nat_lt, bytes_eq}
+use Rattle.std.specs.Prelude.{
+  ◌≡◌,
+  ℕ,
+  ◌≤◌,
+  ◌==◌,
+  List,
+  [],
+  ◌∷◌,
+  length,
+  codes,
+  decimal,
+  Option,
+  Some,
+  None,
+  Result,
+  Err,
+  ok_or,
+  option_and_then,
+  if◌then◌else◌,
+  nat_lt,
+  bytes_eq,
+}
 use Rattle.std.specs.List.{slice_split, join_with_byte}
 use Rattle.rd_base.specs.declared.moments.Moment.{Moment}
 use Rattle.rd_base.specs.declared.peers.Peer.{Peer}
@@ -70,13 +91,18 @@ said_by _ = None
 
 -- what a line says, or why it is bad: too long comes before any other form
 unfoldable pub line_of : List ℕ → Result Line Reason
-line_of text = if nat_lt max_line (length text) then Err reason.Long else ok_or (said_by (fields text)) reason.Form
+line_of text =
+    if nat_lt max_line (length text)
+    then Err reason.Long
+    else ok_or (said_by (fields text)) reason.Form
 
 -- the fields of a line as it is printed, a word of 0 left out
 abbrev pub printed_fields : Line → List (List ℕ)
-printed_fields (line.Come worker moment peer octets) = codes "in" ∷ decimal worker ∷ decimal moment.0 ∷ peer_text peer ∷ datagram_text octets ∷ []
+printed_fields (line.Come worker moment peer octets) =
+    codes "in" ∷ decimal worker ∷ decimal moment.0 ∷ peer_text peer ∷ datagram_text octets ∷ []
 printed_fields (line.Go worker moment) = codes "go" ∷ decimal worker ∷ decimal moment.0 ∷ []
-printed_fields (line.Tick worker moment word) = codes "tick" ∷ decimal worker ∷ decimal moment.0 ∷ (if word == 0 then [] else decimal word ∷ [])
+printed_fields (line.Tick worker moment word) =
+    codes "tick" ∷ decimal worker ∷ decimal moment.0 ∷ (if word == 0 then [] else decimal word ∷ [])
 
 -- a line as it is printed, without a line feed
 unfoldable pub line_text : Line → List ℕ
@@ -84,22 +110,53 @@ line_text l = joined (printed_fields l)
 
 -- the line of a datagram that is sent: `out`, then worker, peer and octets, without a line feed
 unfoldable pub out_text : ℕ → Peer → List ℕ → List ℕ
-out_text worker peer octets = joined (codes "out" ∷ decimal worker ∷ peer_text peer ∷ datagram_text octets ∷ [])
+out_text worker peer octets =
+    joined (codes "out" ∷ decimal worker ∷ peer_text peer ∷ datagram_text octets ∷ [])
 
--- what a line can be: its numbers are within their limits, its peer is one, and its octets are at most 4,096
+-- what a line can be: its numbers are within their limits, its peer is one, and its octets are at
+-- most 4,096
 pub data IsLine : Line → Type 0 where
-  come : {worker : ℕ} {moment : Moment} {peer : Peer} {octets : List ℕ} → worker ≤ max_worker → moment.0 ≤ max_moment → IsPeer peer → length octets ≤ max_datagram → IsBytes octets → IsLine (line.Come worker moment peer octets)
-  go : {worker : ℕ} {moment : Moment} → worker ≤ max_worker → moment.0 ≤ max_moment → IsLine (line.Go worker moment)
-  tick : {worker : ℕ} {moment : Moment} {word : ℕ} → worker ≤ max_worker → moment.0 ≤ max_moment → word ≤ max_word → IsLine (line.Tick worker moment word)
+  come : {worker : ℕ} {moment : Moment} {peer : Peer} {octets : List ℕ}
+      → worker ≤ max_worker
+      → moment.0 ≤ max_moment
+      → IsPeer peer
+      → length octets ≤ max_datagram
+      → IsBytes octets
+      → IsLine (line.Come worker moment peer octets)
+  go : {worker : ℕ} {moment : Moment}
+      → worker ≤ max_worker
+      → moment.0 ≤ max_moment
+      → IsLine (line.Go worker moment)
+  tick : {worker : ℕ} {moment : Moment} {word : ℕ}
+      → worker ≤ max_worker
+      → moment.0 ≤ max_moment
+      → word ≤ max_word
+      → IsLine (line.Tick worker moment word)
 
 -- the fields spell this line
 pub data AreFieldsOf : List (List ℕ) → Line → Type 0 where
-  comes : {w m p d : List ℕ} {worker : ℕ} {moment : Moment} {peer : Peer} {octets : List ℕ} → IsNumber max_worker w worker → IsNumber max_moment m moment.0 → IsPeerText p peer → IsDatagramText d octets → AreFieldsOf (codes "in" ∷ w ∷ m ∷ p ∷ d ∷ []) (line.Come worker moment peer octets)
-  goes : {w m : List ℕ} {worker : ℕ} {moment : Moment} → IsNumber max_worker w worker → IsNumber max_moment m moment.0 → AreFieldsOf (codes "go" ∷ w ∷ m ∷ []) (line.Go worker moment)
-  ticks : {w m x : List ℕ} {worker : ℕ} {moment : Moment} {word : ℕ} → IsNumber max_worker w worker → IsNumber max_moment m moment.0 → IsNumber max_word x word → AreFieldsOf (codes "tick" ∷ w ∷ m ∷ x ∷ []) (line.Tick worker moment word)
-  ticks_alone : {w m : List ℕ} {worker : ℕ} {moment : Moment} → IsNumber max_worker w worker → IsNumber max_moment m moment.0 → AreFieldsOf (codes "tick" ∷ w ∷ m ∷ []) (line.Tick worker moment 0)
+  comes : {w m p d : List ℕ} {worker : ℕ} {moment : Moment} {peer : Peer} {octets : List ℕ}
+      → IsNumber max_worker w worker
+      → IsNumber max_moment m moment.0
+      → IsPeerText p peer
+      → IsDatagramText d octets
+      → AreFieldsOf (codes "in" ∷ w ∷ m ∷ p ∷ d ∷ []) (line.Come worker moment peer octets)
+  goes : {w m : List ℕ} {worker : ℕ} {moment : Moment}
+      → IsNumber max_worker w worker
+      → IsNumber max_moment m moment.0
+      → AreFieldsOf (codes "go" ∷ w ∷ m ∷ []) (line.Go worker moment)
+  ticks : {w m x : List ℕ} {worker : ℕ} {moment : Moment} {word : ℕ}
+      → IsNumber max_worker w worker
+      → IsNumber max_moment m moment.0
+      → IsNumber max_word x word
+      → AreFieldsOf (codes "tick" ∷ w ∷ m ∷ x ∷ []) (line.Tick worker moment word)
+  ticks_alone : {w m : List ℕ} {worker : ℕ} {moment : Moment}
+      → IsNumber max_worker w worker
+      → IsNumber max_moment m moment.0
+      → AreFieldsOf (codes "tick" ∷ w ∷ m ∷ []) (line.Tick worker moment 0)
 
--- the text is this line: it is not too long, and its fields, single spaces between them, spell the line
+-- the text is this line: it is not too long, and its fields, single spaces between them, spell the
+-- line
 pub record IsLineText (text : List ℕ) (l : Line) : Type 0 where
   pub short : length text ≤ max_line
   pub parts : List (List ℕ)

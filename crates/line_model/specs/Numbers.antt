@@ -1,5 +1,18 @@
 -- Numbers in a trace: decimal, with no leading zero, up to a limit.
-use Rattle.std.specs.Prelude.{◌≡◌, ℕ, ◌≤◌, ◌&&◌, List, Option, Some, None, if◌then◌else◌, nat_le, bytes_eq, decimal}
+use Rattle.std.specs.Prelude.{
+  ◌≡◌,
+  ℕ,
+  ◌≤◌,
+  ◌&&◌,
+  List,
+  Option,
+  Some,
+  None,
+  if◌then◌else◌,
+  nat_le,
+  bytes_eq,
+  decimal,
+}
 use Rattle.std.specs.Str.Parse.{digits_value}
 
 -- the greatest number of a worker

@@ -6,7 +6,9 @@ use Rattle.std.specs.List.{onto_first}
 abbrev pub line_feed : ℕ
 line_feed = 10
 
--- the lines of a text, without their line feeds. The last may lack its own, and a last line feed begins no other line
+-- the lines of a text, without their line feeds. The last may lack its own, and a last line feed
+-- begins no other line
 unfoldable pub lines_of : List ℕ → List (List ℕ)
 lines_of [] = []
-lines_of (byte ∷ rest) = if byte == line_feed then [] ∷ lines_of rest else onto_first byte (lines_of rest)
+lines_of (byte ∷ rest) =
+    if byte == line_feed then [] ∷ lines_of rest else onto_first byte (lines_of rest)

@@ -1,8 +1,30 @@
--- What the code cuts: texts at a separator, which does not count in quoted strings (RFC 6690 section 2).
-use Rattle.std.specs.Prelude.{ℕ, suc, Bool, true, false, ◌&&◌, ◌==◌, List, [], ◌∷◌, Option, Some, None, if◌then◌else◌}
+-- What the code cuts: texts at a separator, which does not count in quoted strings (RFC 6690
+-- section 2).
+use Rattle.std.specs.Prelude.{
+  ℕ,
+  suc,
+  Bool,
+  true,
+  false,
+  ◌&&◌,
+  ◌==◌,
+  List,
+  [],
+  ◌∷◌,
+  Option,
+  Some,
+  None,
+  if◌then◌else◌,
+}
 use Rattle.link_model.specs.Characters.{quote_mark, backslash}
 use Rattle.link_format.specs.declared.cuts.Quotes.{Quotes}
-use Rattle.link_format.specs.declared.cuts.Quotes.TheVariants.{Unread, Leading, Outside, Inside, Escaped}
+use Rattle.link_format.specs.declared.cuts.Quotes.TheVariants.{
+  Unread,
+  Leading,
+  Outside,
+  Inside,
+  Escaped,
+}
 
 -- an octet read so is outside quoted strings
 abbrev pub is_outside : Quotes → Bool
@@ -17,7 +39,8 @@ abbrev pub quotes_after : Quotes → ℕ → Quotes
 quotes_after Unread b = Unread
 quotes_after Leading b = Outside
 quotes_after Outside b = if b == quote_mark then Inside else Outside
-quotes_after Inside b = if b == quote_mark then Outside else (if b == backslash then Escaped else Inside)
+quotes_after Inside b =
+    if b == quote_mark then Outside else (if b == backslash then Escaped else Inside)
 quotes_after Escaped b = Inside
 
 -- the octet is the separator, outside quoted strings
@@ -27,7 +50,10 @@ is_separator separator quotes b = b == separator && is_outside quotes
 -- how many octets stand before the first separator
 unfoldable pub octets_before : ℕ → Quotes → List ℕ → ℕ
 octets_before separator quotes [] = 0
-octets_before separator quotes (b ∷ bs) = if is_separator separator quotes b then 0 else suc (octets_before separator (quotes_after quotes b) bs)
+octets_before separator quotes (b ∷ bs) =
+    if is_separator separator quotes b
+    then 0
+    else suc (octets_before separator (quotes_after quotes b) bs)
 
 -- an octet in front of the first of two texts
 abbrev pub onto_before : ℕ → List ℕ × Option (List ℕ) → List ℕ × Option (List ℕ)
@@ -36,7 +62,10 @@ onto_before b parts = (b ∷ parts.0, parts.1)
 -- what stands before the first separator, and what stands after it where there is one
 unfoldable pub cut : ℕ → Quotes → List ℕ → List ℕ × Option (List ℕ)
 cut separator quotes [] = ([], None)
-cut separator quotes (b ∷ bs) = if is_separator separator quotes b then ([], Some bs) else onto_before b (cut separator (quotes_after quotes b) bs)
+cut separator quotes (b ∷ bs) =
+    if is_separator separator quotes b
+    then ([], Some bs)
+    else onto_before b (cut separator (quotes_after quotes b) bs)
 
 -- the text from a separator on, where there is one
 abbrev pub from_separator : ℕ → Option (List ℕ) → List ℕ

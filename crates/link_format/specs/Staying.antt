@@ -1,4 +1,5 @@
--- Octets that leave a reader of documents at the point of the grammar where it is (RFC 6690 section 2).
+-- Octets that leave a reader of documents at the point of the grammar where it is (RFC 6690 section
+-- 2).
 use Rattle.std.specs.Prelude.{◌≡◌, ⊤, ℕ, List, [], ◌∷◌, ◌++◌, Some}
 use Rattle.link_model.specs.DocumentReading.{Point, point_after}
 use Rattle.link_format.specs.Ranges.{tails_after}
@@ -6,7 +7,8 @@ use Rattle.link_format.specs.Ranges.{tails_after}
 -- each may stand at the point, leaves it as it is, and is a character of its own
 abbrev pub AllStay : Point → List ℕ → Type 0
 AllStay point [] = ⊤
-AllStay point (b ∷ bs) = (point_after point b ≡ Some point) × (tails_after [] b ≡ Some []) × AllStay point bs
+AllStay point (b ∷ bs) =
+    (point_after point b ≡ Some point) × (tails_after [] b ≡ Some []) × AllStay point bs
 
 -- these are left of octets, where all before them stay
 pub record StaysUpTo (point : Point) (octets rest : List ℕ) : Type 0 where

@@ -15,7 +15,9 @@ pub struct Param<'a> {
     pub value: Option<&'a str>,
     /// The whole parameter from its semicolon on.
     pub raw: &'a str,
-    ghost spelled: { raw.now ≡ parameter_text (record { name = name.now; value = option_map (λ text. text.now) value }) },
+    ghost spelled: { raw.now
+        ≡ parameter_text
+        (record { name = name.now; value = option_map (λ text. text.now) value }) },
 }
 
 /// The parameters that are left of a link, in order, as [`params`](crate::params) begins them. A

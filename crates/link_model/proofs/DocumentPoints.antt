@@ -1,9 +1,49 @@
 -- What is left of links at a point of the grammar, and its text.
-use Rattle.std.proofs.Common.{ℕ, Bool, true, false, ◌&&◌, ◌||◌, List, [], ◌∷◌, ◌++◌, Option, Some, None}
+use Rattle.std.proofs.Common.{
+  ℕ,
+  Bool,
+  true,
+  false,
+  ◌&&◌,
+  ◌||◌,
+  List,
+  [],
+  ◌∷◌,
+  ◌++◌,
+  Option,
+  Some,
+  None,
+}
 use Rattle.std.specs.List.{list_all}
 use Rattle.link_model.specs.Characters.{comma, greater_than_sign, is_empty, is_token_character}
-use Rattle.link_model.specs.Documents.{Parameter, Link, value_text, parameters_text, link_text, are_name_characters, is_token, closes_quotes, is_quoted_string, is_value, is_parameter, is_link}
-use Rattle.link_model.specs.DocumentReading.{Point, at_beginning, at_link, at_target, after_part, at_name, within_name, after_name, at_value, in_token, in_quotes, after_backslash}
+use Rattle.link_model.specs.Documents.{
+  Parameter,
+  Link,
+  value_text,
+  parameters_text,
+  link_text,
+  are_name_characters,
+  is_token,
+  closes_quotes,
+  is_quoted_string,
+  is_value,
+  is_parameter,
+  is_link,
+}
+use Rattle.link_model.specs.DocumentReading.{
+  Point,
+  at_beginning,
+  at_link,
+  at_target,
+  after_part,
+  at_name,
+  within_name,
+  after_name,
+  at_value,
+  in_token,
+  in_quotes,
+  after_backslash,
+}
 
 -- the text of further links, each after its comma
 abbrev pub further : List Link → List ℕ
@@ -59,7 +99,8 @@ abbrev pub fits_parameter : Point → Parameter → Bool
 fits_parameter at_name p = is_parameter p
 fits_parameter within_name p = are_name_characters p.name && is_value p.value
 fits_parameter after_name p = is_empty p.name && is_value p.value
-fits_parameter at_value p = is_empty p.name && present_and (λ value. is_token value || is_quoted_string value) p.value
+fits_parameter at_value p =
+    is_empty p.name && present_and (λ value. is_token value || is_quoted_string value) p.value
 fits_parameter in_token p = is_empty p.name && present_and (list_all is_token_character) p.value
 fits_parameter in_quotes p = is_empty p.name && present_and (closes_quotes false) p.value
 fits_parameter after_backslash p = is_empty p.name && present_and (closes_quotes true) p.value

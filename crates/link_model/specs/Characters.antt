@@ -63,7 +63,8 @@ is_run_of test text = not (is_empty text) && list_all test text
 abbrev pub is_not_control : ℕ → Bool
 is_not_control c = not (is_ascii_control c)
 
--- a character of an attribute's name: letters, digits and some others (RFC 8187 section 3.2.1, attr-char)
+-- a character of an attribute's name: letters, digits and some others (RFC 8187 section 3.2.1,
+-- attr-char)
 abbrev pub is_attribute_name_character : ℕ → Bool
 is_attribute_name_character c = is_ascii_alphanumeric c || is_one_of (codes "!#$&+-.^_`|~") c
 
@@ -99,7 +100,8 @@ is_userinfo_character c = is_name_character c || c == colon
 abbrev pub is_literal_character : ℕ → Bool
 is_literal_character c = is_ascii_hexdigit c || c == colon || c == full_stop
 
--- a character of a path, beside percent escapes: that of a segment, or a slash (RFC 3986 section 3.3)
+-- a character of a path, beside percent escapes: that of a segment, or a slash (RFC 3986 section
+-- 3.3)
 abbrev pub is_path_character : ℕ → Bool
 is_path_character c = is_name_character c || c == colon || c == at_sign || c == slash
 

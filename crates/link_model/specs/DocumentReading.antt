@@ -1,7 +1,35 @@
 -- Reading link documents: the functions that compute what Documents defines.
-use Rattle.std.specs.Prelude.{ℕ, min, Bool, ◌||◌, ◌==◌, List, [], ◌∷◌, Option, Some, None, option_map, option_and_then, if◌then◌else◌}
+use Rattle.std.specs.Prelude.{
+  ℕ,
+  min,
+  Bool,
+  ◌||◌,
+  ◌==◌,
+  List,
+  [],
+  ◌∷◌,
+  Option,
+  Some,
+  None,
+  option_map,
+  option_and_then,
+  if◌then◌else◌,
+}
 use Rattle.std.specs.Str.{is_utf8}
-use Rattle.link_model.specs.Characters.{quote_mark, asterisk, comma, backslash, semicolon, less_than_sign, equals_sign, greater_than_sign, is_not_control, is_attribute_name_character, is_token_character, is_target_character}
+use Rattle.link_model.specs.Characters.{
+  quote_mark,
+  asterisk,
+  comma,
+  backslash,
+  semicolon,
+  less_than_sign,
+  equals_sign,
+  greater_than_sign,
+  is_not_control,
+  is_attribute_name_character,
+  is_token_character,
+  is_target_character,
+}
 use Rattle.link_model.specs.Utf8Prefix.{one_more, utf8_prefix}
 use Rattle.link_model.specs.Documents.{Parameter, Link}
 
@@ -46,14 +74,23 @@ point_after_name c = if c == equals_sign then Some at_value else point_after_par
 unfoldable pub point_after : Point → ℕ → Option Point
 point_after at_beginning c = point_if (c == less_than_sign) at_target
 point_after at_link c = point_if (c == less_than_sign) at_target
-point_after at_target c = if c == greater_than_sign then Some after_part else point_if (is_target_character c) at_target
+point_after at_target c =
+    if c == greater_than_sign then Some after_part else point_if (is_target_character c) at_target
 point_after after_part c = point_after_part c
 point_after at_name c = point_if (is_attribute_name_character c) within_name
-point_after within_name c = if is_attribute_name_character c then Some within_name else (if c == asterisk then Some after_name else point_after_name c)
+point_after within_name c =
+    if is_attribute_name_character c
+    then Some within_name
+    else (if c == asterisk then Some after_name else point_after_name c)
 point_after after_name c = point_after_name c
-point_after at_value c = if c == quote_mark then Some in_quotes else point_if (is_token_character c) in_token
+point_after at_value c =
+    if c == quote_mark then Some in_quotes else point_if (is_token_character c) in_token
 point_after in_token c = if is_token_character c then Some in_token else point_after_part c
-point_after in_quotes c = if c == quote_mark then Some after_part else (if c == backslash then Some after_backslash else point_if (is_not_control c) in_quotes)
+point_after in_quotes c =
+    if c == quote_mark
+    then Some after_part
+    else
+    (if c == backslash then Some after_backslash else point_if (is_not_control c) in_quotes)
 point_after after_backslash c = point_if (is_not_control c) in_quotes
 
 -- a link of which nothing is read, with these parameters
@@ -90,15 +127,18 @@ onto_name c links = at_first (λ p. record p { name = c ∷ p.name }) links
 
 -- the octet in front of what is read of a value
 abbrev pub onto_value : ℕ → List Link → List Link
-onto_value c links = at_first (λ p. record p { value = option_map (λ value. c ∷ value) p.value }) links
+onto_value c links =
+    at_first (λ p. record p { value = option_map (λ value. c ∷ value) p.value }) links
 
--- the links where a parameter has ended and this octet follows: a further link's comma, or a further parameter's semicolon
+-- the links where a parameter has ended and this octet follows: a further link's comma, or a
+-- further parameter's semicolon
 abbrev pub after_parameter : Parameter → ℕ → List Link → List Link
 after_parameter p c links = if c == comma then link_of (p ∷ []) ∷ links else onto_parameters p links
 
 -- the links where a parameter's name has ended and this octet follows
 abbrev pub after_whole_name : ℕ → List Link → List Link
-after_whole_name c links = if c == equals_sign then links else after_parameter (parameter_of None) c links
+after_whole_name c links =
+    if c == equals_sign then links else after_parameter (parameter_of None) c links
 
 -- the links that are read from an octet at a point on, where those from after it on are read
 unfoldable pub with_octet : Point → ℕ → List Link → List Link
@@ -107,11 +147,20 @@ with_octet at_link c links = links
 with_octet at_target c links = if c == greater_than_sign then links else onto_target c links
 with_octet after_part c links = if c == comma then link_of [] ∷ links else links
 with_octet at_name c links = onto_name c links
-with_octet within_name c links = if is_attribute_name_character c || c == asterisk then onto_name c links else after_whole_name c links
+with_octet within_name c links =
+    if is_attribute_name_character c || c == asterisk
+    then onto_name c links
+    else after_whole_name c links
 with_octet after_name c links = after_whole_name c links
 with_octet at_value c links = onto_value c links
-with_octet in_token c links = if is_token_character c then onto_value c links else after_parameter (parameter_of (Some [])) c links
-with_octet in_quotes c links = if c == quote_mark then onto_parameters (parameter_of (Some (c ∷ []))) links else onto_value c links
+with_octet in_token c links =
+    if is_token_character c
+    then onto_value c links
+    else after_parameter (parameter_of (Some [])) c links
+with_octet in_quotes c links =
+    if c == quote_mark
+    then onto_parameters (parameter_of (Some (c ∷ []))) links
+    else onto_value c links
 with_octet after_backslash c links = onto_value c links
 
 -- the links that are read where the document ends at the point, and None where it cannot end there
@@ -126,7 +175,9 @@ links_at_end _ = None
 -- the links that the octets from a point on spell, the first of them from that point on
 unfoldable pub links_from : Point → List ℕ → Option (List Link)
 links_from point [] = links_at_end point
-links_from point (c ∷ cs) = option_and_then (λ next. option_map (with_octet point c) (links_from next cs)) (point_after point c)
+links_from point (c ∷ cs) =
+    option_and_then (λ next. option_map (with_octet point c) (links_from next cs))
+    (point_after point c)
 
 -- the links of a document, and None where the octets are none: `IsDocument` as a function
 unfoldable pub document : List ℕ → Option (List Link)

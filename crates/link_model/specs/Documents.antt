@@ -1,7 +1,46 @@
 -- Link documents: which octets spell which links (RFC 6690 section 2).
-use Rattle.std.specs.Prelude.{◌≡◌, ℕ, ◌<◌, ◌≤◌, Bool, true, false, ◌&&◌, ◌||◌, ◌==◌, List, [], ◌∷◌, ◌++◌, map, take, length, Option, Some, None, flat_map, if◌then◌else◌, IsUtf8}
+use Rattle.std.specs.Prelude.{
+  ◌≡◌,
+  ℕ,
+  ◌<◌,
+  ◌≤◌,
+  Bool,
+  true,
+  false,
+  ◌&&◌,
+  ◌||◌,
+  ◌==◌,
+  List,
+  [],
+  ◌∷◌,
+  ◌++◌,
+  map,
+  take,
+  length,
+  Option,
+  Some,
+  None,
+  flat_map,
+  if◌then◌else◌,
+  IsUtf8,
+}
 use Rattle.std.specs.List.{list_all, join_with_byte}
-use Rattle.link_model.specs.Characters.{quote_mark, asterisk, comma, backslash, semicolon, less_than_sign, equals_sign, greater_than_sign, is_empty, is_run_of, is_not_control, is_attribute_name_character, is_token_character, is_target_character}
+use Rattle.link_model.specs.Characters.{
+  quote_mark,
+  asterisk,
+  comma,
+  backslash,
+  semicolon,
+  less_than_sign,
+  equals_sign,
+  greater_than_sign,
+  is_empty,
+  is_run_of,
+  is_not_control,
+  is_attribute_name_character,
+  is_token_character,
+  is_target_character,
+}
 
 -- a parameter of a link: its name, and its value as it is spelled, where it has one
 pub record Parameter : Type 0 where
@@ -37,9 +76,11 @@ document_text links = join_with_byte comma (map link_text links)
 -- characters of a name, and at its end at most one asterisk
 abbrev pub are_name_characters : List ℕ → Bool
 are_name_characters [] = true
-are_name_characters (c ∷ cs) = if c == asterisk then is_empty cs else is_attribute_name_character c && are_name_characters cs
+are_name_characters (c ∷ cs) =
+    if c == asterisk then is_empty cs else is_attribute_name_character c && are_name_characters cs
 
--- a parameter's name: one or more characters of a name, and an asterisk after them or none (RFC 6690 section 2, parmname and ext-name-star)
+-- a parameter's name: one or more characters of a name, and an asterisk after them or none (RFC
+-- 6690 section 2, parmname and ext-name-star)
 abbrev pub is_parameter_name : List ℕ → Bool
 is_parameter_name [] = false
 is_parameter_name (c ∷ cs) = is_attribute_name_character c && are_name_characters cs
@@ -48,11 +89,13 @@ is_parameter_name (c ∷ cs) = is_attribute_name_character c && are_name_charact
 abbrev pub is_token : List ℕ → Bool
 is_token value = is_run_of is_token_character value
 
--- the rest of a quoted string: characters, each escape being a backslash with the next character, and the closing quote; the flag says that a backslash stands before
+-- the rest of a quoted string: characters, each escape being a backslash with the next character,
+-- and the closing quote; the flag says that a backslash stands before
 abbrev pub closes_quotes : Bool → List ℕ → Bool
 closes_quotes escaped [] = false
 closes_quotes true (c ∷ cs) = is_not_control c && closes_quotes false cs
-closes_quotes false (c ∷ cs) = if c == quote_mark then is_empty cs else is_not_control c && closes_quotes (c == backslash) cs
+closes_quotes false (c ∷ cs) =
+    if c == quote_mark then is_empty cs else is_not_control c && closes_quotes (c == backslash) cs
 
 -- a value in quotes (RFC 6690 section 2, quoted-string)
 abbrev pub is_quoted_string : List ℕ → Bool

@@ -1,5 +1,29 @@
--- What a link's parameters say: values without quotes, anchors, attributes, and links as a device submitted them (RFC 6690 sections 2 and 3).
-use Rattle.std.specs.Prelude.{ℕ, Bool, true, false, ◌||◌, ◌==◌, List, [], ◌∷◌, ◌++◌, map, flat_map, filter, find, not, codes, Option, Some, None, option_map, bytes_eq, if◌then◌else◌}
+-- What a link's parameters say: values without quotes, anchors, attributes, and links as a device
+-- submitted them (RFC 6690 sections 2 and 3).
+use Rattle.std.specs.Prelude.{
+  ℕ,
+  Bool,
+  true,
+  false,
+  ◌||◌,
+  ◌==◌,
+  List,
+  [],
+  ◌∷◌,
+  ◌++◌,
+  map,
+  flat_map,
+  filter,
+  find,
+  not,
+  codes,
+  Option,
+  Some,
+  None,
+  option_map,
+  bytes_eq,
+  if◌then◌else◌,
+}
 use Rattle.rd_base.specs.declared.attributes.Pair.{Pair}
 use Rattle.rd_base.specs.declared.submitted_links.SubmittedLink.{SubmittedLink}
 pub use Rattle.rd_base.specs.LinkLines.{escaped_character}
@@ -12,11 +36,13 @@ use Rattle.link_model.specs.DocumentReading.{document}
 abbrev pub kept_before : ℕ → List ℕ → List ℕ
 kept_before c rest = if c == backslash then rest else c ∷ rest
 
--- the characters up to the closing quote, each escape replaced by the character that it escapes; the flag says that a backslash stands before
+-- the characters up to the closing quote, each escape replaced by the character that it escapes;
+-- the flag says that a backslash stands before
 abbrev pub content_up_to_quote : Bool → List ℕ → List ℕ
 content_up_to_quote escaped [] = []
 content_up_to_quote true (c ∷ cs) = c ∷ content_up_to_quote false cs
-content_up_to_quote false (c ∷ cs) = if c == quote_mark then [] else kept_before c (content_up_to_quote (c == backslash) cs)
+content_up_to_quote false (c ∷ cs) =
+    if c == quote_mark then [] else kept_before c (content_up_to_quote (c == backslash) cs)
 
 -- what a value says: a token says itself, and a quoted string its content without escapes
 unfoldable pub unquoted : List ℕ → List ℕ
@@ -35,7 +61,8 @@ value_of p = unquoted_value p.value
 abbrev pub is_anchor : Parameter → Bool
 is_anchor p = bytes_eq p.name (codes "anchor")
 
--- a link's anchor: the value of its first parameter `anchor`; later ones do not count (RFC 6690 section 3.2)
+-- a link's anchor: the value of its first parameter `anchor`; later ones do not count (RFC 6690
+-- section 3.2)
 abbrev pub anchor : Link → Option (List ℕ)
 anchor l = option_map value_of (find is_anchor l.parameters)
 

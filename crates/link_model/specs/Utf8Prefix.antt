@@ -10,7 +10,8 @@ OctetRange = ℕ × ℕ
 abbrev pub tail : OctetRange
 tail = (0x80, 0xBF)
 
--- the octets that must follow the first one of a character, and None where no character begins with it
+-- the octets that must follow the first one of a character, and None where no character begins with
+-- it
 unfoldable pub tails_of : ℕ → Option (List OctetRange)
 tails_of b =
     if is_in_range 0x00 0x7F b then Some []
@@ -28,11 +29,13 @@ abbrev pub one_more : {A : Type 0} → Option A → (A → ℕ) → ℕ
 one_more None f = 0
 one_more (Some x) f = suc (f x)
 
--- the length of the longest prefix that begins some text, where octets of these ranges must come first
+-- the length of the longest prefix that begins some text, where octets of these ranges must come
+-- first
 unfoldable pub utf8_prefix_after : List OctetRange → List ℕ → ℕ
 utf8_prefix_after ranges [] = 0
 utf8_prefix_after [] (b ∷ bs) = one_more (tails_of b) (λ ranges. utf8_prefix_after ranges bs)
-utf8_prefix_after (r ∷ ranges) (b ∷ bs) = if is_in_range (r.0) (r.1) b then suc (utf8_prefix_after ranges bs) else 0
+utf8_prefix_after (r ∷ ranges) (b ∷ bs) =
+    if is_in_range (r.0) (r.1) b then suc (utf8_prefix_after ranges bs) else 0
 
 -- the length of the longest prefix that begins some text in UTF-8
 abbrev pub utf8_prefix : List ℕ → ℕ

@@ -1,2 +1,3 @@
-//! Definitions of link documents as octets: characters, links and their parameters, and quoted text (RFC 6690 section 2). No function.
+//! Definitions of link documents as octets: characters, links and their parameters, and quoted text
+//! (RFC 6690 section 2). No function.
 #![tactic(auto)]

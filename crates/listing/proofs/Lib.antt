@@ -1,6 +1,7 @@
--- Proofs of the code that lists one registration. PatternLaws, PartCuts, PartSizes, SoughtLaws, SieveLaws: criteria and links.
--- EndpointLaws: criteria and endpoints. PieceLaws: lines of endpoints, piece by piece. StepLaws, PartLaws: the lines of a
--- registration. AlikeLaws, SamePartLaws: when those of two are the same. OwnLaws: the directory's own links.
+-- Proofs of the code that lists one registration. PatternLaws, PartCuts, PartSizes, SoughtLaws,
+-- SieveLaws: criteria and links. EndpointLaws: criteria and endpoints. PieceLaws: lines of
+-- endpoints, piece by piece. StepLaws, PartLaws: the lines of a registration. AlikeLaws,
+-- SamePartLaws: when those of two are the same. OwnLaws: the directory's own links.
 pub mod PatternLaws
 pub mod EndpointLaws
 pub mod PieceLaws

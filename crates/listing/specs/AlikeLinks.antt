@@ -1,4 +1,5 @@
--- Links that are alike: the same queries list them, where their endpoints are judged alike, and in the same line.
+-- Links that are alike: the same queries list them, where their endpoints are judged alike, and in
+-- the same line.
 use Rattle.std.specs.Prelude.{◌≡◌, ◌≤◌, Bool, true, List, [], ◌∷◌, length}
 use Rattle.std.specs.List.{AllByRecursion}
 use Rattle.rd_base.specs.declared.queries.Criterion.{Criterion}
@@ -24,14 +25,19 @@ AreAllAlike (x ∷ xs) (y ∷ ys) = AreAlike x y × AreAllAlike xs ys
 
 -- each criterion matches both endpoints by themselves, or neither
 abbrev pub AreJudgedAlike : List Criterion → Record → Record → Type 0
-AreJudgedAlike criteria r s = AllByRecursion (λ criterion. endpoint_matches criterion r ≡ endpoint_matches criterion s) criteria
+AreJudgedAlike criteria r s =
+    AllByRecursion (λ criterion. endpoint_matches criterion r ≡ endpoint_matches criterion s)
+    criteria
 
 -- two tests that pass both of two links that are alike or neither, where they are said to
 abbrev pub Agree : Bool → (Item → Bool) → (Item → Bool) → Type 0
 Agree together test other = together ≡ true → (x y : Item) → AreAlike x y → test x ≡ other y
 
--- what is left of the links of two registrations, where links were left out at the beginning that are alike, if the tests agree: whether
--- both give the same lines is whether what is left does
+-- what is left of the links of two registrations, where links were left out at the beginning that
+-- are alike, if the tests agree: whether both give the same lines is whether what is left does
 pub record AreLeftAlike (together : Bool) (old new left others : List Item) : Type 0 where
-  pub same : (test other : Item → Bool) → Agree together test other → same_lines (lines_by test left) (lines_by other others) ≡ same_lines (lines_by test old) (lines_by other new)
+  pub same : (test other : Item → Bool)
+      → Agree together test other
+      → same_lines (lines_by test left) (lines_by other others)
+      ≡ same_lines (lines_by test old) (lines_by other new)
   pub fewer : length left ≤ length old

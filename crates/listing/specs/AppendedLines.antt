@@ -1,4 +1,5 @@
--- Which lines of a record are shown, and how lines stand after a text (RFC 6690 section 2: commas part link-values).
+-- Which lines of a record are shown, and how lines stand after a text (RFC 6690 section 2: commas
+-- part link-values).
 use Rattle.std.specs.Prelude.{ℕ, List, [], ◌∷◌, ◌++◌, take, drop, flat_map}
 use Rattle.std.specs.List.{join_with_byte}
 use Rattle.link_model.specs.Characters.{comma}

@@ -4,11 +4,13 @@ use Rattle.rd_base.specs.declared.queries.Criterion.{Criterion}
 use Rattle.rd_base.specs.declared.records.Record.{Record}
 use Rattle.record_model.specs.Matching.{endpoint_matches}
 
--- each answer is whether the criterion beside it matches the endpoint by itself; further answers tell nothing
+-- each answer is whether the criterion beside it matches the endpoint by itself; further answers
+-- tell nothing
 abbrev pub AreJudged : Record → List Bool → List Criterion → Type 0
 AreJudged r [] criteria = Unit {0}
 AreJudged r (answer ∷ judged) [] = Unit {0}
-AreJudged r (answer ∷ judged) (criterion ∷ criteria) = (answer ≡ endpoint_matches criterion r) × AreJudged r judged criteria
+AreJudged r (answer ∷ judged) (criterion ∷ criteria) =
+    (answer ≡ endpoint_matches criterion r) × AreJudged r judged criteria
 
 -- the same where there is an endpoint
 abbrev pub AreJudgedOf : Option Record → List Bool → List Criterion → Type 0

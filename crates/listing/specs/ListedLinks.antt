@@ -1,12 +1,25 @@
 -- Which links are listed, of a registration or of the directory itself, and their lines.
-use Rattle.std.specs.Prelude.{ℕ, Bool, List, [], ◌∷◌, map, filter, Option, Some, None, if◌then◌else◌}
+use Rattle.std.specs.Prelude.{
+  ℕ,
+  Bool,
+  List,
+  [],
+  ◌∷◌,
+  map,
+  filter,
+  Option,
+  Some,
+  None,
+  if◌then◌else◌,
+}
 use Rattle.rd_base.specs.declared.queries.Query.{Query}
 use Rattle.rd_base.specs.declared.records.Item.{Item}
 use Rattle.rd_base.specs.declared.records.Record.{Record}
 use Rattle.record_model.specs.Discovery.{own_link_listed}
 use Rattle.record_model.specs.ListingLines.{endpoint_line, endpoint_listed, link_line, link_listed}
 
--- the query lists a link of this registration, or one of the directory itself, which has no endpoint
+-- the query lists a link of this registration, or one of the directory itself, which has no
+-- endpoint
 abbrev pub listed_of : Query → Option Record → Item → Bool
 listed_of query (Some r) item = link_listed query r item
 listed_of query None item = own_link_listed query item

@@ -5,13 +5,15 @@ use Rattle.rd_base.specs.declared.records.Item.{Item}
 
 -- the attribute of a resource that can be observed (RFC 7641 section 6)
 abbrev pub observable_pairs : Bool → List Pair
-observable_pairs observable = if observable then record { name = codes "obs"; value = [] } ∷ [] else []
+observable_pairs observable =
+    if observable then record { name = codes "obs"; value = [] } ∷ [] else []
 
 -- attributes as they were written, and that of such a resource
 abbrev pub observed_text : Bool → List ℕ → List ℕ
 observed_text observable raw = if observable then raw ++ codes ";obs" else raw
 
--- a link of the directory itself: its type, with how it is written, that it gives link documents, and whether it can be observed
+-- a link of the directory itself: its type, with how it is written, that it gives link documents,
+-- and whether it can be observed
 abbrev pub own_item : List ℕ → List ℕ → List ℕ → Bool → Item
 own_item target typed type observable = record {
   target_ref = target;
@@ -19,5 +21,8 @@ own_item target typed type observable = record {
   target = target;
   anchor = None;
   raw = observed_text observable (typed ++ codes ";ct=40");
-  pairs = record { name = codes "rt"; value = type } ∷ record { name = codes "ct"; value = codes "40" } ∷ observable_pairs observable;
+  pairs =
+      record { name = codes "rt"; value = type }
+      ∷ record { name = codes "ct"; value = codes "40" }
+      ∷ observable_pairs observable;
 }

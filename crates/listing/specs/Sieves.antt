@@ -1,4 +1,5 @@
--- Which links a query lists, by what its first criterion seeks that the endpoint does not meet, and the criteria after it.
+-- Which links a query lists, by what its first criterion seeks that the endpoint does not meet, and
+-- the criteria after it.
 use Rattle.std.specs.Prelude.{◌≡◌, Bool, ◌&&◌, ◌||◌, List, Option, Some, None}
 use Rattle.std.specs.List.{list_all}
 use Rattle.std.specs.Option.{option_copied}
@@ -15,13 +16,19 @@ use Rattle.listing.specs.SoughtLinks.{is_found_if_any}
 
 -- each criterion matches the link by itself or its endpoint by itself, where there is one
 abbrev pub meets : Option Record → List Criterion → Item → Bool
-meets (Some r) criteria item = list_all (λ criterion. link_matches criterion item || endpoint_matches criterion r) criteria
+meets (Some r) criteria item =
+    list_all (λ criterion. link_matches criterion item || endpoint_matches criterion r) criteria
 meets None criteria item = list_all (λ criterion. link_matches criterion item) criteria
 
--- what the first criterion seeks that the endpoint does not meet by itself, the criteria after it, and answers for the first of these
-pub record IsSifted (criteria : List Criterion) (answers : List Bool) (first : Option Sought) (rest : List Criterion) (left : List Bool) : Type 0 where
+-- what the first criterion seeks that the endpoint does not meet by itself, the criteria after it,
+-- and answers for the first of these
+pub record IsSifted (criteria : List Criterion) (answers : List Bool) (first : Option Sought)
+    (rest : List Criterion) (left : List Bool) : Type 0 where
   pub judged : (r : Record) → AreJudged r answers criteria → AreJudged r left rest
-  pub listed : (r : Record) → AreJudged r answers criteria → (item : Item) → (is_found_if_any first item && meets (Some r) rest item) ≡ meets (Some r) criteria item
+  pub listed : (r : Record)
+      → AreJudged r answers criteria
+      → (item : Item)
+      → (is_found_if_any first item && meets (Some r) rest item) ≡ meets (Some r) criteria item
 
 -- the link passes through the sieve
 abbrev pub sifts : Sieve → Item → Bool

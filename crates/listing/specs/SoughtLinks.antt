@@ -16,11 +16,14 @@ fits_present pattern (Some text) = fits pattern text
 
 -- an attribute has this name and a value that fits the pattern
 abbrev pub has_value : List ℕ → Pattern → List Pair → Bool
-has_value name pattern pairs = list_any (λ pair. bytes_eq pair.name name && fits pattern pair.value) pairs
+has_value name pattern pairs =
+    list_any (λ pair. bytes_eq pair.name name && fits pattern pair.value) pairs
 
 -- an attribute has this name and a value of which a part fits the pattern
 abbrev pub has_part : List ℕ → Pattern → List Pair → Bool
-has_part name pattern pairs = list_any (λ pair. bytes_eq pair.name name && list_any (fits pattern) (parts_of pair.value)) pairs
+has_part name pattern pairs =
+    list_any (λ pair. bytes_eq pair.name name && list_any (fits pattern) (parts_of pair.value))
+    pairs
 
 -- the link has what is sought
 abbrev pub is_found : Sought → Item → Bool

@@ -1,5 +1,26 @@
--- What values of the code stand for: a line that is read octet by octet, a piece of it, and the links that are left.
-use Rattle.std.specs.Prelude.{ℕ, Bool, ◌+◌, ◌*◌, ◌-◌, ◌^◌, ◌<◌, ◌≤◌, ◌≡◌, List, [], ◌∷◌, ◌++◌, length, drop, flat_map, Option, Some, None}
+-- What values of the code stand for: a line that is read octet by octet, a piece of it, and the
+-- links that are left.
+use Rattle.std.specs.Prelude.{
+  ℕ,
+  Bool,
+  ◌+◌,
+  ◌*◌,
+  ◌-◌,
+  ◌^◌,
+  ◌<◌,
+  ◌≤◌,
+  ◌≡◌,
+  List,
+  [],
+  ◌∷◌,
+  ◌++◌,
+  length,
+  drop,
+  flat_map,
+  Option,
+  Some,
+  None,
+}
 use Rattle.rd_base.specs.declared.records.Item.{Item}
 use Rattle.link_model.specs.Quoting.{escaped_character}
 use Rattle.record_model.specs.ListingLines.{extra_attribute, link_line}
@@ -10,7 +31,10 @@ use Rattle.listing.specs.Pieces.{octets_of_pieces}
 
 -- the octets that are left
 abbrev pub left : Octets → List ℕ
-left o = o.run.now ++ (flat_map escaped_character o.escaped.now ++ (octets_of_pieces (drop o.at o.pieces) ++ flat_map extra_attribute o.extra.now))
+left o =
+    o.run.now
+    ++ (flat_map escaped_character o.escaped.now
+    ++ (octets_of_pieces (drop o.at o.pieces) ++ flat_map extra_attribute o.extra.now))
 
 -- one more than the pieces of an attribute
 abbrev pub attribute_weight : ℕ
@@ -27,10 +51,12 @@ Gives None before now = before ≡ []
 
 -- the piece at an index, or that there is none
 abbrev pub PieceAt : List Piece → ℕ → Option Piece → Type 0
-PieceAt pieces at (Some piece) = (drop at pieces ≡ piece ∷ drop (at + 1) pieces) × (at < length pieces) × (at + 1 < 2 ^ 64)
+PieceAt pieces at (Some piece) =
+    (drop at pieces ≡ piece ∷ drop (at + 1) pieces) × (at < length pieces) × (at + 1 < 2 ^ 64)
 PieceAt pieces at None = length pieces ≤ at
 
 -- the first link that passes a test, and those after it
 abbrev pub FirstListed : (Item → Bool) → List Item → Option (Item × List Item) → Type 0
-FirstListed test items (Some (item, more)) = (lines_by test items ≡ link_line item ∷ lines_by test more) × (length more < length items)
+FirstListed test items (Some (item, more)) =
+    (lines_by test items ≡ link_line item ∷ lines_by test more) × (length more < length items)
 FirstListed test items None = lines_by test items ≡ []

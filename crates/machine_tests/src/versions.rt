@@ -180,6 +180,6 @@ fn a_crowd_lapses_in_order_and_is_full(rt: HostRuntime) -> Result<(), Fail> {
 #[test]
 fn copies_are_equal(rt: HostRuntime) -> Result<(), Fail> {
     let change = renewal(rt.alloc());
-    assert_eq!(rt; change.copy(rt.alloc())?, change);
+    assert_eq!(rt; change.clone()?, change);
     Ok(())
 }

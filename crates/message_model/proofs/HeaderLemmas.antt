@@ -1,5 +1,30 @@
 -- A header that is read is spelled so, and a header that is spelled is read again.
-use Rattle.std.proofs.Common.{◌≡◌, ℕ, zero, suc, ◌+◌, ◌*◌, ◌/◌, ◌%◌, ◌<◌, ◌≤◌, eqb, List, [], ◌∷◌, ◌++◌, length, Result, Ok, Err, refl, subst, arith, inl, inr}
+use Rattle.std.proofs.Common.{
+  ◌≡◌,
+  ℕ,
+  zero,
+  suc,
+  ◌+◌,
+  ◌*◌,
+  ◌/◌,
+  ◌%◌,
+  ◌<◌,
+  ◌≤◌,
+  eqb,
+  List,
+  [],
+  ◌∷◌,
+  ◌++◌,
+  length,
+  Result,
+  Ok,
+  Err,
+  refl,
+  subst,
+  arith,
+  inl,
+  inr,
+}
 use Rattle.std.proofs.lemmas.Bool.{eqb-true}
 use Rattle.message_model.specs.declared.messages.Kind4.{Kind4}
 use Rattle.message_model.specs.declared.messages.Kind4.TheVariants.{Con, Non, Ack, Rst}
@@ -56,10 +81,14 @@ pub record IsHeader (bytes : List ℕ) (x : Header × List ℕ) : Type 0 where
 ok_same : (x y : Header × List ℕ) → ◌≡◌ {A = Result (Header × List ℕ) Unread} (Ok x) (Ok y) → x ≡ y
 ok_same x y e = cc
 
-err_is_no_ok : (fault : Unread) (x : Header × List ℕ) → ◌≡◌ {A = Result (Header × List ℕ) Unread} (Err fault) (Ok x) → ⊥
+err_is_no_ok : (fault : Unread) (x : Header × List ℕ)
+    → ◌≡◌ {A = Result (Header × List ℕ) Unread} (Err fault) (Ok x)
+    → ⊥
 err_is_no_ok fault x e = cc
 
-pub header_taken : (bytes : List ℕ) (x : Header × List ℕ) → header_at bytes ≡ Ok x → IsHeader bytes x
+pub header_taken : (bytes : List ℕ) (x : Header × List ℕ)
+    → header_at bytes ≡ Ok x
+    → IsHeader bytes x
 unfolding header_at
 header_taken [] x e = absurd (err_is_no_ok unread.Short x e)
 header_taken (a ∷ []) x e = absurd (err_is_no_ok unread.Short x e)
@@ -67,8 +96,18 @@ header_taken (a ∷ b ∷ []) x e = absurd (err_is_no_ok unread.Short x e)
 header_taken (a ∷ b ∷ c ∷ []) x e = absurd (err_is_no_ok unread.Short x e)
 header_taken (first ∷ code ∷ high ∷ low ∷ bytes) x e =
     elim (either_of (eqb (first / 64) 1) _ _ (Ok x) e) [
-      | inl good ↦ subst (λ (y : Header × List ℕ). IsHeader (first ∷ code ∷ high ∷ low ∷ bytes) y) (ok_same (header_of first code high low, bytes) x good.1)
-          (record { first = first; code = code; high = high; low = low; parts = refl; version_is = eqb-true _ _ good.0; header_is = refl })
+      | inl good ↦ subst (λ (y : Header × List ℕ). IsHeader (first ∷ code ∷ high ∷ low ∷ bytes) y)
+          (ok_same (header_of first code high low, bytes) x good.1)
+          (record {
+            first = first;
+            code = code;
+            high = high;
+            low = low;
+            parts = refl;
+            version_is =
+                eqb-true _ _ good.0;
+            header_is = refl;
+          })
       | inr other ↦ absurd (err_is_no_ok unread.Version x other.1)
     ]
 
@@ -79,12 +118,16 @@ abbrev pub header_in : Message → Header
 header_in m = record { kind = m.kind; token_length = length m.token; code = m.code; mid = m.mid }
 
 -- The header of a message whose token is short enough is read again.
-pub header_again : (m : Message) (rest : List ℕ) → length m.token ≤ longest_token → header_at (header_spelling m ++ rest) ≡ Ok (header_in m, rest)
+pub header_again : (m : Message) (rest : List ℕ)
+    → length m.token ≤ longest_token
+    → header_at (header_spelling m ++ rest) ≡ Ok (header_in m, rest)
 unfolding header_at header_spelling
 header_again m rest short =
     let small : kind_number m.kind < 4 = kind_number-lt m.kind in
     let first : (1 * 64 + kind_number m.kind * 16 + length m.token) / 64 ≡ 1 = omega arith in
-    let kind : (1 * 64 + kind_number m.kind * 16 + length m.token) / 16 % 4 ≡ kind_number m.kind = omega arith in
-    let size : (1 * 64 + kind_number m.kind * 16 + length m.token) % 16 ≡ length m.token = omega arith in
+    let kind : (1 * 64 + kind_number m.kind * 16 + length m.token) / 16 % 4 ≡ kind_number m.kind =
+    omega arith in
+    let size : (1 * 64 + kind_number m.kind * 16 + length m.token) % 16 ≡ length m.token =
+    omega arith in
     let mid : m.mid / 256 * 256 + m.mid % 256 ≡ m.mid = omega arith in
     rw (first, kind, size, mid, kind_of-kind_number m.kind) refl

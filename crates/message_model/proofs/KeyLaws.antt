@@ -1,5 +1,25 @@
--- A key has its method, its path and its query options: no two requests that differ in them have one key.
-use Rattle.std.proofs.Common.{◌≡◌, ℕ, ◌^◌, ◌<◌, List, [], ◌∷◌, ◌++◌, length, take, drop, Option, Some, None, refl, sym, ap, ◌∙◌}
+-- A key has its method, its path and its query options: no two requests that differ in them have
+-- one key.
+use Rattle.std.proofs.Common.{
+  ◌≡◌,
+  ℕ,
+  ◌^◌,
+  ◌<◌,
+  List,
+  [],
+  ◌∷◌,
+  ◌++◌,
+  length,
+  take,
+  drop,
+  Option,
+  Some,
+  None,
+  refl,
+  sym,
+  ap,
+  ◌∙◌,
+}
 use Rattle.std.specs.Prelude.{flat_map, if◌then◌else◌, ◌==◌, ⊤}
 use Rattle.std.specs.Int.{w64, from_be_bytes}
 use Rattle.std.proofs.lemmas.Nat.{from_be_bytes-to_be_bytes_8}
@@ -33,12 +53,15 @@ path_at (b ∷ bytes) =
     else if b == 5 then Some (path.Ep, bytes)
     else Some (path.Other, bytes)
 
-path_again : (p : Path) (rest : List ℕ) → FitsKey p → path_at (path_bytes p ++ rest) ≡ Some (p, rest)
+path_again : (p : Path) (rest : List ℕ)
+    → FitsKey p
+    → path_at (path_bytes p ++ rest) ≡ Some (p, rest)
 unfolding path_at
 path_again path.Core rest fits = refl
 path_again path.SimpleRd rest fits = refl
 path_again path.Rd rest fits = refl
-path_again (path.Location n) rest fits = ap (λ (k : ℕ). Some (path.Location k, rest)) (from_be_bytes-to_be_bytes_8 n fits)
+path_again (path.Location n) rest fits =
+    ap (λ (k : ℕ). Some (path.Location k, rest)) (from_be_bytes-to_be_bytes_8 n fits)
 path_again path.Res rest fits = refl
 path_again path.Ep rest fits = refl
 path_again path.Other rest fits = refl
@@ -53,24 +76,43 @@ queries_once [] [] e = refl
 queries_once [] (r ∷ rs) e = absurd cc
 queries_once (q ∷ qs) [] e = absurd cc
 queries_once (q ∷ qs) (r ∷ rs) e =
-    let h = cons_parts (length q) (length r) (q ++ flat_map query_bytes qs) (r ++ flat_map query_bytes rs) e in
-    let first : q ≡ r = sym (take_at q (flat_map query_bytes qs) (length q) refl) ∙ ap (take (length q)) h.1 ∙ take_at r (flat_map query_bytes rs) (length q) (sym h.0) in
-    let others : flat_map query_bytes qs ≡ flat_map query_bytes rs = sym (drop_at q (flat_map query_bytes qs) (length q) refl) ∙ ap (drop (length q)) h.1 ∙ drop_at r (flat_map query_bytes rs) (length q) (sym h.0) in
+    let h =
+    cons_parts (length q) (length r) (q ++ flat_map query_bytes qs)
+    (r ++ flat_map query_bytes rs) e in
+    let first : q ≡ r =
+    sym (take_at q (flat_map query_bytes qs) (length q) refl)
+    ∙ ap (take (length q)) h.1
+    ∙ take_at r (flat_map query_bytes rs) (length q) (sym h.0) in
+    let others : flat_map query_bytes qs ≡ flat_map query_bytes rs =
+    sym (drop_at q (flat_map query_bytes qs) (length q) refl)
+    ∙ ap (drop (length q)) h.1
+    ∙ drop_at r (flat_map query_bytes rs) (length q) (sym h.0) in
     let same = queries_once qs rs others in
     ap (λ (t : List ℕ). t ∷ qs) first ∙ ap (λ (ts : List (List ℕ)). r ∷ ts) same
 
 -- What a key is made of.
-pub record IsSameRequest (code : ℕ) (p : Path) (qs : List (List ℕ)) (other : ℕ) (q : Path) (rs : List (List ℕ)) : Type 0 where
+pub record IsSameRequest (code : ℕ) (p : Path) (qs : List (List ℕ)) (other : ℕ) (q : Path)
+    (rs : List (List ℕ)) : Type 0 where
   pub method : code ≡ other
   pub path : p ≡ q
   pub queries : qs ≡ rs
 
 -- Two requests with one key have the same method, path and query options.
-pub key_of_once : (code : ℕ) (p : Path) (qs : List (List ℕ)) (other : ℕ) (q : Path) (rs : List (List ℕ)) → FitsKey p → FitsKey q → key_of code p qs ≡ key_of other q rs → IsSameRequest code p qs other q rs
+pub key_of_once : (code : ℕ) (p : Path) (qs : List (List ℕ)) (other : ℕ) (q : Path)
+    (rs : List (List ℕ))
+    → FitsKey p
+    → FitsKey q
+    → key_of code p qs ≡ key_of other q rs
+    → IsSameRequest code p qs other q rs
 unfolding key_of
 key_of_once code p qs other q rs fits fit e =
-    let h = cons_parts code other (path_bytes p ++ flat_map query_bytes qs) (path_bytes q ++ flat_map query_bytes rs) e in
-    let both : Some (p, flat_map query_bytes qs) ≡ Some (q, flat_map query_bytes rs) = sym (path_again p (flat_map query_bytes qs) fits) ∙ ap path_at h.1 ∙ path_again q (flat_map query_bytes rs) fit in
+    let h =
+    cons_parts code other (path_bytes p ++ flat_map query_bytes qs)
+    (path_bytes q ++ flat_map query_bytes rs) e in
+    let both : Some (p, flat_map query_bytes qs) ≡ Some (q, flat_map query_bytes rs) =
+    sym (path_again p (flat_map query_bytes qs) fits)
+    ∙ ap path_at h.1
+    ∙ path_again q (flat_map query_bytes rs) fit in
     let pair = same_Some (p, flat_map query_bytes qs) (q, flat_map query_bytes rs) both in
     record {
       method = h.0;

@@ -1,12 +1,55 @@
 -- A location is the decimal text of its number, and no other text names it.
-use Rattle.std.proofs.Common.{◌≡◌, ℕ, ◌+◌, ◌-◌, ◌*◌, ◌^◌, ◌<◌, ◌≤◌, Bool, true, false, not, leb, eqb, List, [], ◌∷◌, length, get_or, refl, sym, ap, subst, ◌∙◌, arith, inl, inr}
+use Rattle.std.proofs.Common.{
+  ◌≡◌,
+  ℕ,
+  ◌+◌,
+  ◌-◌,
+  ◌*◌,
+  ◌^◌,
+  ◌<◌,
+  ◌≤◌,
+  Bool,
+  true,
+  false,
+  not,
+  leb,
+  eqb,
+  List,
+  [],
+  ◌∷◌,
+  length,
+  get_or,
+  refl,
+  sym,
+  ap,
+  subst,
+  ◌∙◌,
+  arith,
+  inl,
+  inr,
+}
 use Rattle.std.specs.Prelude.{fold}
 use Rattle.std.specs.Fmt.{decimal, digits}
 use Rattle.std.specs.List.{list_all}
 use Rattle.std.specs.Char.{is_ascii_digit}
 use Rattle.std.proofs.Common.{rules}
-use Rattle.std.proofs.lemmas.Bool.{cases_order, both_ways, leb-true, le-leb, not-true, ne_eqb, eq-eqb}
-use Rattle.std.proofs.lemmas.Fmt.{decimal-digits_value, digits_decimal, digits_value-decimal, length-decimal-le, decimal_nonempty, first_decimal}
+use Rattle.std.proofs.lemmas.Bool.{
+  cases_order,
+  both_ways,
+  leb-true,
+  le-leb,
+  not-true,
+  ne_eqb,
+  eq-eqb,
+}
+use Rattle.std.proofs.lemmas.Fmt.{
+  decimal-digits_value,
+  digits_decimal,
+  digits_value-decimal,
+  length-decimal-le,
+  decimal_nonempty,
+  first_decimal,
+}
 use Rattle.std.proofs.lemmas.Str.Parse.{IsNumeralModel, numerals_by_fold, digits_value_short}
 use Rattle.message_model.specs.declared.requests.Path.TheVariants as path
 use Rattle.message_model.specs.Request.{has_leading_zero, is_location, decimal_value, location_of}
@@ -17,7 +60,9 @@ abbrev are_digits : List ℕ → Bool
 are_digits text = list_all is_ascii_digit text
 
 own : IsNumeralModel (λ text. are_digits text ≡ true) decimal_value
-own = numerals_by_fold _ (search rules) (λ n text. fold (λ m digit. m * 10 + (digit - 48)) n text) (search rules)
+own =
+    numerals_by_fold _ (search rules) (λ n text. fold (λ m digit. m * 10 + (digit - 48)) n text)
+    (search rules)
 
 -- the four parts of the test
 record IsLocation (text : List ℕ) : Type 0 where
@@ -28,10 +73,16 @@ record IsLocation (text : List ℕ) : Type 0 where
 
 location_parts : (text : List ℕ) → is_location text ≡ true → IsLocation text
 location_parts text e =
-    let h = and_four (leb 1 (length text)) (leb (length text) 15) (are_digits text) (not (has_leading_zero text)) e in
+    let h =
+    and_four (leb 1 (length text)) (leb (length text) 15) (are_digits text)
+    (not (has_leading_zero text)) e in
     record { some = leb-true _ _ h.0; few = leb-true _ _ h.1; digits = h.2; plain = not-true _ h.3 }
 
-one_zero : (text : List ℕ) → has_leading_zero text ≡ false → get_or text 0 0 ≡ 48 → 0 < length text → length text ≡ 1
+one_zero : (text : List ℕ)
+    → has_leading_zero text ≡ false
+    → get_or text 0 0 ≡ 48
+    → 0 < length text
+    → length text ≡ 1
 one_zero [] plain zero some = absurd (omega arith)
 one_zero (b ∷ []) plain zero some = refl
 one_zero (b ∷ c ∷ others) plain zero some = absurd (both_ways (eqb b 48) plain (eq-eqb b 48 zero))
@@ -47,7 +98,9 @@ same_number a b e = cc
 
 -- What is read as a location is the decimal text of its number.
 -- An end theorem: nothing here cites it.
-pub location_found : (text : List ℕ) (n : ℕ) → location_of text ≡ path.Location n → (text ≡ decimal n) × (n < 10 ^ 15)
+pub location_found : (text : List ℕ) (n : ℕ)
+    → location_of text ≡ path.Location n
+    → (text ≡ decimal n) × (n < 10 ^ 15)
 unfolding location_of
 location_found text n e =
     elim (either_of (is_location text) _ _ (path.Location n) e) [
@@ -57,7 +110,9 @@ location_found text n e =
           let same = same_number (decimal_value text) n named.1 in
           let some : 0 < length text = omega (arith, h.some) in
           let short : decimal_value text < 2 ^ 64 = omega (arith, small) in
-          let back : decimal (decimal_value text) ≡ text = decimal-digits_value own text h.digits some (λ zero. one_zero text h.plain zero some) short in
+          let back : decimal (decimal_value text) ≡ text =
+          decimal-digits_value own text h.digits some (λ zero. one_zero text h.plain zero some)
+          short in
           (sym back ∙ ap decimal same, subst (λ (k : ℕ). k < 10 ^ 15) same small)
       | inr other ↦ absurd (no_location n other.1)
     ]
@@ -87,8 +142,10 @@ pub location_again : (n : ℕ) → n < 10 ^ 15 → location_of (decimal n) ≡ p
 unfolding location_of
 location_again n small =
     let short : n < 2 ^ 64 = omega arith in
-    let some : leb 1 (length (decimal n)) ≡ true = le-leb 1 (length (decimal n)) (omega (arith, decimal_nonempty n short)) in
-    let few : leb (length (decimal n)) 15 ≡ true = le-leb _ _ (length-decimal-le 15 n (omega arith) small short) in
+    let some : leb 1 (length (decimal n)) ≡ true =
+    le-leb 1 (length (decimal n)) (omega (arith, decimal_nonempty n short)) in
+    let few : leb (length (decimal n)) 15 ≡ true =
+    le-leb _ _ (length-decimal-le 15 n (omega arith) small short) in
     let digits : are_digits (decimal n) ≡ true = digits_decimal own n short in
     let value : decimal_value (decimal n) ≡ n = digits_value-decimal own n short in
     rw (some, few, digits, plain_decimal n small, value) refl

@@ -1,5 +1,33 @@
 -- Blocks of a body (RFC 7959 section 2.2).
-use Rattle.std.specs.Prelude.{◌≡◌, ◌<◌, ◌≤◌, ◌^◌, ℕ, ◌+◌, ◌*◌, ◌/◌, ◌%◌, Bool, true, false, not, ◌&&◌, List, [], ◌++◌, length, take, drop, Option, Some, None, ◌==◌, nat_lt, nat_le, if◌then◌else◌}
+use Rattle.std.specs.Prelude.{
+  ◌≡◌,
+  ◌<◌,
+  ◌≤◌,
+  ◌^◌,
+  ℕ,
+  ◌+◌,
+  ◌*◌,
+  ◌/◌,
+  ◌%◌,
+  Bool,
+  true,
+  false,
+  not,
+  ◌&&◌,
+  List,
+  [],
+  ◌++◌,
+  length,
+  take,
+  drop,
+  Option,
+  Some,
+  None,
+  ◌==◌,
+  nat_lt,
+  nat_le,
+  if◌then◌else◌,
+}
 use Rattle.message_model.specs.declared.blocks.Block.{Block}
 use Rattle.message_model.specs.Numbers.{uint_of, uint_bytes}
 
@@ -11,12 +39,14 @@ reserved_szx = 7
 abbrev pub block_size : ℕ → ℕ
 block_size szx = 2 ^ (szx + 4)
 
--- A block that has a value: the number has 20 bits, and the exponent is not the reserved one (RFC 7959 section 2.2).
+-- A block that has a value: the number has 20 bits, and the exponent is not the reserved one (RFC
+-- 7959 section 2.2).
 pub record IsBlock (b : Block) : Type 0 where
   pub num : b.num < 2 ^ 20
   pub szx : b.szx < reserved_szx
 
--- What 24 bits say: 20 of number, one of more, three of exponent, which is not the reserved one (RFC 7959 section 2.2).
+-- What 24 bits say: 20 of number, one of more, three of exponent, which is not the reserved one
+-- (RFC 7959 section 2.2).
 abbrev pub block_from : ℕ → Option Block
 block_from n =
     if n % 8 == reserved_szx then None
@@ -35,12 +65,16 @@ more_bit false = 0
 unfoldable pub block_value : Block → List ℕ
 block_value b = uint_bytes (b.num * 16 + more_bit b.more * 8 + b.szx)
 
--- The block of a body with this number, and whether more follow; there is none past the body's end (RFC 7959 section 2.2).
--- Number 0 has a block at any body, the empty one too.
+-- The block of a body with this number, and whether more follow; there is none past the body's end
+-- (RFC 7959 section 2.2). Number 0 has a block at any body, the empty one too.
 unfoldable pub block_of : List ℕ → ℕ → ℕ → Option (List ℕ × Bool)
 block_of body num szx =
     if nat_lt 0 num && nat_le (length body) (num * block_size szx) then None
-    else Some (take (block_size szx) (drop (num * block_size szx) body), nat_lt ((num + 1) * block_size szx) (length body))
+    else Some (
+      take (block_size szx) (drop (num * block_size szx) body),
+      nat_lt
+          ((num + 1) * block_size szx) (length body),
+    )
 
 -- What the block of a body with this number is, by its offset and its end (RFC 7959 section 2.2).
 pub record IsPiece (body : List ℕ) (num size : ℕ) (piece : List ℕ) (more : Bool) : Type 0 where
@@ -49,6 +83,7 @@ pub record IsPiece (body : List ℕ) (num size : ℕ) (piece : List ℕ) (more :
   pub last : more ≡ false → drop ((num + 1) * size) body ≡ []
   pub most : length piece ≤ size
 
--- A block that more follow has exactly the block size, and the last is no longer (RFC 7959 section 2.2).
+-- A block that more follow has exactly the block size, and the last is no longer (RFC 7959 section
+-- 2.2).
 abbrev pub is_misfit : Block → ℕ → Bool
 is_misfit b size = if b.more then not (size == block_size b.szx) else nat_lt (block_size b.szx) size

@@ -1,7 +1,8 @@
 -- The codes of requests and responses (RFC 7252 section 12.1, RFC 7959 section 2.9).
 use Rattle.std.specs.Prelude.{ℕ, ◌+◌, ◌*◌, ◌/◌, Bool, ◌&&◌, ◌||◌, ◌==◌, nat_lt, nat_le}
 
--- The byte of a code that is written class.detail: three bits of class, five of detail (RFC 7252 section 3).
+-- The byte of a code that is written class.detail: three bits of class, five of detail (RFC 7252
+-- section 3).
 abbrev pub code : ℕ → ℕ → ℕ
 code class detail = class * 32 + detail
 
@@ -88,6 +89,7 @@ is_reserved byte = class_of byte == 1 || class_of byte == 6 || class_of byte == 
 abbrev pub is_request_code : ℕ → Bool
 is_request_code byte = nat_lt empty byte && class_of byte == 0
 
--- The code of a response: classes 2 to 5; class 3 is read like the others (RFC 7252 section 12.1.2).
+-- The code of a response: classes 2 to 5; class 3 is read like the others (RFC 7252 section
+-- 12.1.2).
 abbrev pub is_response_code : ℕ → Bool
 is_response_code byte = nat_le 2 (class_of byte) && nat_le (class_of byte) 5

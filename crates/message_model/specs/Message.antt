@@ -1,5 +1,20 @@
--- The message (RFC 7252 section 3): its parts, which parts make a message, and what a message is for.
-use Rattle.std.specs.Prelude.{◌≡◌, ◌<◌, ◌≤◌, ◌^◌, ℕ, false, List, [], ◌∷◌, length, ⊤, ◌==◌, if◌then◌else◌}
+-- The message (RFC 7252 section 3): its parts, which parts make a message, and what a message is
+-- for.
+use Rattle.std.specs.Prelude.{
+  ◌≡◌,
+  ◌<◌,
+  ◌≤◌,
+  ◌^◌,
+  ℕ,
+  false,
+  List,
+  [],
+  ◌∷◌,
+  length,
+  ⊤,
+  ◌==◌,
+  if◌then◌else◌,
+}
 use Rattle.message_model.specs.declared.messages.Kind4.{Kind4}
 use Rattle.message_model.specs.declared.messages.Kind4.TheVariants.{Con, Non, Ack, Rst}
 use Rattle.message_model.specs.declared.messages.Role.{Role}
@@ -32,14 +47,19 @@ last_number = 65535
 abbrev pub longest_value : ℕ
 longest_value = 65804
 
--- Options that can stand after an option of this number: none falls, and each can be written (RFC 7252 section 3.1).
+-- Options that can stand after an option of this number: none falls, and each can be written (RFC
+-- 7252 section 3.1).
 abbrev pub AreOptionsAfter : ℕ → List Opt → Type 0
 AreOptionsAfter before [] = ⊤
 AreOptionsAfter before (option ∷ options) =
-    (before ≤ option.0) × (option.0 ≤ last_number) × (length option.1 ≤ longest_value) × AreBytes option.1
+    (before ≤ option.0)
+    × (option.0 ≤ last_number)
+    × (length option.1 ≤ longest_value)
+    × AreBytes option.1
     × AreOptionsAfter option.0 options
 
--- The number of the last of these options, or the number before where there is none (RFC 7252 section 3.1).
+-- The number of the last of these options, or the number before where there is none (RFC 7252
+-- section 3.1).
 abbrev pub end_number : ℕ → List Opt → ℕ
 end_number before [] = before
 end_number before (option ∷ options) = end_number option.0 options

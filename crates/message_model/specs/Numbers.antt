@@ -1,5 +1,20 @@
 -- Bytes, and the numbers that bytes give.
-use Rattle.std.specs.Prelude.{ℕ, ◌+◌, ◌*◌, ◌/◌, ◌%◌, ◌^◌, ◌<◌, List, [], ◌∷◌, fold, ◌==◌, nat_lt, if◌then◌else◌}
+use Rattle.std.specs.Prelude.{
+  ℕ,
+  ◌+◌,
+  ◌*◌,
+  ◌/◌,
+  ◌%◌,
+  ◌^◌,
+  ◌<◌,
+  List,
+  [],
+  ◌∷◌,
+  fold,
+  ◌==◌,
+  nat_lt,
+  if◌then◌else◌,
+}
 use Rattle.std.specs.List.{AllByRecursion}
 
 -- How many values a byte has.
@@ -14,7 +29,8 @@ IsByte b = b < byte_values
 abbrev pub AreBytes : List ℕ → Type 0
 AreBytes bytes = AllByRecursion IsByte bytes
 
--- The number that bytes give, the most significant byte first; no bytes give 0 (RFC 7252 section 3.2).
+-- The number that bytes give, the most significant byte first; no bytes give 0 (RFC 7252 section
+-- 3.2).
 abbrev pub uint_of : List ℕ → ℕ
 uint_of bytes = fold (λ n b. n * byte_values + b) 0 bytes
 

@@ -1,5 +1,29 @@
--- The options of the directory, and which options of a message are recognized (RFC 7252 sections 5.4 and 5.10).
-use Rattle.std.specs.Prelude.{ℕ, ◌%◌, Bool, true, false, not, ◌&&◌, ◌||◌, List, [], ◌∷◌, length, map, filter, find, Option, Some, None, option_map, ◌==◌, nat_le, if◌then◌else◌}
+-- The options of the directory, and which options of a message are recognized (RFC 7252 sections
+-- 5.4 and 5.10).
+use Rattle.std.specs.Prelude.{
+  ℕ,
+  ◌%◌,
+  Bool,
+  true,
+  false,
+  not,
+  ◌&&◌,
+  ◌||◌,
+  List,
+  [],
+  ◌∷◌,
+  length,
+  map,
+  filter,
+  find,
+  Option,
+  Some,
+  None,
+  option_map,
+  ◌==◌,
+  nat_le,
+  if◌then◌else◌,
+}
 use Rattle.std.specs.List.{list_any}
 use Rattle.message_model.specs.Message.{Opt}
 
@@ -49,7 +73,8 @@ proxy_scheme = 39
 abbrev pub size1 : ℕ
 size1 = 60
 
--- Of an option: the least and greatest length of its value, and whether it may be repeated (RFC 7252 section 5.10).
+-- Of an option: the least and greatest length of its value, and whether it may be repeated (RFC
+-- 7252 section 5.10).
 pub record Definition : Type 0 where
   pub least : ℕ
   pub most : ℕ
@@ -87,15 +112,19 @@ definition_of number =
 abbrev pub stands_in : ℕ → List Opt → Bool
 stands_in number options = list_any (λ option. option.0 == number) options
 
--- The table allows this length, and that it is a further one where it is (RFC 7252 sections 5.4.3 and 5.4.5).
+-- The table allows this length, and that it is a further one where it is (RFC 7252 sections 5.4.3
+-- and 5.4.5).
 abbrev pub is_allowed_by : Option Definition → Bool → ℕ → Bool
 is_allowed_by None is_further size = false
-is_allowed_by (Some d) is_further size = nat_le d.least size && nat_le size d.most && (d.repeatable || not is_further)
+is_allowed_by (Some d) is_further size =
+    nat_le d.least size && nat_le size d.most && (d.repeatable || not is_further)
 
--- The table has its number and allows its length, and it is no second one where one may stand (RFC 7252 section 5.4).
--- An earlier option of its number counts, whether or not that one was recognized.
+-- The table has its number and allows its length, and it is no second one where one may stand (RFC
+-- 7252 section 5.4). An earlier option of its number counts, whether or not that one was
+-- recognized.
 abbrev pub is_recognized : List Opt → ℕ → ℕ → Bool
-is_recognized before number size = is_allowed_by (definition_of number) (stands_in number before) size
+is_recognized before number size =
+    is_allowed_by (definition_of number) (stands_in number before) size
 
 -- Odd numbers are critical (RFC 7252 section 5.4.6).
 abbrev pub is_critical : ℕ → Bool
@@ -108,7 +137,8 @@ Preceded = List Opt × Opt
 -- Each option with the options that stand before it.
 unfoldable pub preceded_options : List Opt → List Preceded
 preceded_options [] = []
-preceded_options (option ∷ options) = ([], option) ∷ map (λ p. (option ∷ p.0, p.1)) (preceded_options options)
+preceded_options (option ∷ options) =
+    ([], option) ∷ map (λ p. (option ∷ p.0, p.1)) (preceded_options options)
 
 -- It is recognized where it stands.
 abbrev pub is_recognized_there : Preceded → Bool
@@ -121,11 +151,13 @@ recognized_options options = map (λ p. p.1) (filter is_recognized_there (preced
 -- The number of the first critical option that is not recognized (RFC 7252 section 5.4.1).
 unfoldable pub first_bad_option : List Opt → Option ℕ
 first_bad_option options =
-    option_map (λ p. p.1.0) (find (λ p. is_critical p.1.0 && not (is_recognized_there p)) (preceded_options options))
+    option_map (λ p. p.1.0)
+    (find (λ p. is_critical p.1.0 && not (is_recognized_there p)) (preceded_options options))
 
 -- The values of the recognized options of a number, in order.
 unfoldable pub values : ℕ → List Opt → List (List ℕ)
-values number options = map (λ option. option.1) (filter (λ option. option.0 == number) (recognized_options options))
+values number options =
+    map (λ option. option.1) (filter (λ option. option.0 == number) (recognized_options options))
 
 -- The first of some values.
 abbrev pub first_of : List (List ℕ) → Option (List ℕ)

@@ -1,5 +1,34 @@
--- The message that bytes spell, or the first fault that keeps them from spelling one (RFC 7252 section 3).
-use Rattle.std.specs.Prelude.{ℕ, zero, suc, ◌+◌, ◌*◌, ◌/◌, ◌%◌, Bool, not, ◌&&◌, ◌||◌, List, [], ◌∷◌, length, take, drop, Option, Some, None, option_and_then, Result, Ok, Err, ◌==◌, nat_lt, if◌then◌else◌}
+-- The message that bytes spell, or the first fault that keeps them from spelling one (RFC 7252
+-- section 3).
+use Rattle.std.specs.Prelude.{
+  ℕ,
+  zero,
+  suc,
+  ◌+◌,
+  ◌*◌,
+  ◌/◌,
+  ◌%◌,
+  Bool,
+  not,
+  ◌&&◌,
+  ◌||◌,
+  List,
+  [],
+  ◌∷◌,
+  length,
+  take,
+  drop,
+  Option,
+  Some,
+  None,
+  option_and_then,
+  Result,
+  Ok,
+  Err,
+  ◌==◌,
+  nat_lt,
+  if◌then◌else◌,
+}
 use Rattle.message_model.specs.declared.messages.Kind4.{Kind4}
 use Rattle.message_model.specs.declared.messages.Kind4.TheVariants.{Con, Non, Ack, Rst}
 use Rattle.message_model.specs.declared.messages.Unread.{Unread}
@@ -47,13 +76,15 @@ header_of first code high low = record {
   mid = high * byte_values + low;
 }
 
--- The header and the bytes after it, unless it is cut off or has another version (RFC 7252 section 3).
+-- The header and the bytes after it, unless it is cut off or has another version (RFC 7252 section
+-- 3).
 unfoldable pub header_at : List ℕ → Result (Header × List ℕ) Unread
 header_at (first ∷ code ∷ high ∷ low ∷ bytes) =
     if first / 64 == version then Ok (header_of first code high low, bytes) else Err unread.Version
 header_at bytes = Err unread.Short
 
--- A delta or a length: its nibble, extended by the bytes after it; 15 is kept for the marker (RFC 7252 section 3.1).
+-- A delta or a length: its nibble, extended by the bytes after it; 15 is kept for the marker (RFC
+-- 7252 section 3.1).
 unfoldable pub extended_at : ℕ → List ℕ → Read ℕ
 extended_at nibble bytes =
     if nat_lt nibble first_extended then Some (nibble, bytes)
@@ -66,14 +97,17 @@ extended_at nibble bytes =
       Some (first_long + (high.0 * byte_values + low.0), low.1))
     else None
 
--- An option after an option of the number before; its own number is at most 65,535 (RFC 7252 section 3.1).
+-- An option after an option of the number before; its own number is at most 65,535 (RFC 7252
+-- section 3.1).
 unfoldable pub option_at : ℕ → List ℕ → Read Opt
 option_at before bytes = do
   nibbles ← byte_at bytes
   delta ← extended_at (nibbles.0 / 16) nibbles.1
   size ← extended_at (nibbles.0 % 16) delta.1
   value ← bytes_at size.0 size.1
-  if nat_lt last_number (before + delta.0) then None else Some ((before + delta.0, value.0), value.1)
+  if nat_lt last_number (before + delta.0)
+      then None
+      else Some ((before + delta.0, value.0), value.1)
 
 -- The options and the payload that follow a token.
 abbrev pub Tail : Type 0
@@ -88,7 +122,8 @@ payload_at (b ∷ bytes) = Some ([], b ∷ bytes)
 abbrev pub with_option : Opt → Tail → Tail
 with_option option tail = (option ∷ tail.0, tail.1)
 
--- A tail of at most n options: nothing, or the marker and a payload, or an option and a tail after it (RFC 7252 section 3).
+-- A tail of at most n options: nothing, or the marker and a payload, or an option and a tail after
+-- it (RFC 7252 section 3).
 unfoldable pub short_tail : ℕ → ℕ → List ℕ → Option Tail
 short_tail n before [] = Some ([], [])
 short_tail zero before (b ∷ bytes) = if b == marker then payload_at bytes else None
@@ -105,10 +140,13 @@ tail_at before bytes = short_tail (length bytes) before bytes
 abbrev pub is_filled : Header → List ℕ → Bool
 is_filled header bytes = not (header.token_length == 0 && length bytes == 0)
 
--- No message has a reserved class, a token of 9 bytes or more, or more than a header at 0.00 (RFC 7252 sections 3 and 4.1).
+-- No message has a reserved class, a token of 9 bytes or more, or more than a header at 0.00 (RFC
+-- 7252 sections 3 and 4.1).
 abbrev pub is_bad_header : Header → List ℕ → Bool
 is_bad_header header bytes =
-    is_reserved header.code || nat_lt longest_token header.token_length || (header.code == empty && is_filled header bytes)
+    is_reserved header.code
+    || nat_lt longest_token header.token_length
+    || (header.code == empty && is_filled header bytes)
 
 -- The message with these parts.
 abbrev pub message_of : Header → List ℕ → Tail → Message
@@ -121,14 +159,16 @@ message_of header token tail = record {
   payload = tail.1;
 }
 
--- The message with this header that the bytes after it give: a token, then a tail (RFC 7252 section 3).
+-- The message with this header that the bytes after it give: a token, then a tail (RFC 7252 section
+-- 3).
 unfoldable pub body_at : Header → List ℕ → Option Message
 body_at header bytes = if is_bad_header header bytes then None else do
   token ← bytes_at header.token_length bytes
   tail ← tail_at 0 token.1
   Some (message_of header token.0 tail)
 
--- Where there is no such message, it is a format error, of this type and Message ID (RFC 7252 section 4.2).
+-- Where there is no such message, it is a format error, of this type and Message ID (RFC 7252
+-- section 4.2).
 abbrev pub or_format : Header → Option Message → Result Message Unread
 or_format header None = Err (unread.Format header.kind header.mid)
 or_format header (Some m) = Ok m
@@ -138,6 +178,7 @@ abbrev pub with_body : Result (Header × List ℕ) Unread → Result Message Unr
 with_body (Err fault) = Err fault
 with_body (Ok header) = or_format header.0 (body_at header.0 header.1)
 
--- The message that bytes spell, or the first fault: too short, another version, a format error (RFC 7252 section 3).
+-- The message that bytes spell, or the first fault: too short, another version, a format error (RFC
+-- 7252 section 3).
 unfoldable pub reading : List ℕ → Result Message Unread
 reading bytes = with_body (header_at bytes)

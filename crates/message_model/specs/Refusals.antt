@@ -1,5 +1,22 @@
 -- The refusals that a request alone decides, in the order in which they are looked for.
-use Rattle.std.specs.Prelude.{ℕ, Bool, true, false, not, ◌&&◌, ◌||◌, List, length, Option, Some, None, is_none, codes, ◌==◌, if◌then◌else◌}
+use Rattle.std.specs.Prelude.{
+  ℕ,
+  Bool,
+  true,
+  false,
+  not,
+  ◌&&◌,
+  ◌||◌,
+  List,
+  length,
+  Option,
+  Some,
+  None,
+  is_none,
+  codes,
+  ◌==◌,
+  if◌then◌else◌,
+}
 use Rattle.message_model.specs.declared.blocks.Block.{Block}
 use Rattle.message_model.specs.declared.requests.Path.{Path}
 use Rattle.message_model.specs.declared.requests.Path.TheVariants as path
@@ -9,7 +26,15 @@ use Rattle.message_model.specs.Codes as code_named
 use Rattle.message_model.specs.Message.{Message}
 use Rattle.message_model.specs.OptionTable.{first_bad_option}
 use Rattle.message_model.specs.Blocks.{block_read, is_misfit}
-use Rattle.message_model.specs.Request.{path_in, accept_in, format_in, block1_in, block2_in, has_proxy, allowed}
+use Rattle.message_model.specs.Request.{
+  path_in,
+  accept_in,
+  format_in,
+  block1_in,
+  block2_in,
+  has_proxy,
+  allowed,
+}
 
 -- The number of the format of link documents (RFC 7252 section 12.3).
 abbrev pub link_format : ℕ
@@ -44,7 +69,8 @@ abbrev pub says_no_block : Option (List ℕ) → Bool
 says_no_block None = false
 says_no_block (Some value) = is_none (block_read value)
 
--- A payload of this length does not fit the block that it is said to be, where it is said to be one.
+-- A payload of this length does not fit the block that it is said to be, where it is said to be
+-- one.
 abbrev pub does_not_fit : Option Block → ℕ → Bool
 does_not_fit None size = false
 does_not_fit (Some b) size = is_misfit b size
@@ -54,7 +80,8 @@ abbrev pub is_misfit_of : Option (List ℕ) → ℕ → Bool
 is_misfit_of None size = false
 is_misfit_of (Some value) size = does_not_fit (block_read value) size
 
--- A Block option says no block, or the payload of a registration does not fit its Block1 (RFC 7959 sections 2.2 and 2.5).
+-- A Block option says no block, or the payload of a registration does not fit its Block1 (RFC 7959
+-- sections 2.2 and 2.5).
 abbrev pub has_bad_block : Message → Bool
 has_bad_block m =
     says_no_block (block1_in m) || says_no_block (block2_in m)
@@ -65,7 +92,8 @@ abbrev pub is_other_format : Option ℕ → Bool
 is_other_format None = false
 is_other_format (Some format) = not (format == link_format)
 
--- The first refusal after that of an unrecognized critical option: proxy, path, method, block, accept, format.
+-- The first refusal after that of an unrecognized critical option: proxy, path, method, block,
+-- accept, format.
 unfoldable pub refusal_after_options : Message → Option Refusal
 refusal_after_options m =
     if has_proxy m then Some refusal.Proxy
@@ -76,7 +104,8 @@ refusal_after_options m =
     else if is_registration m && is_other_format (format_in m) then Some refusal.Format
     else None
 
--- The refusal of a first unrecognized critical option, where there is one, and else the next (RFC 7252 section 5.4.1).
+-- The refusal of a first unrecognized critical option, where there is one, and else the next (RFC
+-- 7252 section 5.4.1).
 abbrev pub option_refusal_or : Option ℕ → Option Refusal → Option Refusal
 option_refusal_or (Some number) later = Some (refusal.BadOption number)
 option_refusal_or None later = later

@@ -1,5 +1,27 @@
 -- The parts of a request, each found by filtering its options (RFC 7252 section 5.10).
-use Rattle.std.specs.Prelude.{ℕ, ◌+◌, ◌-◌, ◌*◌, Bool, false, not, ◌&&◌, ◌||◌, List, [], ◌∷◌, length, fold, Option, option_map, codes, bytes_eq, ◌==◌, nat_le, if◌then◌else◌}
+use Rattle.std.specs.Prelude.{
+  ℕ,
+  ◌+◌,
+  ◌-◌,
+  ◌*◌,
+  Bool,
+  false,
+  not,
+  ◌&&◌,
+  ◌||◌,
+  List,
+  [],
+  ◌∷◌,
+  length,
+  fold,
+  Option,
+  option_map,
+  codes,
+  bytes_eq,
+  ◌==◌,
+  nat_le,
+  if◌then◌else◌,
+}
 use Rattle.std.specs.List.{list_all}
 use Rattle.std.specs.Char.{is_ascii_digit}
 use Rattle.message_model.specs.declared.requests.Path.{Path}
@@ -27,7 +49,10 @@ most_digits = 15
 -- A decimal number of 1 to 15 digits without leading zero.
 abbrev pub is_location : List ℕ → Bool
 is_location text =
-    nat_le 1 (length text) && nat_le (length text) most_digits && list_all is_ascii_digit text && not (has_leading_zero text)
+    nat_le 1 (length text)
+    && nat_le (length text) most_digits
+    && list_all is_ascii_digit text
+    && not (has_leading_zero text)
 
 -- The number that decimal digits say.
 abbrev pub decimal_value : List ℕ → ℕ

@@ -1,4 +1,5 @@
--- What a request is known by besides its sender: method, path and query options (RFC 7959 section 2.4).
+-- What a request is known by besides its sender: method, path and query options (RFC 7959 section
+-- 2.4).
 use Rattle.std.specs.Prelude.{ℕ, List, [], ◌∷◌, ◌++◌, length, flat_map}
 use Rattle.std.specs.Int.{w64, to_be_bytes}
 use Rattle.message_model.specs.declared.requests.Path.{Path}
@@ -6,7 +7,8 @@ use Rattle.message_model.specs.declared.requests.Path.TheVariants as path
 use Rattle.message_model.specs.Message.{Message}
 use Rattle.message_model.specs.Request.{path_in, queries_in}
 
--- A path in the key: one byte for the resource, and the number of a registration in eight bytes, the most significant first.
+-- A path in the key: one byte for the resource, and the number of a registration in eight bytes,
+-- the most significant first.
 abbrev pub path_bytes : Path → List ℕ
 path_bytes path.Core = 0 ∷ []
 path_bytes path.SimpleRd = 1 ∷ []

@@ -1,5 +1,19 @@
 -- The bytes that spell a message (RFC 7252 section 3): one spelling for each message.
-use Rattle.std.specs.Prelude.{ℕ, ◌+◌, ◌-◌, ◌*◌, ◌/◌, ◌%◌, List, [], ◌∷◌, ◌++◌, length, nat_lt, if◌then◌else◌}
+use Rattle.std.specs.Prelude.{
+  ℕ,
+  ◌+◌,
+  ◌-◌,
+  ◌*◌,
+  ◌/◌,
+  ◌%◌,
+  List,
+  [],
+  ◌∷◌,
+  ◌++◌,
+  length,
+  nat_lt,
+  if◌then◌else◌,
+}
 use Rattle.message_model.specs.declared.messages.Kind4.{Kind4}
 use Rattle.message_model.specs.declared.messages.Kind4.TheVariants.{Con, Non, Ack, Rst}
 use Rattle.message_model.specs.Numbers.{byte_values}
@@ -32,14 +46,24 @@ kind_number Non = 1
 kind_number Ack = 2
 kind_number Rst = 3
 
--- Version, type and token length in one byte, the code, and the Message ID in two (RFC 7252 section 3).
+-- Version, type and token length in one byte, the code, and the Message ID in two (RFC 7252 section
+-- 3).
 unfoldable pub header_spelling : Message → List ℕ
 header_spelling m =
-    (version * 64 + kind_number m.kind * 16 + length m.token) ∷ m.code ∷ (m.mid / byte_values) ∷ (m.mid % byte_values) ∷ []
+    (version * 64 + kind_number m.kind * 16 + length m.token)
+    ∷ m.code
+    ∷ (m.mid / byte_values)
+    ∷ (m.mid % byte_values)
+    ∷ []
 
 -- The nibble of an option's delta or length (RFC 7252 section 3.1).
 unfoldable pub nibble_of : ℕ → ℕ
-nibble_of n = if nat_lt n first_extended then n else if nat_lt n first_long then first_extended else long_nibble
+nibble_of n =
+    if nat_lt n first_extended
+    then n
+    else if nat_lt n first_long
+    then first_extended
+    else long_nibble
 
 -- The bytes that extend that nibble (RFC 7252 section 3.1).
 unfoldable pub extension_of : ℕ → List ℕ
@@ -48,7 +72,8 @@ extension_of n =
     else if nat_lt n first_long then (n - first_extended) ∷ []
     else ((n - first_long) / byte_values) ∷ ((n - first_long) % byte_values) ∷ []
 
--- An option after an option of the number before: both nibbles, what extends them, the value (RFC 7252 section 3.1).
+-- An option after an option of the number before: both nibbles, what extends them, the value (RFC
+-- 7252 section 3.1).
 unfoldable pub option_spelling : ℕ → Opt → List ℕ
 option_spelling before option =
     (nibble_of (option.0 - before) * 16 + nibble_of (length option.1))
@@ -57,7 +82,8 @@ option_spelling before option =
 -- The options after an option of the number before, one after the other (RFC 7252 section 3.1).
 unfoldable pub options_spelling : ℕ → List Opt → List ℕ
 options_spelling before [] = []
-options_spelling before (option ∷ options) = option_spelling before option ++ options_spelling option.0 options
+options_spelling before (option ∷ options) =
+    option_spelling before option ++ options_spelling option.0 options
 
 -- The payload after its marker; an empty one has no marker (RFC 7252 section 3).
 unfoldable pub payload_spelling : List ℕ → List ℕ
@@ -66,4 +92,5 @@ payload_spelling (b ∷ bytes) = marker ∷ b ∷ bytes
 
 -- The header, the token, the options and the payload (RFC 7252 section 3).
 unfoldable pub spelling : Message → List ℕ
-spelling m = header_spelling m ++ (m.token ++ (options_spelling 0 m.options ++ payload_spelling m.payload))
+spelling m =
+    header_spelling m ++ (m.token ++ (options_spelling 0 m.options ++ payload_spelling m.payload))

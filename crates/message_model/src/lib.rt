@@ -1,4 +1,5 @@
-//! What the bytes of a CoAP message mean: plain types here, and in specs/ the definitions that contracts cite.
+//! What the bytes of a CoAP message mean: plain types here, and in specs/ the definitions that
+//! contracts cite.
 #![tactic(auto)]
 
 mod blocks;

@@ -19,8 +19,9 @@ pub enum Path {
     Other,
 }
 
-/// Why a request is refused before its query is looked at, in the order in which it is looked for. It is decided by the
-/// request alone, with no query, no body and no registration looked at; a change of the registrations is refused by the
+/// Why a request is refused before its query is looked at, in the order in which it is looked for.
+/// It is decided by the request alone, with no query, no body and no registration looked at; a
+/// change of the registrations is refused by the
 /// `Refusal` of `history_model`.
 #[derive(Clone, Copy, Debug, PartialEq, Eq)]
 pub enum Refusal {

@@ -76,7 +76,7 @@ fn write_message(page: &mut String, indent: &str, view: &View<'_>) -> Result<(),
     write_code(page, view.code)?;
     write_target(page, view)?;
     write_location(page, view)?;
-    write_token(page, view.token)?;
+    write_token(page, view.token.octets)?;
     write_options(page, view)?;
     write_payload(page, indent, view.payload)
 }

@@ -1,12 +1,60 @@
 -- The peers that notices are in flight to, as the table keeps them apart.
-use Rattle.std.proofs.Common.{◌≡◌, ℕ, ◌+◌, ◌<◌, ◌≤◌, zero, suc, Bool, true, false, not, ◌&&◌, ◌||◌, cond, List, [], ◌∷◌, ◌++◌, map, drop, length, get_or, slice_get, append_assoc, append-nil, Some, None, Option, is_some, if◌then◌else◌, refl, sym, ap, ap₂, subst, ◌∙◌, arith}
+use Rattle.std.proofs.Common.{
+  ◌≡◌,
+  ℕ,
+  ◌+◌,
+  ◌<◌,
+  ◌≤◌,
+  zero,
+  suc,
+  Bool,
+  true,
+  false,
+  not,
+  ◌&&◌,
+  ◌||◌,
+  cond,
+  List,
+  [],
+  ◌∷◌,
+  ◌++◌,
+  map,
+  drop,
+  length,
+  get_or,
+  slice_get,
+  append_assoc,
+  append-nil,
+  Some,
+  None,
+  Option,
+  is_some,
+  if◌then◌else◌,
+  refl,
+  sym,
+  ap,
+  ap₂,
+  subst,
+  ◌∙◌,
+  arith,
+}
 use Rattle.std.specs.List.{AllByRecursion, list_any}
 use Rattle.std.proofs.lemmas.Bool.{false≢true, and_from}
 use Rattle.rd_base.specs.declared.peers.Peer.{Peer}
 use Rattle.event_model.specs.Same.{is_same_peer}
 use Rattle.event_model.specs.Flights.{Sent}
 use Rattle.event_model.proofs.SameLaws.{is_same_peer-refl}
-use Rattle.observers.specs.Watchers.{Watcher, is_awaited, is_ready, marked, noticed, seen, timed, kept_of, changed_at}
+use Rattle.observers.specs.Watchers.{
+  Watcher,
+  is_awaited,
+  is_ready,
+  marked,
+  noticed,
+  seen,
+  timed,
+  kept_of,
+  changed_at,
+}
 use Rattle.observers.specs.AwaitedPeers.{awaited_of, flights_of, Tells, AreAwaited}
 
 -- ---- a change that starts and ends no flight
@@ -18,32 +66,70 @@ pub record LeavesFlights (change : Watcher → Watcher) : Type 0 where
 awaits : Peer → Watcher → Bool
 awaits peer w = is_same_peer w.peer peer && is_some w.flight
 
-same_here : (change : Watcher → Watcher) → LeavesFlights change → (peer : Peer) (w : Watcher) → (is_same_peer (change w).peer peer && is_some (change w).flight) ≡ (is_same_peer w.peer peer && is_some w.flight)
-same_here change leaves peer w = ap₂ (λ p b. is_same_peer p peer && b) (leaves.peer w) (leaves.flight w)
+same_here : (change : Watcher → Watcher)
+    → LeavesFlights change
+    → (peer : Peer) (w : Watcher)
+    → (is_same_peer (change w).peer peer && is_some (change w).flight)
+    ≡ (is_same_peer w.peer peer && is_some w.flight)
+same_here change leaves peer w =
+    ap₂ (λ p b. is_same_peer p peer && b) (leaves.peer w) (leaves.flight w)
 
-awaited_map : (change : Watcher → Watcher) → LeavesFlights change → (peer : Peer) (ws : List Watcher) → is_awaited peer (map change ws) ≡ is_awaited peer ws
+awaited_map : (change : Watcher → Watcher)
+    → LeavesFlights change
+    → (peer : Peer) (ws : List Watcher)
+    → is_awaited peer (map change ws) ≡ is_awaited peer ws
 awaited_map change leaves peer [] = refl
-awaited_map change leaves peer (w ∷ ws) = ap₂ (λ a b. a || b) (same_here change leaves peer w) (awaited_map change leaves peer ws)
+awaited_map change leaves peer (w ∷ ws) =
+    ap₂ (λ a b. a || b) (same_here change leaves peer w) (awaited_map change leaves peer ws)
 
-flights_map : (change : Watcher → Watcher) → LeavesFlights change → (ws : List Watcher) → flights_of (map change ws) ≡ flights_of ws
+flights_map : (change : Watcher → Watcher)
+    → LeavesFlights change
+    → (ws : List Watcher)
+    → flights_of (map change ws) ≡ flights_of ws
 flights_map change leaves [] = refl
-flights_map change leaves (w ∷ ws) = ap₂ (λ b n. if b then suc n else n) (leaves.flight w) (flights_map change leaves ws)
+flights_map change leaves (w ∷ ws) =
+    ap₂ (λ b n. if b then suc n else n) (leaves.flight w) (flights_map change leaves ws)
 
-awaited_at : (change : Watcher → Watcher) → LeavesFlights change → (peer : Peer) (i : ℕ) (ws : List Watcher) → is_awaited peer (changed_at change i ws) ≡ is_awaited peer ws
+awaited_at : (change : Watcher → Watcher)
+    → LeavesFlights change
+    → (peer : Peer) (i : ℕ) (ws : List Watcher)
+    → is_awaited peer (changed_at change i ws) ≡ is_awaited peer ws
 awaited_at change leaves peer i [] = refl
-awaited_at change leaves peer zero (w ∷ ws) = ap (λ a. a || is_awaited peer ws) (same_here change leaves peer w)
-awaited_at change leaves peer (suc i) (w ∷ ws) = ap (λ b. (is_same_peer w.peer peer && is_some w.flight) || b) (awaited_at change leaves peer i ws)
+awaited_at change leaves peer zero (w ∷ ws) =
+    ap (λ a. a || is_awaited peer ws) (same_here change leaves peer w)
+awaited_at change leaves peer (suc i) (w ∷ ws) =
+    ap (λ b. (is_same_peer w.peer peer && is_some w.flight) || b)
+    (awaited_at change leaves peer i ws)
 
-flights_at : (change : Watcher → Watcher) → LeavesFlights change → (i : ℕ) (ws : List Watcher) → flights_of (changed_at change i ws) ≡ flights_of ws
+flights_at : (change : Watcher → Watcher)
+    → LeavesFlights change
+    → (i : ℕ) (ws : List Watcher)
+    → flights_of (changed_at change i ws) ≡ flights_of ws
 flights_at change leaves i [] = refl
-flights_at change leaves zero (w ∷ ws) = ap (λ b. if b then suc (flights_of ws) else flights_of ws) (leaves.flight w)
-flights_at change leaves (suc i) (w ∷ ws) = ap (λ n. if is_some w.flight then suc n else n) (flights_at change leaves i ws)
+flights_at change leaves zero (w ∷ ws) =
+    ap (λ b. if b then suc (flights_of ws) else flights_of ws) (leaves.flight w)
+flights_at change leaves (suc i) (w ∷ ws) =
+    ap (λ n. if is_some w.flight then suc n else n) (flights_at change leaves i ws)
 
-pub map-AreAwaited : (change : Watcher → Watcher) → LeavesFlights change → (ws : List Watcher) (peers : List Peer) → AreAwaited ws peers → AreAwaited (map change ws) peers
-map-AreAwaited change leaves ws peers h = record { tells = λ peer. h.tells peer ∙ sym (awaited_map change leaves peer ws); few = subst (λ n. length peers ≤ n) (sym (flights_map change leaves ws)) h.few }
+pub map-AreAwaited : (change : Watcher → Watcher)
+    → LeavesFlights change
+    → (ws : List Watcher) (peers : List Peer)
+    → AreAwaited ws peers
+    → AreAwaited (map change ws) peers
+map-AreAwaited change leaves ws peers h = record {
+  tells = λ peer. h.tells peer ∙ sym (awaited_map change leaves peer ws);
+  few = subst (λ n. length peers ≤ n) (sym (flights_map change leaves ws)) h.few;
+}
 
-pub at-AreAwaited : (change : Watcher → Watcher) → LeavesFlights change → (i : ℕ) (ws : List Watcher) (peers : List Peer) → AreAwaited ws peers → AreAwaited (changed_at change i ws) peers
-at-AreAwaited change leaves i ws peers h = record { tells = λ peer. h.tells peer ∙ sym (awaited_at change leaves peer i ws); few = subst (λ n. length peers ≤ n) (sym (flights_at change leaves i ws)) h.few }
+pub at-AreAwaited : (change : Watcher → Watcher)
+    → LeavesFlights change
+    → (i : ℕ) (ws : List Watcher) (peers : List Peer)
+    → AreAwaited ws peers
+    → AreAwaited (changed_at change i ws) peers
+at-AreAwaited change leaves i ws peers h = record {
+  tells = λ peer. h.tells peer ∙ sym (awaited_at change leaves peer i ws);
+  few = subst (λ n. length peers ≤ n) (sym (flights_at change leaves i ws)) h.few;
+}
 
 pub marked-LeavesFlights : (place : ℕ) → LeavesFlights (marked place)
 marked-LeavesFlights place = record { peer = λ w. refl; flight = λ w. refl }
@@ -68,21 +154,39 @@ and_false : (a : Bool) → (a && false) ≡ false
 and_false true = refl
 and_false false = refl
 
-awaited_pushed : (peer : Peer) (ws : List Watcher) (w : Watcher) → w.flight ≡ None → is_awaited peer (ws ++ w ∷ []) ≡ is_awaited peer ws
-awaited_pushed peer [] w quiet = or_false (is_same_peer w.peer peer && is_some w.flight) ∙ (ap (λ (o : Option Sent). is_same_peer w.peer peer && is_some o) quiet ∙ and_false (is_same_peer w.peer peer))
-awaited_pushed peer (x ∷ ws) w quiet = ap (λ b. (is_same_peer x.peer peer && is_some x.flight) || b) (awaited_pushed peer ws w quiet)
+awaited_pushed : (peer : Peer) (ws : List Watcher) (w : Watcher)
+    → w.flight ≡ None
+    → is_awaited peer (ws ++ w ∷ []) ≡ is_awaited peer ws
+awaited_pushed peer [] w quiet =
+    or_false (is_same_peer w.peer peer && is_some w.flight)
+    ∙ (ap (λ (o : Option Sent). is_same_peer w.peer peer && is_some o) quiet
+    ∙ and_false (is_same_peer w.peer peer))
+awaited_pushed peer (x ∷ ws) w quiet =
+    ap (λ b. (is_same_peer x.peer peer && is_some x.flight) || b) (awaited_pushed peer ws w quiet)
 
-flights_pushed : (ws : List Watcher) (w : Watcher) → w.flight ≡ None → flights_of (ws ++ w ∷ []) ≡ flights_of ws
+flights_pushed : (ws : List Watcher) (w : Watcher)
+    → w.flight ≡ None
+    → flights_of (ws ++ w ∷ []) ≡ flights_of ws
 flights_pushed [] w quiet = ap (λ (o : Option Sent). if is_some o then suc zero else zero) quiet
-flights_pushed (x ∷ ws) w quiet = ap (λ n. if is_some x.flight then suc n else n) (flights_pushed ws w quiet)
+flights_pushed (x ∷ ws) w quiet =
+    ap (λ n. if is_some x.flight then suc n else n) (flights_pushed ws w quiet)
 
-pub pushed-AreAwaited : (ws : List Watcher) (peers : List Peer) (w : Watcher) → w.flight ≡ None → AreAwaited ws peers → AreAwaited (ws ++ w ∷ []) peers
-pushed-AreAwaited ws peers w quiet h = record { tells = λ peer. h.tells peer ∙ sym (awaited_pushed peer ws w quiet); few = subst (λ n. length peers ≤ n) (sym (flights_pushed ws w quiet)) h.few }
+pub pushed-AreAwaited : (ws : List Watcher) (peers : List Peer) (w : Watcher)
+    → w.flight ≡ None
+    → AreAwaited ws peers
+    → AreAwaited (ws ++ w ∷ []) peers
+pushed-AreAwaited ws peers w quiet h = record {
+  tells = λ peer. h.tells peer ∙ sym (awaited_pushed peer ws w quiet);
+  few = subst (λ n. length peers ≤ n) (sym (flights_pushed ws w quiet)) h.few;
+}
 
 -- ---- a notice is formed
 
 -- an observer of a peer that is not awaited awaits nothing
-quiet_at : (ws : List Watcher) (i : ℕ) (w : Watcher) → slice_get ws i ≡ Some w → is_awaited w.peer ws ≡ false → is_some w.flight ≡ false
+quiet_at : (ws : List Watcher) (i : ℕ) (w : Watcher)
+    → slice_get ws i ≡ Some w
+    → is_awaited w.peer ws ≡ false
+    → is_some w.flight ≡ false
 quiet_at [] i w there free = absurd cc
 quiet_at (x ∷ ws) zero w there free = by (is_some w.flight) refl
   where
@@ -93,20 +197,31 @@ quiet_at (x ∷ ws) zero w there free = by (is_some w.flight) refl
     by false e = refl
     by true e =
         let here : (is_same_peer x.peer w.peer && is_some x.flight) ≡ true =
-        and_from (is_same_peer x.peer w.peer) (is_some x.flight) (subst (λ y. is_same_peer y.peer w.peer ≡ true) (sym same) (is_same_peer-refl w.peer)) (subst (λ y. is_some y.flight ≡ true) (sym same) e) in
+        and_from (is_same_peer x.peer w.peer) (is_some x.flight)
+        (subst (λ y. is_same_peer y.peer w.peer ≡ true) (sym same) (is_same_peer-refl w.peer))
+        (subst (λ y. is_some y.flight ≡ true) (sym same) e) in
         absurd (false≢true (sym free ∙ ap (λ a. a || is_awaited w.peer ws) here))
-quiet_at (x ∷ ws) (suc i) w there free = quiet_at ws i w there (rest (is_same_peer x.peer w.peer && is_some x.flight) free)
+quiet_at (x ∷ ws) (suc i) w there free =
+    quiet_at ws i w there (rest (is_same_peer x.peer w.peer && is_some x.flight) free)
   where
     rest : (a : Bool) → (a || is_awaited w.peer ws) ≡ false → is_awaited w.peer ws ≡ false
     rest true h = absurd (false≢true (sym h))
     rest false h = h
 
-awaited_noticed : (s : Sent) (body : List ℕ) (peer : Peer) (ws : List Watcher) (i : ℕ) (w : Watcher) → slice_get ws i ≡ Some w → is_some w.flight ≡ false → is_awaited peer (changed_at (noticed s body) i ws) ≡ (is_awaited peer ws || is_same_peer w.peer peer)
+awaited_noticed : (s : Sent) (body : List ℕ) (peer : Peer) (ws : List Watcher) (i : ℕ) (w : Watcher)
+    → slice_get ws i ≡ Some w
+    → is_some w.flight ≡ false
+    → is_awaited peer (changed_at (noticed s body) i ws)
+    ≡ (is_awaited peer ws || is_same_peer w.peer peer)
 awaited_noticed s body peer [] i w there quiet = absurd cc
 awaited_noticed s body peer (x ∷ ws) zero w there quiet =
     let same : x ≡ w = cc in
-    let here : (is_same_peer x.peer peer && is_some x.flight) ≡ false = ap (λ y. is_same_peer y.peer peer && is_some y.flight) same ∙ (ap (λ b. is_same_peer w.peer peer && b) quiet ∙ and_false (is_same_peer w.peer peer)) in
-    ap (λ (y : Watcher). (is_same_peer y.peer peer && true) || is_awaited peer ws) same ∙ (turned (is_same_peer w.peer peer) (is_awaited peer ws) ∙ ap (λ a. (a || is_awaited peer ws) || is_same_peer w.peer peer) (sym here))
+    let here : (is_same_peer x.peer peer && is_some x.flight) ≡ false =
+    ap (λ y. is_same_peer y.peer peer && is_some y.flight) same
+    ∙ (ap (λ b. is_same_peer w.peer peer && b) quiet ∙ and_false (is_same_peer w.peer peer)) in
+    ap (λ (y : Watcher). (is_same_peer y.peer peer && true) || is_awaited peer ws) same
+    ∙ (turned (is_same_peer w.peer peer) (is_awaited peer ws)
+    ∙ ap (λ a. (a || is_awaited peer ws) || is_same_peer w.peer peer) (sym here))
   where
     turned : (a b : Bool) → ((a && true) || b) ≡ ((false || b) || a)
     turned true true = refl
@@ -114,27 +229,41 @@ awaited_noticed s body peer (x ∷ ws) zero w there quiet =
     turned false true = refl
     turned false false = refl
 awaited_noticed s body peer (x ∷ ws) (suc i) w there quiet =
-    ap (λ b. (is_same_peer x.peer peer && is_some x.flight) || b) (awaited_noticed s body peer ws i w there quiet) ∙ moved (is_same_peer x.peer peer && is_some x.flight) (is_awaited peer ws) (is_same_peer w.peer peer)
+    ap (λ b. (is_same_peer x.peer peer && is_some x.flight) || b)
+    (awaited_noticed s body peer ws i w there quiet)
+    ∙ moved (is_same_peer x.peer peer && is_some x.flight) (is_awaited peer ws)
+    (is_same_peer w.peer peer)
   where
     moved : (a b c : Bool) → (a || (b || c)) ≡ ((a || b) || c)
     moved true b c = refl
     moved false b c = refl
 
-flights_noticed : (s : Sent) (body : List ℕ) (ws : List Watcher) (i : ℕ) (w : Watcher) → slice_get ws i ≡ Some w → is_some w.flight ≡ false → flights_of (changed_at (noticed s body) i ws) ≡ suc (flights_of ws)
+flights_noticed : (s : Sent) (body : List ℕ) (ws : List Watcher) (i : ℕ) (w : Watcher)
+    → slice_get ws i ≡ Some w
+    → is_some w.flight ≡ false
+    → flights_of (changed_at (noticed s body) i ws) ≡ suc (flights_of ws)
 flights_noticed s body [] i w there quiet = absurd cc
 flights_noticed s body (x ∷ ws) zero w there quiet =
     let same : x ≡ w = cc in
     let here : is_some x.flight ≡ false = ap (λ (y : Watcher). is_some y.flight) same ∙ quiet in
     ap (λ b. suc (if b then suc (flights_of ws) else flights_of ws)) (sym here)
-flights_noticed s body (x ∷ ws) (suc i) w there quiet = ap (λ n. if is_some x.flight then suc n else n) (flights_noticed s body ws i w there quiet) ∙ by (is_some x.flight)
+flights_noticed s body (x ∷ ws) (suc i) w there quiet =
+    ap (λ n. if is_some x.flight then suc n else n) (flights_noticed s body ws i w there quiet)
+    ∙ by (is_some x.flight)
   where
-    by : (b : Bool) → (if b then suc (suc (flights_of ws)) else suc (flights_of ws)) ≡ suc (if b then suc (flights_of ws) else flights_of ws)
+    by : (b : Bool)
+        → (if b then suc (suc (flights_of ws)) else suc (flights_of ws))
+        ≡ suc (if b then suc (flights_of ws) else flights_of ws)
     by true = refl
     by false = refl
 
-any_pushed : (peer p : Peer) (peers : List Peer) → list_any (λ q. is_same_peer q peer) (peers ++ p ∷ []) ≡ (list_any (λ q. is_same_peer q peer) peers || is_same_peer p peer)
+any_pushed : (peer p : Peer) (peers : List Peer)
+    → list_any (λ q. is_same_peer q peer) (peers ++ p ∷ [])
+    ≡ (list_any (λ q. is_same_peer q peer) peers || is_same_peer p peer)
 any_pushed peer p [] = or_false (is_same_peer p peer)
-any_pushed peer p (x ∷ peers) = ap (λ b. is_same_peer x peer || b) (any_pushed peer p peers) ∙ moved (is_same_peer x peer) (list_any (λ q. is_same_peer q peer) peers) (is_same_peer p peer)
+any_pushed peer p (x ∷ peers) =
+    ap (λ b. is_same_peer x peer || b) (any_pushed peer p peers)
+    ∙ moved (is_same_peer x peer) (list_any (λ q. is_same_peer q peer) peers) (is_same_peer p peer)
   where
     moved : (a b c : Bool) → (a || (b || c)) ≡ ((a || b) || c)
     moved true b c = refl
@@ -144,14 +273,23 @@ length_pushed : (peers : List Peer) (p : Peer) → length (peers ++ p ∷ []) �
 length_pushed [] p = refl
 length_pushed (x ∷ peers) p = ap suc (length_pushed peers p)
 
-pub noticed-AreAwaited : (s : Sent) (body : List ℕ) (ws : List Watcher) (peers : List Peer) (i : ℕ) (w : Watcher) → slice_get ws i ≡ Some w → is_awaited w.peer ws ≡ false → AreAwaited ws peers → AreAwaited (changed_at (noticed s body) i ws) (peers ++ w.peer ∷ [])
+pub noticed-AreAwaited : (s : Sent) (body : List ℕ) (ws : List Watcher) (peers : List Peer) (i : ℕ)
+    (w : Watcher)
+    → slice_get ws i ≡ Some w
+    → is_awaited w.peer ws ≡ false
+    → AreAwaited ws peers
+    → AreAwaited (changed_at (noticed s body) i ws) (peers ++ w.peer ∷ [])
 noticed-AreAwaited s body ws peers i w there free h =
     let quiet = quiet_at ws i w there free in
     let more = flights_noticed s body ws i w there quiet in
     let longer = length_pushed peers w.peer in
     let few = h.few in
     record {
-      tells = λ peer. any_pushed peer w.peer peers ∙ (ap (λ b. b || is_same_peer w.peer peer) (h.tells peer) ∙ sym (awaited_noticed s body peer ws i w there quiet));
+      tells =
+          λ peer.
+          any_pushed peer w.peer peers
+          ∙ (ap (λ b. b || is_same_peer w.peer peer) (h.tells peer)
+          ∙ sym (awaited_noticed s body peer ws i w there quiet));
       few = omega (arith, more, longer, few);
     }
 
@@ -160,51 +298,77 @@ flights_few : (ws : List Watcher) → flights_of ws ≤ length ws
 flights_few [] = omega arith
 flights_few (w ∷ ws) = by (is_some w.flight) (flights_few ws)
   where
-    by : (b : Bool) → flights_of ws ≤ length ws → (if b then suc (flights_of ws) else flights_of ws) ≤ length (w ∷ ws)
+    by : (b : Bool)
+        → flights_of ws ≤ length ws
+        → (if b then suc (flights_of ws) else flights_of ws) ≤ length (w ∷ ws)
     by true few = omega (arith, few)
     by false few = omega (arith, few)
 
-fewer_flights : (ws : List Watcher) (i : ℕ) (w : Watcher) → slice_get ws i ≡ Some w → is_some w.flight ≡ false → flights_of ws < length ws
+fewer_flights : (ws : List Watcher) (i : ℕ) (w : Watcher)
+    → slice_get ws i ≡ Some w
+    → is_some w.flight ≡ false
+    → flights_of ws < length ws
 fewer_flights [] i w there quiet = absurd cc
 fewer_flights (x ∷ ws) zero w there quiet =
     let same : x ≡ w = cc in
     let here : is_some x.flight ≡ false = ap (λ (y : Watcher). is_some y.flight) same ∙ quiet in
     let few = flights_few ws in
-    let none : flights_of (x ∷ ws) ≡ flights_of ws = ap (λ b. if b then suc (flights_of ws) else flights_of ws) here in
+    let none : flights_of (x ∷ ws) ≡ flights_of ws =
+    ap (λ b. if b then suc (flights_of ws) else flights_of ws) here in
     omega (arith, few, none)
-fewer_flights (x ∷ ws) (suc i) w there quiet = by (is_some x.flight) (fewer_flights ws i w there quiet)
+fewer_flights (x ∷ ws) (suc i) w there quiet =
+    by (is_some x.flight) (fewer_flights ws i w there quiet)
   where
-    by : (b : Bool) → flights_of ws < length ws → (if b then suc (flights_of ws) else flights_of ws) < length (x ∷ ws)
+    by : (b : Bool)
+        → flights_of ws < length ws
+        → (if b then suc (flights_of ws) else flights_of ws) < length (x ∷ ws)
     by true few = omega (arith, few)
     by false few = omega (arith, few)
 
-pub room-AreAwaited : (ws : List Watcher) (peers : List Peer) (i : ℕ) (w : Watcher) → slice_get ws i ≡ Some w → is_awaited w.peer ws ≡ false → AreAwaited ws peers → length peers < length ws
-room-AreAwaited ws peers i w there free h = let fewer = fewer_flights ws i w there (quiet_at ws i w there free) in let few = h.few in omega (arith, fewer, few)
+pub room-AreAwaited : (ws : List Watcher) (peers : List Peer) (i : ℕ) (w : Watcher)
+    → slice_get ws i ≡ Some w
+    → is_awaited w.peer ws ≡ false
+    → AreAwaited ws peers
+    → length peers < length ws
+room-AreAwaited ws peers i w there free h =
+    let fewer = fewer_flights ws i w there (quiet_at ws i w there free) in
+    let few = h.few in omega (arith, fewer, few)
 
 -- ---- gathered anew
 
-tells_of : (peer : Peer) (ws : List Watcher) → list_any (λ q. is_same_peer q peer) (awaited_of ws) ≡ is_awaited peer ws
+tells_of : (peer : Peer) (ws : List Watcher)
+    → list_any (λ q. is_same_peer q peer) (awaited_of ws) ≡ is_awaited peer ws
 tells_of peer [] = refl
 tells_of peer (w ∷ ws) = by (is_some w.flight) (tells_of peer ws)
   where
-    by : (b : Bool) → list_any (λ q. is_same_peer q peer) (awaited_of ws) ≡ is_awaited peer ws → list_any (λ q. is_same_peer q peer) (if b then w.peer ∷ awaited_of ws else awaited_of ws) ≡ ((is_same_peer w.peer peer && b) || is_awaited peer ws)
+    by : (b : Bool)
+        → list_any (λ q. is_same_peer q peer) (awaited_of ws) ≡ is_awaited peer ws
+        → list_any (λ q. is_same_peer q peer) (if b then w.peer ∷ awaited_of ws else awaited_of ws)
+        ≡ ((is_same_peer w.peer peer && b) || is_awaited peer ws)
     by true more = ap₂ (λ a b. a || b) (whole (is_same_peer w.peer peer)) more
       where
         whole : (a : Bool) → a ≡ (a && true)
         whole true = refl
         whole false = refl
-    by false more = more ∙ ap (λ a. a || is_awaited peer ws) (sym (and_false (is_same_peer w.peer peer)))
+    by false more =
+        more ∙ ap (λ a. a || is_awaited peer ws) (sym (and_false (is_same_peer w.peer peer)))
 
 length_of : (ws : List Watcher) → length (awaited_of ws) ≡ flights_of ws
 length_of [] = refl
 length_of (w ∷ ws) = by (is_some w.flight) (length_of ws)
   where
-    by : (b : Bool) → length (awaited_of ws) ≡ flights_of ws → length (if b then w.peer ∷ awaited_of ws else awaited_of ws) ≡ (if b then suc (flights_of ws) else flights_of ws)
+    by : (b : Bool)
+        → length (awaited_of ws) ≡ flights_of ws
+        → length (if b then w.peer ∷ awaited_of ws else awaited_of ws)
+        ≡ (if b then suc (flights_of ws) else flights_of ws)
     by true more = ap suc more
     by false more = more
 
 pub of-AreAwaited : (ws : List Watcher) → AreAwaited ws (awaited_of ws)
-of-AreAwaited ws = record { tells = λ peer. tells_of peer ws; few = let same = length_of ws in omega (arith, same) }
+of-AreAwaited ws = record {
+  tells = λ peer. tells_of peer ws;
+  few = let same = length_of ws in omega (arith, same);
+}
 
 pub empty-AreAwaited : AreAwaited [] []
 empty-AreAwaited = record { tells = λ peer. refl; few = omega arith }
@@ -214,22 +378,40 @@ pub gathered-none : (ws : List Watcher) → awaited_of (drop 0 ws) ≡ awaited_o
 gathered-none [] = refl
 gathered-none (w ∷ ws) = refl
 
-from_index : (xs : List Watcher) (i : ℕ) (w : Watcher) → w ≡ get_or xs i w → i < length xs → drop i xs ≡ w ∷ drop (suc i) xs
+from_index : (xs : List Watcher) (i : ℕ) (w : Watcher)
+    → w ≡ get_or xs i w
+    → i < length xs
+    → drop i xs ≡ w ∷ drop (suc i) xs
 from_index [] i w is inside = absurd (omega (arith, inside))
 from_index (x ∷ xs) zero w is inside = ap (λ y. y ∷ xs) (sym is)
 from_index (x ∷ xs) (suc i) w is inside = from_index xs i w is (omega (arith, inside))
 
 -- the peer of one more is gathered, or it awaits nothing
-pub gathered-more : (ws : List Watcher) (i : ℕ) (w : Watcher) (peers : List Peer) → w ≡ get_or ws i w → i < length ws → is_some w.flight ≡ true → peers ++ awaited_of (drop i ws) ≡ awaited_of ws → (peers ++ w.peer ∷ []) ++ awaited_of (drop (i + 1) ws) ≡ awaited_of ws
+pub gathered-more : (ws : List Watcher) (i : ℕ) (w : Watcher) (peers : List Peer)
+    → w ≡ get_or ws i w
+    → i < length ws
+    → is_some w.flight ≡ true
+    → peers ++ awaited_of (drop i ws) ≡ awaited_of ws
+    → (peers ++ w.peer ∷ []) ++ awaited_of (drop (i + 1) ws) ≡ awaited_of ws
 gathered-more ws i w peers is inside flies h =
     let more : i + 1 ≡ suc i = omega arith in
     append_assoc peers (w.peer ∷ []) (awaited_of (drop (i + 1) ws))
-    ∙ (ap (λ n. peers ++ w.peer ∷ awaited_of (drop n ws)) more ∙ (ap (λ xs. peers ++ xs) (sym (ap awaited_of (from_index ws i w is inside) ∙ (rw flies refl))) ∙ h))
+    ∙ (ap (λ n. peers ++ w.peer ∷ awaited_of (drop n ws)) more
+    ∙ (ap (λ xs. peers ++ xs)
+    (sym (ap awaited_of (from_index ws i w is inside) ∙ (rw flies refl)))
+    ∙ h))
 
-pub gathered-other : (ws : List Watcher) (i : ℕ) (w : Watcher) (peers : List Peer) → w ≡ get_or ws i w → i < length ws → is_some w.flight ≡ false → peers ++ awaited_of (drop i ws) ≡ awaited_of ws → peers ++ awaited_of (drop (i + 1) ws) ≡ awaited_of ws
+pub gathered-other : (ws : List Watcher) (i : ℕ) (w : Watcher) (peers : List Peer)
+    → w ≡ get_or ws i w
+    → i < length ws
+    → is_some w.flight ≡ false
+    → peers ++ awaited_of (drop i ws) ≡ awaited_of ws
+    → peers ++ awaited_of (drop (i + 1) ws) ≡ awaited_of ws
 gathered-other ws i w peers is inside quiet h =
     let more : i + 1 ≡ suc i = omega arith in
-    ap (λ n. peers ++ awaited_of (drop n ws)) more ∙ (ap (λ xs. peers ++ xs) (sym (ap awaited_of (from_index ws i w is inside) ∙ (rw quiet refl))) ∙ h)
+    ap (λ n. peers ++ awaited_of (drop n ws)) more
+    ∙ (ap (λ xs. peers ++ xs) (sym (ap awaited_of (from_index ws i w is inside) ∙ (rw quiet refl)))
+    ∙ h)
 
 drop_past : (xs : List Watcher) (i : ℕ) → length xs ≤ i → drop i xs ≡ []
 drop_past [] zero over = refl
@@ -237,8 +419,12 @@ drop_past [] (suc i) over = refl
 drop_past (x ∷ xs) zero over = absurd (omega arith)
 drop_past (x ∷ xs) (suc i) over = drop_past xs i (omega arith)
 
-pub gathered-all : (ws : List Watcher) (i : ℕ) (peers : List Peer) → length ws ≤ i → peers ++ awaited_of (drop i ws) ≡ awaited_of ws → peers ≡ awaited_of ws
-gathered-all ws i peers over h = sym (append-nil peers) ∙ (ap (λ xs. peers ++ awaited_of xs) (sym (drop_past ws i over)) ∙ h)
+pub gathered-all : (ws : List Watcher) (i : ℕ) (peers : List Peer)
+    → length ws ≤ i
+    → peers ++ awaited_of (drop i ws) ≡ awaited_of ws
+    → peers ≡ awaited_of ws
+gathered-all ws i peers over h =
+    sym (append-nil peers) ∙ (ap (λ xs. peers ++ awaited_of xs) (sym (drop_past ws i over)) ∙ h)
 
 -- ---- a notice is formed, as the table does it
 
@@ -251,24 +437,47 @@ got (x ∷ ws) (suc i) inside = got ws i (omega (arith, inside))
 abbrev pub IsFreeAt : ℕ → List Watcher → Type 0
 IsFreeAt i ws = (w : Watcher) → slice_get ws i ≡ Some w → is_awaited w.peer ws ≡ false
 
-pub formed-room : (ws now : List Watcher) (peers : List Peer) (i : ℕ) → ws ≡ now → i < length now → IsFreeAt i now → AreAwaited ws peers → length ws ≤ 1_024 → length peers < 1_024
+pub formed-room : (ws now : List Watcher) (peers : List Peer) (i : ℕ)
+    → ws ≡ now
+    → i < length now
+    → IsFreeAt i now
+    → AreAwaited ws peers
+    → length ws ≤ 1_024
+    → length peers < 1_024
 formed-room ws now peers i same inside free h few =
     let one = got now i inside in
-    let room = room-AreAwaited now peers i one.0 one.1 (free one.0 one.1) (subst (λ xs. AreAwaited xs peers) same h) in
+    let room =
+    room-AreAwaited now peers i one.0 one.1 (free one.0 one.1)
+    (subst (λ xs. AreAwaited xs peers) same h) in
     let as_long : length ws ≡ length now = ap length same in
     omega (arith, room, as_long, few)
 
-pub formed-AreAwaited : (s : Sent) (body : List ℕ) (ws now after : List Watcher) (peers more : List Peer) (i : ℕ) (p : Peer) → ws ≡ now → i < length now → IsFreeAt i now → AreAwaited ws peers → after ≡ changed_at (noticed s body) i ws
-    → ((w : Watcher) → slice_get ws i ≡ Some w → p ≡ w.peer) → more ≡ peers ++ p ∷ [] → AreAwaited after more
+pub formed-AreAwaited : (s : Sent) (body : List ℕ) (ws now after : List Watcher)
+    (peers more : List Peer) (i : ℕ) (p : Peer)
+    → ws ≡ now
+    → i < length now
+    → IsFreeAt i now
+    → AreAwaited ws peers
+    → after ≡ changed_at (noticed s body) i ws
+    → ((w : Watcher) → slice_get ws i ≡ Some w → p ≡ w.peer)
+    → more ≡ peers ++ p ∷ []
+    → AreAwaited after more
 formed-AreAwaited s body ws now after peers more i p same inside free h is at pushed =
     let one = got now i inside in
     let here : slice_get ws i ≡ Some one.0 = ap (λ xs. slice_get xs i) same ∙ one.1 in
-    let alone : is_awaited one.0.peer ws ≡ false = ap (is_awaited one.0.peer) same ∙ free one.0 one.1 in
+    let alone : is_awaited one.0.peer ws ≡ false =
+    ap (is_awaited one.0.peer) same ∙ free one.0 one.1 in
     subst (AreAwaited after) (sym (pushed ∙ ap (λ q. peers ++ q ∷ []) (at one.0 here)))
-    (subst (λ xs. AreAwaited xs (peers ++ one.0.peer ∷ [])) (sym is) (noticed-AreAwaited s body ws peers i one.0 here alone h))
+    (subst (λ xs. AreAwaited xs (peers ++ one.0.peer ∷ [])) (sym is)
+    (noticed-AreAwaited s body ws peers i one.0 here alone h))
 
 -- whether one is due and free, by the peers that are kept apart
-pub free-ready : (ws : List Watcher) (peers : List Peer) (w : Watcher) (peer : Peer) (b : Bool) → Tells ws peers → true ≡ w.due → peer ≡ w.peer → b ≡ list_any (λ q. is_same_peer q peer) peers → not b ≡ is_ready ws w
+pub free-ready : (ws : List Watcher) (peers : List Peer) (w : Watcher) (peer : Peer) (b : Bool)
+    → Tells ws peers
+    → true ≡ w.due
+    → peer ≡ w.peer
+    → b ≡ list_any (λ q. is_same_peer q peer) peers
+    → not b ≡ is_ready ws w
 free-ready ws peers w peer b tells due same is =
     let among : b ≡ is_awaited w.peer ws = is ∙ (tells peer ∙ ap (λ p. is_awaited p ws) same) in
     ap not among ∙ ap (λ d. d && not (is_awaited w.peer ws)) due

@@ -1,5 +1,30 @@
--- For the crate above: marks that are handed on one place after the other, and what a table stands for after a transition. And whom a table waits for, by events.
-use Rattle.std.proofs.Common.{◌≡◌, ℕ, ◌<◌, ◌==◌, Bool, true, false, ◌&&◌, ◌||◌, List, [], ◌∷◌, map, Option, Some, None, is_some, option_map, refl, sym, ap, ap₂, ◌∙◌}
+-- For the crate above: marks that are handed on one place after the other, and what a table stands
+-- for after a transition. And whom a table waits for, by events.
+use Rattle.std.proofs.Common.{
+  ◌≡◌,
+  ℕ,
+  ◌<◌,
+  ◌==◌,
+  Bool,
+  true,
+  false,
+  ◌&&◌,
+  ◌||◌,
+  List,
+  [],
+  ◌∷◌,
+  map,
+  Option,
+  Some,
+  None,
+  is_some,
+  option_map,
+  refl,
+  sym,
+  ap,
+  ap₂,
+  ◌∙◌,
+}
 use Rattle.std.specs.List.{AllByRecursion, list_any}
 use Rattle.rd_base.specs.declared.peers.Peer.{Peer}
 use Rattle.rd_base.specs.declared.queries.Query.{Query}
@@ -7,7 +32,14 @@ use Rattle.event_model.specs.declared.notes.Observer.{Observer}
 use Rattle.event_model.specs.Same.{is_same_peer}
 use Rattle.event_model.specs.Events.{Event}
 use Rattle.event_model.specs.Observers.{observers}
-use Rattle.event_model.specs.Flights.{OctetsSent, Flight, flight, notice_sent, waiting_notice, is_waited_for}
+use Rattle.event_model.specs.Flights.{
+  OctetsSent,
+  Flight,
+  flight,
+  notice_sent,
+  waiting_notice,
+  is_waited_for,
+}
 use Rattle.event_model.specs.Due.{Transition, Watching, is_change_of, watching, observers_standing}
 use Rattle.event_model.proofs.DueLaws.{IsLookedAt, due_more}
 use Rattle.observers.specs.Watchers.{Watcher, is_awaited, marked}
@@ -45,10 +77,13 @@ handed-none [] = refl
 handed-none (w ∷ ws) = ap₂ (λ x xs. x ∷ xs) (ap (with_due w) (or_false w.due)) (handed-none ws)
 
 -- the mark of one place more
-pub handed-more : (marks : ℕ → Bool) (place : ℕ) (ws : List Watcher) → map (marked place) (map (handed marks) ws) ≡ map (handed (λ p. marks p || p == place)) ws
+pub handed-more : (marks : ℕ → Bool) (place : ℕ) (ws : List Watcher)
+    → map (marked place) (map (handed marks) ws) ≡ map (handed (λ p. marks p || p == place)) ws
 unfolding with_due
 handed-more marks place [] = refl
-handed-more marks place (w ∷ ws) = ap₂ (λ x xs. x ∷ xs) (ap (with_due w) (or_more w.due (marks w.place) (w.place == place))) (handed-more marks place ws)
+handed-more marks place (w ∷ ws) =
+    ap₂ (λ x xs. x ∷ xs) (ap (with_due w) (or_more w.due (marks w.place) (w.place == place)))
+    (handed-more marks place ws)
 
 -- ---- a transition
 
@@ -56,26 +91,41 @@ handed-more marks place (w ∷ ws) = ap₂ (λ x xs. x ∷ xs) (ap (with_due w) 
 abbrev pub changed_by : Transition → Watching → Watching
 changed_by t x = parts x.observer (is_change_of x.observer.query t || x.due) x.last_body x.waits
 
-standing-changed : (octets : OctetsSent) (events : List Event) (t : Transition) (seen : List Transition) (xs : List Observer) → AllByRecursion (λ o. IsLookedAt o events t.place) xs
-    → map (watching octets events (t ∷ seen)) xs ≡ map (changed_by t) (map (watching octets events seen) xs)
+standing-changed : (octets : OctetsSent) (events : List Event) (t : Transition)
+    (seen : List Transition) (xs : List Observer)
+    → AllByRecursion (λ o. IsLookedAt o events t.place) xs
+    → map (watching octets events (t ∷ seen)) xs
+    ≡ map (changed_by t) (map (watching octets events seen) xs)
 standing-changed octets events t seen [] looked = refl
 standing-changed octets events t seen (o ∷ xs) looked =
-    ap₂ (λ x rest. x ∷ rest) (ap (λ d. record (watching octets events seen o) { due = d }) (due_more o events t seen looked.0)) (standing-changed octets events t seen xs looked.1)
+    ap₂ (λ x rest. x ∷ rest) (ap (λ d. record (watching octets events seen o) { due = d })
+    (due_more o events t seen looked.0)) (standing-changed octets events t seen xs looked.1)
 
--- where the marks are exactly the changes of the queries at the places, the table stands for one transition more
-pub marks-StandsFor : (queries : ℕ → Query) (octets : OctetsSent) (events : List Event) (t : Transition) (seen : List Transition) (marks : ℕ → Bool) (ws : List Watcher) → AllByRecursion (λ w. marks w.place ≡ is_change_of (queries w.place) t) ws
-    → AllByRecursion (λ o. IsLookedAt o events t.place) (observers events) → ObserversStandFor queries octets events seen ws → ObserversStandFor queries octets events (t ∷ seen) (map (handed marks) ws)
+-- where the marks are exactly the changes of the queries at the places, the table stands for one
+-- transition more
+pub marks-StandsFor : (queries : ℕ → Query) (octets : OctetsSent) (events : List Event)
+    (t : Transition) (seen : List Transition) (marks : ℕ → Bool) (ws : List Watcher)
+    → AllByRecursion (λ w. marks w.place ≡ is_change_of (queries w.place) t) ws
+    → AllByRecursion (λ o. IsLookedAt o events t.place) (observers events)
+    → ObserversStandFor queries octets events seen ws
+    → ObserversStandFor queries octets events (t ∷ seen) (map (handed marks) ws)
 unfolding observers_standing
 marks-StandsFor queries octets events t seen marks ws exact looked h = record {
-  standing = standing-changed octets events t seen (observers events) looked ∙ (ap (map (changed_by t)) h.standing ∙ each ws exact);
-  awaited = awaits_kept (handed marks) (record { peer = λ w. refl; flight = λ w f. f }) ws h.awaited;
+  standing =
+      standing-changed octets events t seen (observers events) looked
+      ∙ (ap (map (changed_by t)) h.standing ∙ each ws exact);
+  awaited =
+      awaits_kept (handed marks) (record { peer = λ w. refl; flight = λ w f. f }) ws h.awaited;
 }
   where
-    each : (xs : List Watcher) → AllByRecursion (λ w. marks w.place ≡ is_change_of (queries w.place) t) xs → map (changed_by t) (map (shown queries) xs) ≡ map (shown queries) (map (handed marks) xs)
+    each : (xs : List Watcher)
+        → AllByRecursion (λ w. marks w.place ≡ is_change_of (queries w.place) t) xs
+        → map (changed_by t) (map (shown queries) xs) ≡ map (shown queries) (map (handed marks) xs)
     each [] e = refl
     each (w ∷ xs) e =
         ap₂ (λ x rest. x ∷ rest)
-        (ap (λ d. record (shown queries w) { due = d }) (ap (λ b. b || w.due) (sym e.0) ∙ or_turned (marks w.place) w.due)) (each xs e.1)
+        (ap (λ d. record (shown queries w) { due = d })
+        (ap (λ b. b || w.due) (sym e.0) ∙ or_turned (marks w.place) w.due)) (each xs e.1)
 
 -- ---- who is waited for
 
@@ -83,10 +133,15 @@ is_some_map : {A B : Type 0} (f : A → B) (o : Option A) → is_some (option_ma
 is_some_map f None = refl
 is_some_map f (Some x) = refl
 
--- a notice is in flight to one of the observers of a peer by the table exactly where it is by the events
-pub awaited-StandsFor : (queries : ℕ → Query) (octets : OctetsSent) (events : List Event) (seen : List Transition) (ws : List Watcher) (peer : Peer) → ObserversStandFor queries octets events seen ws → is_awaited peer ws ≡ is_waited_for peer events
+-- a notice is in flight to one of the observers of a peer by the table exactly where it is by the
+-- events
+pub awaited-StandsFor : (queries : ℕ → Query) (octets : OctetsSent) (events : List Event)
+    (seen : List Transition) (ws : List Watcher) (peer : Peer)
+    → ObserversStandFor queries octets events seen ws
+    → is_awaited peer ws ≡ is_waited_for peer events
 unfolding observers_standing is_waited_for waiting_notice
-awaited-StandsFor queries octets events seen ws peer h = sym (in_table ws) ∙ (ap (list_any test) (sym h.standing) ∙ by_events (observers events))
+awaited-StandsFor queries octets events seen ws peer h =
+    sym (in_table ws) ∙ (ap (list_any test) (sym h.standing) ∙ by_events (observers events))
   where
     test : Watching → Bool
     test x = is_same_peer x.observer.peer peer && is_some x.waits
@@ -95,6 +150,10 @@ awaited-StandsFor queries octets events seen ws peer h = sym (in_table ws) ∙ (
     in_table [] = refl
     in_table (w ∷ xs) = ap (λ b. (is_same_peer w.peer peer && is_some w.flight) || b) (in_table xs)
 
-    by_events : (xs : List Observer) → list_any test (map (watching octets events seen) xs) ≡ list_any (λ o. is_same_peer o.peer peer && is_some (flight o events)) xs
+    by_events : (xs : List Observer)
+        → list_any test (map (watching octets events seen) xs)
+        ≡ list_any (λ o. is_same_peer o.peer peer && is_some (flight o events)) xs
     by_events [] = refl
-    by_events (o ∷ xs) = ap₂ (λ a b. (is_same_peer o.peer peer && a) || b) (is_some_map (notice_sent octets o.peer) (flight o events)) (by_events xs)
+    by_events (o ∷ xs) =
+        ap₂ (λ a b. (is_same_peer o.peer peer && a) || b)
+        (is_some_map (notice_sent octets o.peer) (flight o events)) (by_events xs)

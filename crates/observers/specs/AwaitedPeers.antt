@@ -1,5 +1,19 @@
--- The peers that notices are in flight to, as the table keeps them apart, so that an observer that is due is looked for without a walk over all.
-use Rattle.std.specs.Prelude.{◌≡◌, ℕ, ◌≤◌, zero, suc, Bool, List, [], ◌∷◌, length, is_some, if◌then◌else◌}
+-- The peers that notices are in flight to, as the table keeps them apart, so that an observer that
+-- is due is looked for without a walk over all.
+use Rattle.std.specs.Prelude.{
+  ◌≡◌,
+  ℕ,
+  ◌≤◌,
+  zero,
+  suc,
+  Bool,
+  List,
+  [],
+  ◌∷◌,
+  length,
+  is_some,
+  if◌then◌else◌,
+}
 use Rattle.std.specs.List.{list_any}
 use Rattle.rd_base.specs.declared.peers.Peer.{Peer}
 use Rattle.event_model.specs.Same.{is_same_peer}

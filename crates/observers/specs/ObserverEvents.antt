@@ -1,5 +1,23 @@
 -- Which events of a journal a table of observers stands for (RFC 7641 section 4).
-use Rattle.std.specs.Prelude.{◌≡◌, ℕ, ◌≤◌, Bool, true, false, ◌||◌, nat_lt, List, [], ◌∷◌, map, length, Option, Some, None, is_some}
+use Rattle.std.specs.Prelude.{
+  ◌≡◌,
+  ℕ,
+  ◌≤◌,
+  Bool,
+  true,
+  false,
+  ◌||◌,
+  nat_lt,
+  List,
+  [],
+  ◌∷◌,
+  map,
+  length,
+  Option,
+  Some,
+  None,
+  is_some,
+}
 use Rattle.std.specs.List.{AllByRecursion}
 use Rattle.rd_base.specs.declared.peers.Peer.{Peer}
 use Rattle.rd_base.specs.declared.queries.Query.{Query}
@@ -17,22 +35,40 @@ use Rattle.observers.specs.Watchers.{Watcher}
 
 -- an observer of the table as the notes speak of it, by the query that is watched at each place
 abbrev pub observer_of : (ℕ → Query) → Watcher → Observer
-observer_of queries w = record { peer = w.peer; token = w.token; query = queries w.place; key = w.key; szx = w.szx }
+observer_of queries w = record {
+  peer = w.peer;
+  token = w.token;
+  query = queries w.place;
+  key = w.key;
+  szx = w.szx;
+}
 
 -- the observer, whether it is due, its last body and its notice in flight
 abbrev pub shown : (ℕ → Query) → Watcher → Watching
-shown queries w = record { observer = observer_of queries w; due = w.due; last_body = Some w.last; waits = w.flight }
+shown queries w = record {
+  observer = observer_of queries w;
+  due = w.due;
+  last_body = Some w.last;
+  waits = w.flight;
+}
 
 -- of two observers of one peer at most one has a notice in flight (RFC 7252 section 4.7, NSTART)
 abbrev pub AwaitsOne : Watcher → Watcher → Type 0
-AwaitsOne w other = is_same_peer other.peer w.peer ≡ true → is_some w.flight ≡ true → is_some other.flight ≡ true → ⊥
+AwaitsOne w other =
+    is_same_peer other.peer w.peer ≡ true
+    → is_some w.flight ≡ true
+    → is_some other.flight ≡ true
+    → ⊥
 
 abbrev pub EachAwaitsOne : List Watcher → Type 0
 EachAwaitsOne [] = Unit {0}
 EachAwaitsOne (w ∷ ws) = AllByRecursion (AwaitsOne w) ws × EachAwaitsOne ws
 
--- by the queries at their places, and by the octets that rows sent, a table stands for events and transitions: it shows the observers that stand, in their order, and for no peer are two notices in flight
-pub record ObserversStandFor (queries : ℕ → Query) (octets : OctetsSent) (events : List Event) (transitions : List Transition) (ws : List Watcher) : Type 0 where
+-- by the queries at their places, and by the octets that rows sent, a table stands for events and
+-- transitions: it shows the observers that stand, in their order, and for no peer are two notices
+-- in flight
+pub record ObserversStandFor (queries : ℕ → Query) (octets : OctetsSent) (events : List Event)
+    (transitions : List Transition) (ws : List Watcher) : Type 0 where
   pub standing : observers_standing octets events transitions ≡ map (shown queries) ws
   pub awaited : EachAwaitsOne ws
 
@@ -40,7 +76,8 @@ pub record ObserversStandFor (queries : ℕ → Query) (octets : OctetsSent) (ev
 abbrev pub NoneLater : ℕ → List Transition → Type 0
 NoneLater place transitions = AllByRecursion (λ t. t.place ≤ place) transitions
 
--- what is due of a notice in flight, by the events that formed it and sent it again; where there is none, nothing
+-- what is due of a notice in flight, by the events that formed it and sent it again; where there is
+-- none, nothing
 abbrev pub notice_due : ℕ → Option Flight → Again
 notice_due now None = again.Wait
 notice_due now (Some f) = due_at now f.formed f.again

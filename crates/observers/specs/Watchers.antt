@@ -1,5 +1,25 @@
 -- The observers of a table: which is found, and what changes (RFC 7641 section 4).
-use Rattle.std.specs.Prelude.{ℕ, ◌+◌, zero, suc, Bool, false, not, ◌&&◌, ◌||◌, ◌==◌, List, [], ◌∷◌, drop, Option, Some, None, is_some, if◌then◌else◌}
+use Rattle.std.specs.Prelude.{
+  ℕ,
+  ◌+◌,
+  zero,
+  suc,
+  Bool,
+  false,
+  not,
+  ◌&&◌,
+  ◌||◌,
+  ◌==◌,
+  List,
+  [],
+  ◌∷◌,
+  drop,
+  Option,
+  Some,
+  None,
+  is_some,
+  if◌then◌else◌,
+}
 use Rattle.std.specs.List.{list_any}
 use Rattle.rd_base.specs.declared.peers.Peer.{Peer}
 use Rattle.event_model.specs.Same.{is_same_peer, is_same_request}
@@ -8,7 +28,8 @@ use Rattle.exchange_core.specs.declared.resends.Again.{Again}
 use Rattle.exchange_core.specs.declared.resends.Again.TheVariants as again
 use Rattle.exchange_core.specs.Retransmissions.{kept_due, kept_after}
 
--- an observer as the table keeps it: who it is, where its query is watched, whether it is due, the body that was last formed for it, and its notice in flight
+-- an observer as the table keeps it: who it is, where its query is watched, whether it is due, the
+-- body that was last formed for it, and its notice in flight
 pub record Watcher : Type 0 where
   pub peer : Peer
   pub token : List ℕ

@@ -1,7 +1,8 @@
 //! An observer of a lookup.
 ghost use Rattle.std.specs.Prelude.{◌≡◌};
 ghost use Rattle.std.specs.Arc.{arc_value};
-ghost use Rattle.observers.specs.Watchers.{is_named, has_notice, marked, noticed, seen, landed, due_of, timed};
+ghost use Rattle.observers.specs.Watchers.{is_named, has_notice, marked, noticed, seen, landed};
+ghost use Rattle.observers.specs.Watchers.{due_of, timed};
 
 use exchange_core::{Again, Sent, Token};
 use rd_base::{Bytes, Key, Moment, Peer};
@@ -35,7 +36,21 @@ impl Model for Observer {
 
     ghost Value = { Watcher };
 
-    ghost view = { λ o. record { peer = o.peer; token = o.token; place = o.place; key = o.key; szx = o.szx; due = o.due; last = arc_value o.last; flight = o.flight } };
+    ghost view = { λ o. record {
+      peer =
+          o.peer;
+      token =
+          o.token;
+      place =
+          o.place;
+      key =
+          o.key;
+      szx =
+          o.szx;
+      due = o.due;
+      last = arc_value o.last;
+      flight = o.flight;
+    } };
 }
 
 impl Observer {

@@ -1,11 +1,14 @@
 //! Walks over observers: which is found, and how one of them changes.
-ghost use Rattle.std.specs.Prelude.{◌≡◌, ◌<◌, ◌≤◌, ℕ, ◌++◌, ◌∷◌, [], Some, Bool, List, map, find, slice_get, length, option_map, IfSome, vec_len, vec_capacity};
+ghost use Rattle.std.specs.Prelude.{◌≡◌, ◌<◌, ◌≤◌, ℕ, ◌++◌, ◌∷◌, [], Some, Bool, List, map, find};
+ghost use Rattle.std.specs.Prelude.{slice_get, length, option_map, IfSome, vec_len, vec_capacity};
 ghost use Rattle.std.specs.List.{list_any, position};
 ghost use Rattle.std.specs.Arc.{arc_value};
 ghost use Rattle.event_model.specs.Same.{is_same_peer};
 ghost use Rattle.observers.specs.AwaitedPeers.{awaited_of, Tells};
 ghost use Rattle.rd_base.specs.Firsts.{changed_first, without_first};
-ghost use Rattle.observers.specs.Watchers.{Watcher, is_named, has_notice, is_awaited, is_ready, next_ready, marked, noticed, seen, landed, due_of, timed, changed_at};
+ghost use Rattle.observers.specs.Watchers.{Watcher, is_named, has_notice, is_awaited, is_ready};
+ghost use Rattle.observers.specs.Watchers.{next_ready, marked, noticed, seen, landed, due_of};
+ghost use Rattle.observers.specs.Watchers.{timed, changed_at};
 
 use crate::Observer;
 use exchange_core::{Again, Sent, Token};
@@ -30,11 +33,16 @@ pub(crate) fn index_of_notice(observers: &[Observer], peer: &Peer, mid: u16) -> 
         .position(|observer| observer.has_notice(peer, mid))
 }
 
-/// Takes out the observer with an index, where there is one: it is the first that passes a test where its index is that of the first.
+/// Takes out the observer with an index, where there is one: it is the first that passes a test
+/// where its index is that of the first.
 pub(crate) fn take(observers: &mut Vec<Observer>, index: Option<usize>) -> Option<Observer>
     requires { (test : Watcher → Bool) × (index ≡ position test observers.old.items) }
-    ensures found { (test : Watcher → Bool) → index ≡ position test observers.old.items → result ≡ find test observers.old.items }
-    ensures left { (test : Watcher → Bool) → index ≡ position test observers.old.items → observers.new.items ≡ without_first test observers.old.items }
+    ensures found { (test : Watcher → Bool)
+        → index ≡ position test observers.old.items
+        → result ≡ find test observers.old.items }
+    ensures left { (test : Watcher → Bool)
+        → index ≡ position test observers.old.items
+        → observers.new.items ≡ without_first test observers.old.items }
     ensures len { vec_len observers.new ≤ vec_len observers.old }
     ensures capacity { vec_capacity observers.new ≡ vec_capacity observers.old }
 {
@@ -96,7 +104,8 @@ fn is_free(awaited: &[Peer], observer: &Observer) -> bool
     !is_among(awaited, observer.peer())
 }
 
-/// The first index from a number on of an observer that is due and to whose peer no notice is in flight.
+/// The first index from a number on of an observer that is due and to whose peer no notice is in
+/// flight.
 pub(crate) fn next_in(observers: &[Observer], awaited: &[Peer], from: usize) -> Option<usize>
     requires { Tells observers.now awaited.now }
     ensures { result ≡ next_ready from observers.now }
@@ -122,7 +131,8 @@ pub(crate) fn peer_at(observers: &[Observer], index: usize) -> Peer
 /// A notice with a body was formed for the observer with an index.
 pub(crate) fn notice_at(observers: &mut Vec<Observer>, index: usize, flight: Sent, body: Arc<Bytes>)
     requires { index < length observers.old.items }
-    ensures noticed { observers.new.items ≡ changed_at (noticed flight (arc_value body)) index observers.old.items }
+    ensures noticed { observers.new.items
+        ≡ changed_at (noticed flight (arc_value body)) index observers.old.items }
     ensures capacity { vec_capacity observers.new ≡ vec_capacity observers.old }
     ensures len { vec_len observers.new ≡ vec_len observers.old }
 {
@@ -142,7 +152,9 @@ pub(crate) fn see_at(observers: &mut Vec<Observer>, index: usize)
 /// What is due of the notice of the observer with an index.
 pub(crate) fn time_at(observers: &mut Vec<Observer>, index: usize, now: Moment) -> Again
     requires { index < length observers.old.items }
-    ensures due { (w : Watcher) → slice_get observers.old.items index ≡ Some w → result ≡ due_of now.0 w.flight }
+    ensures due { (w : Watcher)
+        → slice_get observers.old.items index ≡ Some w
+        → result ≡ due_of now.0 w.flight }
     ensures kept { observers.new.items ≡ changed_at (timed now.0) index observers.old.items }
     ensures capacity { vec_capacity observers.new ≡ vec_capacity observers.old }
     ensures len { vec_len observers.new ≡ vec_len observers.old }
@@ -153,7 +165,8 @@ pub(crate) fn time_at(observers: &mut Vec<Observer>, index: usize, now: Moment) 
 /// The notice with a Message ID that is in flight to a peer was acknowledged; whether there is one.
 pub(crate) fn land_first(observers: &mut Vec<Observer>, peer: &Peer, mid: u16) -> bool
     ensures found { result ≡ list_any (has_notice peer.now mid) observers.old.items }
-    ensures landed { observers.new.items ≡ changed_first (has_notice peer.now mid) landed observers.old.items }
+    ensures landed { observers.new.items
+        ≡ changed_first (has_notice peer.now mid) landed observers.old.items }
     ensures capacity { vec_capacity observers.new ≡ vec_capacity observers.old }
     ensures len { vec_len observers.new ≡ vec_len observers.old }
 {

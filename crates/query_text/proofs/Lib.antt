@@ -1,6 +1,7 @@
--- Proofs of the code that reads query options. NumberLaws, BaseLaws: single values. OctetFaults, RuleLaws: why one option is
--- refused. WalkLaws: the first fault, option by option. Choices, ParametersKept, OptionsKept: what is kept of options.
--- Results, LookupResults: what the calls answer.
+-- Proofs of the code that reads query options. NumberLaws, BaseLaws: single values. OctetFaults,
+-- RuleLaws: why one option is refused. WalkLaws: the first fault, option by option. Choices,
+-- ParametersKept, OptionsKept: what is kept of options. Results, LookupResults: what the calls
+-- answer.
 pub mod NumberLaws
 pub mod BaseLaws
 pub mod OctetFaults

@@ -1,5 +1,18 @@
 -- What the options of a lookup ask for.
-use Rattle.std.specs.Prelude.{ℕ, not, List, [], ◌∷◌, ◌++◌, bytes_eq, map, filter, Option, None, if◌then◌else◌}
+use Rattle.std.specs.Prelude.{
+  ℕ,
+  not,
+  List,
+  [],
+  ◌∷◌,
+  ◌++◌,
+  bytes_eq,
+  map,
+  filter,
+  Option,
+  None,
+  if◌then◌else◌,
+}
 use Rattle.rd_base.specs.declared.queries.Kind.{Kind}
 use Rattle.rd_base.specs.declared.queries.Criterion.{Criterion}
 use Rattle.rd_base.specs.declared.queries.Query.{Query}
@@ -33,9 +46,19 @@ nothing_wanted = record { criteria = []; page = None; count = None }
 -- with an option after it
 unfoldable pub wanted_with : Wanted → List ℕ → List ℕ → Wanted
 wanted_with w name value =
-    if bytes_eq name page then record { criteria = w.criteria; page = or_else w.page (number_in value); count = w.count }
-    else (if bytes_eq name count then record { criteria = w.criteria; page = w.page; count = or_else w.count (number_in value) }
-    else record { criteria = w.criteria ++ (record { name = name; pattern = value } ∷ []); page = w.page; count = w.count })
+    if bytes_eq name page then record {
+      criteria = w.criteria;
+      page = or_else w.page (number_in value);
+      count = w.count;
+    }
+    else (if bytes_eq name count then record
+    { criteria = w.criteria; page = w.page; count = or_else w.count (number_in value) }
+    else record {
+      criteria = w.criteria
+          ++ (record { name = name; pattern = value } ∷ []);
+      page = w.page;
+      count = w.count;
+    })
 
 -- the query of that kind that asks for this
 abbrev pub query_of : Kind → Wanted → Query

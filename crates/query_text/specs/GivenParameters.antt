@@ -1,11 +1,31 @@
 -- What parameters give.
-use Rattle.std.specs.Prelude.{ℕ, List, [], ◌∷◌, ◌++◌, bytes_eq, Option, None, Some, if◌then◌else◌, unwrap_or}
+use Rattle.std.specs.Prelude.{
+  ℕ,
+  List,
+  [],
+  ◌∷◌,
+  ◌++◌,
+  bytes_eq,
+  Option,
+  None,
+  Some,
+  if◌then◌else◌,
+  unwrap_or,
+}
 use Rattle.rd_base.specs.declared.attributes.Pair.{Pair}
 use Rattle.rd_base.specs.declared.parameters.RegParams.{RegParams}
 use Rattle.rd_base.specs.declared.parameters.UpdateParams.{UpdateParams}
 use Rattle.record_model.specs.Faults.{or_else}
 use Rattle.record_model.specs.Options.{value_named}
-use Rattle.record_model.specs.Parameters.{ep, sector, lifetime, base, default_lifetime, given_lifetime, extra_attributes}
+use Rattle.record_model.specs.Parameters.{
+  ep,
+  sector,
+  lifetime,
+  base,
+  default_lifetime,
+  given_lifetime,
+  extra_attributes,
+}
 use Rattle.query_text.specs.declared.given_parameters.Given.{Given}
 use Rattle.query_text.specs.Numbers.{lifetime_in}
 
@@ -19,7 +39,13 @@ pub record GivenValues : Type 0 where
 
 -- what is kept
 abbrev pub values_in : Given → GivenValues
-values_in given = record { ep = given.ep; sector = given.sector; lifetime = given.lifetime; base = given.base; attributes = given.attributes.items }
+values_in given = record {
+  ep = given.ep;
+  sector = given.sector;
+  lifetime = given.lifetime;
+  base = given.base;
+  attributes = given.attributes.items;
+}
 
 -- what parameters give
 unfoldable pub values_of : List (List ℕ) → GivenValues
@@ -38,11 +64,53 @@ nothing_given = record { ep = None; sector = None; lifetime = None; base = None;
 -- with a parameter after it
 unfoldable pub given_with : GivenValues → List ℕ → List ℕ → GivenValues
 given_with g name value =
-    if bytes_eq name ep then record { ep = or_else g.ep (Some value); sector = g.sector; lifetime = g.lifetime; base = g.base; attributes = g.attributes }
-    else (if bytes_eq name sector then record { ep = g.ep; sector = or_else g.sector (Some value); lifetime = g.lifetime; base = g.base; attributes = g.attributes }
-    else (if bytes_eq name lifetime then record { ep = g.ep; sector = g.sector; lifetime = or_else g.lifetime (lifetime_in value); base = g.base; attributes = g.attributes }
-    else (if bytes_eq name base then record { ep = g.ep; sector = g.sector; lifetime = g.lifetime; base = or_else g.base (Some value); attributes = g.attributes }
-    else record { ep = g.ep; sector = g.sector; lifetime = g.lifetime; base = g.base; attributes = g.attributes ++ (record { name = name; value = value } ∷ []) })))
+    if bytes_eq name ep then record {
+      ep = or_else g.ep (Some value);
+      sector = g.sector;
+      lifetime = g.lifetime;
+      base = g.base;
+      attributes = g.attributes;
+    }
+    else (if bytes_eq name sector then record {
+      ep =
+          g.ep;
+      sector =
+          or_else g.sector (Some value);
+      lifetime =
+          g.lifetime;
+      base = g.base;
+      attributes = g.attributes;
+    }
+    else (if bytes_eq name lifetime then record {
+      ep =
+          g.ep;
+      sector =
+          g.sector;
+      lifetime =
+          or_else g.lifetime (lifetime_in value);
+      base =
+          g.base;
+      attributes = g.attributes;
+    }
+    else (if bytes_eq name base then record {
+      ep =
+          g.ep;
+      sector =
+          g.sector;
+      lifetime =
+          g.lifetime;
+      base = or_else g.base (Some value);
+      attributes = g.attributes;
+    }
+    else record {
+      ep = g.ep;
+      sector = g.sector;
+      lifetime = g.lifetime;
+      base = g.base;
+      attributes =
+          g.attributes
+          ++ (record { name = name; value = value } ∷ []);
+    })))
 
 -- the parameters of a registration that give this
 abbrev pub registration_of : GivenValues → RegParams

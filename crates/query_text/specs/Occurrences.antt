@@ -18,7 +18,14 @@ occurred_of others = record {
 
 -- none of them
 abbrev pub nothing_occurred : Occurred
-nothing_occurred = record { ep = false; sector = false; lifetime = false; base = false; page = false; count = false }
+nothing_occurred = record {
+  ep = false;
+  sector = false;
+  lifetime = false;
+  base = false;
+  page = false;
+  count = false;
+}
 
 -- with an option of this name more
 abbrev pub occurred_with : Occurred → List ℕ → Occurred

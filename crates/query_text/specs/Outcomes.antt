@@ -25,7 +25,8 @@ registering simple = if simple then reading.Simple else reading.Register
 
 -- all parameters are kept, or there is a first fault; or memory runs out
 abbrev pub Gathers : Reading → List (List ℕ) → Result Given QueryBad → Type 0
-Gathers kind left (Ok given) = (parameters_fault kind left ≡ None) × (values_in given ≡ values_of left)
+Gathers kind left (Ok given) =
+    (parameters_fault kind left ≡ None) × (values_in given ≡ values_of left)
 Gathers kind left (Err (bad.At index why)) = parameters_fault kind left ≡ Some (index, why)
 Gathers kind left (Err bad.Starved) = Unit {0}
 

@@ -1,5 +1,23 @@
 -- What an option is refused for, where it is known which names occurred before it.
-use Rattle.std.specs.Prelude.{ℕ, Bool, true, false, not, ◌&&◌, ◌||◌, nat_lt, List, [], ◌∷◌, length, bytes_eq, Option, Some, None, if◌then◌else◌}
+use Rattle.std.specs.Prelude.{
+  ℕ,
+  Bool,
+  true,
+  false,
+  not,
+  ◌&&◌,
+  ◌||◌,
+  nat_lt,
+  List,
+  [],
+  ◌∷◌,
+  length,
+  bytes_eq,
+  Option,
+  Some,
+  None,
+  if◌then◌else◌,
+}
 use Rattle.std.specs.Str.{is_utf8}
 use Rattle.record_model.specs.declared.readings.Reading.{Reading}
 use Rattle.record_model.specs.declared.readings.Reading.TheVariants as reading
@@ -8,7 +26,20 @@ use Rattle.record_model.specs.declared.readings.Why.TheVariants as why
 use Rattle.link_model.specs.Characters.{is_empty}
 use Rattle.record_model.specs.Faults.{first_reason}
 use Rattle.record_model.specs.Options.{option_name, option_value, is_number}
-use Rattle.record_model.specs.Parameters.{ep, sector, lifetime, base, max_name, has_control, is_lifetime, is_base, is_link_local, is_extra_name, is_update, is_simple}
+use Rattle.record_model.specs.Parameters.{
+  ep,
+  sector,
+  lifetime,
+  base,
+  max_name,
+  has_control,
+  is_lifetime,
+  is_base,
+  is_link_local,
+  is_extra_name,
+  is_update,
+  is_simple,
+}
 use Rattle.record_model.specs.Criteria.{page, count}
 use Rattle.query_text.specs.declared.occurrences.Occurred.{Occurred}
 
@@ -20,16 +51,25 @@ is_lookup _ = false
 -- what the name of an endpoint or a sector is refused for
 abbrev pub name_fault : Reading → Bool → List ℕ → Option Why
 name_fault kind occurred value =
-    first_reason ((is_update kind, why.NotHere) ∷ (occurred, why.Repeated) ∷ (is_empty value, why.Empty) ∷ (nat_lt max_name (length value), why.TooLong) ∷ [])
+    first_reason ((is_update kind, why.NotHere)
+    ∷ (occurred, why.Repeated)
+    ∷ (is_empty value, why.Empty)
+    ∷ (nat_lt max_name (length value), why.TooLong)
+    ∷ [])
 
 -- what a lifetime is refused for
 abbrev pub lifetime_fault : Bool → List ℕ → Option Why
-lifetime_fault occurred value = first_reason ((occurred, why.Repeated) ∷ (not (is_lifetime value), why.Lt) ∷ [])
+lifetime_fault occurred value =
+    first_reason ((occurred, why.Repeated) ∷ (not (is_lifetime value), why.Lt) ∷ [])
 
 -- what a base is refused for
 abbrev pub given_base_fault : Reading → Bool → List ℕ → Option Why
 given_base_fault kind occurred value =
-    first_reason ((is_simple kind, why.NotHere) ∷ (occurred, why.Repeated) ∷ (not (is_base value), why.Base) ∷ (is_link_local value, why.LinkLocal) ∷ [])
+    first_reason ((is_simple kind, why.NotHere)
+    ∷ (occurred, why.Repeated)
+    ∷ (not (is_base value), why.Base)
+    ∷ (is_link_local value, why.LinkLocal)
+    ∷ [])
 
 -- what an extra attribute is refused for
 abbrev pub extra_fault : List ℕ → Option Why
@@ -37,7 +77,8 @@ extra_fault name = first_reason ((not (is_extra_name name), why.Name) ∷ [])
 
 -- what a page or a count is refused for
 abbrev pub cut_fault : Bool → List ℕ → Option Why
-cut_fault occurred value = first_reason ((occurred, why.Repeated) ∷ (not (is_number value), why.Number) ∷ [])
+cut_fault occurred value =
+    first_reason ((occurred, why.Repeated) ∷ (not (is_number value), why.Number) ∷ [])
 
 -- what a criterion is refused for
 abbrev pub criterion_fault : List ℕ → Option Why
@@ -66,10 +107,14 @@ named_fault kind occurred name value =
 
 -- by its octets, its characters and the rules of its name
 unfoldable pub fault_after : Reading → Occurred → List ℕ → Option Why
-fault_after kind occurred query = if is_utf8 query then named_fault kind occurred (option_name query) (option_value query) else Some why.Utf8
+fault_after kind occurred query =
+    if is_utf8 query
+    then named_fault kind occurred (option_name query) (option_value query)
+    else Some why.Utf8
 
 -- what is missing after the last option
 unfoldable pub missing_after : Reading → Occurred → Option Why
 missing_after kind occurred =
-    if is_lookup kind then (if occurred.page && not occurred.count then Some why.PageAlone else None)
+    if is_lookup kind
+    then (if occurred.page && not occurred.count then Some why.PageAlone else None)
     else (if is_update kind || occurred.ep then None else Some why.NoEp)

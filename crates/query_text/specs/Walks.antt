@@ -1,5 +1,19 @@
 -- The first fault of the options that are left, and one option read.
-use Rattle.std.specs.Prelude.{◌≡◌, ℕ, ◌+◌, List, [], ◌∷◌, Option, Some, None, option_map, Result, Ok, Err}
+use Rattle.std.specs.Prelude.{
+  ◌≡◌,
+  ℕ,
+  ◌+◌,
+  List,
+  [],
+  ◌∷◌,
+  Option,
+  Some,
+  None,
+  option_map,
+  Result,
+  Ok,
+  Err,
+}
 use Rattle.record_model.specs.declared.readings.Reading.{Reading}
 use Rattle.record_model.specs.declared.readings.Why.{Why}
 use Rattle.record_model.specs.Faults.{Fault, or_else}
@@ -15,7 +29,11 @@ start_of kind = record { kind = kind; occurred = nothing_occurred; index = 0 }
 
 -- with an option more
 abbrev pub walk_past : Walk → List ℕ → Walk
-walk_past walk query = record { kind = walk.kind; occurred = occurred_with walk.occurred (option_name query); index = walk.index + 1 }
+walk_past walk query = record {
+  kind = walk.kind;
+  occurred = occurred_with walk.occurred (option_name query);
+  index = walk.index + 1;
+}
 
 -- the reason, with its index
 abbrev pub at_index : ℕ → Option Why → Option Fault
@@ -24,10 +42,13 @@ at_index index reason = option_map (λ why. (index, why)) reason
 -- the first fault of the options that are left
 unfoldable pub faults_from : Walk → List (List ℕ) → Option Fault
 faults_from walk [] = at_index walk.index (missing_after walk.kind walk.occurred)
-faults_from walk (query ∷ queries) = or_else (at_index walk.index (fault_after walk.kind walk.occurred query)) (faults_from (walk_past walk query) queries)
+faults_from walk (query ∷ queries) =
+    or_else (at_index walk.index (fault_after walk.kind walk.occurred query))
+    (faults_from (walk_past walk query) queries)
 
 -- the first option that was left is read without a fault, and has this name and value
-pub record IsPast (walk : Walk) (left : List (List ℕ)) (now : Walk) (rest : List (List ℕ)) (named : Named) : Type 0 where
+pub record IsPast (walk : Walk) (left : List (List ℕ)) (now : Walk) (rest : List (List ℕ))
+    (named : Named) : Type 0 where
   pub query : List ℕ
   pub first : left ≡ query ∷ rest
   pub good : fault_after walk.kind walk.occurred query ≡ None
@@ -36,7 +57,12 @@ pub record IsPast (walk : Walk) (left : List (List ℕ)) (now : Walk) (rest : Li
   pub past : now ≡ walk_past walk query
 
 -- one option is read, or none is left and none was refused, or there is a first fault
-abbrev pub Stepped : Walk → List (List ℕ) → Walk → List (List ℕ) → Result (Option Named) Fault → Type 0
+abbrev pub Stepped : Walk
+    → List (List ℕ)
+    → Walk
+    → List (List ℕ)
+    → Result (Option Named) Fault
+    → Type 0
 Stepped walk left now rest (Ok (Some named)) = IsPast walk left now rest named
 Stepped walk left now rest (Ok None) = (left ≡ []) × (faults_from walk left ≡ None)
 Stepped walk left now rest (Err fault) = faults_from walk left ≡ Some fault

@@ -23,7 +23,8 @@ AreWaiting raw apart pairs taken = All (HoldsPair raw apart) (drop taken pairs)
 
 -- texts with the attributes of the next link, of which so many stand before
 abbrev pub drafted_in : LinkTexts → List ℕ → ℕ → Drafted
-drafted_in t raw taken = drafted (links_in t) raw (pairs_of raw (string_bytes t.apart) (drop taken t.pairs.items))
+drafted_in t raw taken =
+    drafted (links_in t) raw (pairs_of raw (string_bytes t.apart) (drop taken t.pairs.items))
 
 pub record IsDrafted (t : LinkTexts) (raw : List ℕ) (taken : ℕ) : Type 0 where
   pub links : AreLinks t

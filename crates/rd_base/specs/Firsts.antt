@@ -4,7 +4,8 @@ use Rattle.std.specs.Prelude.{Bool, List, [], ◌∷◌, if◌then◌else◌}
 -- the first that passes a test changes
 unfoldable pub changed_first : {X : Type 0} → (X → Bool) → (X → X) → List X → List X
 changed_first test change [] = []
-changed_first test change (x ∷ xs) = if test x then change x ∷ xs else x ∷ changed_first test change xs
+changed_first test change (x ∷ xs) =
+    if test x then change x ∷ xs else x ∷ changed_first test change xs
 
 -- the first that passes a test is gone
 unfoldable pub without_first : {X : Type 0} → (X → Bool) → List X → List X

@@ -1,5 +1,21 @@
--- The line of a link: its target in brackets, its attributes as they were written, and its anchor (RFC 6690 section 2, RFC 9176 section 6.4).
-use Rattle.std.specs.Prelude.{ℕ, ◌==◌, ◌||◌, List, [], ◌∷◌, ◌++◌, map, flat_map, codes, Option, Some, None, if◌then◌else◌}
+-- The line of a link: its target in brackets, its attributes as they were written, and its anchor
+-- (RFC 6690 section 2, RFC 9176 section 6.4).
+use Rattle.std.specs.Prelude.{
+  ℕ,
+  ◌==◌,
+  ◌||◌,
+  List,
+  [],
+  ◌∷◌,
+  ◌++◌,
+  map,
+  flat_map,
+  codes,
+  Option,
+  Some,
+  None,
+  if◌then◌else◌,
+}
 use Rattle.std.specs.List.{join_with_byte}
 use Rattle.rd_base.specs.declared.records.Item.{Item}
 

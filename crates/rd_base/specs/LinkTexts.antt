@@ -1,4 +1,5 @@
--- Links by where their parts stand: in the texts of all links, and apart where they stand with escapes there.
+-- Links by where their parts stand: in the texts of all links, and apart where they stand with
+-- escapes there.
 use Rattle.std.specs.Prelude.{ℕ, ◌≡◌, List, [], ◌∷◌, map, Option, option_map}
 use Rattle.std.specs.List.{All}
 use Rattle.std.specs.String.{string_bytes}
@@ -9,7 +10,16 @@ use Rattle.rd_base.specs.declared.link_texts.LinkTexts.{LinkTexts}
 use Rattle.rd_base.specs.declared.link_texts.PairSpans.{PairSpans}
 use Rattle.rd_base.specs.declared.records.Item.{Item}
 use Rattle.rd_base.specs.LinkLines.{comma, line_by, listed, submitted}
-use Rattle.rd_base.specs.Spans.{part, placed, IsPlace, IsPlaceIfAny, IsPlacedIfAny, IsText, IsTextAt, IsWithin}
+use Rattle.rd_base.specs.Spans.{
+  part,
+  placed,
+  IsPlace,
+  IsPlaceIfAny,
+  IsPlacedIfAny,
+  IsText,
+  IsTextAt,
+  IsWithin,
+}
 
 -- an attribute, with where it stands in the attributes of its link as they were written
 abbrev pub pair_of : List ℕ → List ℕ → PairSpans → Pair
@@ -22,7 +32,8 @@ abbrev pub HoldsPair : List ℕ → List ℕ → PairSpans → Type 0
 HoldsPair raw apart p = IsPlace raw apart p.name × IsPlace raw apart p.value
 
 -- the parts of this line stand at the spans
-pub record IsLineAt (text apart : List ℕ) (s : LineSpans) (t r : List ℕ) (a : Option (List ℕ)) : Type 0 where
+pub record IsLineAt (text apart : List ℕ) (s : LineSpans) (t r : List ℕ) (a : Option (List ℕ)) :
+    Type 0 where
   pub target : IsTextAt text s.target t
   pub raw : IsTextAt text s.raw r
   pub anchor : IsPlacedIfAny text apart s.anchor a
@@ -34,7 +45,9 @@ pub record HoldsLine (text apart : List ℕ) (s : LineSpans) : Type 0 where
   pub raw : IsText text s.raw
   pub anchor : IsPlaceIfAny text apart s.anchor
   pub line : IsText text s.line
-  pub spelled : part text s.line ≡ line_by (part text s.target) (part text s.raw) (option_map (placed text apart) s.anchor)
+  pub spelled :
+      part text s.line
+      ≡ line_by (part text s.target) (part text s.raw) (option_map (placed text apart) s.anchor)
 
 -- the link with these spans
 abbrev pub link_of : List ℕ → List ℕ → List ℕ → List PairSpans → LinkSpans → Item
@@ -48,7 +61,8 @@ link_of source listed apart pairs l = record {
 }
 
 -- its parts stand at its spans
-pub record Holds (source_text listed_text apart : List ℕ) (all : List PairSpans) (l : LinkSpans) : Type 0 where
+pub record Holds (source_text listed_text apart : List ℕ) (all : List PairSpans) (l : LinkSpans) :
+    Type 0 where
   pub submitted : HoldsLine source_text apart l.submitted
   pub listed : HoldsLine listed_text apart l.listed
   pub same : part listed_text l.listed.raw ≡ part source_text l.submitted.raw
@@ -59,7 +73,8 @@ abbrev pub links_of : List ℕ → List ℕ → List ℕ → List PairSpans → 
 links_of source listed apart pairs links = map (link_of source listed apart pairs) links
 
 -- so do all links, whose lines make both texts
-pub record HoldsAll (source_text listed_text apart : List ℕ) (pairs : List PairSpans) (links : List LinkSpans) : Type 0 where
+pub record HoldsAll (source_text listed_text apart : List ℕ) (pairs : List PairSpans)
+    (links : List LinkSpans) : Type 0 where
   pub each : All (Holds source_text listed_text apart pairs) links
   pub source : source_text ≡ submitted (links_of source_text listed_text apart pairs links)
   pub listed : listed_text ≡ listed (links_of source_text listed_text apart pairs links)
@@ -71,14 +86,20 @@ comma_after (x ∷ xs) = comma ∷ []
 
 -- the link with these spans in these texts
 abbrev pub link_in : LinkTexts → LinkSpans → Item
-link_in t = link_of (string_bytes t.source) (string_bytes t.listed) (string_bytes t.apart) t.pairs.items
+link_in t =
+    link_of (string_bytes t.source) (string_bytes t.listed) (string_bytes t.apart) t.pairs.items
 
 abbrev pub HoldsIn : LinkTexts → LinkSpans → Type 0
-HoldsIn t = Holds (string_bytes t.source) (string_bytes t.listed) (string_bytes t.apart) t.pairs.items
+HoldsIn t =
+    Holds (string_bytes t.source) (string_bytes t.listed) (string_bytes t.apart) t.pairs.items
 
 -- all links
 abbrev pub links_in : LinkTexts → List Item
-links_in t = links_of (string_bytes t.source) (string_bytes t.listed) (string_bytes t.apart) t.pairs.items t.links.items
+links_in t =
+    links_of (string_bytes t.source) (string_bytes t.listed) (string_bytes t.apart) t.pairs.items
+    t.links.items
 
 abbrev pub AreLinks : LinkTexts → Type 0
-AreLinks t = HoldsAll (string_bytes t.source) (string_bytes t.listed) (string_bytes t.apart) t.pairs.items t.links.items
+AreLinks t =
+    HoldsAll (string_bytes t.source) (string_bytes t.listed) (string_bytes t.apart) t.pairs.items
+    t.links.items

@@ -1,5 +1,20 @@
 -- What a call on the outside may answer, and what is then known of the source or the sink.
-use Rattle.std.specs.Prelude.{◌≡◌, ℕ, ◌-◌, ◌^◌, ◌<◌, ◌≤◌, List, length, take, Option, None, Some, nat_lt, if◌then◌else◌}
+use Rattle.std.specs.Prelude.{
+  ◌≡◌,
+  ℕ,
+  ◌-◌,
+  ◌^◌,
+  ◌<◌,
+  ◌≤◌,
+  List,
+  length,
+  take,
+  Option,
+  None,
+  Some,
+  nat_lt,
+  if◌then◌else◌,
+}
 use Rattle.std.specs.Io.KnownBytes.{Appends, Consumes, Keeps, IsAtEnd}
 use Rattle.rd_base.specs.declared.outside.Got.{Got}
 use Rattle.rd_base.specs.declared.outside.Got.TheVariants as got
@@ -15,9 +30,11 @@ abbrev pub IsWithinRoom : Got → ℕ → Type 0
 IsWithinRoom (got.Bytes n) room = n ≤ room
 IsWithinRoom got.Failed room = Unit {0}
 
--- The octets that came are the first of those that were left. None come where there is room only at the end. A failure takes none.
+-- The octets that came are the first of those that were left. None come where there is room only at
+-- the end. A failure takes none.
 abbrev pub Gives : Option (List ℕ) → Option (List ℕ) → Got → List ℕ → Type 0
-Gives old new (got.Bytes n) into = Consumes old new (take n into) × (n ≡ 0 → 0 < length into → IsAtEnd new)
+Gives old new (got.Bytes n) into =
+    Consumes old new (take n into) × (n ≡ 0 → 0 < length into → IsAtEnd new)
 Gives old new got.Failed into = Keeps old new
 
 -- each call that gives octets lowers the number of turns
@@ -35,7 +52,8 @@ abbrev pub IsWithinPiece : Put → ℕ → Type 0
 IsWithinPiece (put.Took n) size = (n ≤ size) × (0 < size → 0 < n)
 IsWithinPiece put.Failed size = Unit {0}
 
--- The octets that were taken are the first of the piece, and stand at the end of what is held. A failure takes none.
+-- The octets that were taken are the first of the piece, and stand at the end of what is held. A
+-- failure takes none.
 abbrev pub Takes : Option (List ℕ) → Option (List ℕ) → Put → List ℕ → Type 0
 Takes old new (put.Took n) piece = Appends old new (take n piece)
 Takes old new put.Failed piece = Keeps old new

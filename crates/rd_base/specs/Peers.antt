@@ -1,5 +1,22 @@
 -- Peers as text: an address as RFC 5952 prints it, an IPv6 address in brackets, and the port.
-use Rattle.std.specs.Prelude.{◌≡◌, ℕ, ◌<◌, ◌≤◌, ◌^◌, ◌&&◌, List, length, slice_index, Option, Some, None, if◌then◌else◌, nat_le, bytes_eq, option_and_then}
+use Rattle.std.specs.Prelude.{
+  ◌≡◌,
+  ℕ,
+  ◌<◌,
+  ◌≤◌,
+  ◌^◌,
+  ◌&&◌,
+  List,
+  length,
+  slice_index,
+  Option,
+  Some,
+  None,
+  if◌then◌else◌,
+  nat_le,
+  bytes_eq,
+  option_and_then,
+}
 use Rattle.std.specs.Net.Reader.{read_socket_v4, read_socket_v6, whole_value}
 use Rattle.std.specs.Net.Text.{socket_text}
 use Rattle.std.specs.declared.net.socket_addr.SocketAddr.{SocketAddr}
@@ -25,8 +42,11 @@ pub record IsPeer (peer : Peer) : Type 0 where
 
 -- the socket address of a host and a port, with no flow information and no zone
 abbrev pub socket_of : Host → ℕ → SocketAddr
-socket_of (host.V4 octets) port = socket.V4 (record { ip = record { octets = octets }; port = port })
-socket_of (host.V6 groups) port = socket.V6 (record { ip = record { segments = groups }; port = port; flowinfo = 0; scope_id = 0 })
+socket_of (host.V4 octets) port =
+    socket.V4 (record { ip = record { octets = octets }; port = port })
+socket_of (host.V6 groups) port =
+    socket.V6
+    (record { ip = record { segments = groups }; port = port; flowinfo = 0; scope_id = 0 })
 
 -- a peer as it is printed, as 192.0.2.1:5683 or [2001:db8::1]:61616 (RFC 5952 sections 4 to 6)
 unfoldable pub peer_text : Peer → List ℕ
@@ -44,7 +64,8 @@ named_peer text = named (whole_value (read_socket_v4 text)) (whole_value (read_s
 
 -- a peer beside the text that names it, where that is as it is printed and its port is not 0
 abbrev pub if_printed : List ℕ → Peer → Option Peer
-if_printed text peer = if nat_le min_port peer.port && bytes_eq text (peer_text peer) then Some peer else None
+if_printed text peer =
+    if nat_le min_port peer.port && bytes_eq text (peer_text peer) then Some peer else None
 
 -- the peer that a text prints, for a port of 1 to 65,535
 unfoldable pub peer_of : List ℕ → Option Peer

@@ -1,5 +1,16 @@
 -- What stands after the prefix of a text, and after prefixes that follow one another.
-use Rattle.std.specs.Prelude.{ℕ, ◌==◌, List, [], ◌∷◌, Option, Some, None, option_and_then, if◌then◌else◌}
+use Rattle.std.specs.Prelude.{
+  ℕ,
+  ◌==◌,
+  List,
+  [],
+  ◌∷◌,
+  Option,
+  Some,
+  None,
+  option_and_then,
+  if◌then◌else◌,
+}
 
 -- what stands after a prefix, where the text begins with it
 unfoldable pub after_prefix : List ℕ → List ℕ → Option (List ℕ)

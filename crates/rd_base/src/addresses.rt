@@ -1,6 +1,7 @@
 //! What stands after an address as it is printed (RFC 5952).
 ghost use Rattle.std.specs.Prelude.{◌≡◌, ◌+◌, ◌≤◌, ◌++◌, length, codes, flat_map, option_map};
-ghost use Rattle.std.specs.Net.Text.{hex, ipv4_text, ipv6_text, groups_text, hex_groups_text, zero_run, longest_zero_run};
+ghost use Rattle.std.specs.Net.Text.{hex, ipv4_text, ipv6_text, groups_text, hex_groups_text};
+ghost use Rattle.std.specs.Net.Text.{zero_run, longest_zero_run};
 ghost use Rattle.rd_base.specs.Prefixes.{after_prefix};
 
 use crate::prefixes::{after_hex, after_number, after_prefix};
@@ -24,7 +25,8 @@ pub fn after_ipv4(octets: [u8; 4], text: &[u8]) -> Option<&[u8]>
 /// What stands after groups with a colon before each.
 #[tactic(auto, using(crate::proofs::GroupLemmas::further_none, crate::proofs::GroupLemmas::further_more))]
 fn after_further_groups<'a>(groups: &[u16], text: &'a [u8]) -> Option<&'a [u8]>
-    ensures { option_map (λ t. t.now) result ≡ after_prefix (flat_map (λ g. codes ":" ++ hex g) groups.now) text.now }
+    ensures { option_map (λ t. t.now) result
+        ≡ after_prefix (flat_map (λ g. codes ":" ++ hex g) groups.now) text.now }
 {
     let Some((first, more)) = groups.split_first() else {
         return Some(text);

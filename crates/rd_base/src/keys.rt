@@ -1,13 +1,13 @@
 //! The key of a request, which names uploads, kept answers and watched queries.
-ghost use Rattle.std.specs.Prelude.{◌≡◌, IfOk, nat_eq};
+ghost use Rattle.std.specs.Prelude.{◌≡◌, nat_eq};
 ghost use Rattle.std.proofs.Common.{rules};
 ghost use Rattle.std.specs.Cmp.Rules.{comparing, hashing};
 ghost use Rattle.std.proofs.lemmas.Cmp.{nat_list_eq_equiv};
 ghost use lib.Pointwise.{pointwise};
 ghost use Rattle.std.specs.Hash as fed;
 
-use crate::{Bytes, Starved};
-use std::alloc::Global;
+use crate::Bytes;
+use std::alloc::AllocError;
 use std::hash::{Hash, Hasher};
 use std::marker::Model;
 
@@ -39,12 +39,13 @@ impl Key {
     {
         self.bytes.as_slice()
     }
+}
 
-    /// An equal key. `Starved`: out of memory.
-    pub fn copy(&self, alloc: Global) -> Result<Key, Starved>
-        ensures { IfOk result (λ k. k ≡ self.now) }
-    {
-        let bytes = Bytes::copy_of(alloc, self.bytes.as_slice())?;
+impl Clone for Key {
+    ghost is_clone = { λ key copy. copy ≡ key };
+
+    fn clone(&self) -> Result<Key, AllocError> {
+        let bytes = self.bytes.clone()?;
         Ok(Key { bytes })
     }
 }

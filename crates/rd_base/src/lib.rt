@@ -1,4 +1,5 @@
-//! What every crate of the directory speaks of: moments, peers, owned texts and lists, records, queries, and the outside.
+//! What every crate of the directory speaks of: moments, peers, owned texts and lists, records,
+//! queries, and the outside.
 #![tactic(auto)]
 
 mod addresses;
@@ -8,6 +9,7 @@ mod link_equality;
 mod link_reading;
 mod link_texts;
 mod links_builder;
+mod lists;
 mod memory_ends;
 mod moments;
 mod octets;
@@ -33,6 +35,7 @@ pub use attributes::{Pair, Pairs};
 pub use keys::Key;
 pub use link_reading::{Link, LinkPairs, Links, PairRef};
 pub use links_builder::{LinkParts, LinksBuilder};
+pub use lists::List;
 pub use memory_ends::{MemSink, MemSource};
 pub use moments::Moment;
 pub use octets::Bytes;

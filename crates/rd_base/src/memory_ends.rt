@@ -1,6 +1,8 @@
 //! A source and a sink in memory, of which chosen calls fail.
-ghost use Rattle.std.specs.Prelude.{◌≡◌, ◌↔◌, ◌-◌, ◌^◌, ◌<◌, ◌≤◌, true, Some, [], length, take, drop, min};
-ghost use Rattle.rd_base.specs.Outside.{IsWithinRoom, Gives, RunsDown, CountsRead, IsWithinPiece, Takes, CountsWritten};
+ghost use Rattle.std.specs.Prelude.{◌≡◌, ◌↔◌, ◌-◌, ◌^◌, ◌<◌, ◌≤◌, true, Some, [], length, take};
+ghost use Rattle.std.specs.Prelude.{drop, min};
+ghost use Rattle.rd_base.specs.Outside.{IsWithinRoom, Gives, RunsDown, CountsRead, IsWithinPiece};
+ghost use Rattle.rd_base.specs.Outside.{Takes, CountsWritten};
 ghost use Rattle.rd_base.specs.Plans.{is_planned, Advanced};
 
 use crate::{Bytes, Got, Put, Sink, Source};
@@ -32,7 +34,8 @@ impl Plan {
     }
 }
 
-/// Copies octets of `bytes` from offset `at` on to the beginning of `into`, as many as there are and fit.
+/// Copies octets of `bytes` from offset `at` on to the beginning of `into`, as many as there are
+/// and fit.
 pub(crate) fn copy_at(bytes: &[u8], at: usize, into: &mut [u8]) -> usize
     requires { at ≤ length bytes.now }
     ensures count { result ≡ min (length bytes.now - at) (length into.old) }
@@ -55,7 +58,8 @@ pub struct MemSource {
 }
 
 impl MemSource {
-    /// A source that gives `bytes`. `fail` lists the numbers, from 0 and up to 255, of the calls that fail.
+    /// A source that gives `bytes`. `fail` lists the numbers, from 0 and up to 255, of the calls
+    /// that fail.
     pub fn of(bytes: Bytes, fail: Bytes) -> MemSource
         ensures told { ⟦<MemSource as Source>⟧.left result ≡ Some bytes }
         ensures planned { result.plan ≡ record { calls = 0; fail = fail } }
@@ -80,9 +84,11 @@ impl Source for MemSource {
     /// Gives as many octets as are left and fit. The planned calls fail, and no others.
     fn read(&mut self, into: &mut [u8]) -> Got
         ensures within { IsWithinRoom result (length into.old) }
-        ensures bytes { Gives (Some (drop self.old.at self.old.bytes)) (Some (drop self.new.at self.new.bytes)) result into.new }
+        ensures bytes { Gives (Some (drop self.old.at self.old.bytes))
+            (Some (drop self.new.at self.new.bytes)) result into.new }
         ensures counted { length (drop self.old.at self.old.bytes) < 2 ^ 64 }
-        ensures turns { RunsDown (length self.old.bytes - self.old.at) (length self.new.bytes - self.new.at) result }
+        ensures turns { RunsDown (length self.old.bytes - self.old.at)
+            (length self.new.bytes - self.new.at) result }
         ensures cause { CountsRead self.old.faults self.new.faults result }
         ensures planned { (is_planned self.old.plan ≡ true) ↔ (result ≡ Got.Failed) }
         ensures advanced { Advanced self.old.plan self.new.plan }

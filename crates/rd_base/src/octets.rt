@@ -1,5 +1,6 @@
 //! Owned octets, seen by contracts as their list.
-ghost use Rattle.std.specs.Prelude.{◌≡◌, ◌↔◌, ◌^◌, ◌<◌, [], ◌∷◌, ◌++◌, length, take, IsTrue, IfOk, OnOk, OnErr, nat_eq};
+ghost use Rattle.std.specs.Prelude.{◌≡◌, ◌↔◌, ◌^◌, ◌<◌, [], ◌∷◌, ◌++◌, length, take, IsTrue, IfOk};
+ghost use Rattle.std.specs.Prelude.{OnOk, OnErr, nat_eq};
 ghost use Rattle.std.proofs.Common.{rules};
 ghost use Rattle.std.specs.Cmp.{partial_order_from_own_ties};
 ghost use Rattle.std.specs.Cmp.Rules.{comparing, hashing};
@@ -10,7 +11,7 @@ ghost use lib.Pointwise.{pointwise};
 ghost use Rattle.std.specs.Hash as fed;
 
 use crate::Starved;
-use std::alloc::Global;
+use std::alloc::{AllocError, Global};
 use std::cmp::Ordering;
 use std::hash::{Hash, Hasher};
 use std::marker::Model;
@@ -111,6 +112,15 @@ impl Bytes {
     }
 }
 
+impl Clone for Bytes {
+    ghost is_clone = { λ octets copy. copy ≡ octets };
+
+    fn clone(&self) -> Result<Bytes, AllocError> {
+        let items = self.items.clone()?;
+        Ok(Bytes { items })
+    }
+}
+
 impl PartialEq for Bytes {
     ghost eq = { pointwise nat_eq };
 
@@ -152,7 +162,8 @@ impl Ord for Bytes {
 impl PartialOrd for Bytes {
     ghost partial_cmp = { as_partial_cmp (slice_cmp nat_cmp) };
 
-    ghost laws = { partial_order_from_own_ties (Prim.search (comparing, rules)) (Prim.search (comparing, rules)) };
+    ghost laws = { partial_order_from_own_ties (Prim.search (comparing, rules))
+        (Prim.search (comparing, rules)) };
 
     fn partial_cmp(&self, other: &Bytes) -> Option<Ordering> {
         Some(self.cmp(other))

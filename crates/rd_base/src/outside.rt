@@ -1,6 +1,7 @@
 //! The outside: where octets come from and go to.
 ghost use Rattle.std.specs.Prelude.{ℕ, List, Option, length, ◌<◌, ◌^◌, IfSome};
-ghost use Rattle.rd_base.specs.Outside.{IsWithinRoom, Gives, RunsDown, CountsRead, IsWithinPiece, Takes, CountsWritten};
+ghost use Rattle.rd_base.specs.Outside.{IsWithinRoom, Gives, RunsDown, CountsRead, IsWithinPiece};
+ghost use Rattle.rd_base.specs.Outside.{Takes, CountsWritten};
 
 /// What a call of `Source::read` gave.
 #[derive(Clone, Copy, Debug, PartialEq, Eq)]

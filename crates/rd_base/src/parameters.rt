@@ -1,9 +1,8 @@
 //! The parameters of registrations and updates (RFC 9176 sections 5 and 5.3.1).
-ghost use Rattle.std.specs.Prelude.{◌≡◌, IfOk};
+ghost use Rattle.std.specs.Prelude.{◌≡◌};
 
-use crate::texts::copy_present;
-use crate::{Name, Pairs, Starved, Text};
-use std::alloc::Global;
+use crate::{Name, Pairs, Text};
+use std::alloc::AllocError;
 
 /// The parameters of a registration (RFC 9176 section 5).
 #[derive(Debug, PartialEq, Eq, Drop)]
@@ -18,14 +17,13 @@ pub struct RegParams {
     pub attrs: Pairs,
 }
 
-impl RegParams {
-    /// Equal parameters. `Starved`: out of memory.
-    pub fn copy(&self, alloc: Global) -> Result<RegParams, Starved>
-        ensures { IfOk result (λ copy. copy ≡ self.now) }
-    {
-        let name = self.name.copy(alloc)?;
-        let base = copy_present(alloc, &self.base)?;
-        let attrs = self.attrs.copy(alloc)?;
+impl Clone for RegParams {
+    ghost is_clone = { λ params copy. copy ≡ params };
+
+    fn clone(&self) -> Result<RegParams, AllocError> {
+        let name = self.name.clone()?;
+        let base = self.base.clone()?;
+        let attrs = self.attrs.clone()?;
         Ok(RegParams {
             name,
             lt: self.lt,
@@ -46,13 +44,12 @@ pub struct UpdateParams {
     pub attrs: Pairs,
 }
 
-impl UpdateParams {
-    /// Equal parameters. `Starved`: out of memory.
-    pub fn copy(&self, alloc: Global) -> Result<UpdateParams, Starved>
-        ensures { IfOk result (λ copy. copy ≡ self.now) }
-    {
-        let base = copy_present(alloc, &self.base)?;
-        let attrs = self.attrs.copy(alloc)?;
+impl Clone for UpdateParams {
+    ghost is_clone = { λ params copy. copy ≡ params };
+
+    fn clone(&self) -> Result<UpdateParams, AllocError> {
+        let base = self.base.clone()?;
+        let attrs = self.attrs.clone()?;
         Ok(UpdateParams {
             lt: self.lt,
             base,

@@ -28,7 +28,8 @@ fn socket_of(peer: &Peer) -> SocketAddr
     }
 }
 
-/// A peer as text, as 192.0.2.1:5683 or [2001:db8::1]:61616. An IPv6 address is dotted where it maps an IPv4 address. `Starved`: out of memory.
+/// A peer as text, as 192.0.2.1:5683 or [2001:db8::1]:61616. An IPv6 address is dotted where it
+/// maps an IPv4 address. `Starved`: out of memory.
 #[tactic(auto, unfolding(crate::specs::Peers::peer_text))]
 pub fn peer_text(alloc: Global, peer: &Peer) -> Result<Text, Starved>
     ensures { IfOk result (λ text. text ≡ peers.peer_text peer.now) }
@@ -92,7 +93,8 @@ fn is_printed(text: &[u8], peer: &Peer) -> bool
 }
 
 /// The peer that a text prints, for a port of 1 to 65,535. Takes no memory.
-/// `PeerBad` comes exactly where the text is not what [`peer_text`] prints for any peer with such a port.
+/// `PeerBad` comes exactly where the text is not what [`peer_text`] prints for any peer with such a
+/// port.
 pub fn peer_read(text: &str) -> Result<Peer, PeerBad>
     ensures value { result ≡ ok_or (peers.peer_of text.now) (record {}) }
     ensures printed { (peer : Peer) → (result ≡ Ok peer) ↔ peers.IsPeerText text.now peer }
@@ -147,7 +149,8 @@ fn port_text(alloc: Global, port: u16) -> Result<String, Starved>
     Ok(format!(in alloc; ":{port}")?)
 }
 
-/// The base of what a peer registers without giving one (RFC 9176 section 5): `coap://` and its address, and its port where that is not 5683. `Starved`: out of memory.
+/// The base of what a peer registers without giving one (RFC 9176 section 5): `coap://` and its
+/// address, and its port where that is not 5683. `Starved`: out of memory.
 #[tactic(auto, unfolding(crate::specs::Bases::base_of))]
 pub fn base_of(alloc: Global, peer: &Peer) -> Result<Text, Starved>
     ensures text { IfOk result (λ text. text ≡ bases.base_of peer.now) }

@@ -1,12 +1,12 @@
 //! Registrations (RFC 9176 section 5).
-ghost use Rattle.std.specs.Prelude.{◌≡◌, ◌↔◌, ◌+◌, ◌*◌, ◌^◌, ◌<◌, ◌≤◌, [], ◌∷◌, ◌++◌, length, IsTrue, IfOk, OnOk, OnErr};
+ghost use Rattle.std.specs.Prelude.{◌≡◌, ◌↔◌, ◌+◌, ◌*◌, ◌^◌, ◌<◌, ◌≤◌, [], ◌∷◌, ◌++◌, length};
+ghost use Rattle.std.specs.Prelude.{IsTrue, IfOk, OnOk, OnErr};
 ghost use lib.Pointwise.{pointwise};
 ghost use Rattle.std.proofs.Common.{rules};
 ghost use Rattle.std.specs.Cmp.Rules.{comparing};
 
-use crate::texts::copy_present;
-use crate::{Items, Moment, Pairs, Starved, Text};
-use std::alloc::Global;
+use crate::{Items, Moment, Pairs, Text};
+use std::alloc::AllocError;
 
 /// The name of an endpoint: no two live registrations have the same.
 #[derive(Debug, PartialEq, Eq, PartialOrd, Ord, Hash, Drop)]
@@ -17,13 +17,12 @@ pub struct Name {
     pub sector: Option<Text>,
 }
 
-impl Name {
-    /// An equal name. `Starved`: out of memory.
-    pub fn copy(&self, alloc: Global) -> Result<Name, Starved>
-        ensures { IfOk result (λ copy. copy ≡ self.now) }
-    {
-        let ep = self.ep.copy(alloc)?;
-        let sector = copy_present(alloc, &self.sector)?;
+impl Clone for Name {
+    ghost is_clone = { λ name copy. copy ≡ name };
+
+    fn clone(&self) -> Result<Name, AllocError> {
+        let ep = self.ep.clone()?;
+        let sector = self.sector.clone()?;
         Ok(Name { ep, sector })
     }
 }

@@ -8,7 +8,8 @@ use std::io::{Read, Write};
 /// How many calls of one source may give octets.
 const TURNS: u64 = 1 << 40;
 
-/// A reader of std as a source. It tells what the reader tells: nothing, for files, sockets and standard input.
+/// A reader of std as a source. It tells what the reader tells: nothing, for files, sockets and
+/// standard input.
 #[derive(Debug, Drop)]
 pub struct StdSource<R> {
     reader: R,
@@ -19,7 +20,8 @@ pub struct StdSource<R> {
 impl<R: Read> StdSource<R> {
     /// The source that reads from `reader`. After 2^40 calls that gave octets each call fails.
     pub fn of(reader: R) -> StdSource<R>
-        ensures told { ⟦<StdSource<R> as Source>⟧.left result ≡ told_below (2 ^ 64) (R.remaining reader) }
+        ensures told { ⟦<StdSource<R> as Source>⟧.left result
+            ≡ told_below (2 ^ 64) (R.remaining reader) }
         ensures unfailed { ⟦<StdSource<R> as Source>⟧.faults result ≡ 0 }
         ensures turns { ⟦<StdSource<R> as Source>⟧.turns result ≡ 2 ^ 40 }
     {
@@ -50,7 +52,8 @@ impl<R: Read> Source for StdSource<R> {
     }
 }
 
-/// A writer of std as a sink. It tells what the writer tells: nothing, for files, sockets and standard output.
+/// A writer of std as a sink. It tells what the writer tells: nothing, for files, sockets and
+/// standard output.
 #[derive(Debug, Drop)]
 pub struct StdSink<W> {
     writer: W,

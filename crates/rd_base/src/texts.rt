@@ -1,5 +1,6 @@
 //! Owned UTF-8 text, seen by contracts as its list of octets.
-ghost use Rattle.std.specs.Prelude.{◌≡◌, ◌↔◌, ◌^◌, ◌<◌, [], ◌++◌, length, IsTrue, IfOk, OnOk, OnErr, nat_eq, encode_utf8};
+ghost use Rattle.std.specs.Prelude.{◌≡◌, ◌↔◌, ◌^◌, ◌<◌, ◌≤◌, [], ◌++◌, length, IsTrue, IfOk, OnOk};
+ghost use Rattle.std.specs.Prelude.{OnErr, nat_eq, encode_utf8};
 ghost use Rattle.std.specs.String.{string_bytes};
 ghost use Rattle.std.proofs.Common.{rules};
 ghost use Rattle.rd_base.specs.Spelled.{octets_of};
@@ -13,7 +14,7 @@ ghost use Rattle.std.specs.Hash as fed;
 
 use crate::Starved;
 use arrayvec::ArrayString;
-use std::alloc::Global;
+use std::alloc::{AllocError, Global};
 use std::cmp::Ordering;
 use std::hash::{Hash, Hasher};
 use std::marker::Model;
@@ -46,6 +47,18 @@ impl Model for Text {
 }
 
 impl Spelled {
+    /// A copy of a text, in the value itself if it has at most 16 octets. `AllocError`: out of
+    /// memory, for a longer one alone.
+    fn of(alloc: Global, text: &str) -> Result<Spelled, AllocError>
+        ensures ok { IfOk result (λ spelled. octets_of spelled ≡ text.now) }
+        ensures short { OnErr result (16 < length text.now) }
+    {
+        match ArrayString::from(text) {
+            Ok(short) => Ok(Spelled::Short(short)),
+            Err(_) => Ok(Spelled::Long(String::from_str(alloc, text)?)),
+        }
+    }
+
     /// The text.
     fn as_str(&self) -> &str
         ensures { result.now ≡ octets_of self.now }
@@ -53,6 +66,19 @@ impl Spelled {
         match self {
             Spelled::Short(text) => text.as_str(),
             Spelled::Long(text) => text.as_str(),
+        }
+    }
+}
+
+impl Clone for Spelled {
+    ghost is_clone = { λ spelled copy. octets_of copy ≡ octets_of spelled };
+
+    ghost is_infallible = { λ spelled. length (octets_of spelled) ≤ 16 };
+
+    fn clone(&self) -> Result<Spelled, AllocError> {
+        match self {
+            Spelled::Short(text) => Ok(Spelled::Short(*text)),
+            Spelled::Long(text) => Spelled::of(*text.allocator(), text.as_str()),
         }
     }
 }
@@ -91,19 +117,8 @@ impl Text {
         ensures ok { IfOk result (λ t. t ≡ text.now) }
         ensures short { OnErr result (16 < length text.now) }
     {
-        let spelled = match ArrayString::from(text) {
-            Ok(short) => Spelled::Short(short),
-            Err(_) => Spelled::Long(String::from_str(alloc, text)?),
-        };
+        let spelled = Spelled::of(alloc, text)?;
         Ok(Text { spelled })
-    }
-
-    /// An equal text. `Starved`: out of memory, for a text of more than 16 octets alone.
-    pub fn copy(&self, alloc: Global) -> Result<Text, Starved>
-        ensures ok { IfOk result (λ t. t ≡ self.now) }
-        ensures short { OnErr result (16 < length self.now) }
-    {
-        Text::copy_of(alloc, self.as_str())
     }
 
     /// The text.
@@ -166,6 +181,18 @@ impl Text {
     }
 }
 
+/// A clone of at most 16 octets takes no memory.
+impl Clone for Text {
+    ghost is_clone = { λ text copy. copy ≡ text };
+
+    ghost is_infallible = { λ text. length text ≤ 16 };
+
+    fn clone(&self) -> Result<Text, AllocError> {
+        let spelled = self.spelled.clone()?;
+        Ok(Text { spelled })
+    }
+}
+
 impl PartialEq for Text {
     ghost eq = { pointwise nat_eq };
 
@@ -207,19 +234,10 @@ impl Ord for Text {
 impl PartialOrd for Text {
     ghost partial_cmp = { as_partial_cmp (slice_cmp nat_cmp) };
 
-    ghost laws = { partial_order_from_own_ties (Prim.search (comparing, rules)) (Prim.search (comparing, rules)) };
+    ghost laws = { partial_order_from_own_ties (Prim.search (comparing, rules))
+        (Prim.search (comparing, rules)) };
 
     fn partial_cmp(&self, other: &Text) -> Option<Ordering> {
         Some(self.cmp(other))
-    }
-}
-
-/// A copy of a text that may be there. `Starved`: out of memory.
-pub(crate) fn copy_present(alloc: Global, text: &Option<Text>) -> Result<Option<Text>, Starved>
-    ensures { IfOk result (λ copy. copy ≡ text.now) }
-{
-    match text {
-        Some(text) => Ok(Some(text.copy(alloc)?)),
-        None => Ok(None),
     }
 }

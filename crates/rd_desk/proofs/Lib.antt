@@ -1,22 +1,38 @@
--- What the desk sends (answers): OutboxLaws, ReplyWriting, AskedLaws, SendingLaws, RefusalLaws, and what looks find (LookLaws).
--- A step in parts (parts): effects one after the other (EffectLaws), what a journal shows while its last row is made (MakingLaws, FetchLaws), which table a note is about (NoteTopics)
---   and what it leaves (AsideLaws), a step under way from its beginning to its row (WayLaws), one part more (PartLaws); tables of the empty journal (DeskLaws), writes (WriteLaws),
+-- What the desk sends (answers): OutboxLaws, ReplyWriting, AskedLaws, SendingLaws, RefusalLaws, and
+-- what looks find (LookLaws). A step in parts (parts): effects one after the other (EffectLaws),
+-- what a journal shows while its last row is made (MakingLaws, FetchLaws), which table a note is
+-- about (NoteTopics)
+--   and what it leaves (AsideLaws), a step under way from its beginning to its row (WayLaws), one
+-- part more (PartLaws); tables of the empty journal (DeskLaws), writes (WriteLaws),
 -- of what datagrams they are (WriteJobLaws) and one that is forgotten in its own row
 -- (ForgottenLaws), empty messages (EmptyMessageLaws), keeps (KeepLaws), the row of a look,
 --   which leaves what a desk stands for (LookRows), lookups with the journal
---   (LookupLaws), and what an admission does and leaves by what it hears (AdmissionLaws, HearingLaws).
--- The watched queries and their observers (observers): marks that are handed on (MarkLaws), which observer is found (WalkLaws, FoundObservers), each query is watched as often as it
---   is observed (WatchedLaws); what they stand for, by its parts (WatchingParts, WatcherParts) and while a row is made: nothing about them, time that passes, an entry (WatchingLaws),
---   a note about an observer (WatchingNotes), one who joins (JoiningLaws), and what a tick asks (TickLaws).
--- Responses to fetches (responses): the fetches that a desk keeps stay sound (FetchingLaws), and what a response does, part after part (ResponseLaws).
--- Changes of the registrations (changes): what is planned of a write (OutcomeLaws), the entry that a row makes (EntryLaws), how its parts are what settles a write and what that does to
---   its exchange (SettlingLaws), how long an answer is that is kept (ShortAnswers), and a commit, by its query options, its method, its block and its path (CommitLaws);
+--   (LookupLaws), and what an admission does and leaves by what it hears (AdmissionLaws,
+-- HearingLaws).
+-- The watched queries and their observers (observers): marks that are handed on (MarkLaws), which
+-- observer is found (WalkLaws, FoundObservers), each query is watched as often as it
+--   is observed (WatchedLaws); what they stand for, by its parts (WatchingParts, WatcherParts) and
+-- while a row is made: nothing about them, time that passes, an entry (WatchingLaws),
+--   a note about an observer (WatchingNotes), one who joins (JoiningLaws), and what a tick asks
+-- (TickLaws).
+-- Responses to fetches (responses): the fetches that a desk keeps stay sound (FetchingLaws), and
+-- what a response does, part after part (ResponseLaws).
+-- Changes of the registrations (changes): what is planned of a write (OutcomeLaws), the entry that
+-- a row makes (EntryLaws), how its parts are what settles a write and what that does to
+--   its exchange (SettlingLaws), how long an answer is that is kept (ShortAnswers), and a commit,
+-- by its query options, its method, its block and its path (CommitLaws);
 --   for the desk above, that a commit is of an open admission (OpenJobs).
---   The parameters that a registration gives (ParameterLaws), a block of one (UploadLaws), and a simple one, whose fetch starts beside its answer (FetchStartLaws); what a
+--   The parameters that a registration gives (ParameterLaws), a block of one (UploadLaws), and a
+-- simple one, whose fetch starts beside its answer (FetchStartLaws); what a
 --   step leaves on a board (StagingLaws). What is shown of an observer is ShownLaws of observers.
--- Ticks (ticking): how many observe and are fetched from (BoundLaws), how long the octets are that may be sent again (FittingLaws); notices that are sent again (AgainLaws, observer after
---   observer AgainWalk), requests of fetches that are (RequestWalk); who gets a new notice (NoticeWalk); a plan, from its beginning to its end
---   (PlanLaws; what is as before meanwhile, PlanWay), past those to whose peers a notice is planned (SkipLaws) and with one observer more (PlanSteps; by what is planned for it, PlanCases), and how it is carried out (CarryLaws); that nobody is told anew where nobody is due and free (IdleTicks); what is dropped at the end (EndLaws),
+-- Ticks (ticking): how many observe and are fetched from (BoundLaws), how long the octets are that
+-- may be sent again (FittingLaws); notices that are sent again (AgainLaws, observer after
+--   observer AgainWalk), requests of fetches that are (RequestWalk); who gets a new notice
+-- (NoticeWalk); a plan, from its beginning to its end
+--   (PlanLaws; what is as before meanwhile, PlanWay), past those to whose peers a notice is planned
+-- (SkipLaws) and with one observer more (PlanSteps; by what is planned for it, PlanCases), and how
+-- it is carried out (CarryLaws); that nobody is told anew where nobody is due and free (IdleTicks);
+-- what is dropped at the end (EndLaws),
 --   and that the parts are all that a tick does (WholeTick).
 -- What steps send and note in which memory runs out, computed (examples).
 pub mod answers

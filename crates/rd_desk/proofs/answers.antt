@@ -4,3 +4,4 @@ pub mod AskedLaws
 pub mod SendingLaws
 pub mod RefusalLaws
 pub mod LookLaws
+pub mod ResourceLaws

@@ -14,4 +14,5 @@ pub mod AdmissionLaws
 pub mod ForgottenLaws
 pub mod LookupLaws
 pub mod HearingLaws
+pub mod IncomingLaws
 pub mod LookRows

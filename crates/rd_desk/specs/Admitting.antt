@@ -1,5 +1,21 @@
 -- How a datagram is heard, and the job that it leaves.
-use Rattle.std.specs.Prelude.{◌≡◌, ℕ, Bool, true, false, List, [], ◌∷◌, Option, Some, None, is_some, Result, Ok, Err}
+use Rattle.std.specs.Prelude.{
+  ◌≡◌,
+  ℕ,
+  Bool,
+  true,
+  false,
+  List,
+  [],
+  ◌∷◌,
+  Option,
+  Some,
+  None,
+  is_some,
+  Result,
+  Ok,
+  Err,
+}
 use Rattle.std.specs.List.{list_any}
 use Rattle.message_model.specs.declared.messages.Role.{Role}
 use Rattle.message_model.specs.declared.messages.Role.TheVariants as role
@@ -37,7 +53,10 @@ write_heard false rows s m = write_effects (events rows) (row_moment rows s) s m
 
 -- the worker is left with the job of the write that is admitted, where one is
 abbrev pub IsHeldFor : Admitted → List Note → Step → ℕ → Type 0
-IsHeldFor (admitted.Held job) notes s moment = (mid : ℕ) × (notes ≡ note.Admitted s.peer mid ∷ []) × (job ≡ record { peer = s.peer; datagram = s.datagram; admitted = moment })
+IsHeldFor (admitted.Held job) notes s moment =
+    (mid : ℕ)
+    × (notes ≡ note.Admitted s.peer mid ∷ [])
+    × (job ≡ record { peer = s.peer; datagram = s.datagram; admitted = moment })
 IsHeldFor admitted.Done notes s moment = list_any is_admitting notes ≡ false
 IsHeldFor admitted.Starved notes s moment = list_any is_admitting notes ≡ false
 
@@ -46,7 +65,8 @@ abbrev pub jobless : Stepped → Admitted
 jobless stepped.Done = admitted.Done
 jobless stepped.Starved = admitted.Starved
 
--- a write takes memory where it is admitted, for its job: no repeat does, and none for which there is no room
+-- a write takes memory where it is admitted, for its job: no repeat does, and none for which there
+-- is no room
 abbrev pub write_takes : List Row → ℕ → Step → Message → Bool
 write_takes rows moment s m = list_any is_admitting (write_effects (events rows) moment s m).notes
 

@@ -1,4 +1,5 @@
--- The kinds of changes, and updates that leave what lookups show of a registration (RFC 9176 sections 5 and 5.3).
+-- The kinds of changes, and updates that leave what lookups show of a registration (RFC 9176
+-- sections 5 and 5.3).
 use Rattle.std.specs.Prelude.{◌≡◌, Option, Some, None}
 use Rattle.rd_base.specs.declared.records.Record.{Record}
 use Rattle.history_model.specs.declared.entries.Change.{Change}

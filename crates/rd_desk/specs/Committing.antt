@@ -11,9 +11,11 @@ use Rattle.rd_desk.specs.declared.replies.Reply.{Reply}
 
 -- a request is answered, and its write, which was admitted at a place, is settled by that
 abbrev pub answering_settled : ℕ → Step → Message → effects.Reply → Effects
-answering_settled place s m reply = answering s m reply (note.Settled place (spelling (answer s m reply)) ∷ [])
+answering_settled place s m reply =
+    answering s m reply (note.Settled place (spelling (answer s m reply)) ∷ [])
 
--- it is answered 5.00, and the write fails: it may come again as a new one (RFC 7252 section 5.9.3.1)
+-- it is answered 5.00, and the write fails: it may come again as a new one (RFC 7252 section
+-- 5.9.3.1)
 abbrev pub failing : ℕ → Step → Message → Effects
 failing place s m = answering s m (bare codes_of.internal_server_error) (note.Failed place ∷ [])
 

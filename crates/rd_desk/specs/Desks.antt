@@ -13,7 +13,8 @@ use Rattle.simple_registration.specs.Table as fetches
 use Rattle.simple_registration.specs.FetchEvents.{FetchesStandFor}
 use Rattle.rd_desk.specs.Watching.{Watching, WatchingStandsFor}
 
--- its moment, the version of the directory, the tables, and how many Observe values it gave, as 64 bits count
+-- its moment, the version of the directory, the tables, and how many Observe values it gave, as 64
+-- bits count
 pub record Seen : Type 0 where
   pub moment : ℕ
   pub version : Version
@@ -29,7 +30,8 @@ pub record DirectoryStandsFor (rows : List Row) (v : Version) : Type 0 where
   pub at : v.at ≤ now rows
   pub swept : v.swept ≤ now rows
 
--- a desk stands for a journal: its moment is that of the last row that is no look, and each table stands for the events
+-- a desk stands for a journal: its moment is that of the last row that is no look, and each table
+-- stands for the events
 pub record StandsFor (rows : List Row) (d : Seen) : Type 0 where
   pub moment : d.moment ≡ now rows
   pub directory : DirectoryStandsFor rows d.version

@@ -10,9 +10,17 @@ use Rattle.journal_model.specs.declared.rows.Row.{Row}
 use Rattle.journal_model.specs.Journal.{entries}
 use Rattle.journal_model.specs.Rows.{row_moment}
 
--- an entry that the row of a step makes: nothing refuses it, it is made at the moment of the row, and the registration that it is about is live then in these states
-pub record IsEntered (rows : List Row) (s : Step) (entry : Entry) (old new : Option Record) : Type 0 where
-  pub accepted : change_refusal 0 (entries rows) entry ≡ None
-  pub at : entry.moment.0 ≡ row_moment rows s
-  pub before : old ≡ numbered (number_about (replay (entries rows)) entry.moment.0 entry.change) (live (entries rows) entry.moment.0)
-  pub after : new ≡ numbered (number_about (replay (entries rows)) entry.moment.0 entry.change) (live (entries rows ++ entry ∷ []) entry.moment.0)
+-- an entry that the row of a step makes: nothing refuses it, it is made at the moment of the row,
+-- and the registration that it is about is live then in these states
+pub record IsEntered (rows : List Row) (s : Step) (entry : Entry) (old new : Option Record) : Type 0
+  where
+    pub accepted : change_refusal 0 (entries rows) entry ≡ None
+    pub at : entry.moment.0 ≡ row_moment rows s
+    pub before :
+        old
+        ≡ numbered (number_about (replay (entries rows)) entry.moment.0 entry.change)
+        (live (entries rows) entry.moment.0)
+    pub after :
+        new
+        ≡ numbered (number_about (replay (entries rows)) entry.moment.0 entry.change)
+        (live (entries rows ++ entry ∷ []) entry.moment.0)

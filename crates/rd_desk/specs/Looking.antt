@@ -7,16 +7,26 @@ use Rattle.journal_model.specs.declared.steps.Step.{Step}
 use Rattle.journal_model.specs.Effects.{Effects, without_memory}
 use Rattle.journal_model.specs.Requests.{asked_block}
 use Rattle.journal_model.specs.Bodies.{body_reply, is_long}
-use Rattle.journal_model.specs.Looks.{Look, answered, still_valid, unless_long, look_sent, body_held}
+use Rattle.journal_model.specs.Looks.{
+  Look,
+  answered,
+  still_valid,
+  unless_long,
+  look_sent,
+  body_held,
+}
 use Rattle.rd_desk.specs.declared.looks.Found.{Found}
 use Rattle.rd_desk.specs.declared.looks.Found.TheVariants as found
 use Rattle.rd_desk.specs.declared.looks.Looked.{Looked}
 use Rattle.rd_desk.specs.declared.looks.Looked.TheVariants as ended
 
--- what a look gives that found this: 2.03 where the client has it, and else the body, which is held where it is a listing longer than a block
+-- what a look gives that found this: 2.03 where the client has it, and else the body, which is held
+-- where it is a listing longer than a block
 abbrev pub look_found : Message → Found → Look
 look_found m (found.Valid current) = answered (still_valid current.0)
-look_found m (found.Listing listing) = unless_long (is_long (asked_block m) listing.octets) m (record { body = listing.octets; tag = listing.tag.0 })
+look_found m (found.Listing listing) =
+    unless_long (is_long (asked_block m) listing.octets) m
+    (record { body = listing.octets; tag = listing.tag.0 })
 look_found m (found.OwnLinks octets) = answered (body_reply None None (asked_block m) octets)
 
 -- it ran out of memory
@@ -40,6 +50,10 @@ abbrev pub IsHeld : Peer → List ℕ → Option Answer → Looked → Type 0
 IsHeld peer datagram None ended.Done = Unit {0}
 IsHeld peer datagram None ended.Starved = Unit {0}
 IsHeld peer datagram None (ended.Held job) = ⊥
-IsHeld peer datagram (Some answer) (ended.Held job) = job ≡ record { peer = peer; datagram = datagram; answer = answer }
+IsHeld peer datagram (Some answer) (ended.Held job) = job ≡ record {
+  peer = peer;
+  datagram = datagram;
+  answer = answer;
+}
 IsHeld peer datagram (Some answer) ended.Done = ⊥
 IsHeld peer datagram (Some answer) ended.Starved = ⊥

@@ -1,5 +1,21 @@
--- Lookups that the journal takes part in: what takes memory for them, and what is noted of them (RFC 7959 section 2.4, RFC 7641 sections 3 and 4.1).
-use Rattle.std.specs.Prelude.{◌≡◌, ℕ, Bool, true, false, List, [], ◌∷◌, Option, Some, None, IfSome, is_some, if◌then◌else◌}
+-- Lookups that the journal takes part in: what takes memory for them, and what is noted of them
+-- (RFC 7959 section 2.4, RFC 7641 sections 3 and 4.1).
+use Rattle.std.specs.Prelude.{
+  ◌≡◌,
+  ℕ,
+  Bool,
+  true,
+  false,
+  List,
+  [],
+  ◌∷◌,
+  Option,
+  Some,
+  None,
+  IfSome,
+  is_some,
+  if◌then◌else◌,
+}
 use Rattle.std.specs.Arc.{arc_value}
 use Rattle.rd_base.specs.declared.peers.Peer.{Peer}
 use Rattle.rd_base.specs.declared.queries.Query.{Query}
@@ -34,7 +50,10 @@ answer_listed l = record { body = arc_value l.body; tag = l.tag.0 }
 
 -- the listing of a query in a history at a moment, under its tag
 abbrev pub answer_at : List Entry → ℕ → Query → Answer
-answer_at history moment query = record { body = listing query history moment; tag = tag history moment }
+answer_at history moment query = record {
+  body = listing query history moment;
+  tag = tag history moment;
+}
 
 -- a body has the block that is asked for (RFC 7959 section 2.2)
 abbrev pub has_asked_block : Option Block → List ℕ → Bool
@@ -43,7 +62,10 @@ has_asked_block asked body = is_some (block_of body (number_of asked) (szx_of as
 -- these kept answers are others with an answer kept after them at a moment, under a peer and a key
 abbrev pub AreWith : ℕ → Peer → List ℕ → Answer → List KeptAnswer → List KeptAnswer → Type 0
 AreWith moment peer key answer before after =
-    (events : List Event) (place word : ℕ) → AnswersStandFor events before → AnswersStandFor (noted place moment word (note.Kept peer key answer.body answer.tag ∷ []) events) after
+    (events : List Event) (place word : ℕ)
+    → AnswersStandFor events before
+    → AnswersStandFor
+    (noted place moment word (note.Kept peer key answer.body answer.tag ∷ []) events) after
 
 -- this answer is formed, to be kept or not
 pub record IsFormed (keep : Bool) (answer : Answer) (f : Formed) : Type 0 where
@@ -52,7 +74,8 @@ pub record IsFormed (keep : Bool) (answer : Answer) (f : Formed) : Type 0 where
 
 -- the kept answers that are ready are others with it after them
 abbrev pub IsReadied : ℕ → Peer → List ℕ → List KeptAnswer → Formed → Type 0
-IsReadied moment peer key before f = IfSome f.ready (AreWith moment peer key (answer_listed f.listed) before)
+IsReadied moment peer key before f =
+    IfSome f.ready (AreWith moment peer key (answer_listed f.listed) before)
 
 -- what is noted of an answer, where it is kept
 abbrev pub kept_if : Bool → Step → Message → Answer → List Note
@@ -61,7 +84,9 @@ kept_if false s m answer = []
 
 -- the block of an answer that is asked for is sent, and the answer is kept or not
 abbrev pub giving : Bool → Option ℕ → Step → Message → Answer → Effects
-giving keep observe s m answer = answering s m (body_reply (Some answer.tag) observe (asked_block m) answer.body) (kept_if keep s m answer)
+giving keep observe s m answer =
+    answering s m (body_reply (Some answer.tag) observe (asked_block m) answer.body)
+    (kept_if keep s m answer)
 
 -- the next Observe value, where one is given
 abbrev pub value_given : Bool → List Event → Option ℕ
@@ -76,11 +101,18 @@ pub record IsJoining (peer : Peer) (m : Message) (octets : List ℕ) (j : Joinin
   pub body : arc_value j.body ≡ octets
 
 -- a further block of the answer that is kept under a peer and a key was sent, which is a use of it
-pub record IsUsed (at moment : ℕ) (peer : Peer) (key : List ℕ) (m : Message) (events : List Event) (after : Table) (out sent : List (Peer × List ℕ)) (mids_before mids : Mids) : Type 0 where
+pub record IsUsed (at moment : ℕ) (peer : Peer) (key : List ℕ) (m : Message) (events : List Event)
+    (after : Table) (out sent : List (Peer × List ℕ)) (mids_before mids : Mids) : Type 0 where
   pub answer : Answer
   pub kept : kept_answer moment (peer, key) events ≡ Some answer
-  pub sends : (s : Step) (notes : List Note) → IsStepOf s peer mids_before → Sends (answering s m (body_reply (Some answer.tag) None (asked_block m) answer.body) notes) out sent mids_before mids
-  pub stands : (e : Event) → e.note ≡ note.Used peer key → e.moment ≡ moment → TransfersStandFor at (e ∷ events) after
+  pub sends : (s : Step) (notes : List Note)
+      → IsStepOf s peer mids_before
+      → Sends (answering s m (body_reply (Some answer.tag) None (asked_block m) answer.body) notes)
+      out sent mids_before mids
+  pub stands : (e : Event)
+      → e.note ≡ note.Used peer key
+      → e.moment ≡ moment
+      → TransfersStandFor at (e ∷ events) after
 
 -- a lookup that the journal takes part in; out of memory it is answered 5.00
 abbrev pub lookup_heard : Bool → List Row → Step → Message → Effects

@@ -1,11 +1,13 @@
--- Marks of watched queries: which of them changes of the registrations set, and the observers that are due by them (RFC 7641 section 4.2).
+-- Marks of watched queries: which of them changes of the registrations set, and the observers that
+-- are due by them (RFC 7641 section 4.2).
 use Rattle.std.specs.Prelude.{◌≡◌, Bool, true, ◌||◌, List, map, fold, Some, None, if◌then◌else◌}
 use Rattle.rd_base.specs.declared.queries.Query.{Query}
 use Rattle.rd_base.specs.declared.records.Record.{Record}
 use Rattle.watch_table.specs.WatchedQueries.{Watched, Table, is_marked_at, all_touched}
 use Rattle.observers.specs.Watchers.{Watcher}
 
--- a watched query after changes of the registrations that gave other lines to the queries that pass a test: where it passes, it is marked, and its body is dropped
+-- a watched query after changes of the registrations that gave other lines to the queries that pass
+-- a test: where it passes, it is marked, and its body is dropped
 abbrev pub touched_where : (Query → Bool) → Watched → Watched
 touched_where test w = if test w.query then record w { marked = true; body = None } else w
 

@@ -1,4 +1,5 @@
--- What is planned of a write before anything is changed: its answer, and the version with the entry that it makes.
+-- What is planned of a write before anything is changed: its answer, and the version with the entry
+-- that it makes.
 use Rattle.std.specs.Prelude.{◌≡◌, ℕ, ◌≤◌, List, [], ◌∷◌, ◌++◌, Option, Some, None, IfSome}
 use Rattle.std.specs.Arc.{arc_value}
 use Rattle.history_model.specs.declared.entries.Entry.{Entry}
@@ -18,8 +19,10 @@ use Rattle.journal_model.specs.Effects.{diagnostic}
 use Rattle.rd_desk.specs.declared.replies.Reply.{Reply}
 use Rattle.rd_desk.specs.Replies.{IsReply, reply_said}
 
--- the version has this entry after a history, which nothing refuses; the number is that of the registration that the entry is about, and the kind that of its change
-pub record HasEntry (history : List Entry) (last_sweep : ℕ) (entry : Entry) (version : Version) (number : ℕ) (kind : ChangeKind) : Type 0 where
+-- the version has this entry after a history, which nothing refuses; the number is that of the
+-- registration that the entry is about, and the kind that of its change
+pub record HasEntry (history : List Entry) (last_sweep : ℕ) (entry : Entry) (version : Version)
+    (number : ℕ) (kind : ChangeKind) : Type 0 where
   pub stands : VersionStandsFor 0 (history ++ entry ∷ []) version
   pub swept : version.swept ≡ last_sweep
   pub accepted : change_refusal 0 history entry ≡ None
@@ -28,7 +31,8 @@ pub record HasEntry (history : List Entry) (last_sweep : ℕ) (entry : Entry) (v
 
 -- so it is of what is ready to be entered
 abbrev pub IsEntering : List Entry → ℕ → Entry → Entering → Type 0
-IsEntering history swept entry e = HasEntry history swept entry (arc_value e.version) e.number e.kind
+IsEntering history swept entry e =
+    HasEntry history swept entry (arc_value e.version) e.number e.kind
 
 -- what is ready is of a moment: its entry was made then, and it was not swept later
 abbrev pub IsReadyAt : ℕ → Entering → Type 0
@@ -38,20 +42,27 @@ IsReadyAt moment e = ((arc_value e.version).at ≡ moment) × ((arc_value e.vers
 abbrev pub IsTimely : ℕ → Outcome → Type 0
 IsTimely moment o = IfSome o.entering (IsReadyAt moment)
 
--- what is noted of a write: nothing where it is refused, and else the entry that is ready, and then more
+-- what is noted of a write: nothing where it is refused, and else the entry that is ready, and then
+-- more
 abbrev pub AreNotes : List Entry → ℕ → List Note → List Note → Option Entering → Type 0
 AreNotes history swept further notes None = notes ≡ []
-AreNotes history swept further notes (Some e) = (entry : Entry) × (notes ≡ note.Entered entry ∷ further) × IsEntering history swept entry e
+AreNotes history swept further notes (Some e) =
+    (entry : Entry) × (notes ≡ note.Entered entry ∷ further) × IsEntering history swept entry e
 
--- it is planned so, of a version that is swept up to a moment: as it comes after a history, where what is accepted notes more beside its entry
-pub record IsPlanned (history : List Entry) (swept : ℕ) (further : List Note) (meant : changes.Outcome) (o : Outcome) : Type 0 where
+-- it is planned so, of a version that is swept up to a moment: as it comes after a history, where
+-- what is accepted notes more beside its entry
+pub record IsPlanned (history : List Entry) (swept : ℕ) (further : List Note)
+    (meant : changes.Outcome) (o : Outcome) : Type 0 where
   pub said : reply_said o.reply ≡ meant.reply
   pub reply : IsReply o.reply
   pub notes : AreNotes history swept further meant.notes o.entering
 
 -- what comes of a write is made at a moment: its entry has that, where it makes one
 abbrev pub IsMadeAt : ℕ → changes.Outcome → Type 0
-IsMadeAt moment meant = (entry : Entry) (more : List Note) → meant.notes ≡ note.Entered entry ∷ more → entry.moment.0 ≡ moment
+IsMadeAt moment meant =
+    (entry : Entry) (more : List Note)
+    → meant.notes ≡ note.Entered entry ∷ more
+    → entry.moment.0 ≡ moment
 
 -- a change is refused, and this is said
 abbrev pub IsRefusedWith : Option Refusal → Reply → Type 0

@@ -1,5 +1,22 @@
 -- What a reply of the code says (RFC 7252 section 5.2).
-use Rattle.std.specs.Prelude.{◌≡◌, ℕ, ◌≤◌, ◌<◌, ◌^◌, Bool, true, false, List, [], ◌∷◌, ◌++◌, length, Option, Some, None}
+use Rattle.std.specs.Prelude.{
+  ◌≡◌,
+  ℕ,
+  ◌≤◌,
+  ◌<◌,
+  ◌^◌,
+  Bool,
+  true,
+  false,
+  List,
+  [],
+  ◌∷◌,
+  ◌++◌,
+  length,
+  Option,
+  Some,
+  None,
+}
 use Rattle.std.specs.Option.{ForSome}
 use Rattle.message_model.specs.Codes.{empty, is_reserved}
 use Rattle.message_model.specs.declared.blocks.Block.{Block}
@@ -45,7 +62,8 @@ options_of r =
 abbrev pub reply_said : Reply → effects.Reply
 reply_said r = record { code = r.code; options = options_of r; payload = r.payload.now }
 
--- what a directory says: its Observe value and its blocks have spellings, and its payload is at most one block (RFC 7641 section 3.4, RFC 7959 section 2.2)
+-- what a directory says: its Observe value and its blocks have spellings, and its payload is at
+-- most one block (RFC 7641 section 3.4, RFC 7959 section 2.2)
 pub record IsReply (r : Reply) : Type 0 where
   pub class : is_reserved r.code ≡ false
   pub filled : empty < r.code

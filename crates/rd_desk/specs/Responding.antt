@@ -1,4 +1,5 @@
--- What a response to a fetch does where memory suffices, and where it ran out (RFC 9176 section 5.1).
+-- What a response to a fetch does where memory suffices, and where it ran out (RFC 9176 section
+-- 5.1).
 use Rattle.std.specs.Prelude.{Bool, true, false, List, [], ◌∷◌}
 use Rattle.message_model.specs.Message.{Message}
 use Rattle.event_model.specs.declared.notes.Note.{Note}
@@ -16,7 +17,8 @@ unless_starved false e = e
 
 -- a response that is heard
 abbrev pub response_heard : Bool → List Row → Step → Message → Effects
-response_heard starved rows s m = unless_starved starved (response_effects rows (row_moment rows s) s m)
+response_heard starved rows s m =
+    unless_starved starved (response_effects rows (row_moment rows s) s m)
 
 -- the next request of a fetch is sent, which draws a Message ID, and this is noted
 abbrev pub asking_next : Ask → List Note → Effects

@@ -1,5 +1,20 @@
 -- What a step leaves on a board, to be published after it.
-use Rattle.std.specs.Prelude.{◌≡◌, ◌≤◌, Bool, true, false, List, [], ◌∷◌, filter_map, Option, Some, None, IfSome, if◌then◌else◌}
+use Rattle.std.specs.Prelude.{
+  ◌≡◌,
+  ◌≤◌,
+  Bool,
+  true,
+  false,
+  List,
+  [],
+  ◌∷◌,
+  filter_map,
+  Option,
+  Some,
+  None,
+  IfSome,
+  if◌then◌else◌,
+}
 use Rattle.std.specs.Arc.{arc_value}
 use Rattle.history_model.specs.declared.entries.Entry.{Entry}
 use Rattle.history_model.specs.Versions.{Version, VersionStandsFor}
@@ -9,7 +24,8 @@ use Rattle.directory_core.specs.Boards.{HasOneMore}
 use Rattle.rd_desk.specs.declared.outcomes.Entering.{Entering}
 use Rattle.rd_desk.specs.declared.outcomes.Outcome.{Outcome}
 
--- the version that is staged after a step that made these entries and left this version: that one, where it made any, and else the one before
+-- the version that is staged after a step that made these entries and left this version: that one,
+-- where it made any, and else the one before
 abbrev pub staged_after : List Entry → Version → Option Version → Option Version
 staged_after [] version before = before
 staged_after (entry ∷ entries) version before = Some version
@@ -31,7 +47,10 @@ pub record IsLaid (old new : Version) (before after : Option (Option Version))
   pub entered : Bool
   pub staged : IfSome before (λ staged. after ≡ Some (if entered then Some new else staged))
   pub kept : entered ≡ false → new ≡ old
-  pub made : entered ≡ true → (history : List Entry) → VersionStandsFor 0 history old → HasOneMore history new
+  pub made : entered ≡ true
+      → (history : List Entry)
+      → VersionStandsFor 0 history old
+      → HasOneMore history new
   pub free : entered ≡ false → is_staged ≡ false
 
 -- the version of what is ready to be entered, where anything is, and else the one before
@@ -47,7 +66,8 @@ IsNextOf history o = IfSome o.entering (λ e. HasOneMore history (arc_value e.ve
 abbrev pub IsSweptBefore : Outcome → Type 0
 IsSweptBefore o = IfSome o.entering (λ e. (arc_value e.version).swept ≤ (arc_value e.version).at)
 
--- it is done beside these versions: the one that it has is the one that is left, and where it has none, that one stays
+-- it is done beside these versions: the one that it has is the one that is left, and where it has
+-- none, that one stays
 abbrev pub IsLeftBy : Version → Version → Option Entering → Type 0
 IsLeftBy old new None = new ≡ old
 IsLeftBy old new (Some e) = new ≡ arc_value e.version

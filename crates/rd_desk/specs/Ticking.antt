@@ -11,6 +11,7 @@ use Rattle.journal_model.specs.Ticks.{Ticking, ticking, events_with, is_looked_a
 abbrev pub looks_at_any : Ticking → Effects → Bool
 looks_at_any t done = list_any (is_looked_at t done) (observers (events_with t done))
 
--- a tick takes memory where, after the notices that are sent again, an observer is due to whose peer none is in flight (RFC 7641 section 4.2, RFC 7252 section 4.7)
+-- a tick takes memory where, after the notices that are sent again, an observer is due to whose
+-- peer none is in flight (RFC 7641 section 4.2, RFC 7252 section 4.7)
 abbrev pub tick_takes_memory : List Row → ℕ → Step → Bool
 tick_takes_memory rows moment s = looks_at_any (ticking rows moment s) (notices_again rows moment)

@@ -1,4 +1,5 @@
--- A step under way: what was done of its row so far, and the desk, the outbox and the Message IDs after that.
+-- A step under way: what was done of its row so far, and the desk, the outbox and the Message IDs
+-- after that.
 use Rattle.std.specs.Prelude.{◌≡◌, ℕ, Bool, false, List, ◌∷◌}
 use Rattle.rd_base.specs.declared.moments.Moment.{Moment}
 use Rattle.rd_base.specs.declared.peers.Peer.{Peer}
@@ -12,9 +13,11 @@ use Rattle.rd_desk.specs.declared.mids.Mids.{Mids}
 use Rattle.rd_desk.specs.Desks.{Seen, StandsFor}
 use Rattle.rd_desk.specs.Sendings.{AreRequestsSent}
 
--- the step is under way after a journal of a desk: the desk stands for the journal with a row that did this so far, which is what was sent and drawn; the requests
--- of fetches that the row noted are among what it sent
-pub record UnderWay (rows : List Row) (s : Step) (starved : Bool) (done : Effects) (desk : Seen) (out : List (Peer × List ℕ)) (mids : Mids) : Type 0 where
+-- the step is under way after a journal of a desk: the desk stands for the journal with a row that
+-- did this so far, which is what was sent and drawn; the requests of fetches that the row noted are
+-- among what it sent
+pub record UnderWay (rows : List Row) (s : Step) (starved : Bool) (done : Effects) (desk : Seen)
+    (out : List (Peer × List ℕ)) (mids : Mids) : Type 0 where
   pub journal : IsDeskJournal rows
   pub no_later_look : NoLaterLook s.handed.0 rows
   pub no_look : is_look s.kind ≡ false
@@ -24,18 +27,21 @@ pub record UnderWay (rows : List Row) (s : Step) (starved : Bool) (done : Effect
   pub worker : mids.worker ≡ s.worker
   pub drawn : mids.drawn ≡ drawing done.drew s.drawn
 
--- the call is that of a step: the moment and the Message IDs that are handed in are those of the step, no look was later, and the desk stands for the journal
-pub record IsCalled (rows : List Row) (s : Step) (now : Moment) (mids : Mids) (desk : Seen) : Type 0 where
-  pub journal : IsDeskJournal rows
-  pub no_later_look : NoLaterLook now.0 rows
-  pub no_look : is_look s.kind ≡ false
-  pub stands : StandsFor rows desk
-  pub handed : s.handed.0 ≡ now.0
-  pub worker : s.worker ≡ mids.worker
-  pub drawn : s.drawn ≡ mids.drawn
+-- the call is that of a step: the moment and the Message IDs that are handed in are those of the
+-- step, no look was later, and the desk stands for the journal
+pub record IsCalled (rows : List Row) (s : Step) (now : Moment) (mids : Mids) (desk : Seen) : Type 0
+  where
+    pub journal : IsDeskJournal rows
+    pub no_later_look : NoLaterLook now.0 rows
+    pub no_look : is_look s.kind ≡ false
+    pub stands : StandsFor rows desk
+    pub handed : s.handed.0 ≡ now.0
+    pub worker : s.worker ≡ mids.worker
+    pub drawn : s.drawn ≡ mids.drawn
 
 -- the step was made: the desk stands for the journal with its row, which is what was sent and drawn
-pub record Made (rows : List Row) (r : Row) (desk : Seen) (out : List (Peer × List ℕ)) (mids_before mids : Mids) : Type 0 where
+pub record Made (rows : List Row) (r : Row) (desk : Seen) (out : List (Peer × List ℕ))
+    (mids_before mids : Mids) : Type 0 where
   pub stands : StandsFor (r ∷ rows) desk
   pub sent : out ≡ r.sent
   pub worker : mids.worker ≡ mids_before.worker

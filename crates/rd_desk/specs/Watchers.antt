@@ -22,7 +22,8 @@ IsShown None (Some w) = ⊥
 IsShown (Some x) None = ⊥
 IsShown (Some x) (Some w) = IsShownAs x w
 
--- it is this observer after a journal: whether it is due, and whether a notice to it waits for an acknowledgement
+-- it is this observer after a journal: whether it is due, and whether a notice to it waits for an
+-- acknowledgement
 pub record IsObserverAfter (rows : List Row) (o : Observer) (w : Watcher) : Type 0 where
   pub peer : w.peer ≡ o.peer
   pub token : w.token ≡ o.token

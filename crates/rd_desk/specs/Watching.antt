@@ -1,4 +1,5 @@
--- What the watched queries and their observers show together, and the journal that they stand for (RFC 7641 section 4).
+-- What the watched queries and their observers show together, and the journal that they stand for
+-- (RFC 7641 section 4).
 use Rattle.std.specs.Prelude.{◌≡◌, ℕ, true, false, List, [], ◌∷◌, Some, map}
 use Rattle.std.specs.List.{AllByRecursion}
 use Rattle.rd_base.specs.declared.queries.Query.{Query}
@@ -37,7 +38,8 @@ abbrev pub HaveOtherNames : List Watcher → Type 0
 HaveOtherNames [] = Unit {0}
 HaveOtherNames (w ∷ ws) = AllByRecursion (IsOtherName w) ws × HaveOtherNames ws
 
--- each query is watched as often as it is observed, and no two observers have the same peer and token
+-- each query is watched as often as it is observed, and no two observers have the same peer and
+-- token
 pub record AreWatched (t : watched.Table) (ws : List Watcher) : Type 0 where
   pub queries : ℕ → Query
   pub by : AreWatchedBy queries t ws
@@ -45,7 +47,8 @@ pub record AreWatched (t : watched.Table) (ws : List Watcher) : Type 0 where
 
 -- a body that is set is the listing of its query
 abbrev pub HasListing : List Row → ℕ × Watched → Type 0
-HasListing rows e = (body : List ℕ) → e.1.body ≡ Some body → body ≡ listing e.1.query (entries rows) (now rows)
+HasListing rows e =
+    (body : List ℕ) → e.1.body ≡ Some body → body ≡ listing e.1.query (entries rows) (now rows)
 
 -- no mark is set
 abbrev pub IsUnmarked : ℕ × Watched → Type 0
@@ -55,13 +58,15 @@ IsUnmarked e = e.1.marked ≡ false
 abbrev pub IsConfirmable : Watcher → Type 0
 IsConfirmable w = (s : Sent) → w.flight ≡ Some s → is_confirmable_with s.mid s.octets ≡ true
 
--- they stand for a journal: the observers of its events, each due as its transitions say and with the notice that waits for it, and each query is watched as
--- often as it is observed. No mark is left, and each body that is set is the listing now
+-- they stand for a journal: the observers of its events, each due as its transitions say and with
+-- the notice that waits for it, and each query is watched as often as it is observed. No mark is
+-- left, and each body that is set is the listing now
 pub record WatchingStandsFor (rows : List Row) (w : Watching) : Type 0 where
   pub queries : ℕ → Query
   pub placed : AllByRecursion (IsPlaced w.watches queries) w.observers
   pub watches : WatchesStandFor (observers (events rows)) w.watches
-  pub observers : ObserversStandFor queries (octets_sent rows) (events rows) (transitions rows) w.observers
+  pub observers : ObserversStandFor queries (octets_sent rows) (events rows) (transitions rows)
+      w.observers
   pub confirmable : AllByRecursion IsConfirmable w.observers
   pub unmarked : AllByRecursion IsUnmarked w.watches
   pub bodies : AllByRecursion (HasListing rows) w.watches

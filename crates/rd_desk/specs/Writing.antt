@@ -9,7 +9,8 @@ use Rattle.journal_model.specs.Effects.{Reply}
 abbrev pub with_options : Message → List Opt → Message
 with_options m more = record m { options = m.options ++ more }
 
--- an option of this number may follow: the message is not an empty one, it has no payload yet, and no later option (RFC 7252 section 3.1)
+-- an option of this number may follow: the message is not an empty one, it has no payload yet, and
+-- no later option (RFC 7252 section 3.1)
 pub record IsReadyFor (number : ℕ) (m : Message) : Type 0 where
   pub filled : empty < m.code
   pub open_end : m.payload ≡ []
@@ -17,4 +18,11 @@ pub record IsReadyFor (number : ℕ) (m : Message) : Type 0 where
 
 -- a confirmable message that says a reply, with a token (RFC 7641 section 4.2)
 abbrev pub notice_saying : ℕ → List ℕ → Reply → Message
-notice_saying mid token reply = record { kind = Con; code = reply.code; mid = mid; token = token; options = reply.options; payload = reply.payload }
+notice_saying mid token reply = record {
+  kind = Con;
+  code = reply.code;
+  mid = mid;
+  token = token;
+  options = reply.options;
+  payload = reply.payload;
+}

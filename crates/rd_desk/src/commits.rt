@@ -2,7 +2,7 @@
 //! section 5, RFC 7252 section 4.5).
 ghost use Rattle.std.specs.Prelude.{◌≡◌, ◌+◌, ◌<◌, ◌≤◌, ◌^◌, ℕ, Bool, [], List, length, Ok, IfOk};
 ghost use Rattle.std.specs.Prelude.{false};
-ghost use Rattle.message_model.specs.Message.{Message, longest_token};
+ghost use Rattle.message_model.specs.Message.{Message};
 ghost use Rattle.message_model.specs.Reading.{reading};
 ghost use Rattle.event_model.specs.AdmissionOrder.{IsOpen};
 ghost use Rattle.coap_message.specs.Views.{message_in};
@@ -26,12 +26,12 @@ ghost use Rattle.history_model.specs.Versions.{VersionStandsFor};
 ghost use Rattle.rd_desk.specs.Staging.{IsLaid, IsLeftBy, IsNextOf};
 
 use crate::outcomes::Outcome;
+use crate::resources::Resource;
 use crate::staging::staged;
 use crate::tables::Tables;
-use crate::write_jobs::write_meaning;
+use crate::write_jobs::write_request;
 use crate::{Mids, Outbox, Stepped, WriteJob};
 use coap_message::View;
-use coap_options::Path;
 use directory_core::Board;
 use rd_base::{Moment, Peer, Starved};
 use std::alloc::Global;
@@ -48,7 +48,6 @@ impl Tables {
         outcome: Outcome,
         out: &mut Outbox,
     )
-        requires token { length view.now.token.now ≤ longest_token }
         requires reply { IsReply outcome.reply }
         requires short { IsShort outcome.reply }
         requires timely { IsTimely self.old.moment outcome }
@@ -85,7 +84,6 @@ impl Tables {
         planned: Result<Outcome, Starved>,
         out: &mut Outbox,
     ) -> Stepped
-        requires token { length view.now.token.now ≤ longest_token }
         requires reply { IfOk planned (λ o. IsReply o.reply) }
         requires short { IfOk planned (λ o. IsShort o.reply) }
         requires timely { IfOk planned (IsTimely self.old.moment) }
@@ -152,20 +150,20 @@ impl Tables {
             datagram,
             admitted,
         } = job;
-        let meaning = write_meaning(datagram.as_slice());
-        match meaning.path {
-            Path::Rd => {
-                return self.commit_registration(alloc, board, mids, peer, admitted, &meaning, out);
+        let request = write_request(datagram.as_slice());
+        match request.resource {
+            Resource::Registration => {
+                return self.commit_registration(alloc, board, mids, peer, admitted, &request, out);
             }
-            Path::SimpleRd => {
-                return self.commit_simple(alloc, 0, mids, peer, admitted, &meaning, out);
+            Resource::SimpleRegistration => {
+                return self.commit_simple(alloc, 0, mids, peer, admitted, &request, out);
             }
-            Path::Location(number) => {
+            Resource::Location(number) => {
                 return self.commit_location(
-                    alloc, board, mids, peer, admitted, &meaning, number, out,
+                    alloc, board, mids, peer, admitted, &request, number, out,
                 );
             }
-            Path::Core | Path::Res | Path::Ep | Path::Other => unreachable!(),
+            Resource::Core | Resource::Lookup(_) => unreachable!(),
         }
     }
 

@@ -9,7 +9,7 @@ ghost use Rattle.rd_desk.specs.Outboxes.{most_datagrams};
 ghost use Rattle.rd_desk.specs.Sendings.{Sends};
 
 use crate::Outbox;
-use coap_message::{Kind4, Writer};
+use coap_message::{Kind4, TokenRef, Writer};
 use rd_base::Peer;
 
 /// An empty message of this type is sent: a Reset of a message, as to a ping, or its
@@ -22,7 +22,7 @@ pub(crate) fn send_empty(peer: Peer, kind: Kind4, mid: u16, out: &mut Outbox)
         → Sends (sending s.peer (spelling (effects.empty_message kind mid))) out.old out.new mids
         mids }
 {
-    let mut writer = Writer::start(kind, 0, mid, b"");
+    let mut writer = Writer::start(kind, 0, mid, TokenRef { octets: b"" });
     let Ok(datagram) = writer.finish(b"") else {
         unreachable!()
     };

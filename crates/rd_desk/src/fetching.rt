@@ -8,7 +8,6 @@ ghost use Rattle.rd_base.specs.declared.peers.Peer.{Peer};
 ghost use Rattle.record_model.specs.AllowedParameters.{AreAllowed};
 ghost use Rattle.coap_message.specs.PartialMessages.{longest_datagram};
 ghost use Rattle.coap_message.specs.Views.{message_in};
-ghost use Rattle.coap_options.specs.Meanings.{IsMeaning};
 ghost use Rattle.event_model.specs.declared.notes.Note.TheVariants as note;
 ghost use Rattle.event_model.specs.Events.{Event};
 ghost use Rattle.event_model.specs.Flights.{OctetsSent};
@@ -106,7 +105,6 @@ impl Fetching {
             → s.peer ≡ peer.now
             → responses.fetch_of s (message_in view.now) events
             ≡ (if is_some result then request_of (last_request peer.now events) else None) }
-        ensures meaning { IfSome result (λ meaning. IsMeaning (message_in meaning.view) meaning) }
         ensures view { IfSome result (λ meaning. message_in meaning.view ≡ message_in view.now) }
         ensures belongs { IfSome result (λ meaning. belongs_among peer.now (message_in meaning.view)
             self.now.fetches
@@ -134,7 +132,6 @@ impl Fetching {
         peer: Peer,
         meaning: &Meaning<'_>,
     ) -> Heard
-        requires meaning { IsMeaning (message_in meaning.now.view) meaning.now }
         requires belongs { belongs_among peer (message_in meaning.now.view) self.old.fetches
             ≡ true }
         ensures answer { (octets : OctetsSent) (events : List Event) (request : Request)

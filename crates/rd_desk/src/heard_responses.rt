@@ -6,7 +6,6 @@ ghost use Rattle.rd_base.specs.declared.peers.Peer.{Peer};
 ghost use Rattle.record_model.specs.AllowedParameters.{AreAllowed};
 ghost use Rattle.coap_message.specs.PartialMessages.{longest_datagram};
 ghost use Rattle.coap_message.specs.Views.{message_in};
-ghost use Rattle.coap_options.specs.Meanings.{IsMeaning};
 ghost use Rattle.history_model.specs.declared.entries.Entry.{Entry};
 ghost use Rattle.event_model.specs.declared.notes.Note.{Note};
 ghost use Rattle.event_model.specs.declared.notes.Note.TheVariants as note;
@@ -162,7 +161,6 @@ impl Tables {
         meaning: &Meaning<'_>,
         out: &mut Outbox,
     ) -> Stepped
-        requires meaning { IsMeaning (message_in meaning.now.view) meaning.now }
         requires belongs { belongs_among peer (message_in meaning.now.view) self.old.fetches.fetches
             ≡ true }
         requires room { length out.old + 1 < most_datagrams }

@@ -1,7 +1,6 @@
 //! Writes as they are heard (RFC 7252 sections 4.2 and 4.5).
-ghost use Rattle.std.specs.Prelude.{◌≡◌, ◌<◌, ◌≤◌, Bool, true, false, [], ◌∷◌, List, length};
+ghost use Rattle.std.specs.Prelude.{◌≡◌, ◌<◌, Bool, true, false, [], ◌∷◌, List, length};
 ghost use Rattle.std.specs.Prelude.{if◌then◌else◌};
-ghost use Rattle.message_model.specs.Message.{longest_token};
 ghost use Rattle.coap_message.specs.Views.{message_in};
 ghost use Rattle.event_model.specs.declared.notes.Note.TheVariants as note;
 ghost use Rattle.journal_model.specs.declared.steps.Step.{Step};
@@ -34,7 +33,6 @@ impl Tables {
         view: &View<'_>,
         out: &mut Outbox,
     ) -> bool
-        requires token { length view.now.token.now ≤ longest_token }
         requires room { length out.old < most_datagrams }
         ensures way { (rows : List Row) (s : Step) (starved : Bool)
             → s.peer ≡ peer
@@ -75,7 +73,6 @@ impl Tables {
         datagram: &[u8],
         out: &mut Outbox,
     ) -> Admitted
-        requires token { length view.now.token.now ≤ longest_token }
         requires write { is_write_datagram datagram.now ≡ true }
         requires room { length out.old < most_datagrams }
         ensures way { (rows : List Row) (s : Step)

@@ -3,8 +3,6 @@ ghost use Rattle.std.specs.Prelude.{◌≡◌, ◌<◌, ◌≤◌, ◌^◌, ℕ,
 ghost use Rattle.std.specs.Arc.{arc_value};
 ghost use Rattle.message_model.specs.Reading.{reading};
 ghost use Rattle.message_model.specs.RequestKey.{key_in};
-ghost use Rattle.coap_message.specs.Views.{message_in};
-ghost use Rattle.coap_options.specs.Meanings.{IsMeaning};
 ghost use Rattle.event_model.specs.declared.notes.Note.TheVariants as note;
 ghost use Rattle.event_model.specs.Events.{Event, noted};
 ghost use Rattle.journal_model.specs.declared.steps.Step.{Step};
@@ -13,18 +11,19 @@ ghost use Rattle.journal_model.specs.Effects.{nothing};
 ghost use Rattle.journal_model.specs.declared.steps.StepKind.TheVariants as step;
 ghost use Rattle.journal_model.specs.Rows.{kept_body, row};
 ghost use Rattle.transfers.specs.TransferEvents.{AnswersStandFor};
+ghost use Rattle.rd_desk.specs.Accepted.{message_of};
 ghost use Rattle.rd_desk.specs.Outboxes.{most_datagrams};
 ghost use Rattle.rd_desk.specs.Stepping.{is_starved_step};
 ghost use Rattle.rd_desk.specs.UnderWay.{UnderWay, IsCalled, Made};
 
+use crate::accepted::Request;
 use crate::bodies::body_reply;
-use crate::looks::look_meaning;
+use crate::looks::look_request;
 use crate::replies::answer;
-use crate::requests::asked_block;
 use crate::server_errors::answer_starved;
 use crate::tables::Tables;
 use crate::{KeepJob, Mids, Outbox, Stepped};
-use coap_options::{Meaning, request_key};
+use coap_options::request_key;
 use rd_base::{Bytes, Moment, Peer, Starved, Tag};
 use std::alloc::Global;
 use std::sync::Arc;
@@ -37,18 +36,17 @@ pub(crate) fn with_listing(
     alloc: Global,
     now: Moment,
     peer: Peer,
-    meaning: &Meaning<'_>,
+    request: &Request<'_>,
     body: &Arc<Bytes>,
     tag: Tag,
 ) -> Result<Ready, Starved>
-    requires meaning { IsMeaning (message_in meaning.now.view) meaning.now }
     ensures { IfOk result (λ ready. (events : List Event) (place word : ℕ)
         → AnswersStandFor events transfers.now.answers
         → AnswersStandFor (noted place now.0 word
-        (note.Kept peer (key_in (message_in meaning.now.view)) (arc_value body.now) tag.0 ∷ [])
+        (note.Kept peer (key_in (message_of request.now)) (arc_value body.now) tag.0 ∷ [])
         events) ready) }
 {
-    let key = request_key(alloc, meaning)?;
+    let key = request_key(alloc, &request.meaning)?;
     let body = Arc::try_clone(body)?;
     let mut answers = Vec::new(alloc);
     answers.push(Answer {
@@ -84,23 +82,22 @@ impl Tables {
             body,
             tag,
         } = job;
-        let meaning = look_meaning(datagram.as_slice());
+        let request = look_request(datagram.as_slice());
         let ready = with_listing(
             &self.transfers,
             alloc,
             self.moment,
             peer,
-            &meaning,
+            &request,
             &body,
             tag,
         );
         let Ok(ready) = ready else {
-            answer_starved(mids, peer, &meaning.view, out);
+            answer_starved(mids, peer, &request.meaning.view, out);
             return Stepped::Starved;
         };
-        let asked = asked_block(&meaning);
-        let reply = body_reply(Some(tag), None, &asked, body.as_slice());
-        answer(mids, peer, &meaning.view, &reply, out);
+        let reply = body_reply(Some(tag), None, &request.asked, body.as_slice());
+        answer(mids, peer, &request.meaning.view, &reply, out);
         self.transfers.adopt(ready);
         Stepped::Done
     }

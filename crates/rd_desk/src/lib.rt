@@ -2,6 +2,7 @@
 //! 7252, RFC 9176).
 #![tactic(auto)]
 
+mod accepted;
 mod admissions;
 mod bodies;
 mod change_kinds;
@@ -14,6 +15,7 @@ mod heard_empties;
 mod heard_responses;
 mod heard_writes;
 mod hearing;
+mod incoming;
 mod jobs;
 mod joining;
 mod keep_jobs;
@@ -37,6 +39,7 @@ mod registrations;
 mod replies;
 mod requests;
 mod requests_again;
+mod resources;
 mod server_errors;
 mod settling;
 mod simple_registrations;
@@ -52,12 +55,12 @@ mod write_jobs;
 
 pub use admissions::Admitted;
 pub use desk::{Desk, Unmade};
+pub use incoming::is_look;
 pub use jobs::Job;
 pub use keep_jobs::KeepJob;
 pub use looks::{Looked, look, look_starved};
 pub use mids::Mids;
 pub use outbox::Outbox;
-pub use requests::is_look;
 pub use steps::Stepped;
 pub use watchers::Watcher;
 pub use write_jobs::WriteJob;

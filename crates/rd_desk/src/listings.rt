@@ -4,10 +4,7 @@ ghost use Rattle.std.specs.Prelude.{◌≡◌, ◌<◌, ◌≤◌, ◌^◌, ℕ,
 ghost use Rattle.std.specs.Prelude.{IfOk};
 ghost use Rattle.std.specs.Arc.{arc_value};
 ghost use Rattle.std.specs.Option.{ForSome};
-ghost use Rattle.message_model.specs.Message.{longest_token};
 ghost use Rattle.message_model.specs.RequestKey.{key_in};
-ghost use Rattle.coap_message.specs.Views.{message_in};
-ghost use Rattle.coap_options.specs.Meanings.{IsMeaning, HasShortBlocks};
 ghost use Rattle.history_model.specs.declared.entries.Entry.{Entry};
 ghost use Rattle.history_model.specs.Versions.{VersionStandsFor};
 ghost use Rattle.event_model.specs.declared.notes.Note.{Note};
@@ -18,19 +15,20 @@ ghost use Rattle.journal_model.specs.Bodies as bodies_of;
 ghost use Rattle.journal_model.specs.Effects.{answering};
 ghost use Rattle.journal_model.specs.Requests as requests_of;
 ghost use Rattle.transfers.specs.TransferEvents.{TransfersStandFor};
+ghost use Rattle.rd_desk.specs.Accepted.{message_of};
 ghost use Rattle.rd_desk.specs.Lookups.{answer_listed, answer_at, IsFormed, IsReadied, IsJoining};
 ghost use Rattle.rd_desk.specs.Lookups.{IsUsed};
 ghost use Rattle.rd_desk.specs.Outboxes.{most_datagrams};
 ghost use Rattle.rd_desk.specs.Sendings.{IsStepOf, Sends};
 
+use crate::accepted::Request;
 use crate::bodies::{body_reply, szx_of};
 use crate::joining::Joining;
 use crate::keeps::with_listing;
 use crate::looks::listing_at;
 use crate::replies::answer;
-use crate::requests::asked_block;
 use crate::{Mids, Outbox};
-use coap_options::{Meaning, request_key};
+use coap_options::request_key;
 use directory_core::Directory;
 use exchange_core::Token;
 use rd_base::{Bytes, Key, Moment, Peer, Query, Starved, Tag};
@@ -84,13 +82,12 @@ pub(crate) fn form(
     alloc: Global,
     now: Moment,
     peer: Peer,
-    meaning: &Meaning<'_>,
+    request: &Request<'_>,
     keep: bool,
     listed: Listed,
 ) -> Result<Formed, Starved>
-    requires meaning { IsMeaning (message_in meaning.now.view) meaning.now }
     ensures formed { IfOk result (IsFormed keep (answer_listed listed)) }
-    ensures ready { IfOk result (IsReadied now.0 peer (key_in (message_in meaning.now.view))
+    ensures ready { IfOk result (IsReadied now.0 peer (key_in (message_of request.now))
         transfers.now.answers) }
 {
     if !keep {
@@ -104,7 +101,7 @@ pub(crate) fn form(
         alloc,
         now,
         peer,
-        meaning,
+        request,
         &listed.body,
         listed.tag,
     )?;
@@ -118,23 +115,19 @@ pub(crate) fn form(
 pub(crate) fn joining_by(
     alloc: Global,
     peer: Peer,
-    meaning: &Meaning<'_>,
+    request: &Request<'_>,
     listed: &Listed,
 ) -> Result<Joining, Starved>
-    requires meaning { IsMeaning (message_in meaning.now.view) meaning.now }
-    requires short { HasShortBlocks meaning.now }
-    requires token { length meaning.now.view.token.now ≤ longest_token }
-    ensures { IfOk result (IsJoining peer (message_in meaning.now.view)
+    ensures { IfOk result (IsJoining peer (message_of request.now)
         (arc_value listed.now.body)) }
 {
-    let key = request_key(alloc, meaning)?;
+    let key = request_key(alloc, &request.meaning)?;
     let body = Arc::try_clone(&listed.body)?;
-    let asked = asked_block(meaning);
     Ok(Joining {
         peer,
-        token: Token::of(meaning.view.token),
+        token: Token::of(request.meaning.view.token.octets),
         key,
-        szx: szx_of(&asked),
+        szx: szx_of(&request.asked),
         body,
     })
 }
@@ -144,27 +137,23 @@ pub(crate) fn joining_by(
 pub(crate) fn send_block(
     mids: &mut Mids,
     peer: Peer,
-    meaning: &Meaning<'_>,
+    request: &Request<'_>,
     observe: Option<u32>,
     tag: Tag,
     body: &[u8],
     out: &mut Outbox,
 )
-    requires meaning { IsMeaning (message_in meaning.now.view) meaning.now }
-    requires short { HasShortBlocks meaning.now }
-    requires token { length meaning.now.view.token.now ≤ longest_token }
     requires observe { ForSome observe (λ value. value < 2 ^ 24) }
     requires room { length out.old < most_datagrams }
     ensures { (s : Step) (notes : List Note)
         → IsStepOf s peer mids.old
-        → Sends (answering s (message_in meaning.now.view)
+        → Sends (answering s (message_of request.now)
         (bodies_of.body_reply (Some tag.0) observe
-        (requests_of.asked_block (message_in meaning.now.view)) body.now) notes) out.old out.new
+        (requests_of.asked_block (message_of request.now)) body.now) notes) out.old out.new
         mids.old mids.new }
 {
-    let asked = asked_block(meaning);
-    let reply = body_reply(Some(tag), observe, &asked, body);
-    answer(mids, peer, &meaning.view, &reply, out);
+    let reply = body_reply(Some(tag), observe, &request.asked, body);
+    answer(mids, peer, &request.meaning.view, &reply, out);
 }
 
 /// The block that is asked for is sent of the answer that is kept under a peer and a key, where one
@@ -175,18 +164,15 @@ pub(crate) fn send_kept(
     now: Moment,
     mids: &mut Mids,
     peer: Peer,
-    meaning: &Meaning<'_>,
+    request: &Request<'_>,
     key: &Key,
     out: &mut Outbox,
 ) -> bool
-    requires meaning { IsMeaning (message_in meaning.now.view) meaning.now }
-    requires short { HasShortBlocks meaning.now }
-    requires token { length meaning.now.view.token.now ≤ longest_token }
     requires room { length out.old < most_datagrams }
     ensures used { result ≡ true
         → (at : ℕ) (events : List Event)
         → TransfersStandFor at events transfers.old
-        → IsUsed at now.0 peer key.now (message_in meaning.now.view) events transfers.new out.old
+        → IsUsed at now.0 peer key.now (message_of request.now) events transfers.new out.old
         out.new mids.old mids.new }
     ensures none { result ≡ false
         → (at : ℕ) (events : List Event)
@@ -196,7 +182,7 @@ pub(crate) fn send_kept(
         → (transfers.new ≡ transfers.old) × (out.new ≡ out.old) × (mids.new ≡ mids.old) }
 {
     if let Some((body, tag)) = transfers.kept_block(now, peer, key) {
-        send_block(mids, peer, meaning, None, tag, body.as_slice(), out);
+        send_block(mids, peer, request, None, tag, body.as_slice(), out);
         return true;
     }
     false

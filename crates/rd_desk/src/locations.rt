@@ -2,7 +2,6 @@
 ghost use Rattle.std.specs.Prelude.{◌≡◌, ◌≢◌, ◌<◌, ◌≤◌, ◌^◌, ℕ, [], List, length, None, IfOk};
 ghost use Rattle.std.specs.Prelude.{false};
 ghost use Rattle.message_model.specs.Codes as codes_of;
-ghost use Rattle.message_model.specs.Message.{longest_token};
 ghost use Rattle.message_model.specs.Request.{queries_in};
 ghost use Rattle.record_model.specs.declared.readings.Reading.TheVariants as reading;
 ghost use Rattle.record_model.specs.AllowedParameters.{IsAllowedChange};
@@ -18,6 +17,7 @@ ghost use Rattle.journal_model.specs.Effects.{nothing};
 ghost use Rattle.journal_model.specs.Journal.{events, entries};
 ghost use Rattle.journal_model.specs.Requests.{method_of};
 ghost use Rattle.journal_model.specs.Rows.{row_moment};
+ghost use Rattle.rd_desk.specs.Accepted.{message_of};
 ghost use Rattle.rd_desk.specs.Committing.{unless_failing, IsShort};
 ghost use Rattle.rd_desk.specs.Outboxes.{most_datagrams};
 ghost use Rattle.rd_desk.specs.Outcomes.{IsTimely, IsPlanned};
@@ -28,6 +28,7 @@ ghost use Rattle.rd_desk.specs.Shown.{AreToldOf};
 ghost use Rattle.history_model.specs.declared.entries.Entry.{Entry};
 ghost use Rattle.rd_desk.specs.Staging.{IsLaid, IsNextOf};
 
+use crate::accepted::Request;
 use crate::outcomes::{Outcome, removed, updated};
 use crate::tables::Tables;
 use crate::{Mids, Outbox, Stepped};
@@ -60,13 +61,13 @@ fn update_outcome(
     version: &Directory,
     now: Moment,
     peer: Peer,
-    meaning: &Meaning<'_>,
+    request: &Request<'_>,
     number: u64,
 ) -> Result<Outcome, Starved>
     requires after_at { version.now.at ≤ now.0 }
     requires after_sweep { version.now.swept ≤ now.0 }
     requires moment { now.0 ≤ 10 ^ 15 }
-    requires good { fault_of reading.Update (queries_in (message_in meaning.now.view)) ≡ None }
+    requires good { fault_of reading.Update (queries_in (message_of request.now)) ≡ None }
     ensures reply { IfOk result (λ o. IsReply o.reply) }
     ensures short { IfOk result (λ o. IsShort o.reply) }
     ensures moments { IfOk result (IsTimely now.0) }
@@ -77,9 +78,9 @@ fn update_outcome(
         → VersionStandsFor 0 (entries rows) version.now
         → s.peer ≡ peer
         → IfOk result (IsPlanned (entries rows) version.now.swept []
-        (updating rows now.0 s (message_in meaning.now.view) number)) }
+        (updating rows now.0 s (message_of request.now) number)) }
 {
-    let change = given_change(alloc, meaning)?;
+    let change = given_change(alloc, &request.meaning)?;
     updated(alloc, version, now, number, change, peer)
 }
 
@@ -93,31 +94,38 @@ impl Tables {
         mids: &mut Mids,
         peer: Peer,
         admitted: Moment,
-        meaning: &Meaning<'_>,
+        request: &Request<'_>,
         number: u64,
         out: &mut Outbox,
     ) -> Stepped
-        requires token { length meaning.now.view.token.now ≤ longest_token }
-        requires good { fault_of reading.Update (queries_in (message_in meaning.now.view)) ≡ None }
+        requires good { fault_of reading.Update (queries_in (message_of request.now)) ≡ None }
         requires room { length out.old < most_datagrams }
         requires free { B.has_staged board.old ≡ false }
         requires told { AreToldOf self.old.version (B.told board.old) }
         ensures way { (rows : List Row) (s : Step) (place : ℕ)
             → s.peer ≡ peer
-            → IsOpen place s.peer (message_in meaning.now.view).mid admitted.0 (events rows)
+            → IsOpen place s.peer (message_of request.now).mid admitted.0 (events rows)
             → UnderWay rows s (is_starved_step result) nothing self.old out.old mids.old
             → UnderWay rows s (is_starved_step result)
-            (unless_failing (is_starved_step result) place s (message_in meaning.now.view)
-            (settling place s (message_in meaning.now.view)
-            (updating rows (row_moment rows s) s (message_in meaning.now.view) number)))
+            (unless_failing (is_starved_step result) place s (message_of request.now)
+            (settling place s (message_of request.now)
+            (updating rows (row_moment rows s) s (message_of request.now) number)))
             self.new out.new mids.new }
         ensures laid { IsLaid self.old.version self.new.version (B.staged board.old)
             (B.staged board.new) (B.has_staged board.new) }
         ensures name { B.name board.new ≡ B.name board.old }
         ensures told { B.told board.new ≡ B.told board.old }
     {
-        let planned = update_outcome(alloc, &*self.version, self.moment, peer, meaning, number);
-        self.finish(board, mids, peer, &meaning.view, admitted, planned, out)
+        let planned = update_outcome(alloc, &*self.version, self.moment, peer, request, number);
+        self.finish(
+            board,
+            mids,
+            peer,
+            &request.meaning.view,
+            admitted,
+            planned,
+            out,
+        )
     }
 
     /// A removal of the registration of a number that was admitted is done, or fails where memory
@@ -129,21 +137,20 @@ impl Tables {
         mids: &mut Mids,
         peer: Peer,
         admitted: Moment,
-        meaning: &Meaning<'_>,
+        request: &Request<'_>,
         number: u64,
         out: &mut Outbox,
     ) -> Stepped
-        requires token { length meaning.now.view.token.now ≤ longest_token }
         requires room { length out.old < most_datagrams }
         requires free { B.has_staged board.old ≡ false }
         requires told { AreToldOf self.old.version (B.told board.old) }
         ensures way { (rows : List Row) (s : Step) (place : ℕ)
             → s.peer ≡ peer
-            → IsOpen place s.peer (message_in meaning.now.view).mid admitted.0 (events rows)
+            → IsOpen place s.peer (message_of request.now).mid admitted.0 (events rows)
             → UnderWay rows s (is_starved_step result) nothing self.old out.old mids.old
             → UnderWay rows s (is_starved_step result)
-            (unless_failing (is_starved_step result) place s (message_in meaning.now.view)
-            (settling place s (message_in meaning.now.view)
+            (unless_failing (is_starved_step result) place s (message_of request.now)
+            (settling place s (message_of request.now)
             (removing rows (row_moment rows s) s number))) self.new out.new mids.new }
         ensures laid { IsLaid self.old.version self.new.version (B.staged board.old)
             (B.staged board.new) (B.has_staged board.new) }
@@ -151,7 +158,15 @@ impl Tables {
         ensures told { B.told board.new ≡ B.told board.old }
     {
         let planned = removed(alloc, &*self.version, self.moment, number);
-        self.finish(board, mids, peer, &meaning.view, admitted, planned, out)
+        self.finish(
+            board,
+            mids,
+            peer,
+            &request.meaning.view,
+            admitted,
+            planned,
+            out,
+        )
     }
 
     /// A write on a registration that was admitted is done: POST updates it, and DELETE removes it
@@ -163,32 +178,31 @@ impl Tables {
         mids: &mut Mids,
         peer: Peer,
         admitted: Moment,
-        meaning: &Meaning<'_>,
+        request: &Request<'_>,
         number: u64,
         out: &mut Outbox,
     ) -> Stepped
-        requires token { length meaning.now.view.token.now ≤ longest_token }
-        requires good { meaning.now.view.code ≡ codes_of.post
-            → fault_of reading.Update (queries_in (message_in meaning.now.view)) ≡ None }
+        requires good { request.now.meaning.view.code ≡ codes_of.post
+            → fault_of reading.Update (queries_in (message_of request.now)) ≡ None }
         requires room { length out.old < most_datagrams }
         requires free { B.has_staged board.old ≡ false }
         requires told { AreToldOf self.old.version (B.told board.old) }
         ensures way { (rows : List Row) (s : Step) (place : ℕ)
             → s.peer ≡ peer
-            → IsOpen place s.peer (message_in meaning.now.view).mid admitted.0 (events rows)
+            → IsOpen place s.peer (message_of request.now).mid admitted.0 (events rows)
             → UnderWay rows s (is_starved_step result) nothing self.old out.old mids.old
             → UnderWay rows s (is_starved_step result)
-            (unless_failing (is_starved_step result) place s (message_in meaning.now.view)
-            (on_location (method_of (message_in meaning.now.view).code) rows (row_moment rows s)
-            place s (message_in meaning.now.view) number)) self.new out.new mids.new }
+            (unless_failing (is_starved_step result) place s (message_of request.now)
+            (on_location (method_of (message_of request.now).code) rows (row_moment rows s)
+            place s (message_of request.now) number)) self.new out.new mids.new }
         ensures laid { IsLaid self.old.version self.new.version (B.staged board.old)
             (B.staged board.new) (B.has_staged board.new) }
         ensures name { B.name board.new ≡ B.name board.old }
         ensures told { B.told board.new ≡ B.told board.old }
     {
-        if meaning.view.code == POST {
-            return self.commit_update(alloc, board, mids, peer, admitted, meaning, number, out);
+        if request.meaning.view.code == POST {
+            return self.commit_update(alloc, board, mids, peer, admitted, request, number, out);
         }
-        self.commit_removal(alloc, board, mids, peer, admitted, meaning, number, out)
+        self.commit_removal(alloc, board, mids, peer, admitted, request, number, out)
     }
 }

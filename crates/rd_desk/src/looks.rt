@@ -1,11 +1,9 @@
 //! Lookups and discovery that are answered from one version of the directory (RFC 9176 sections 4.1
 //! and 6, RFC 7252 section 5.10.6.2).
 ghost use Rattle.std.specs.Prelude.{◌≡◌, ◌≤◌, ◌<◌, ℕ, true, false, List, length, Ok, Some, IfOk};
-ghost use Rattle.message_model.specs.Message.{longest_token};
 ghost use Rattle.message_model.specs.Reading.{reading};
 ghost use Rattle.message_model.specs.Request.{path_in};
 ghost use Rattle.coap_message.specs.Views.{message_in};
-ghost use Rattle.coap_options.specs.Meanings.{IsMeaning, HasShortBlocks};
 ghost use Rattle.history_model.specs.declared.entries.Entry.{Entry};
 ghost use Rattle.history_model.specs.Listing.{listing, tag};
 ghost use Rattle.history_model.specs.Versions.{VersionStandsFor};
@@ -13,23 +11,25 @@ ghost use Rattle.journal_model.specs.declared.steps.Step.{Step};
 ghost use Rattle.journal_model.specs.Looks as looks_of;
 ghost use Rattle.journal_model.specs.Machine.{is_look_datagram};
 ghost use Rattle.journal_model.specs.Requests as requests_of;
+ghost use Rattle.rd_desk.specs.Accepted.{message_of};
 ghost use Rattle.rd_desk.specs.Asking.{seeks_links};
 ghost use Rattle.rd_desk.specs.Looking.{look_found, is_starved_look, look_done, look_left, IsHeld};
 ghost use Rattle.rd_desk.specs.Outboxes.{most_datagrams};
 ghost use Rattle.rd_desk.specs.Replies.{IsReply, reply_said};
 ghost use Rattle.rd_desk.specs.Sendings.{IsStepOf, Sends};
 
+use crate::accepted::Request;
 use crate::bodies::{body_reply, is_long};
+use crate::incoming::{Incoming, read_datagram};
 use crate::replies::{Reply, answer};
-use crate::requests::{asked, asked_block, is_discovery};
+use crate::resources::{is_core, kind_at};
 use crate::server_errors::answer_starved;
 use crate::{KeepJob, Mids, Outbox};
-use coap_message::view;
-use coap_options::{Meaning, Path, etags, queries};
+use coap_options::{Meaning, etags, queries};
 use directory_core::Directory;
 use listing::discovery;
 use query_text::{QueryBad, lookup_query};
-use rd_base::{Bytes, Kind, Moment, Peer, Query, Starved, Steps, Tag};
+use rd_base::{Bytes, Moment, Peer, Query, Starved, Steps, Tag};
 use std::alloc::Global;
 use std::marker::Brand;
 use std::sync::ledger::{Blank, Ledger};
@@ -65,26 +65,13 @@ enum Found {
     OwnLinks(Bytes),
 }
 
-/// The kind of what is looked up at a path.
-fn kind_of(path: &Path) -> Kind
-    ensures { result ≡ requests_of.kind_of path.now }
-{
-    match path {
-        Path::Res => Kind::Resource,
-        Path::Ep => Kind::Endpoint,
-        Path::Core | Path::SimpleRd | Path::Rd | Path::Location(_) | Path::Other => Kind::Discovery,
-    }
-}
-
 /// What a lookup or a discovery asks for, whose query options are not refused. `Starved`: out of
 /// memory.
-pub(crate) fn query_of(alloc: Global, meaning: &Meaning<'_>) -> Result<Query, Starved>
-    requires meaning { IsMeaning (message_in meaning.now.view) meaning.now }
-    requires good { requests_of.has_bad_query (message_in meaning.now.view) ≡ false }
-    requires seeks { seeks_links (path_in (message_in meaning.now.view)) ≡ true }
-    ensures { IfOk result (λ query. query ≡ requests_of.query_of (message_in meaning.now.view)) }
+pub(crate) fn query_of(alloc: Global, request: &Request<'_>) -> Result<Query, Starved>
+    requires seeks { seeks_links (path_in (message_of request.now)) ≡ true }
+    ensures { IfOk result (λ query. query ≡ requests_of.query_of (message_of request.now)) }
 {
-    match lookup_query(alloc, kind_of(&meaning.path), queries(meaning)) {
+    match lookup_query(alloc, kind_at(&request.resource), queries(&request.meaning)) {
         Ok(query) => Ok(query),
         Err(QueryBad::Starved) => Err(Starved),
         Err(QueryBad::At { .. }) => unreachable!(),
@@ -128,7 +115,7 @@ pub(crate) fn listing_at<L: Ledger>(
 fn find_listing(
     version: &Directory,
     now: Moment,
-    meaning: &Meaning<'_>,
+    request: &Request<'_>,
     query: &Query,
 ) -> Result<Found, Starved>
     requires after_at { version.now.at ≤ now.0 }
@@ -136,11 +123,11 @@ fn find_listing(
     ensures { (history : List Entry)
         → VersionStandsFor 0 history version.now
         → IfOk result (λ found. looks_of.found_under (Some (tag history now.0))
-        (message_in meaning.now.view) (listing query.now history now.0)
-        ≡ look_found (message_in meaning.now.view) found) }
+        (message_of request.now) (listing query.now history now.0)
+        ≡ look_found (message_of request.now) found) }
 {
     let tag = version.tag(now);
-    if names_tag(meaning, tag) {
+    if names_tag(&request.meaning, tag) {
         return Ok(Found::Valid(tag));
     }
     let octets = listing_at::<Brand>(Blank::new(1), version, now, query)?;
@@ -152,24 +139,22 @@ fn find(
     alloc: Global,
     version: &Directory,
     now: Moment,
-    meaning: &Meaning<'_>,
+    request: &Request<'_>,
 ) -> Result<Found, Starved>
-    requires meaning { IsMeaning (message_in meaning.now.view) meaning.now }
-    requires good { requests_of.has_bad_query (message_in meaning.now.view) ≡ false }
-    requires looks { requests_of.only_looks (message_in meaning.now.view) ≡ true }
+    requires looks { requests_of.only_looks (message_of request.now) ≡ true }
     requires after_at { version.now.at ≤ now.0 }
     requires after_sweep { version.now.swept ≤ now.0 }
     ensures { (history : List Entry)
         → VersionStandsFor 0 history version.now
-        → IfOk result (λ found. looks_of.look history now.0 (message_in meaning.now.view)
-        ≡ Some (look_found (message_in meaning.now.view) found)) }
+        → IfOk result (λ found. looks_of.look history now.0 (message_of request.now)
+        ≡ Some (look_found (message_of request.now) found)) }
 {
-    let query = query_of(alloc, meaning)?;
-    if is_discovery(&meaning.path) {
+    let query = query_of(alloc, request)?;
+    if is_core(&request.resource) {
         let octets = discovery(alloc, &query)?;
         return Ok(Found::OwnLinks(octets));
     }
-    find_listing(version, now, meaning, &query)
+    find_listing(version, now, request, &query)
 }
 
 /// What is answered to a request that names the tag of what is found: 2.03 with this tag alone (RFC
@@ -196,34 +181,30 @@ fn give(
     mids: &mut Mids,
     peer: Peer,
     datagram: &[u8],
-    meaning: &Meaning<'_>,
+    request: &Request<'_>,
     found: Found,
     out: &mut Outbox,
 ) -> Looked
     requires looks { is_look_datagram datagram.now ≡ true }
-    requires meaning { IsMeaning (message_in meaning.now.view) meaning.now }
-    requires short { HasShortBlocks meaning.now }
-    requires token { length meaning.now.view.token.now ≤ longest_token }
     requires room { length out.old < most_datagrams }
     ensures sends { (s : Step)
         → IsStepOf s peer mids.old
-        → Sends (look_done (is_starved_look result) s (message_in meaning.now.view)
-        (look_found (message_in meaning.now.view) found)) out.old out.new mids.old mids.new }
+        → Sends (look_done (is_starved_look result) s (message_of request.now)
+        (look_found (message_of request.now) found)) out.old out.new mids.old mids.new }
     ensures held { IsHeld peer datagram.now (look_left (is_starved_look result)
-        (look_found (message_in meaning.now.view) found)) result }
+        (look_found (message_of request.now) found)) result }
 {
     match found {
         Found::Valid(tag) => {
-            answer(mids, peer, &meaning.view, &still_valid(tag), out);
+            answer(mids, peer, &request.meaning.view, &still_valid(tag), out);
             return Looked::Done;
         }
         Found::Listing(tagged) => {
-            return give_listing(alloc, mids, peer, datagram, meaning, tagged, out);
+            return give_listing(alloc, mids, peer, datagram, request, tagged, out);
         }
         Found::OwnLinks(octets) => {
-            let asked = asked_block(meaning);
-            let reply = body_reply(None, None, &asked, octets.as_slice());
-            answer(mids, peer, &meaning.view, &reply, out);
+            let reply = body_reply(None, None, &request.asked, octets.as_slice());
+            answer(mids, peer, &request.meaning.view, &reply, out);
             return Looked::Done;
         }
     }
@@ -235,54 +216,43 @@ fn give_listing(
     mids: &mut Mids,
     peer: Peer,
     datagram: &[u8],
-    meaning: &Meaning<'_>,
+    request: &Request<'_>,
     tagged: TaggedListing,
     out: &mut Outbox,
 ) -> Looked
     requires looks { is_look_datagram datagram.now ≡ true }
-    requires meaning { IsMeaning (message_in meaning.now.view) meaning.now }
-    requires short { HasShortBlocks meaning.now }
-    requires token { length meaning.now.view.token.now ≤ longest_token }
     requires room { length out.old < most_datagrams }
     ensures sends { (s : Step)
         → IsStepOf s peer mids.old
-        → Sends (look_done (is_starved_look result) s (message_in meaning.now.view)
-        (look_found (message_in meaning.now.view) (Found.Listing tagged))) out.old out.new
+        → Sends (look_done (is_starved_look result) s (message_of request.now)
+        (look_found (message_of request.now) (Found.Listing tagged))) out.old out.new
         mids.old mids.new }
     ensures held { IsHeld peer datagram.now (look_left (is_starved_look result)
-        (look_found (message_in meaning.now.view) (Found.Listing tagged))) result }
+        (look_found (message_of request.now) (Found.Listing tagged))) result }
 {
     let TaggedListing { octets, tag } = tagged;
-    let asked = asked_block(meaning);
-    if !is_long(&asked, octets.as_slice()) {
-        let reply = body_reply(Some(tag), None, &asked, octets.as_slice());
-        answer(mids, peer, &meaning.view, &reply, out);
+    if !is_long(&request.asked, octets.as_slice()) {
+        let reply = body_reply(Some(tag), None, &request.asked, octets.as_slice());
+        answer(mids, peer, &request.meaning.view, &reply, out);
         return Looked::Done;
     }
     let Ok(job) = KeepJob::of(alloc, peer, datagram, octets, tag) else {
-        answer_starved(mids, peer, &meaning.view, out);
+        answer_starved(mids, peer, &request.meaning.view, out);
         return Looked::Starved;
     };
     Looked::Held(job)
 }
 
-/// What the datagram of a request that only looks means.
-pub(crate) fn look_meaning(datagram: &[u8]) -> Meaning<'_>
+/// The request of a datagram that only looks.
+pub(crate) fn look_request(datagram: &[u8]) -> Request<'_>
     requires { is_look_datagram datagram.now ≡ true }
-    ensures read { reading datagram.now ≡ Ok (message_in result.view) }
-    ensures meaning { IsMeaning (message_in result.view) result }
-    ensures short { HasShortBlocks result }
-    ensures token { length result.view.token.now ≤ longest_token }
-    ensures good { requests_of.has_bad_query (message_in result.view) ≡ false }
-    ensures looks { requests_of.only_looks (message_in result.view) ≡ true }
+    ensures read { reading datagram.now ≡ Ok (message_of result) }
+    ensures looks { requests_of.only_looks (message_of result) ≡ true }
 {
-    let Ok(view) = view(datagram) else {
+    let Incoming::Look(request) = read_datagram(datagram) else {
         unreachable!()
     };
-    let Ok(meaning) = asked(&view) else {
-        unreachable!()
-    };
-    meaning
+    request
 }
 
 /// A request that only looks ([`is_look`](crate::is_look)) is answered from a version of the
@@ -313,12 +283,12 @@ pub fn look(
         → IsHeld peer datagram.now (looks_of.held_after (is_starved_look result) history now.0
         (reading datagram.now)) result }
 {
-    let meaning = look_meaning(datagram);
-    let Ok(found) = find(alloc, version, now, &meaning) else {
-        answer_starved(mids, peer, &meaning.view, out);
+    let request = look_request(datagram);
+    let Ok(found) = find(alloc, version, now, &request) else {
+        answer_starved(mids, peer, &request.meaning.view, out);
         return Looked::Starved;
     };
-    give(alloc, mids, peer, datagram, &meaning, found, out)
+    give(alloc, mids, peer, datagram, &request, found, out)
 }
 
 /// A request that only looks, for which no version is at hand, is answered 5.00 (RFC 7252 section
@@ -330,6 +300,6 @@ pub fn look_starved(mids: &mut Mids, peer: Peer, datagram: &[u8], out: &mut Outb
         Sends (looks_of.looked true history moment s (reading datagram.now))
         out.old out.new mids.old mids.new }
 {
-    let meaning = look_meaning(datagram);
-    answer_starved(mids, peer, &meaning.view, out);
+    let request = look_request(datagram);
+    answer_starved(mids, peer, &request.meaning.view, out);
 }

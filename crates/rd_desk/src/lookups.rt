@@ -1,15 +1,12 @@
 //! Lookups that the journal takes part in: further blocks of a listing, and observation (RFC 7959
 //! section 2.4, RFC 7641 sections 3 and 4.1).
-ghost use Rattle.std.specs.Prelude.{◌≡◌, ◌<◌, ◌≤◌, ◌^◌, ℕ, Bool, true, false, List, length, Some};
-ghost use Rattle.std.specs.Prelude.{None, IfOk, IfSome, OnErr, is_some};
+ghost use Rattle.std.specs.Prelude.{◌≡◌, ◌<◌, ◌^◌, ℕ, Bool, true, false, List, length, Some};
+ghost use Rattle.std.specs.Prelude.{None, IfOk, OnErr, is_some};
 ghost use Rattle.std.specs.Arc.{arc_value};
 ghost use Rattle.std.specs.Option.{ForSome};
 ghost use Rattle.rd_base.specs.declared.peers.Peer.{Peer as Endpoint};
-ghost use Rattle.message_model.specs.Message.{longest_token};
 ghost use Rattle.message_model.specs.Request.{path_in, observe_in};
 ghost use Rattle.message_model.specs.RequestKey.{key_in};
-ghost use Rattle.coap_message.specs.Views.{message_in};
-ghost use Rattle.coap_options.specs.Meanings.{IsMeaning, HasShortBlocks};
 ghost use Rattle.history_model.specs.declared.entries.Entry.{Entry};
 ghost use Rattle.history_model.specs.Versions.{VersionStandsFor};
 ghost use Rattle.event_model.specs.Observers.{has_room_for, observers};
@@ -20,6 +17,7 @@ ghost use Rattle.journal_model.specs.Effects.{Effects, nothing, joined, noting};
 ghost use Rattle.journal_model.specs.Journal.{events};
 ghost use Rattle.journal_model.specs.Lookups.{without};
 ghost use Rattle.journal_model.specs.Requests as requests_of;
+ghost use Rattle.rd_desk.specs.Accepted.{message_of};
 ghost use Rattle.rd_desk.specs.declared.mids.Mids.{Mids as MidsSeen};
 ghost use Rattle.rd_desk.specs.Asking.{seeks_links, begins_observation};
 ghost use Rattle.rd_desk.specs.Joining.{observer_joining, joining_notes};
@@ -29,15 +27,16 @@ ghost use Rattle.rd_desk.specs.Outboxes.{most_datagrams};
 ghost use Rattle.rd_desk.specs.Stepping.{is_starved_step};
 ghost use Rattle.rd_desk.specs.UnderWay.{UnderWay};
 
+use crate::accepted::Request;
 use crate::bodies::{has_asked_block, is_long};
 use crate::joining::Joining;
 use crate::listings::{Formed, form, joining_by, listed_at, send_block, send_kept};
 use crate::looks::query_of;
-use crate::requests::{asked_block, begins_observation, is_later_block};
+use crate::requests::{begins_observation, is_later_block};
 use crate::server_errors::answer_starved;
 use crate::tables::Tables;
 use crate::{Mids, Outbox, Stepped};
-use coap_options::{Meaning, request_key};
+use coap_options::request_key;
 use exchange_core::Token;
 use rd_base::{Peer, Query, Starved};
 use std::alloc::Global;
@@ -63,16 +62,13 @@ impl Tables {
         &mut self,
         mids: &mut Mids,
         peer: Peer,
-        meaning: &Meaning<'_>,
+        request: &Request<'_>,
         observe: Option<u32>,
         formed: Formed,
         out: &mut Outbox,
     )
-        requires meaning { IsMeaning (message_in meaning.now.view) meaning.now }
-        requires short { HasShortBlocks meaning.now }
-        requires token { length meaning.now.view.token.now ≤ longest_token }
         requires observe { ForSome observe (λ value. value < 2 ^ 24) }
-        requires ready { IsReadied self.old.moment peer (key_in (message_in meaning.now.view))
+        requires ready { IsReadied self.old.moment peer (key_in (message_of request.now))
             self.old.transfers.answers formed }
         requires room { length out.old < most_datagrams }
         ensures way { (rows : List Row) (s : Step) (starved : Bool) (done : Effects)
@@ -80,7 +76,7 @@ impl Tables {
             → done.drew ≡ 0
             → UnderWay rows s starved done self.old out.old mids.old
             → UnderWay rows s starved (joined done
-            (giving (is_some formed.ready) observe s (message_in meaning.now.view)
+            (giving (is_some formed.ready) observe s (message_of request.now)
             (answer_listed formed.listed))) self.new out.new mids.new }
         ensures version { self.new.version ≡ self.old.version }
     {
@@ -88,7 +84,7 @@ impl Tables {
         send_block(
             mids,
             peer,
-            meaning,
+            request,
             observe,
             listed.tag,
             listed.body.as_slice(),
@@ -109,32 +105,29 @@ impl Tables {
         &self,
         alloc: Global,
         peer: Peer,
-        meaning: &Meaning<'_>,
+        request: &Request<'_>,
     ) -> Result<Formed, Starved>
-        requires meaning { IsMeaning (message_in meaning.now.view) meaning.now }
-        requires short { HasShortBlocks meaning.now }
-        requires good { requests_of.has_bad_query (message_in meaning.now.view) ≡ false }
-        requires seeks { seeks_links (path_in (message_in meaning.now.view)) ≡ true }
+        requires seeks { seeks_links (path_in (message_of request.now)) ≡ true }
         ensures formed { (history : List Entry)
             → VersionStandsFor 0 history self.now.version
             → IfOk result (IsFormed (has_asked_block
-            (requests_of.asked_block (message_in meaning.now.view))
+            (requests_of.asked_block (message_of request.now))
             (answer_at history self.now.moment
-            (requests_of.query_of (message_in meaning.now.view))).body)
+            (requests_of.query_of (message_of request.now))).body)
             (answer_at history self.now.moment
-            (requests_of.query_of (message_in meaning.now.view)))) }
+            (requests_of.query_of (message_of request.now)))) }
         ensures ready { IfOk result (IsReadied self.now.moment peer
-            (key_in (message_in meaning.now.view)) self.now.transfers.answers) }
+            (key_in (message_of request.now)) self.now.transfers.answers) }
     {
-        let query = query_of(alloc, meaning)?;
+        let query = query_of(alloc, request)?;
         let listed = listed_at(alloc, &*self.version, self.moment, &query)?;
-        let keep = has_asked_block(&asked_block(meaning), listed.body.as_slice());
+        let keep = has_asked_block(&request.asked, listed.body.as_slice());
         form(
             &self.transfers,
             alloc,
             self.moment,
             peer,
-            meaning,
+            request,
             keep,
             listed,
         )
@@ -146,28 +139,26 @@ impl Tables {
         &self,
         alloc: Global,
         peer: Peer,
-        meaning: &Meaning<'_>,
+        request: &Request<'_>,
         query: &Query,
     ) -> Result<Formed, Starved>
-        requires meaning { IsMeaning (message_in meaning.now.view) meaning.now }
-        requires short { HasShortBlocks meaning.now }
         ensures formed { (history : List Entry)
             → VersionStandsFor 0 history self.now.version
             → IfOk result (IsFormed (bodies_of.is_long
-            (requests_of.asked_block (message_in meaning.now.view))
+            (requests_of.asked_block (message_of request.now))
             (answer_at history self.now.moment query.now).body)
             (answer_at history self.now.moment query.now)) }
         ensures ready { IfOk result (IsReadied self.now.moment peer
-            (key_in (message_in meaning.now.view)) self.now.transfers.answers) }
+            (key_in (message_of request.now)) self.now.transfers.answers) }
     {
         let listed = listed_at(alloc, &*self.version, self.moment, query)?;
-        let keep = is_long(&asked_block(meaning), listed.body.as_slice());
+        let keep = is_long(&request.asked, listed.body.as_slice());
         form(
             &self.transfers,
             alloc,
             self.moment,
             peer,
-            meaning,
+            request,
             keep,
             listed,
         )
@@ -178,25 +169,22 @@ impl Tables {
         &self,
         alloc: Global,
         peer: Peer,
-        meaning: &Meaning<'_>,
+        request: &Request<'_>,
     ) -> Result<Formed, Starved>
-        requires meaning { IsMeaning (message_in meaning.now.view) meaning.now }
-        requires short { HasShortBlocks meaning.now }
-        requires good { requests_of.has_bad_query (message_in meaning.now.view) ≡ false }
-        requires seeks { seeks_links (path_in (message_in meaning.now.view)) ≡ true }
+        requires seeks { seeks_links (path_in (message_of request.now)) ≡ true }
         ensures formed { (history : List Entry)
             → VersionStandsFor 0 history self.now.version
             → IfOk result (IsFormed (bodies_of.is_long
-            (requests_of.asked_block (message_in meaning.now.view))
+            (requests_of.asked_block (message_of request.now))
             (answer_at history self.now.moment
-            (requests_of.query_of (message_in meaning.now.view))).body)
+            (requests_of.query_of (message_of request.now))).body)
             (answer_at history self.now.moment
-            (requests_of.query_of (message_in meaning.now.view)))) }
+            (requests_of.query_of (message_of request.now)))) }
         ensures ready { IfOk result (IsReadied self.now.moment peer
-            (key_in (message_in meaning.now.view)) self.now.transfers.answers) }
+            (key_in (message_of request.now)) self.now.transfers.answers) }
     {
-        let query = query_of(alloc, meaning)?;
-        self.form_first(alloc, peer, meaning, &query)
+        let query = query_of(alloc, request)?;
+        self.form_first(alloc, peer, request, &query)
     }
 
     /// What takes memory for a lookup that asks to observe, but the place of its query. `Starved`:
@@ -205,31 +193,27 @@ impl Tables {
         &self,
         alloc: Global,
         peer: Peer,
-        meaning: &Meaning<'_>,
+        request: &Request<'_>,
     ) -> Result<Observing, Starved>
-        requires meaning { IsMeaning (message_in meaning.now.view) meaning.now }
-        requires short { HasShortBlocks meaning.now }
-        requires token { length meaning.now.view.token.now ≤ longest_token }
-        requires good { requests_of.has_bad_query (message_in meaning.now.view) ≡ false }
-        requires seeks { seeks_links (path_in (message_in meaning.now.view)) ≡ true }
+        requires seeks { seeks_links (path_in (message_of request.now)) ≡ true }
         ensures query { IfOk result (λ o. o.query
-            ≡ requests_of.query_of (message_in meaning.now.view)) }
-        ensures joining { IfOk result (λ o. IsJoining peer (message_in meaning.now.view)
+            ≡ requests_of.query_of (message_of request.now)) }
+        ensures joining { IfOk result (λ o. IsJoining peer (message_of request.now)
             (arc_value o.formed.listed.body) o.joining) }
         ensures formed { (history : List Entry)
             → VersionStandsFor 0 history self.now.version
             → IfOk result (λ o. IsFormed (bodies_of.is_long
-            (requests_of.asked_block (message_in meaning.now.view))
+            (requests_of.asked_block (message_of request.now))
             (answer_at history self.now.moment
-            (requests_of.query_of (message_in meaning.now.view))).body)
+            (requests_of.query_of (message_of request.now))).body)
             (answer_at history self.now.moment
-            (requests_of.query_of (message_in meaning.now.view))) o.formed) }
+            (requests_of.query_of (message_of request.now))) o.formed) }
         ensures ready { IfOk result (λ o. IsReadied self.now.moment peer
-            (key_in (message_in meaning.now.view)) self.now.transfers.answers o.formed) }
+            (key_in (message_of request.now)) self.now.transfers.answers o.formed) }
     {
-        let query = query_of(alloc, meaning)?;
-        let formed = self.form_first(alloc, peer, meaning, &query)?;
-        let joining = joining_by(alloc, peer, meaning, &formed.listed)?;
+        let query = query_of(alloc, request)?;
+        let formed = self.form_first(alloc, peer, request, &query)?;
+        let joining = joining_by(alloc, peer, request, &formed.listed)?;
         Ok(Observing {
             query,
             joining,
@@ -278,26 +262,22 @@ impl Tables {
         alloc: Global,
         mids: &mut Mids,
         peer: Peer,
-        meaning: &Meaning<'_>,
+        request: &Request<'_>,
         out: &mut Outbox,
     ) -> Stepped
-        requires meaning { IsMeaning (message_in meaning.now.view) meaning.now }
-        requires short { HasShortBlocks meaning.now }
-        requires token { length meaning.now.view.token.now ≤ longest_token }
-        requires good { requests_of.has_bad_query (message_in meaning.now.view) ≡ false }
-        requires seeks { seeks_links (path_in (message_in meaning.now.view)) ≡ true }
-        requires later { requests_of.is_later_block (message_in meaning.now.view) ≡ true }
+        requires seeks { seeks_links (path_in (message_of request.now)) ≡ true }
+        requires later { requests_of.is_later_block (message_of request.now) ≡ true }
         requires room { length out.old < most_datagrams }
         ensures way { (rows : List Row) (s : Step)
             → s.peer ≡ peer
             → UnderWay rows s (is_starved_step result) nothing self.old out.old mids.old
             → UnderWay rows s (is_starved_step result)
-            (lookup_heard (is_starved_step result) rows s (message_in meaning.now.view))
+            (lookup_heard (is_starved_step result) rows s (message_of request.now))
             self.new out.new mids.new }
         ensures version { self.new.version ≡ self.old.version }
     {
-        let Ok(key) = request_key(alloc, meaning) else {
-            answer_starved(mids, peer, &meaning.view, out);
+        let Ok(key) = request_key(alloc, &request.meaning) else {
+            answer_starved(mids, peer, &request.meaning.view, out);
             return Stepped::Starved;
         };
         if send_kept(
@@ -305,17 +285,17 @@ impl Tables {
             self.moment,
             mids,
             peer,
-            meaning,
+            request,
             &key,
             out,
         ) {
             return Stepped::Done;
         }
-        let Ok(formed) = self.form_later(alloc, peer, meaning) else {
-            answer_starved(mids, peer, &meaning.view, out);
+        let Ok(formed) = self.form_later(alloc, peer, request) else {
+            answer_starved(mids, peer, &request.meaning.view, out);
             return Stepped::Starved;
         };
-        self.give_formed(mids, peer, meaning, None, formed, out);
+        self.give_formed(mids, peer, request, None, formed, out);
         Stepped::Done
     }
 
@@ -326,27 +306,23 @@ impl Tables {
         alloc: Global,
         mids: &mut Mids,
         peer: Peer,
-        meaning: &Meaning<'_>,
+        request: &Request<'_>,
         out: &mut Outbox,
     ) -> Stepped
-        requires meaning { IsMeaning (message_in meaning.now.view) meaning.now }
-        requires short { HasShortBlocks meaning.now }
-        requires token { length meaning.now.view.token.now ≤ longest_token }
-        requires good { requests_of.has_bad_query (message_in meaning.now.view) ≡ false }
-        requires seeks { seeks_links (path_in (message_in meaning.now.view)) ≡ true }
-        requires first { requests_of.is_later_block (message_in meaning.now.view) ≡ false }
-        requires observes { begins_observation (observe_in (message_in meaning.now.view)) ≡ true }
+        requires seeks { seeks_links (path_in (message_of request.now)) ≡ true }
+        requires first { requests_of.is_later_block (message_of request.now) ≡ false }
+        requires observes { begins_observation (observe_in (message_of request.now)) ≡ true }
         requires room { length out.old < most_datagrams }
         ensures way { (rows : List Row) (s : Step)
             → s.peer ≡ peer
             → UnderWay rows s (is_starved_step result) nothing self.old out.old mids.old
             → UnderWay rows s (is_starved_step result)
-            (lookup_heard (is_starved_step result) rows s (message_in meaning.now.view))
+            (lookup_heard (is_starved_step result) rows s (message_of request.now))
             self.new out.new mids.new }
         ensures version { self.new.version ≡ self.old.version }
     {
-        let Ok(observing) = self.form_observed(alloc, peer, meaning) else {
-            answer_starved(mids, peer, &meaning.view, out);
+        let Ok(observing) = self.form_observed(alloc, peer, request) else {
+            answer_starved(mids, peer, &request.meaning.view, out);
             return Stepped::Starved;
         };
         let Observing {
@@ -355,10 +331,10 @@ impl Tables {
             formed,
         } = observing;
         let Ok(value) = self.join(alloc, &query, joining) else {
-            answer_starved(mids, peer, &meaning.view, out);
+            answer_starved(mids, peer, &request.meaning.view, out);
             return Stepped::Starved;
         };
-        self.give_formed(mids, peer, meaning, value, formed, out);
+        self.give_formed(mids, peer, request, value, formed, out);
         Stepped::Done
     }
 
@@ -369,32 +345,29 @@ impl Tables {
         alloc: Global,
         mids: &mut Mids,
         peer: Peer,
-        meaning: &Meaning<'_>,
+        request: &Request<'_>,
         out: &mut Outbox,
     ) -> Stepped
-        requires meaning { IsMeaning (message_in meaning.now.view) meaning.now }
-        requires short { HasShortBlocks meaning.now }
-        requires token { length meaning.now.view.token.now ≤ longest_token }
-        requires good { requests_of.has_bad_query (message_in meaning.now.view) ≡ false }
-        requires seeks { seeks_links (path_in (message_in meaning.now.view)) ≡ true }
-        requires first { requests_of.is_later_block (message_in meaning.now.view) ≡ false }
-        requires heeded { requests_of.is_heeded (observe_in (message_in meaning.now.view)) ≡ true }
-        requires ends { begins_observation (observe_in (message_in meaning.now.view)) ≡ false }
+        requires seeks { seeks_links (path_in (message_of request.now)) ≡ true }
+        requires first { requests_of.is_later_block (message_of request.now) ≡ false }
+        requires heeded { requests_of.is_heeded (observe_in (message_of request.now)) ≡ true }
+        requires ends { begins_observation (observe_in (message_of request.now)) ≡ false }
         requires room { length out.old < most_datagrams }
         ensures way { (rows : List Row) (s : Step)
             → s.peer ≡ peer
             → UnderWay rows s (is_starved_step result) nothing self.old out.old mids.old
             → UnderWay rows s (is_starved_step result)
-            (lookup_heard (is_starved_step result) rows s (message_in meaning.now.view))
+            (lookup_heard (is_starved_step result) rows s (message_of request.now))
             self.new out.new mids.new }
         ensures version { self.new.version ≡ self.old.version }
     {
-        let Ok(formed) = self.form_unobserved(alloc, peer, meaning) else {
-            answer_starved(mids, peer, &meaning.view, out);
+        let Ok(formed) = self.form_unobserved(alloc, peer, request) else {
+            answer_starved(mids, peer, &request.meaning.view, out);
             return Stepped::Starved;
         };
-        self.watching.leave(&peer, &Token::of(meaning.view.token));
-        self.give_formed(mids, peer, meaning, None, formed, out);
+        self.watching
+            .leave(&peer, &Token::of(request.meaning.view.token.octets));
+        self.give_formed(mids, peer, request, None, formed, out);
         Stepped::Done
     }
 
@@ -405,30 +378,26 @@ impl Tables {
         alloc: Global,
         mids: &mut Mids,
         peer: Peer,
-        meaning: &Meaning<'_>,
+        request: &Request<'_>,
         out: &mut Outbox,
     ) -> Stepped
-        requires meaning { IsMeaning (message_in meaning.now.view) meaning.now }
-        requires short { HasShortBlocks meaning.now }
-        requires token { length meaning.now.view.token.now ≤ longest_token }
-        requires good { requests_of.has_bad_query (message_in meaning.now.view) ≡ false }
-        requires lookup { requests_of.is_lookup (path_in (message_in meaning.now.view)) ≡ true }
-        requires other { requests_of.only_looks (message_in meaning.now.view) ≡ false }
+        requires lookup { requests_of.is_lookup (path_in (message_of request.now)) ≡ true }
+        requires other { requests_of.only_looks (message_of request.now) ≡ false }
         requires room { length out.old < most_datagrams }
         ensures way { (rows : List Row) (s : Step)
             → s.peer ≡ peer
             → UnderWay rows s (is_starved_step result) nothing self.old out.old mids.old
             → UnderWay rows s (is_starved_step result)
-            (lookup_heard (is_starved_step result) rows s (message_in meaning.now.view))
+            (lookup_heard (is_starved_step result) rows s (message_of request.now))
             self.new out.new mids.new }
         ensures version { self.new.version ≡ self.old.version }
     {
-        if is_later_block(meaning) {
-            return self.answer_later(alloc, mids, peer, meaning, out);
+        if is_later_block(request) {
+            return self.answer_later(alloc, mids, peer, request, out);
         }
-        if begins_observation(meaning.observe) {
-            return self.answer_observed(alloc, mids, peer, meaning, out);
+        if begins_observation(request.meaning.observe) {
+            return self.answer_observed(alloc, mids, peer, request, out);
         }
-        self.answer_unobserved(alloc, mids, peer, meaning, out)
+        self.answer_unobserved(alloc, mids, peer, request, out)
     }
 }

@@ -33,6 +33,7 @@ use crate::bodies::{body_reply, is_long};
 use crate::looks::listing_at;
 use crate::replies::spell_notice;
 use crate::watching::Watching;
+use coap_message::TokenRef;
 use directory_core::Directory;
 use exchange_core::{Resend, Sent};
 use message_model::Block;
@@ -128,7 +129,10 @@ fn notice_octets(
 {
     let named = block_named(observer.szx, body);
     let reply = body_reply(Some(tag), Some(observe), &named, body);
-    spell_notice(alloc, mid, observer.token.as_slice(), &reply)
+    let token = TokenRef {
+        octets: observer.token.as_slice(),
+    };
+    spell_notice(alloc, mid, token, &reply)
 }
 
 /// The Observe value that is given after so many more (RFC 7641 section 3.4).
@@ -187,13 +191,7 @@ impl Plan {
 
     /// The body of a notice to an observer is kept for further blocks, where it is longer than the
     /// block that it gets. `Starved`: out of memory.
-    fn keep(
-        &mut self,
-        alloc: Global,
-        observer: &Observer,
-        body: &Arc<Bytes>,
-        tag: Tag,
-    ) -> Result<(), Starved>
+    fn keep(&mut self, observer: &Observer, body: &Arc<Bytes>, tag: Tag) -> Result<(), Starved>
         ensures kept { OnOk result (self.new.kept.items
             ≡ self.old.kept.items ++ planning_of.kept_by observer.now (arc_value body.now) tag.0) }
         ensures peers { self.new.peers.items ≡ self.old.peers.items }
@@ -202,7 +200,7 @@ impl Plan {
         if !is_long(&block_of_notice(observer.szx), body.as_slice()) {
             return Ok(());
         }
-        let key = observer.key.copy(alloc)?;
+        let key = observer.key.clone()?;
         let body = Arc::try_clone(body)?;
         self.kept.push(Answer {
             peer: observer.peer,
@@ -231,7 +229,7 @@ impl Plan {
             mid observe sent self.old self.new) }
     {
         let bytes = notice_octets(alloc, observer, occasion.tag, mid, observe, body.as_slice())?;
-        self.keep(alloc, observer, &body, occasion.tag)?;
+        self.keep(observer, &body, occasion.tag)?;
         self.peers.push(observer.peer)?;
         let sent = Sent {
             mid,

@@ -1,6 +1,5 @@
 //! The answer to a request that is refused for itself (RFC 7252 sections 5.4.1 and 5.5.2).
-ghost use Rattle.std.specs.Prelude.{◌≡◌, ◌<◌, ◌≤◌, length};
-ghost use Rattle.message_model.specs.Message.{longest_token};
+ghost use Rattle.std.specs.Prelude.{◌≡◌, ◌<◌, length};
 ghost use Rattle.message_model.specs.OptionTable.{first_bad_option};
 ghost use Rattle.coap_message.specs.Views.{message_in};
 ghost use Rattle.journal_model.specs.declared.steps.Step.{Step};
@@ -49,7 +48,6 @@ pub(crate) fn refuse(
     refused: Refused,
     out: &mut Outbox,
 )
-    requires token { length view.now.token.now ≤ longest_token }
     requires refused { IsRefusedBy refused (message_in view.now) }
     requires room { length out.old < most_datagrams }
     ensures sends { (s : Step)

@@ -2,7 +2,6 @@
 ghost use Rattle.std.specs.Prelude.{◌≡◌, ◌<◌, ◌≤◌, ℕ, Bool, false, List, length};
 ghost use Rattle.message_model.specs.Codes as codes_of;
 ghost use Rattle.message_model.specs.Codes.{is_reserved};
-ghost use Rattle.message_model.specs.Message.{longest_token};
 ghost use Rattle.event_model.specs.AdmissionOrder.{IsOpen};
 ghost use Rattle.coap_message.specs.Views.{message_in};
 ghost use Rattle.journal_model.specs.declared.steps.Step.{Step};
@@ -55,7 +54,6 @@ impl Tables {
         word: &'static [u8],
         out: &mut Outbox,
     )
-        requires token { length view.now.token.now ≤ longest_token }
         requires class { is_reserved code ≡ false }
         requires filled { codes_of.empty < code }
         requires word { length word.now ≤ 13 }

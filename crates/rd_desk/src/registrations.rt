@@ -1,13 +1,10 @@
 //! Registrations: their body comes whole, or in blocks (RFC 9176 section 5, RFC 7959 section 2.5).
 ghost use Rattle.std.specs.Prelude.{◌≡◌, ◌<◌, ◌≤◌, ◌^◌, ℕ, [], List, length, None, IfOk, false};
-ghost use Rattle.message_model.specs.Message.{longest_token};
 ghost use Rattle.message_model.specs.Request.{queries_in};
 ghost use Rattle.record_model.specs.declared.readings.Reading.TheVariants as reading;
 ghost use Rattle.record_model.specs.Criteria.{fault_of};
 ghost use Rattle.history_model.specs.Versions.{VersionStandsFor};
 ghost use Rattle.event_model.specs.AdmissionOrder.{IsOpen};
-ghost use Rattle.coap_message.specs.Views.{message_in};
-ghost use Rattle.coap_options.specs.Meanings.{IsMeaning, HasShortBlocks};
 ghost use Rattle.journal_model.specs.declared.steps.Step.{Step};
 ghost use Rattle.journal_model.specs.declared.rows.Row.{Row};
 ghost use Rattle.journal_model.specs.Commits.{settling};
@@ -15,6 +12,7 @@ ghost use Rattle.journal_model.specs.Effects.{nothing};
 ghost use Rattle.journal_model.specs.Journal.{events, entries};
 ghost use Rattle.journal_model.specs.Registrations.{registration_outcome, registering};
 ghost use Rattle.journal_model.specs.Rows.{row_moment};
+ghost use Rattle.rd_desk.specs.Accepted.{message_of};
 ghost use Rattle.rd_desk.specs.Committing.{unless_failing, IsShort};
 ghost use Rattle.rd_desk.specs.Outboxes.{most_datagrams};
 ghost use Rattle.rd_desk.specs.Outcomes.{IsTimely, IsPlanned};
@@ -25,12 +23,11 @@ ghost use Rattle.rd_desk.specs.Shown.{AreToldOf};
 ghost use Rattle.history_model.specs.declared.entries.Entry.{Entry};
 ghost use Rattle.rd_desk.specs.Staging.{IsLaid, IsNextOf};
 
+use crate::accepted::Request;
 use crate::outcomes::{Outcome, registered};
 use crate::parameters::given_params;
-use crate::requests::sent_block;
 use crate::tables::Tables;
 use crate::{Mids, Outbox, Stepped};
-use coap_options::Meaning;
 use directory_core::{Board, Directory};
 use rd_base::{Moment, Peer, Starved};
 use std::alloc::Global;
@@ -41,12 +38,12 @@ fn whole_outcome(
     version: &Directory,
     now: Moment,
     peer: Peer,
-    meaning: &Meaning<'_>,
+    request: &Request<'_>,
 ) -> Result<Outcome, Starved>
     requires after_at { version.now.at ≤ now.0 }
     requires after_sweep { version.now.swept ≤ now.0 }
     requires moment { now.0 ≤ 10 ^ 15 }
-    requires good { fault_of reading.Register (queries_in (message_in meaning.now.view)) ≡ None }
+    requires good { fault_of reading.Register (queries_in (message_of request.now)) ≡ None }
     ensures reply { IfOk result (λ o. IsReply o.reply) }
     ensures short { IfOk result (λ o. IsShort o.reply) }
     ensures moments { IfOk result (IsTimely now.0) }
@@ -57,16 +54,16 @@ fn whole_outcome(
         → VersionStandsFor 0 (entries rows) version.now
         → s.peer ≡ peer
         → IfOk result (IsPlanned (entries rows) version.now.swept []
-        (registration_outcome None rows now.0 s (message_in meaning.now.view))) }
+        (registration_outcome None rows now.0 s (message_of request.now))) }
 {
-    let params = given_params(alloc, meaning, false)?;
+    let params = given_params(alloc, &request.meaning, false)?;
     registered(
         alloc,
         version,
         now,
         peer,
         params,
-        meaning.view.payload,
+        request.meaning.view.payload,
         None,
     )
 }
@@ -80,31 +77,38 @@ impl Tables {
         mids: &mut Mids,
         peer: Peer,
         admitted: Moment,
-        meaning: &Meaning<'_>,
+        request: &Request<'_>,
         out: &mut Outbox,
     ) -> Stepped
-        requires token { length meaning.now.view.token.now ≤ longest_token }
-        requires good { fault_of reading.Register (queries_in (message_in meaning.now.view))
+        requires good { fault_of reading.Register (queries_in (message_of request.now))
             ≡ None }
         requires room { length out.old < most_datagrams }
         requires free { B.has_staged board.old ≡ false }
         requires told { AreToldOf self.old.version (B.told board.old) }
         ensures way { (rows : List Row) (s : Step) (place : ℕ)
             → s.peer ≡ peer
-            → IsOpen place s.peer (message_in meaning.now.view).mid admitted.0 (events rows)
+            → IsOpen place s.peer (message_of request.now).mid admitted.0 (events rows)
             → UnderWay rows s (is_starved_step result) nothing self.old out.old mids.old
             → UnderWay rows s (is_starved_step result)
-            (unless_failing (is_starved_step result) place s (message_in meaning.now.view)
-            (settling place s (message_in meaning.now.view)
+            (unless_failing (is_starved_step result) place s (message_of request.now)
+            (settling place s (message_of request.now)
             (registration_outcome None rows (row_moment rows s) s
-            (message_in meaning.now.view)))) self.new out.new mids.new }
+            (message_of request.now)))) self.new out.new mids.new }
         ensures laid { IsLaid self.old.version self.new.version (B.staged board.old)
             (B.staged board.new) (B.has_staged board.new) }
         ensures name { B.name board.new ≡ B.name board.old }
         ensures told { B.told board.new ≡ B.told board.old }
     {
-        let planned = whole_outcome(alloc, &*self.version, self.moment, peer, meaning);
-        self.finish(board, mids, peer, &meaning.view, admitted, planned, out)
+        let planned = whole_outcome(alloc, &*self.version, self.moment, peer, request);
+        self.finish(
+            board,
+            mids,
+            peer,
+            &request.meaning.view,
+            admitted,
+            planned,
+            out,
+        )
     }
 
     /// A registration that was admitted is done: with its whole body, or as a block of it.
@@ -115,35 +119,32 @@ impl Tables {
         mids: &mut Mids,
         peer: Peer,
         admitted: Moment,
-        meaning: &Meaning<'_>,
+        request: &Request<'_>,
         out: &mut Outbox,
     ) -> Stepped
-        requires meaning { IsMeaning (message_in meaning.now.view) meaning.now }
-        requires blocks { HasShortBlocks meaning.now }
-        requires token { length meaning.now.view.token.now ≤ longest_token }
-        requires good { fault_of reading.Register (queries_in (message_in meaning.now.view))
+        requires good { fault_of reading.Register (queries_in (message_of request.now))
             ≡ None }
         requires room { length out.old < most_datagrams }
         requires free { B.has_staged board.old ≡ false }
         requires told { AreToldOf self.old.version (B.told board.old) }
         ensures way { (rows : List Row) (s : Step) (place : ℕ)
             → s.peer ≡ peer
-            → IsOpen place s.peer (message_in meaning.now.view).mid admitted.0 (events rows)
+            → IsOpen place s.peer (message_of request.now).mid admitted.0 (events rows)
             → UnderWay rows s (is_starved_step result) nothing self.old out.old mids.old
             → UnderWay rows s (is_starved_step result)
-            (unless_failing (is_starved_step result) place s (message_in meaning.now.view)
-            (settling place s (message_in meaning.now.view)
-            (registering rows (row_moment rows s) s (message_in meaning.now.view)))) self.new
+            (unless_failing (is_starved_step result) place s (message_of request.now)
+            (settling place s (message_of request.now)
+            (registering rows (row_moment rows s) s (message_of request.now)))) self.new
             out.new mids.new }
         ensures laid { IsLaid self.old.version self.new.version (B.staged board.old)
             (B.staged board.new) (B.has_staged board.new) }
         ensures name { B.name board.new ≡ B.name board.old }
         ensures told { B.told board.new ≡ B.told board.old }
     {
-        match sent_block(meaning) {
-            None => return self.commit_whole(alloc, board, mids, peer, admitted, meaning, out),
+        match request.sent {
+            None => return self.commit_whole(alloc, board, mids, peer, admitted, request, out),
             Some(block) => {
-                return self.commit_block(alloc, board, mids, peer, admitted, meaning, &block, out);
+                return self.commit_block(alloc, board, mids, peer, admitted, request, &block, out);
             }
         }
     }

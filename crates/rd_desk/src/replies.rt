@@ -1,7 +1,7 @@
 //! Answers to requests: what they say, and their octets (RFC 7252 sections 5.2 and 5.10).
 ghost use Rattle.std.specs.Prelude.{◌≡◌, ◌+◌, ◌^◌, ◌<◌, ◌≤◌, [], List, length, IfOk};
 ghost use Rattle.std.specs.Option.{ForSome};
-ghost use Rattle.message_model.specs.Message.{Message, longest_token, end_number};
+ghost use Rattle.message_model.specs.Message.{Message, end_number};
 ghost use Rattle.message_model.specs.Codes as codes_of;
 ghost use Rattle.message_model.specs.Blocks.{IsBlock};
 ghost use Rattle.message_model.specs.OptionTable as table;
@@ -26,7 +26,7 @@ ghost use Rattle.rd_desk.specs.Sendings.{IsStepOf, Sends};
 
 use crate::{Mids, Outbox};
 use block_wise::{block_write, uint_write};
-use coap_message::{Kind4, View, Writer};
+use coap_message::{Kind4, TokenRef, View, Writer};
 use itoa::Buffer;
 use message_model::Block;
 use rd_base::{Bytes, Peer, Starved, Tag};
@@ -268,7 +268,6 @@ fn answer_mid(mids: &mut Mids, kind: Kind4, mid: u16) -> u16
 
 /// A message that begins as the answer to a request, with its options.
 pub(crate) fn begin_answer(mids: &mut Mids, view: &View<'_>, reply: &Reply<'_>) -> Writer
-    requires token { length view.now.token.now ≤ longest_token }
     requires reply { IsReply reply.now }
     ensures begun { (s : Step)
         → s.worker ≡ mids.old.worker
@@ -296,7 +295,6 @@ pub(crate) fn answer(
     reply: &Reply<'_>,
     out: &mut Outbox,
 )
-    requires token { length view.now.token.now ≤ longest_token }
     requires reply { IsReply reply.now }
     requires room { length out.old < most_datagrams }
     ensures sends { (s : Step) (notes : List Note)
@@ -316,13 +314,12 @@ pub(crate) fn answer(
 pub(crate) fn spell_notice(
     alloc: Global,
     mid: u16,
-    token: &[u8],
+    token: TokenRef<'_>,
     reply: &Reply<'_>,
 ) -> Result<Bytes, Starved>
-    requires token { length token.now ≤ longest_token }
     requires reply { IsReply reply.now }
     ensures spelled { IfOk result (λ octets. octets
-        ≡ spelling (notice_saying mid token.now (reply_said reply.now))) }
+        ≡ spelling (notice_saying mid token.entry.octets.now (reply_said reply.now))) }
     ensures short { IfOk result (λ octets. length octets ≤ longest_datagram) }
 {
     let mut writer = Writer::start(Kind4::Con, reply.code, mid, token);

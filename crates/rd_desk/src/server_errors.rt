@@ -1,7 +1,6 @@
 //! Answers to requests that the server cannot serve now (RFC 7252 section 5.9.3).
 ghost use Rattle.std.specs.Prelude.{◌≡◌, ◌<◌, ◌≤◌, [], length};
 ghost use Rattle.message_model.specs.Codes as codes_of;
-ghost use Rattle.message_model.specs.Message.{longest_token};
 ghost use Rattle.coap_message.specs.Views.{message_in};
 ghost use Rattle.journal_model.specs.declared.steps.Step.{Step};
 ghost use Rattle.journal_model.specs.Effects as effects;
@@ -40,7 +39,6 @@ fn service_unavailable(word: &'static [u8]) -> Reply<'static>
 
 /// A request is answered 5.00: memory ran out.
 pub(crate) fn answer_starved(mids: &mut Mids, peer: Peer, view: &View<'_>, out: &mut Outbox)
-    requires token { length view.now.token.now ≤ longest_token }
     requires room { length out.old < most_datagrams }
     ensures sends { (s : Step)
         → IsStepOf s peer mids.old
@@ -57,7 +55,6 @@ pub(crate) fn answer_full(
     word: &'static [u8],
     out: &mut Outbox,
 )
-    requires token { length view.now.token.now ≤ longest_token }
     requires word { length word.now ≤ 1_024 }
     requires room { length out.old < most_datagrams }
     ensures sends { (s : Step)

@@ -1,7 +1,6 @@
 //! Writes that were admitted are settled by their answers, or fail (RFC 7252 sections 4.2 and 4.5).
-ghost use Rattle.std.specs.Prelude.{◌≡◌, ◌^◌, ◌<◌, ◌≤◌, ℕ, Bool, List, length};
+ghost use Rattle.std.specs.Prelude.{◌≡◌, ◌^◌, ◌<◌, ℕ, Bool, List, length};
 ghost use Rattle.std.specs.Option.{ForSome};
-ghost use Rattle.message_model.specs.Message.{longest_token};
 ghost use Rattle.coap_message.specs.Views.{message_in};
 ghost use Rattle.message_model.specs.Spelling.{spelling};
 ghost use Rattle.event_model.specs.declared.notes.Note.{Note};
@@ -39,7 +38,6 @@ pub(crate) fn answer_short(
     reply: &Reply<'_>,
     out: &mut Outbox,
 ) -> exchange_core::Reply
-    requires token { length view.now.token.now ≤ longest_token }
     requires reply { IsReply reply.now }
     requires short { IsShort reply.now }
     requires room { length out.old < most_datagrams }
@@ -72,7 +70,6 @@ impl Tables {
         reply: &Reply<'_>,
         out: &mut Outbox,
     )
-        requires token { length view.now.token.now ≤ longest_token }
         requires reply { IsReply reply.now }
         requires short { IsShort reply.now }
         requires room { length out.old < most_datagrams }
@@ -100,7 +97,6 @@ impl Tables {
         admitted: Moment,
         out: &mut Outbox,
     )
-        requires token { length view.now.token.now ≤ longest_token }
         requires room { length out.old < most_datagrams }
         ensures way { (rows : List Row) (s : Step) (starved : Bool) (place : ℕ)
             → s.peer ≡ peer

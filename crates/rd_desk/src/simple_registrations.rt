@@ -1,14 +1,12 @@
 //! Simple registrations: the directory answers, and then fetches the links of the device itself
 //! (RFC 9176 section 5.1).
-ghost use Rattle.std.specs.Prelude.{◌≡◌, ◌<◌, ◌≤◌, ◌+◌, ℕ, Bool, [], ◌∷◌, ◌++◌, List, length, None};
+ghost use Rattle.std.specs.Prelude.{◌≡◌, ◌<◌, ◌+◌, ℕ, Bool, [], ◌∷◌, ◌++◌, List, length, None};
 ghost use Rattle.message_model.specs.Codes as codes_of;
-ghost use Rattle.message_model.specs.Message.{longest_token};
 ghost use Rattle.message_model.specs.Request.{queries_in};
 ghost use Rattle.record_model.specs.declared.readings.Reading.TheVariants as reading;
 ghost use Rattle.record_model.specs.Criteria.{fault_of};
 ghost use Rattle.event_model.specs.AdmissionOrder.{IsOpen};
 ghost use Rattle.coap_message.specs.Views.{message_in};
-ghost use Rattle.coap_options.specs.Meanings.{IsMeaning};
 ghost use Rattle.journal_model.specs.declared.steps.Step.{Step};
 ghost use Rattle.journal_model.specs.declared.rows.Row.{Row};
 ghost use Rattle.journal_model.specs.Commits.{settling, registering_simply};
@@ -16,12 +14,14 @@ ghost use Rattle.journal_model.specs.Effects as effects;
 ghost use Rattle.journal_model.specs.Effects.{nothing};
 ghost use Rattle.journal_model.specs.Journal.{events};
 ghost use Rattle.simple_registration.specs.Table.{Table};
+ghost use Rattle.rd_desk.specs.Accepted.{message_of};
 ghost use Rattle.rd_desk.specs.Committing.{unless_failing, IsShort};
 ghost use Rattle.rd_desk.specs.Outboxes.{most_datagrams};
 ghost use Rattle.rd_desk.specs.Replies.{IsReply, reply_said};
 ghost use Rattle.rd_desk.specs.Stepping.{is_starved_step};
 ghost use Rattle.rd_desk.specs.UnderWay.{UnderWay};
 
+use crate::accepted::Request;
 use crate::heard_responses::ask_next;
 use crate::parameters::given_params;
 use crate::replies::Reply;
@@ -29,7 +29,6 @@ use crate::settling::answer_short;
 use crate::tables::Tables;
 use crate::{Mids, Outbox, Stepped};
 use coap_message::{Kind4, View};
-use coap_options::Meaning;
 use rd_base::{Moment, Peer};
 use simple_registration::StartFault;
 use std::alloc::Global;
@@ -79,7 +78,6 @@ impl Tables {
         admitted: Moment,
         out: &mut Outbox,
     )
-        requires token { length view.now.token.now ≤ longest_token }
         requires room { length out.old < most_datagrams }
         ensures way { (fetches : Table) (rows : List Row) (s : Step) (starved : Bool) (place : ℕ)
             → s.peer ≡ peer
@@ -108,35 +106,33 @@ impl Tables {
         mids: &mut Mids,
         peer: Peer,
         admitted: Moment,
-        meaning: &Meaning<'_>,
+        request: &Request<'_>,
         out: &mut Outbox,
     ) -> Stepped
-        requires meaning { IsMeaning (message_in meaning.now.view) meaning.now }
-        requires token { length meaning.now.view.token.now ≤ longest_token }
-        requires good { fault_of reading.Simple (queries_in (message_in meaning.now.view)) ≡ None }
+        requires good { fault_of reading.Simple (queries_in (message_of request.now)) ≡ None }
         requires room { length out.old + 1 < most_datagrams }
         ensures way { (rows : List Row) (s : Step) (place : ℕ)
             → s.peer ≡ peer
             → s.word ≡ word
-            → IsOpen place s.peer (message_in meaning.now.view).mid admitted.0 (events rows)
+            → IsOpen place s.peer (message_of request.now).mid admitted.0 (events rows)
             → UnderWay rows s (is_starved_step result) nothing self.old out.old mids.old
             → UnderWay rows s (is_starved_step result)
-            (unless_failing (is_starved_step result) place s (message_in meaning.now.view)
-            (registering_simply (events rows) place s (message_in meaning.now.view))) self.new
+            (unless_failing (is_starved_step result) place s (message_of request.now)
+            (registering_simply (events rows) place s (message_of request.now))) self.new
             out.new mids.new }
         ensures version { self.new.version ≡ self.old.version }
     {
-        let Ok(params) = given_params(alloc, meaning, true) else {
-            self.fail(mids, peer, &meaning.view, admitted, out);
+        let Ok(params) = given_params(alloc, &request.meaning, true) else {
+            self.fail(mids, peer, &request.meaning.view, admitted, out);
             return Stepped::Starved;
         };
-        let mid = mids.after(drawn_for(meaning.view.kind));
+        let mid = mids.after(drawn_for(request.meaning.view.kind));
         match self
             .fetches
             .start(alloc, self.moment, word, mid, peer, params)
         {
             Ok(ask) => {
-                self.settle_beside_fetch(mids, peer, &meaning.view, admitted, out);
+                self.settle_beside_fetch(mids, peer, &request.meaning.view, admitted, out);
                 ask_next(mids, &ask, out);
                 return Stepped::Done;
             }
@@ -144,7 +140,7 @@ impl Tables {
                 self.refuse_write(
                     mids,
                     peer,
-                    &meaning.view,
+                    &request.meaning.view,
                     admitted,
                     SERVICE_UNAVAILABLE,
                     b"fetching",
@@ -156,7 +152,7 @@ impl Tables {
                 self.refuse_write(
                     mids,
                     peer,
-                    &meaning.view,
+                    &request.meaning.view,
                     admitted,
                     SERVICE_UNAVAILABLE,
                     b"fetches",
@@ -165,7 +161,7 @@ impl Tables {
                 return Stepped::Done;
             }
             Err(StartFault::Starved) => {
-                self.fail(mids, peer, &meaning.view, admitted, out);
+                self.fail(mids, peer, &request.meaning.view, admitted, out);
                 return Stepped::Starved;
             }
         }

@@ -4,7 +4,6 @@ ghost use Rattle.std.specs.Prelude.{None, IfOk, false};
 ghost use Rattle.rd_base.specs.declared.peers.Peer.{Peer};
 ghost use Rattle.message_model.specs.Blocks.{IsBlock};
 ghost use Rattle.message_model.specs.Codes as codes_of;
-ghost use Rattle.message_model.specs.Message.{longest_token};
 ghost use Rattle.message_model.specs.Request.{queries_in};
 ghost use Rattle.record_model.specs.declared.readings.Reading.TheVariants as reading;
 ghost use Rattle.record_model.specs.Criteria.{fault_of};
@@ -15,7 +14,6 @@ ghost use Rattle.event_model.specs.declared.notes.Note.{Note};
 ghost use Rattle.event_model.specs.declared.notes.Note.TheVariants as note;
 ghost use Rattle.event_model.specs.AdmissionOrder.{IsOpen};
 ghost use Rattle.coap_message.specs.Views.{message_in};
-ghost use Rattle.coap_options.specs.Meanings.{IsMeaning};
 ghost use Rattle.journal_model.specs.declared.steps.Step.{Step};
 ghost use Rattle.journal_model.specs.declared.rows.Row.{Row};
 ghost use Rattle.journal_model.specs.Changes as changes;
@@ -26,6 +24,7 @@ ghost use Rattle.journal_model.specs.Journal.{events, entries};
 ghost use Rattle.journal_model.specs.Registrations.{block1_option, block_uploaded};
 ghost use Rattle.journal_model.specs.Rows.{row_moment};
 ghost use Rattle.transfers.specs.TransferEvents.{block_answer};
+ghost use Rattle.rd_desk.specs.Accepted.{message_of};
 ghost use Rattle.rd_desk.specs.declared.mids.Mids.{Mids};
 ghost use Rattle.rd_desk.specs.Committing.{unless_failing, IsShort};
 ghost use Rattle.rd_desk.specs.Outboxes.{most_datagrams};
@@ -36,6 +35,7 @@ ghost use Rattle.rd_desk.specs.UnderWay.{UnderWay};
 ghost use Rattle.rd_desk.specs.Shown.{AreToldOf};
 ghost use Rattle.rd_desk.specs.Staging.{IsLaid, IsLeftBy, IsNextOf};
 
+use crate::accepted::Request;
 use crate::outcomes::{Outcome, registered};
 use crate::parameters::given_params;
 use crate::replies::Reply;
@@ -43,7 +43,7 @@ use crate::staging::staged;
 use crate::tables::Tables;
 use crate::{Mids, Outbox, Stepped};
 use coap_message::View;
-use coap_options::{Meaning, request_key};
+use coap_options::request_key;
 use directory_core::{Board, Directory};
 use message_model::Block;
 use rd_base::{Key, Moment, Peer, Starved};
@@ -90,14 +90,14 @@ fn body_outcome(
     version: &Directory,
     now: Moment,
     peer: Peer,
-    meaning: &Meaning<'_>,
+    request: &Request<'_>,
     block: &Block,
     body: &[u8],
 ) -> Result<Outcome, Starved>
     requires after_at { version.now.at ≤ now.0 }
     requires after_sweep { version.now.swept ≤ now.0 }
     requires moment { now.0 ≤ 10 ^ 15 }
-    requires good { fault_of reading.Register (queries_in (message_in meaning.now.view)) ≡ None }
+    requires good { fault_of reading.Register (queries_in (message_of request.now)) ≡ None }
     requires block { IsBlock block.now }
     ensures moments { IfOk result (IsTimely now.0) }
     ensures reply { IfOk result (λ o. IsReply o.reply) }
@@ -110,10 +110,10 @@ fn body_outcome(
         → s.peer ≡ peer
         → IfOk result (IsPlanned history version.now.swept further
         (registration history now.0 s (registration_values
-        (queries_in (message_in meaning.now.view))) body.now (block1_option block.now)
+        (queries_in (message_of request.now))) body.now (block1_option block.now)
         further)) }
 {
-    let params = given_params(alloc, meaning, false)?;
+    let params = given_params(alloc, &request.meaning, false)?;
     registered(alloc, version, now, peer, params, body, Some(*block))
 }
 
@@ -178,7 +178,6 @@ impl Tables {
         outcome: Outcome,
         out: &mut Outbox,
     )
-        requires token { length view.now.token.now ≤ longest_token }
         requires timely { IsTimely self.old.moment outcome }
         requires reply { IsReply outcome.reply }
         requires short { IsShort outcome.reply }
@@ -214,14 +213,13 @@ impl Tables {
         mids: &mut Mids,
         peer: Peer,
         admitted: Moment,
-        meaning: &Meaning<'_>,
+        request: &Request<'_>,
         block: &Block,
         key: &Key,
         body: &[u8],
         out: &mut Outbox,
     ) -> Stepped
-        requires token { length meaning.now.view.token.now ≤ longest_token }
-        requires good { fault_of reading.Register (queries_in (message_in meaning.now.view))
+        requires good { fault_of reading.Register (queries_in (message_of request.now))
             ≡ None }
         requires block { IsBlock block.now }
         requires room { length out.old < most_datagrams }
@@ -229,13 +227,13 @@ impl Tables {
         requires told { AreToldOf self.old.version (B.told board.old) }
         ensures way { (rows : List Row) (s : Step) (place : ℕ)
             → s.peer ≡ peer
-            → IsOpen place peer meaning.now.view.mid admitted.0 (events rows)
+            → IsOpen place peer request.now.meaning.view.mid admitted.0 (events rows)
             → UnderWay rows s (is_starved_step result) nothing self.old out.old mids.old
             → UnderWay rows s (is_starved_step result)
-            (unless_failing (is_starved_step result) place s (message_in meaning.now.view)
-            (settling place s (message_in meaning.now.view)
+            (unless_failing (is_starved_step result) place s (message_of request.now)
+            (settling place s (message_of request.now)
             (registration (entries rows) (row_moment rows s) s
-            (registration_values (queries_in (message_in meaning.now.view))) body.now
+            (registration_values (queries_in (message_of request.now))) body.now
             (block1_option block.now) (note.Finished s.peer key.now ∷ [])))) self.new out.new
             mids.new }
         ensures laid { IsLaid self.old.version self.new.version (B.staged board.old)
@@ -248,17 +246,25 @@ impl Tables {
             &*self.version,
             self.moment,
             peer,
-            meaning,
+            request,
             block,
             body,
         );
         match staged(board, planned) {
             Ok(outcome) => {
-                self.settle_upload(mids, peer, &meaning.view, admitted, key, outcome, out);
+                self.settle_upload(
+                    mids,
+                    peer,
+                    &request.meaning.view,
+                    admitted,
+                    key,
+                    outcome,
+                    out,
+                );
                 return Stepped::Done;
             }
             Err(_) => {
-                self.fail(mids, peer, &meaning.view, admitted, out);
+                self.fail(mids, peer, &request.meaning.view, admitted, out);
                 return Stepped::Starved;
             }
         }
@@ -273,13 +279,11 @@ impl Tables {
         mids: &mut Mids,
         peer: Peer,
         admitted: Moment,
-        meaning: &Meaning<'_>,
+        request: &Request<'_>,
         block: &Block,
         out: &mut Outbox,
     ) -> Stepped
-        requires meaning { IsMeaning (message_in meaning.now.view) meaning.now }
-        requires token { length meaning.now.view.token.now ≤ longest_token }
-        requires good { fault_of reading.Register (queries_in (message_in meaning.now.view))
+        requires good { fault_of reading.Register (queries_in (message_of request.now))
             ≡ None }
         requires block { IsBlock block.now }
         requires room { length out.old < most_datagrams }
@@ -287,25 +291,32 @@ impl Tables {
         requires told { AreToldOf self.old.version (B.told board.old) }
         ensures way { (rows : List Row) (s : Step) (place : ℕ)
             → s.peer ≡ peer
-            → IsOpen place s.peer (message_in meaning.now.view).mid admitted.0 (events rows)
+            → IsOpen place s.peer (message_of request.now).mid admitted.0 (events rows)
             → UnderWay rows s (is_starved_step result) nothing self.old out.old mids.old
             → UnderWay rows s (is_starved_step result)
-            (unless_failing (is_starved_step result) place s (message_in meaning.now.view)
-            (settling place s (message_in meaning.now.view)
-            (block_uploaded rows (row_moment rows s) s (message_in meaning.now.view)
+            (unless_failing (is_starved_step result) place s (message_of request.now)
+            (settling place s (message_of request.now)
+            (block_uploaded rows (row_moment rows s) s (message_of request.now)
             block.now))) self.new out.new mids.new }
         ensures laid { IsLaid self.old.version self.new.version (B.staged board.old)
             (B.staged board.new) (B.has_staged board.new) }
         ensures name { B.name board.new ≡ B.name board.old }
         ensures told { B.told board.new ≡ B.told board.old }
     {
-        let Ok(key) = request_key(alloc, meaning) else {
-            self.fail(mids, peer, &meaning.view, admitted, out);
+        let Ok(key) = request_key(alloc, &request.meaning) else {
+            self.fail(mids, peer, &request.meaning.view, admitted, out);
             return Stepped::Starved;
         };
-        match self.take_block(alloc, peer, &key, block, meaning.view.payload) {
+        match self.take_block(alloc, peer, &key, block, request.meaning.view.payload) {
             Upload::More => {
-                self.settle(mids, peer, &meaning.view, admitted, &continued(*block), out);
+                self.settle(
+                    mids,
+                    peer,
+                    &request.meaning.view,
+                    admitted,
+                    &continued(*block),
+                    out,
+                );
                 return Stepped::Done;
             }
             Upload::Whole(body) => {
@@ -315,7 +326,7 @@ impl Tables {
                     mids,
                     peer,
                     admitted,
-                    meaning,
+                    request,
                     block,
                     &key,
                     body.as_slice(),
@@ -326,7 +337,7 @@ impl Tables {
                 self.refuse_write(
                     mids,
                     peer,
-                    &meaning.view,
+                    &request.meaning.view,
                     admitted,
                     REQUEST_ENTITY_INCOMPLETE,
                     b"order",
@@ -338,7 +349,7 @@ impl Tables {
                 self.refuse_write(
                     mids,
                     peer,
-                    &meaning.view,
+                    &request.meaning.view,
                     admitted,
                     REQUEST_ENTITY_TOO_LARGE,
                     b"size",
@@ -350,7 +361,7 @@ impl Tables {
                 self.refuse_write(
                     mids,
                     peer,
-                    &meaning.view,
+                    &request.meaning.view,
                     admitted,
                     SERVICE_UNAVAILABLE,
                     b"uploads",
@@ -359,7 +370,7 @@ impl Tables {
                 return Stepped::Done;
             }
             Upload::Starved => {
-                self.fail(mids, peer, &meaning.view, admitted, out);
+                self.fail(mids, peer, &request.meaning.view, admitted, out);
                 return Stepped::Starved;
             }
         }

@@ -120,7 +120,7 @@ fn is_server_error(request: &View<'_>, answer: &[u8]) -> bool {
         Ok(answer) => {
             answer.code == INTERNAL_SERVER_ERROR
                 && answer.mid == request.mid
-                && answer.token == request.token
+                && answer.token.octets == request.token.octets
                 && answer.options.is_empty()
                 && answer.payload.is_empty()
         }

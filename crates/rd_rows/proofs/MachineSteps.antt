@@ -7,6 +7,9 @@ use Rattle.rd_server.specs.declared.machine.Machine.{Machine}
 use Rattle.rd_server.specs.Machines.{IsMachine, Performs, rows_with}
 
 -- it is after some journal again
-pub machine_after : (workers : ℕ) (rows : List Row) (made : Result (Option Step) Reason) (machine : Machine) (done : Unit) → Performs workers rows made machine (Ok done) → IsMachine machine
+pub machine_after : (workers : ℕ) (rows : List Row) (made : Result (Option Step) Reason)
+    (machine : Machine) (done : Unit)
+    → Performs workers rows made machine (Ok done)
+    → IsMachine machine
 machine_after workers rows (Ok made) machine done h = (workers, rows_with rows made, h.0)
 machine_after workers rows (Err why) machine done h = absurd h

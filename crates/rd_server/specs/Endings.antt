@@ -18,13 +18,18 @@ IsFrontOf front whole = (rest : List ℕ) × (whole ≡ front ++ rest)
 -- what a sink holds after a replay that ended so
 abbrev pub IsWritten : Output → Option (List ℕ) → Option (List ℕ) → Status → Type 0
 IsWritten output before now status.Done = (output.bad ≡ None) × Appends before now output.text
-IsWritten output before now (status.Line bad) = (output.bad ≡ Some bad) × Appends before now output.text
-IsWritten output before now status.ReadFault = (front : List ℕ) × IsFrontOf front output.text × Appends before now front
-IsWritten output before now status.WriteFault = (front : List ℕ) × IsFrontOf front output.text × Appends before now front
-IsWritten output before now status.Memory = (front : List ℕ) × IsFrontOf front output.text × Appends before now front
+IsWritten output before now (status.Line bad) =
+    (output.bad ≡ Some bad) × Appends before now output.text
+IsWritten output before now status.ReadFault =
+    (front : List ℕ) × IsFrontOf front output.text × Appends before now front
+IsWritten output before now status.WriteFault =
+    (front : List ℕ) × IsFrontOf front output.text × Appends before now front
+IsWritten output before now status.Memory =
+    (front : List ℕ) × IsFrontOf front output.text × Appends before now front
 IsWritten output before now status.Usage = Appends before now []
 
--- where a line is bad, no other line is reported and the replay is not done; where none is, none is reported
+-- where a line is bad, no other line is reported and the replay is not done; where none is, none is
+-- reported
 abbrev pub EndsBy : Option LineBad → Status → Type 0
 EndsBy None (status.Line bad) = ⊥
 EndsBy (Some first) (status.Line bad) = bad ≡ first
@@ -50,7 +55,8 @@ reason_text reason.Busy = codes "busy"
 
 -- what is said of a bad line
 abbrev pub line_text : LineBad → List ℕ
-line_text bad = codes "line " ++ (decimal bad.line ++ (codes ": " ++ (reason_text bad.why ++ codes "\n")))
+line_text bad =
+    codes "line " ++ (decimal bad.line ++ (codes ": " ++ (reason_text bad.why ++ codes "\n")))
 
 -- what is said of a status on the error sink
 abbrev pub status_text : Status → List ℕ

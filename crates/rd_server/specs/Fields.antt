@@ -1,5 +1,21 @@
 -- Texts between separators.
-use Rattle.std.specs.Prelude.{ℕ, ◌==◌, List, [], ◌∷◌, length, take, drop, Option, Some, None, option_map, option_and_then, if◌then◌else◌, bytes_eq}
+use Rattle.std.specs.Prelude.{
+  ℕ,
+  ◌==◌,
+  List,
+  [],
+  ◌∷◌,
+  length,
+  take,
+  drop,
+  Option,
+  Some,
+  None,
+  option_map,
+  option_and_then,
+  if◌then◌else◌,
+  bytes_eq,
+}
 
 -- the second step, where the first gave something
 infixl 10 ◌>>=◌
@@ -13,8 +29,10 @@ onto_first b p = (b ∷ p.0, p.1)
 -- what stands before the first separator, and what stands after it
 abbrev pub cut : ℕ → List ℕ → Option (List ℕ × List ℕ)
 cut separator [] = None
-cut separator (b ∷ bs) = if b == separator then Some ([], bs) else option_map (onto_first b) (cut separator bs)
+cut separator (b ∷ bs) =
+    if b == separator then Some ([], bs) else option_map (onto_first b) (cut separator bs)
 
 -- what stands after a prefix
 abbrev pub after_prefix : List ℕ → List ℕ → Option (List ℕ)
-after_prefix prefix text = if bytes_eq (take (length prefix) text) prefix then Some (drop (length prefix) text) else None
+after_prefix prefix text =
+    if bytes_eq (take (length prefix) text) prefix then Some (drop (length prefix) text) else None

@@ -27,12 +27,17 @@ pub record Journal : Type 0 where
 -- a journal goes on after a line, or ends at a bad one
 abbrev pub goes_on : Result (List Row) Reason → List Row → ℕ → (List Row → Journal) → Journal
 goes_on (Ok more) rows number rest = rest more
-goes_on (Err why) rows number rest = record { rows = rows; bad = Some (record { line = number; why = why }) }
+goes_on (Err why) rows number rest = record {
+  rows = rows;
+  bad = Some (record { line = number; why = why });
+}
 
 -- the journal of lines for a number of workers, from rows and the number of the next line on
 abbrev pub journal : ℕ → List Row → ℕ → List (List ℕ) → Journal
 journal workers rows number [] = record { rows = rows; bad = None }
-journal workers rows number (text ∷ texts) = goes_on (after_line workers rows text) rows number (λ more. journal workers more (number + 1) texts)
+journal workers rows number (text ∷ texts) =
+    goes_on (after_line workers rows text) rows number
+    (λ more. journal workers more (number + 1) texts)
 
 -- all that is written of a journal, and its bad line
 abbrev pub whole_output : Journal → Output

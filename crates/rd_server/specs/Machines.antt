@@ -1,5 +1,26 @@
--- What the machine of a replay stands for: a journal, with what each worker holds and drew after it.
-use Rattle.std.specs.Prelude.{◌≡◌, ◌≤◌, ◌^◌, ℕ, false, List, [], ◌∷◌, length, flat_map, slice_get, Option, Some, None, Result, Ok, Err, IfSome, ⊤}
+-- What the machine of a replay stands for: a journal, with what each worker holds and drew after
+-- it.
+use Rattle.std.specs.Prelude.{
+  ◌≡◌,
+  ◌≤◌,
+  ◌^◌,
+  ℕ,
+  false,
+  List,
+  [],
+  ◌∷◌,
+  length,
+  flat_map,
+  slice_get,
+  Option,
+  Some,
+  None,
+  Result,
+  Ok,
+  Err,
+  IfSome,
+  ⊤,
+}
 use Rattle.rd_base.specs.declared.moments.Moment.{Moment}
 use Rattle.rd_base.specs.declared.peers.Peer.{Peer}
 use Rattle.line_model.specs.declared.lines.Reason.{Reason}
@@ -21,12 +42,20 @@ use Rattle.rd_server.specs.declared.machine.Machine.{Machine}
 use Rattle.rd_server.specs.declared.troubles.Trouble.{Trouble}
 use Rattle.rd_server.specs.declared.troubles.Trouble.TheVariants as trouble
 
--- the job that a worker has is one of a journal: its write was admitted at the moment of the row that admitted it
+-- the job that a worker has is one of a journal: its write was admitted at the moment of the row
+-- that admitted it
 abbrev pub IsJobOf : List Row → machine_of.Job → Job → Type 0
 IsJobOf rows held (job.Write write) =
-    (place : ℕ) × (admission : Row) × (held ≡ record { kind = step.Commit place; peer = write.peer; datagram = write.datagram }) × (row_at place rows ≡ Some admission)
+    (place : ℕ)
+    × (admission : Row)
+    × (held ≡ record { kind = step.Commit place; peer = write.peer; datagram = write.datagram })
+    × (row_at place rows ≡ Some admission)
     × (admission.moment.0 ≡ write.admitted)
-IsJobOf rows held (job.Keep keep) = held ≡ record { kind = step.Keep keep.answer.body keep.answer.tag; peer = keep.peer; datagram = keep.datagram }
+IsJobOf rows held (job.Keep keep) = held ≡ record {
+  kind = step.Keep keep.answer.body keep.answer.tag;
+  peer = keep.peer;
+  datagram = keep.datagram;
+}
 
 -- a worker holds the job that it holds after a journal, or none
 abbrev pub HoldsJob : List Row → Option machine_of.Job → Option Job → Type 0
@@ -34,7 +63,8 @@ HoldsJob rows None None = ⊤
 HoldsJob rows (Some held) (Some job) = IsJobOf rows held job
 HoldsJob rows _ _ = ⊥
 
--- a worker of a number after a journal: it drew what its rows drew, and holds the job of its last row but ticks
+-- a worker of a number after a journal: it drew what its rows drew, and holds the job of its last
+-- row but ticks
 pub record IsWorkerAt (rows : List Row) (number : ℕ) (worker : Worker) : Type 0 where
   pub worker_is : worker.mids.worker ≡ number
   pub drawn : worker.mids.drawn ≡ mids_drawn number rows
@@ -55,7 +85,8 @@ abbrev pub IsMachine : Machine → Type 0
 IsMachine machine = (workers : ℕ) × (rows : List Row) × IsMachineAt workers rows machine
 
 -- a step may be made by a worker at a desk, and hands in a moment that is not below the others
-pub record MayStep (rows : List Row) (s : Step) (now : Moment) (desk : Seen) (worker : Worker) : Type 0 where
+pub record MayStep (rows : List Row) (s : Step) (now : Moment) (desk : Seen) (worker : Worker) :
+    Type 0 where
   pub journal : IsJournal rows
   pub desk_journal : IsDeskJournal rows
   pub may : MayMake rows s
@@ -65,7 +96,8 @@ pub record MayStep (rows : List Row) (s : Step) (now : Moment) (desk : Seen) (wo
   pub worker_at : IsWorkerAt rows s.worker worker
 
 -- a step was made: the desk and the worker are those after its row, and what the row sends was sent
-pub record Steps (rows : List Row) (s : Step) (desk : Seen) (worker : Worker) (sent : List (Peer × List ℕ)) : Type 0 where
+pub record Steps (rows : List Row) (s : Step) (desk : Seen) (worker : Worker)
+    (sent : List (Peer × List ℕ)) : Type 0 where
   pub stands : StandsFor (row rows s false ∷ rows) desk
   pub worker_at : IsWorkerAt (row rows s false ∷ rows) s.worker worker
   pub sent_is : sent ≡ (row rows s false).sent
@@ -89,11 +121,18 @@ rows_with rows None = rows
 rows_with rows (Some s) = row rows s false ∷ rows
 
 -- a line was done by a machine, or is bad; then the machine is as before, and sent nothing
-abbrev pub Performs : ℕ → List Row → Result (Option Step) Reason → Machine → Result Unit Trouble → Type 0
-Performs workers rows (Ok made) machine (Ok done) = IsMachineAt workers (rows_with rows made) machine × HasSent rows made (sent_of machine)
+abbrev pub Performs : ℕ
+    → List Row
+    → Result (Option Step) Reason
+    → Machine
+    → Result Unit Trouble
+    → Type 0
+Performs workers rows (Ok made) machine (Ok done) =
+    IsMachineAt workers (rows_with rows made) machine × HasSent rows made (sent_of machine)
 Performs workers rows (Err why) machine (Ok done) = ⊥
 Performs workers rows (Ok made) machine (Err (trouble.Bad said)) = ⊥
-Performs workers rows (Err why) machine (Err (trouble.Bad said)) = (said ≡ why) × IsMachineAt workers rows machine × (sent_of machine ≡ [])
+Performs workers rows (Err why) machine (Err (trouble.Bad said)) =
+    (said ≡ why) × IsMachineAt workers rows machine × (sent_of machine ≡ [])
 Performs workers rows _ machine (Err trouble.Starved) = ⊤
 
 -- the worker of the step that a line made is the one that it names
@@ -102,8 +141,16 @@ IsBy None worker = ⊤
 IsBy (Some s) worker = s.worker ≡ worker
 
 -- the same of a line by its text, and of the worker that it names
-abbrev pub PerformsFor : ℕ → List Row → Result (Option Step) Reason → Machine → Result ℕ Trouble → Type 0
-PerformsFor workers rows (Ok made) machine (Ok worker) = IsMachineAt workers (rows_with rows made) machine × HasSent rows made (sent_of machine) × IsBy made worker
+abbrev pub PerformsFor : ℕ
+    → List Row
+    → Result (Option Step) Reason
+    → Machine
+    → Result ℕ Trouble
+    → Type 0
+PerformsFor workers rows (Ok made) machine (Ok worker) =
+    IsMachineAt workers (rows_with rows made) machine
+    × HasSent rows made (sent_of machine)
+    × IsBy made worker
 PerformsFor workers rows (Err why) machine (Ok worker) = ⊥
 PerformsFor workers rows (Ok made) machine (Err (trouble.Bad said)) = ⊥
 PerformsFor workers rows (Err why) machine (Err (trouble.Bad said)) = said ≡ why

@@ -1,5 +1,21 @@
--- A trace that is made, in the middle of it: what was counted of the lines that were done, and what in the end is written.
-use Rattle.std.specs.Prelude.{◌≡◌, ℕ, ◌+◌, List, ◌++◌, length, Option, Some, None, Result, Ok, Err, IfSome, ⊤}
+-- A trace that is made, in the middle of it: what was counted of the lines that were done, and what
+-- in the end is written.
+use Rattle.std.specs.Prelude.{
+  ◌≡◌,
+  ℕ,
+  ◌+◌,
+  List,
+  ◌++◌,
+  length,
+  Option,
+  Some,
+  None,
+  Result,
+  Ok,
+  Err,
+  IfSome,
+  ⊤,
+}
 use Rattle.std.specs.Io.KnownBytes.{Appends}
 use Rattle.line_model.specs.declared.lines.Reason.{Reason}
 use Rattle.journal_model.specs.declared.rows.Row.{Row}
@@ -23,7 +39,8 @@ pub record IsCountedAt (workers : ℕ) (rows : List Row) (lines : ℕ) (count : 
 
 -- some lines were done and counted
 abbrev pub IsCounted : Count → Type 0
-IsCounted count = (workers : ℕ) × (rows : List Row) × (lines : ℕ) × IsCountedAt workers rows lines count
+IsCounted count =
+    (workers : ℕ) × (rows : List Row) × (lines : ℕ) × IsCountedAt workers rows lines count
 
 -- a line was done and counted, or is bad
 abbrev pub CountsLine : ℕ → ℕ → Result (List Row) Reason → Count → Result Unit Trouble → Type 0
@@ -35,7 +52,8 @@ CountsLine workers lines _ count (Err trouble.Starved) = ⊤
 
 -- the lines of a trace were done and counted, or one is bad
 abbrev pub CountsLines : ℕ → ℕ → Journal → Count → Result Unit Trouble → Type 0
-CountsLines workers lines journal count (Ok done) = (journal.bad ≡ None) × IsCountedAt workers journal.rows lines count
+CountsLines workers lines journal count (Ok done) =
+    (journal.bad ≡ None) × IsCountedAt workers journal.rows lines count
 CountsLines workers lines journal count (Err (trouble.Bad said)) = journal.bad ≡ None → ⊥
 CountsLines workers lines journal count (Err trouble.Starved) = ⊤
 
@@ -43,16 +61,28 @@ CountsLines workers lines journal count (Err trouble.Starved) = ⊤
 abbrev pub summary : ℕ → List Row → List ℕ
 summary lines rows = made_line lines ++ (sent_line (datagrams rows) ++ last_line rows)
 
--- what a sink holds after a trace was made and done: all that is written of it, or a prefix where the output failed or memory ran out. Nothing is read, and no line is bad
+-- what a sink holds after a trace was made and done: all that is written of it, or a prefix where
+-- the output failed or memory ran out. Nothing is read, and no line is bad
 abbrev pub IsMade : List ℕ → Option (List ℕ) → Option (List ℕ) → Status → Type 0
 IsMade whole before now status.Done = Appends before now whole
-IsMade whole before now status.WriteFault = (front : List ℕ) × IsFrontOf front whole × Appends before now front
-IsMade whole before now status.Memory = (front : List ℕ) × IsFrontOf front whole × Appends before now front
+IsMade whole before now status.WriteFault =
+    (front : List ℕ) × IsFrontOf front whole × Appends before now front
+IsMade whole before now status.Memory =
+    (front : List ℕ) × IsFrontOf front whole × Appends before now front
 IsMade whole before now status.ReadFault = ⊥
 IsMade whole before now status.Usage = ⊥
 IsMade whole before now (status.Line bad) = ⊥
 
--- what a sink holds after a replay, by what was asked for: of the trace of a source, of which these octets are left, or of one that was made
-abbrev pub IsWrittenFor : Option ℕ → ℕ → Option (List ℕ) → Option (List ℕ) → Option (List ℕ) → Status → Type 0
-IsWrittenFor None workers left before now status = IfSome left (λ bytes. IsWritten (output workers bytes) before now status)
-IsWrittenFor (Some devices) workers left before now status = IsMade (made_output devices workers) before now status
+-- what a sink holds after a replay, by what was asked for: of the trace of a source, of which these
+-- octets are left, or of one that was made
+abbrev pub IsWrittenFor : Option ℕ
+    → ℕ
+    → Option (List ℕ)
+    → Option (List ℕ)
+    → Option (List ℕ)
+    → Status
+    → Type 0
+IsWrittenFor None workers left before now status =
+    IfSome left (λ bytes. IsWritten (output workers bytes) before now status)
+IsWrittenFor (Some devices) workers left before now status =
+    IsMade (made_output devices workers) before now status

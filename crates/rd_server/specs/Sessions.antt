@@ -1,5 +1,22 @@
 -- How a replay goes from one place in a trace to another.
-use Rattle.std.specs.Prelude.{◌≡◌, ℕ, ◌≤◌, List, [], ◌++◌, Bool, true, false, Option, Some, None, IsOkAnd, IsErrAnd, ◌+◌, take}
+use Rattle.std.specs.Prelude.{
+  ◌≡◌,
+  ℕ,
+  ◌≤◌,
+  List,
+  [],
+  ◌++◌,
+  Bool,
+  true,
+  false,
+  Option,
+  Some,
+  None,
+  IsOkAnd,
+  IsErrAnd,
+  ◌+◌,
+  take,
+}
 use Rattle.std.specs.Io.KnownBytes.{Appends, Consumes, IsAtEnd}
 use Rattle.rd_base.specs.Outside.{Rose}
 use Rattle.rd_server.specs.declared.endings.Stop.{Stop}
@@ -23,7 +40,8 @@ pub record Place : Type 0 where
 
 -- the journal of what comes from a place on, for a number of workers
 abbrev pub journal_from : ℕ → Place → List ℕ → Journal
-journal_from workers place bytes = journal workers place.rows place.number (lines_of (place.pending ++ bytes))
+journal_from workers place bytes =
+    journal workers place.rows place.number (lines_of (place.pending ++ bytes))
 
 -- the beginning of a trace
 abbrev pub start : Place
@@ -45,18 +63,31 @@ abbrev pub IsStarted : Session → Type 0
 IsStarted session = (workers : ℕ) × IsAt workers start session
 
 -- octets lead from a place to another, and are answered by a text
-pub record Leads (workers : ℕ) (place : Place) (bytes : List ℕ) (next : Place) (written : List ℕ) : Type 0 where
+pub record Leads (workers : ℕ) (place : Place) (bytes : List ℕ) (next : Place) (written : List ℕ) :
+    Type 0 where
   pub texts : text next.rows ≡ text place.rows ++ written
-  pub same : (rest : List ℕ) → journal_from workers place (bytes ++ rest) ≡ journal_from workers next rest
+  pub same : (rest : List ℕ)
+      → journal_from workers place (bytes ++ rest) ≡ journal_from workers next rest
 
 -- what is written after a stop, with what stood before
 abbrev pub Halts : Journal → List ℕ → Option (List ℕ) → Option (List ℕ) → Stop → Type 0
-Halts journal before old new (stop.Bad bad) = (journal.bad ≡ Some bad) × (written : List ℕ) × (text journal.rows ≡ before ++ written) × Appends old new written
-Halts journal before old new stop.Unwritten = (written : List ℕ) × IsFrontOf (before ++ written) (whole_text journal) × Appends old new written
-Halts journal before old new stop.Starved = (written : List ℕ) × IsFrontOf (before ++ written) (whole_text journal) × Appends old new written
+Halts journal before old new (stop.Bad bad) =
+    (journal.bad ≡ Some bad)
+    × (written : List ℕ)
+    × (text journal.rows ≡ before ++ written)
+    × Appends old new written
+Halts journal before old new stop.Unwritten =
+    (written : List ℕ)
+    × IsFrontOf (before ++ written) (whole_text journal)
+    × Appends old new written
+Halts journal before old new stop.Starved =
+    (written : List ℕ)
+    × IsFrontOf (before ++ written) (whole_text journal)
+    × Appends old new written
 
 -- the session went to the place to which the octets lead, and what answers them was written
-pub record Goes (workers : ℕ) (place : Place) (bytes : List ℕ) (session : Session) (old new : Option (List ℕ)) : Type 0 where
+pub record Goes (workers : ℕ) (place : Place) (bytes : List ℕ) (session : Session)
+    (old new : Option (List ℕ)) : Type 0 where
   pub next : Place
   pub at : IsAt workers next session
   pub written : List ℕ
@@ -64,13 +95,26 @@ pub record Goes (workers : ℕ) (place : Place) (bytes : List ℕ) (session : Se
   pub appends : Appends old new written
 
 -- octets were fed to a session at a place: it goes on, or stops, whatever would have come
-abbrev pub Feeds : ℕ → Place → List ℕ → Session → Option (List ℕ) → Option (List ℕ) → Option Stop → Type 0
+abbrev pub Feeds : ℕ
+    → Place
+    → List ℕ
+    → Session
+    → Option (List ℕ)
+    → Option (List ℕ)
+    → Option Stop
+    → Type 0
 Feeds workers place bytes session old new None = Goes workers place bytes session old new
-Feeds workers place bytes session old new (Some halt) = (rest : List ℕ) → Halts (journal_from workers place (bytes ++ rest)) (text place.rows) old new halt
+Feeds workers place bytes session old new (Some halt) =
+    (rest : List ℕ)
+    → Halts (journal_from workers place (bytes ++ rest)) (text place.rows) old new halt
 
 -- the input has ended: all is written, or not
 abbrev pub Finishes : Journal → List ℕ → Option (List ℕ) → Option (List ℕ) → Option Stop → Type 0
-Finishes journal before old new None = (journal.bad ≡ None) × (written : List ℕ) × (whole_text journal ≡ before ++ written) × Appends old new written
+Finishes journal before old new None =
+    (journal.bad ≡ None)
+    × (written : List ℕ)
+    × (whole_text journal ≡ before ++ written)
+    × Appends old new written
 Finishes journal before old new (Some halt) = Halts journal before old new halt
 
 -- the count of the output rose exactly where the writing stopped
@@ -102,30 +146,83 @@ Writes old new whole (Some stop.Unwritten) = (n : ℕ) × Appends old new (take 
 Writes old new whole (Some stop.Starved) = Appends old new []
 
 -- the rows went on to others, and what the new ones sent was written, or a prefix of it
-abbrev pub WritesMore : List Row → List Row → Option (List ℕ) → Option (List ℕ) → Option Stop → Type 0
-WritesMore rows more old new result = (sent : List ℕ) × (text more ≡ text rows ++ sent) × Writes old new sent result
+abbrev pub WritesMore : List Row
+    → List Row
+    → Option (List ℕ)
+    → Option (List ℕ)
+    → Option Stop
+    → Type 0
+WritesMore rows more old new result =
+    (sent : List ℕ) × (text more ≡ text rows ++ sent) × Writes old new sent result
 
 -- a whole line was done by a session, under its number
-abbrev pub DoesLine : ℕ → List Row → ℕ → List ℕ → Session → Option (List ℕ) → Option (List ℕ) → Option Stop → Type 0
+abbrev pub DoesLine : ℕ
+    → List Row
+    → ℕ
+    → List ℕ
+    → Session
+    → Option (List ℕ)
+    → Option (List ℕ)
+    → Option Stop
+    → Type 0
 DoesLine workers rows number line session old new None =
-    IsOkAnd (after_line workers rows line) (λ more. IsMachineAt workers more session.machine × (session.line ≡ number + 1) × WritesMore rows more old new None)
+    IsOkAnd (after_line workers rows line) (λ more.
+    IsMachineAt workers more session.machine
+    × (session.line ≡ number + 1)
+    × WritesMore rows more old new None)
 DoesLine workers rows number line session old new (Some (stop.Bad bad)) =
-    IsErrAnd (after_line workers rows line) (λ why. bad ≡ record { line = number; why = why }) × Appends old new []
-DoesLine workers rows number line session old new (Some stop.Unwritten) = IsOkAnd (after_line workers rows line) (λ more. WritesMore rows more old new (Some stop.Unwritten))
+    IsErrAnd (after_line workers rows line) (λ why. bad ≡ record { line = number; why = why })
+    × Appends old new []
+DoesLine workers rows number line session old new (Some stop.Unwritten) =
+    IsOkAnd (after_line workers rows line)
+    (λ more. WritesMore rows more old new (Some stop.Unwritten))
 DoesLine workers rows number line session old new (Some stop.Starved) = Appends old new []
 
 -- the last line was done: the trace is at its end
-abbrev pub EndsLines : ℕ → Place → Session → Option (List ℕ) → Option (List ℕ) → Option Stop → Type 0
+abbrev pub EndsLines : ℕ
+    → Place
+    → Session
+    → Option (List ℕ)
+    → Option (List ℕ)
+    → Option Stop
+    → Type 0
 EndsLines workers place session old new None =
-    (more : List Row) × IsMachineAt workers more session.machine × (journal_from workers place [] ≡ record { rows = more; bad = None }) × WritesMore place.rows more old new None
-EndsLines workers place session old new (Some halt) = Halts (journal_from workers place []) (text place.rows) old new halt
+    (more : List Row)
+    × IsMachineAt workers more session.machine
+    × (journal_from workers place [] ≡ record { rows = more; bad = None })
+    × WritesMore place.rows more old new None
+EndsLines workers place session old new (Some halt) =
+    Halts (journal_from workers place []) (text place.rows) old new halt
 
--- what a session was fed while the trace was read: to its end, or until the source failed or the replay stopped
-abbrev pub FeedsRead : ℕ → Place → List ℕ → Session → Option (List ℕ) → Option (List ℕ) → Option (List ℕ) → Read → Type 0
-FeedsRead workers place taken session old new left read.End = Goes workers place taken session old new × IsAtEnd left
-FeedsRead workers place taken session old new left read.Failed = Goes workers place taken session old new
-FeedsRead workers place taken session old new left (read.Stopped halt) = Feeds workers place taken session old new (Some halt)
+-- what a session was fed while the trace was read: to its end, or until the source failed or the
+-- replay stopped
+abbrev pub FeedsRead : ℕ
+    → Place
+    → List ℕ
+    → Session
+    → Option (List ℕ)
+    → Option (List ℕ)
+    → Option (List ℕ)
+    → Read
+    → Type 0
+FeedsRead workers place taken session old new left read.End =
+    Goes workers place taken session old new × IsAtEnd left
+FeedsRead workers place taken session old new left read.Failed =
+    Goes workers place taken session old new
+FeedsRead workers place taken session old new left (read.Stopped halt) =
+    Feeds workers place taken session old new (Some halt)
 
 -- the octets that were taken from a source were fed
-abbrev pub ReadsAll : ℕ → Place → Session → Option (List ℕ) → Option (List ℕ) → Option (List ℕ) → Option (List ℕ) → Read → Type 0
-ReadsAll workers place session old new left now result = (taken : List ℕ) × Consumes left now taken × FeedsRead workers place taken session old new now result
+abbrev pub ReadsAll : ℕ
+    → Place
+    → Session
+    → Option (List ℕ)
+    → Option (List ℕ)
+    → Option (List ℕ)
+    → Option (List ℕ)
+    → Read
+    → Type 0
+ReadsAll workers place session old new left now result =
+    (taken : List ℕ)
+    × Consumes left now taken
+    × FeedsRead workers place taken session old new now result

@@ -51,9 +51,11 @@ once (Some before) value = None
 -- a name and its value more
 abbrev pub given : Name → List ℕ → Words → Option Words
 given name.Workers value asked =
-    option_map (λ n. record { workers = Some n; devices = asked.devices }) (once asked.workers (count_of max_workers value))
+    option_map (λ n. record { workers = Some n; devices = asked.devices })
+    (once asked.workers (count_of max_workers value))
 given name.Make value asked =
-    option_map (λ n. record { workers = asked.workers; devices = Some n }) (once asked.devices (count_of max_devices value))
+    option_map (λ n. record { workers = asked.workers; devices = Some n })
+    (once asked.devices (count_of max_devices value))
 
 -- the same by a word that may be a name
 abbrev pub given_by : Option Name → List ℕ → Words → Option Words

@@ -5,7 +5,14 @@ use Rattle.rd_base.specs.declared.attributes.Pair.{Pair}
 use Rattle.rd_base.specs.declared.parameters.RegParams.{RegParams}
 use Rattle.rd_base.specs.declared.parameters.UpdateParams.{UpdateParams}
 use Rattle.record_model.specs.Options.{is_among}
-use Rattle.record_model.specs.Parameters.{own_names, max_name, has_control, is_base, is_link_local, is_extra_name}
+use Rattle.record_model.specs.Parameters.{
+  own_names,
+  max_name,
+  has_control,
+  is_base,
+  is_link_local,
+  is_extra_name,
+}
 
 -- the name of an endpoint or a sector: 1 to 63 octets without a control character
 pub record IsAllowedName (text : List ℕ) : Type 0 where
@@ -18,7 +25,8 @@ pub record IsAllowedLifetime (seconds : ℕ) : Type 0 where
   pub lasting : 0 < seconds
   pub small : seconds < 2 ^ 32
 
--- an extra attribute: a name that is not refused and has no meaning of its own, and a value without a control character
+-- an extra attribute: a name that is not refused and has no meaning of its own, and a value without
+-- a control character
 pub record IsAllowedAttribute (pair : Pair) : Type 0 where
   pub name : is_extra_name pair.name ≡ true
   pub extra : is_among own_names pair.name ≡ false

@@ -1,5 +1,20 @@
--- Which bodies a registration may have: documents of references in the Limited Link Format (RFC 9176 appendix C).
-use Rattle.std.specs.Prelude.{ℕ, Bool, false, not, ◌&&◌, ◌||◌, List, Option, Some, None, is_some, option_and_then, if◌then◌else◌}
+-- Which bodies a registration may have: documents of references in the Limited Link Format (RFC
+-- 9176 appendix C).
+use Rattle.std.specs.Prelude.{
+  ℕ,
+  Bool,
+  false,
+  not,
+  ◌&&◌,
+  ◌||◌,
+  List,
+  Option,
+  Some,
+  None,
+  is_some,
+  option_and_then,
+  if◌then◌else◌,
+}
 use Rattle.std.specs.List.{list_all}
 use Rattle.rd_base.specs.declared.submitted_links.SubmittedLink.{SubmittedLink}
 use Rattle.reference_model.specs.References.{Components, reference, where_present, has_scheme}
@@ -21,10 +36,14 @@ is_uri text = is_uri_where (reference text)
 abbrev pub has_references : SubmittedLink → Bool
 has_references l = is_reference l.target_ref && where_present is_reference l.anchor_ref
 
--- the links of a body whose targets and anchors are URI-references; None where the body is no document or has another target or anchor
+-- the links of a body whose targets and anchors are URI-references; None where the body is no
+-- document or has another target or anchor
 unfoldable pub linked_references : List ℕ → Option (List SubmittedLink)
-linked_references body = option_and_then (λ links. if list_all has_references links then Some links else None) (submitted_links body)
+linked_references body =
+    option_and_then (λ links. if list_all has_references links then Some links else None)
+    (submitted_links body)
 
--- a link without a scheme in its target has none in its anchor: the one rule of the Limited Link Format that is asked
+-- a link without a scheme in its target has none in its anchor: the one rule of the Limited Link
+-- Format that is asked
 abbrev pub is_limited : SubmittedLink → Bool
 is_limited l = is_uri l.target_ref || where_present (λ anchor. not (is_uri anchor)) l.anchor_ref

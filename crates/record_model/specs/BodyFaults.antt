@@ -1,5 +1,25 @@
--- The first fault of a registration's body, with its offset or the index of its link (RFC 6690 section 2, RFC 3986 section 4.1, RFC 9176 appendix C).
-use Rattle.std.specs.Prelude.{ℕ, ◌+◌, Bool, true, false, not, List, [], ◌∷◌, ◌++◌, length, map, find, Option, Some, None, option_map, if◌then◌else◌}
+-- The first fault of a registration's body, with its offset or the index of its link (RFC 6690
+-- section 2, RFC 3986 section 4.1, RFC 9176 appendix C).
+use Rattle.std.specs.Prelude.{
+  ℕ,
+  ◌+◌,
+  Bool,
+  true,
+  false,
+  not,
+  List,
+  [],
+  ◌∷◌,
+  ◌++◌,
+  length,
+  map,
+  find,
+  Option,
+  Some,
+  None,
+  option_map,
+  if◌then◌else◌,
+}
 use Rattle.link_model.specs.Characters.{quote_mark}
 use Rattle.reference_model.specs.References.{begins_with}
 use Rattle.link_model.specs.Documents.{Parameter, Link, parameter_text, link_text}
@@ -8,8 +28,8 @@ use Rattle.link_model.specs.Quoting.{value_of, is_anchor, submitted_link}
 use Rattle.record_model.specs.Bodies.{is_reference}
 use Rattle.record_model.specs.Refusals.{first_unlimited}
 
--- what is wrong with a body: it is no document from this octet on; the reference that begins at this octet is none;
--- or this link, counted from 0, is not in the Limited Link Format
+-- what is wrong with a body: it is no document from this octet on; the reference that begins at
+-- this octet is none; or this link, counted from 0, is not in the Limited Link Format
 pub data BodyFault : Type 0 where
   no_document : ℕ → BodyFault
   no_reference : ℕ → BodyFault
@@ -28,7 +48,8 @@ abbrev pub quote_length : Option (List ℕ) → ℕ
 quote_length None = 0
 quote_length (Some value) = if begins_with quote_mark value then 1 else 0
 
--- the first anchor among parameters, with its offset: after the semicolon, the name, the equals sign, and the quote
+-- the first anchor among parameters, with its offset: after the semicolon, the name, the equals
+-- sign, and the quote
 abbrev pub anchor_offset : List Parameter → List TextAtOffset
 anchor_offset [] = []
 anchor_offset (p ∷ parameters) =
@@ -42,16 +63,19 @@ link_references l = (1, l.target) ∷ shifted (length l.target + 2) (anchor_offs
 -- the references of links with their offsets in the document, a comma between each two links
 unfoldable pub references_of : List Link → List TextAtOffset
 references_of [] = []
-references_of (l ∷ links) = link_references l ++ shifted (length (link_text l) + 1) (references_of links)
+references_of (l ∷ links) =
+    link_references l ++ shifted (length (link_text l) + 1) (references_of links)
 
 -- the first of them that is no URI-reference
 unfoldable pub first_no_reference : List Link → Option ℕ
-first_no_reference links = option_map (λ r. r.0) (find (λ r. not (is_reference r.1)) (references_of links))
+first_no_reference links =
+    option_map (λ r. r.0) (find (λ r. not (is_reference r.1)) (references_of links))
 
 -- the first fault of links: of their references, and else of the Limited Link Format
 abbrev pub reference_or_limited : Option ℕ → List Link → Option BodyFault
 reference_or_limited (Some offset) links = Some (no_reference offset)
-reference_or_limited None links = option_map not_limited (first_unlimited (map submitted_link links))
+reference_or_limited None links =
+    option_map not_limited (first_unlimited (map submitted_link links))
 
 -- the fault of what was read of a body: that it is no document comes before all
 abbrev pub document_or_links : Option (List Link) → List ℕ → Option BodyFault

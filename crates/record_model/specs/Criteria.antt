@@ -1,5 +1,23 @@
 -- The criteria of a lookup, and its page and count (RFC 9176 section 6.2).
-use Rattle.std.specs.Prelude.{ℕ, Bool, not, ◌&&◌, ◌||◌, List, [], ◌∷◌, map, filter, codes, Option, Some, None, option_map, Result, if◌then◌else◌}
+use Rattle.std.specs.Prelude.{
+  ℕ,
+  Bool,
+  not,
+  ◌&&◌,
+  ◌||◌,
+  List,
+  [],
+  ◌∷◌,
+  map,
+  filter,
+  codes,
+  Option,
+  Some,
+  None,
+  option_map,
+  Result,
+  if◌then◌else◌,
+}
 use Rattle.std.specs.Str.{is_utf8}
 use Rattle.rd_base.specs.declared.queries.Kind.{Kind}
 use Rattle.rd_base.specs.declared.queries.Criterion.{Criterion}
@@ -9,7 +27,15 @@ use Rattle.record_model.specs.declared.readings.Reading.TheVariants as reading
 use Rattle.record_model.specs.declared.readings.Why.{Why}
 use Rattle.record_model.specs.declared.readings.Why.TheVariants as why
 use Rattle.link_model.specs.Characters.{is_empty}
-use Rattle.record_model.specs.Options.{option_name, option_value, is_named, has_named, value_named, is_number, number_of}
+use Rattle.record_model.specs.Options.{
+  option_name,
+  option_value,
+  is_named,
+  has_named,
+  value_named,
+  is_number,
+  number_of,
+}
 use Rattle.record_model.specs.Faults.{Fault, first_reason, first_fault}
 use Rattle.record_model.specs.Parameters.{parameters_fault, unless_fault}
 
@@ -26,7 +52,10 @@ is_cut query = is_named page query || is_named count query
 
 -- what is wrong with a page or a count, and with a criterion
 abbrev pub cut_reasons : List (List ℕ) → List ℕ → List (Bool × Why)
-cut_reasons others query = (has_named (option_name query) others, why.Repeated) ∷ (not (is_number (option_value query)), why.Number) ∷ []
+cut_reasons others query =
+    (has_named (option_name query) others, why.Repeated)
+    ∷ (not (is_number (option_value query)), why.Number)
+    ∷ []
 
 abbrev pub criterion_reasons : List ℕ → List (Bool × Why)
 criterion_reasons query = (is_empty (option_name query), why.Name) ∷ []
@@ -34,11 +63,13 @@ criterion_reasons query = (is_empty (option_name query), why.Name) ∷ []
 -- what is wrong with an option of a lookup, where others stand before it
 unfoldable pub option_fault : List (List ℕ) → List ℕ → Option Why
 option_fault others query =
-    first_reason ((not (is_utf8 query), why.Utf8) ∷ (if is_cut query then cut_reasons others query else criterion_reasons query))
+    first_reason ((not (is_utf8 query), why.Utf8)
+    ∷ (if is_cut query then cut_reasons others query else criterion_reasons query))
 
 -- what is found after the last option: a page stands beside a count
 abbrev pub page_fault : List (List ℕ) → Option Why
-page_fault queries = if has_named page queries && not (has_named count queries) then Some why.PageAlone else None
+page_fault queries =
+    if has_named page queries && not (has_named count queries) then Some why.PageAlone else None
 
 -- the first fault of the options of a lookup
 unfoldable pub lookup_fault : List (List ℕ) → Option Fault

@@ -10,7 +10,9 @@ use Rattle.record_model.specs.ListingLines.{link_line, shown}
 
 -- the document of the directory's own resources
 abbrev pub own_document : List ℕ
-own_document = codes "</rd>;rt=\"core.rd\";ct=40,</rd-lookup/ep>;rt=\"core.rd-lookup-ep\";ct=40;obs,</rd-lookup/res>;rt=\"core.rd-lookup-res\";ct=40;obs"
+own_document =
+    codes
+    "</rd>;rt=\"core.rd\";ct=40,</rd-lookup/ep>;rt=\"core.rd-lookup-ep\";ct=40;obs,</rd-lookup/res>;rt=\"core.rd-lookup-res\";ct=40;obs"
 
 -- a link as it is printed, resolved against nothing
 abbrev pub as_printed : SubmittedLink → Item

@@ -1,5 +1,17 @@
 -- The first fault of query options, with its index.
-use Rattle.std.specs.Prelude.{ℕ, Bool, List, [], ◌∷◌, length, Option, Some, None, option_map, if◌then◌else◌}
+use Rattle.std.specs.Prelude.{
+  ℕ,
+  Bool,
+  List,
+  [],
+  ◌∷◌,
+  length,
+  Option,
+  Some,
+  None,
+  option_map,
+  if◌then◌else◌,
+}
 use Rattle.record_model.specs.declared.readings.Why.{Why}
 
 -- a fault: the index of its option, counted from 0, and why
@@ -16,13 +28,22 @@ abbrev pub first_reason : List (Bool × Why) → Option Why
 first_reason [] = None
 first_reason (row ∷ rows) = if row.0 then Some row.1 else first_reason rows
 
--- the fault of options that stand after others: the first one that is refused, where each is judged by those before it,
--- latest first; and else what is found after the last, which has their number as its index
-abbrev pub first_fault_after : (List (List ℕ) → List ℕ → Option Why) → (List (List ℕ) → Option Why) → List (List ℕ) → List (List ℕ) → Option Fault
+-- the fault of options that stand after others: the first one that is refused, where each is judged
+-- by those before it, latest first; and else what is found after the last, which has their number
+-- as its index
+abbrev pub first_fault_after : (List (List ℕ) → List ℕ → Option Why)
+    → (List (List ℕ) → Option Why)
+    → List (List ℕ)
+    → List (List ℕ)
+    → Option Fault
 first_fault_after judge at_end others [] = option_map (λ why. (length others, why)) (at_end others)
 first_fault_after judge at_end others (query ∷ queries) =
-    or_else (option_map (λ why. (length others, why)) (judge others query)) (first_fault_after judge at_end (query ∷ others) queries)
+    or_else (option_map (λ why. (length others, why)) (judge others query))
+    (first_fault_after judge at_end (query ∷ others) queries)
 
 -- the first fault of options
-abbrev pub first_fault : (List (List ℕ) → List ℕ → Option Why) → (List (List ℕ) → Option Why) → List (List ℕ) → Option Fault
+abbrev pub first_fault : (List (List ℕ) → List ℕ → Option Why)
+    → (List (List ℕ) → Option Why)
+    → List (List ℕ)
+    → Option Fault
 first_fault judge at_end queries = first_fault_after judge at_end [] queries

@@ -1,5 +1,30 @@
--- The lines of a listing: what one record gives, how a line is written, and what a record weighs (RFC 9176 sections 6.3 and 6.4).
-use Rattle.std.specs.Prelude.{ℕ, ◌+◌, ◌*◌, Bool, ◌||◌, List, [], ◌∷◌, ◌++◌, length, take, drop, map, filter, flat_map, sum_by, codes, Option, Some, None, unwrap_or, if◌then◌else◌, bytes_eq}
+-- The lines of a listing: what one record gives, how a line is written, and what a record weighs
+-- (RFC 9176 sections 6.3 and 6.4).
+use Rattle.std.specs.Prelude.{
+  ℕ,
+  ◌+◌,
+  ◌*◌,
+  Bool,
+  ◌||◌,
+  List,
+  [],
+  ◌∷◌,
+  ◌++◌,
+  length,
+  take,
+  drop,
+  map,
+  filter,
+  flat_map,
+  sum_by,
+  codes,
+  Option,
+  Some,
+  None,
+  unwrap_or,
+  if◌then◌else◌,
+  bytes_eq,
+}
 use Rattle.std.specs.List.{list_any, list_all, join_with_byte}
 use lib.Pointwise.{pointwise}
 use Rattle.rd_base.specs.declared.attributes.Pair.{Pair}
@@ -12,15 +37,26 @@ use Rattle.link_model.specs.Characters.{comma, is_empty}
 pub use Rattle.rd_base.specs.LinkLines.{anchor_text, bracketed}
 unfoldable pub use Rattle.rd_base.specs.LinkLines.{link_line}
 use Rattle.link_model.specs.Quoting.{quoted}
-use Rattle.record_model.specs.Matching.{link_matches, endpoint_matches, endpoint_type, location, sector_pairs}
+use Rattle.record_model.specs.Matching.{
+  link_matches,
+  endpoint_matches,
+  endpoint_type,
+  location,
+  sector_pairs,
+}
 
 -- each criterion matches the link by itself or its endpoint by itself (RFC 9176 section 6.2)
 unfoldable pub link_listed : Query → Record → Item → Bool
-link_listed query r item = list_all (λ criterion. link_matches criterion item || endpoint_matches criterion r) query.criteria
+link_listed query r item =
+    list_all (λ criterion. link_matches criterion item || endpoint_matches criterion r)
+    query.criteria
 
 -- each criterion matches the endpoint by itself or any one of its links by itself
 unfoldable pub endpoint_listed : Query → Record → Bool
-endpoint_listed query r = list_all (λ criterion. endpoint_matches criterion r || list_any (link_matches criterion) r.items) query.criteria
+endpoint_listed query r =
+    list_all
+    (λ criterion. endpoint_matches criterion r || list_any (link_matches criterion) r.items)
+    query.criteria
 
 -- an attribute with its value in quotes
 abbrev pub quoted_attribute : Pair → List ℕ
@@ -36,9 +72,12 @@ own_pairs r =
     record { name = codes "base"; value = r.base } ∷ record { name = codes "ep"; value = r.name.ep }
     ∷ (sector_pairs r.name.sector ++ (record { name = codes "rt"; value = endpoint_type } ∷ []))
 
--- the line of an endpoint: its location, base, name, sector where it has one, type, and its extra attributes
+-- the line of an endpoint: its location, base, name, sector where it has one, type, and its extra
+-- attributes
 unfoldable pub endpoint_line : Record → List ℕ
-endpoint_line r = bracketed (location r.number) ++ (flat_map quoted_attribute (own_pairs r) ++ flat_map extra_attribute r.attrs)
+endpoint_line r =
+    bracketed (location r.number)
+    ++ (flat_map quoted_attribute (own_pairs r) ++ flat_map extra_attribute r.attrs)
 
 -- the lines that a record gives to a query of each kind
 abbrev pub part_of_kind : Kind → Query → Record → List (List ℕ)
@@ -59,7 +98,8 @@ part_or_none query (Some r) = part query r
 abbrev pub same_lines : List (List ℕ) → List (List ℕ) → Bool
 same_lines = pointwise bytes_eq
 
--- what a record weighs: its endpoint line and each of its link lines, each with one octet more for a comma
+-- what a record weighs: its endpoint line and each of its link lines, each with one octet more for
+-- a comma
 unfoldable pub weight : Record → ℕ
 weight r = length (endpoint_line r) + 1 + sum_by (λ item. length (link_line item) + 1) r.items
 

@@ -1,5 +1,27 @@
--- Whether a criterion matches a link by itself, or an endpoint by itself (RFC 6690 section 4.1, RFC 9176 section 6.2).
-use Rattle.std.specs.Prelude.{ℕ, Bool, false, not, ◌&&◌, ◌==◌, List, [], ◌∷◌, ◌++◌, filter, codes, decimal, Option, Some, None, option_map, if◌then◌else◌, bytes_eq, nat_eq}
+-- Whether a criterion matches a link by itself, or an endpoint by itself (RFC 6690 section 4.1, RFC
+-- 9176 section 6.2).
+use Rattle.std.specs.Prelude.{
+  ℕ,
+  Bool,
+  false,
+  not,
+  ◌&&◌,
+  ◌==◌,
+  List,
+  [],
+  ◌∷◌,
+  ◌++◌,
+  filter,
+  codes,
+  decimal,
+  Option,
+  Some,
+  None,
+  option_map,
+  if◌then◌else◌,
+  bytes_eq,
+  nat_eq,
+}
 use Rattle.std.specs.List.{list_any, slice_split, starts_with}
 use Rattle.rd_base.specs.declared.attributes.Pair.{Pair}
 use Rattle.rd_base.specs.declared.queries.Criterion.{Criterion}
@@ -23,7 +45,8 @@ abbrev pub is_value_of : Option (List ℕ) → List ℕ → List ℕ → Bool
 is_value_of (Some front) pattern value = starts_with nat_eq value front
 is_value_of None pattern value = bytes_eq value pattern
 
--- a pattern that ends with an asterisk matches a value that begins with the rest of it, and any other the equal value (RFC 6690 section 4.1)
+-- a pattern that ends with an asterisk matches a value that begins with the rest of it, and any
+-- other the equal value (RFC 6690 section 4.1)
 unfoldable pub matches_value : List ℕ → List ℕ → Bool
 matches_value pattern value = is_value_of (before_wildcard pattern) pattern value
 
@@ -37,11 +60,17 @@ parts_of value = filter (λ part. not (is_empty part)) (slice_split (λ c. c == 
 
 -- whether a pattern matches a value of a name: one part of it, where the name's values are lists
 unfoldable pub matches_named : List ℕ → List ℕ → List ℕ → Bool
-matches_named name pattern value = if is_among list_names name then list_any (matches_value pattern) (parts_of value) else matches_value pattern value
+matches_named name pattern value =
+    if is_among list_names name
+    then list_any (matches_value pattern) (parts_of value)
+    else matches_value pattern value
 
 -- the criterion matches one of these attributes, by its name and its value
 abbrev pub matches_pairs : Criterion → List Pair → Bool
-matches_pairs criterion pairs = list_any (λ pair. bytes_eq pair.name criterion.name && matches_named criterion.name criterion.pattern pair.value) pairs
+matches_pairs criterion pairs =
+    list_any (λ pair.
+    bytes_eq pair.name criterion.name
+    && matches_named criterion.name criterion.pattern pair.value) pairs
 
 -- the criterion is about targets, or about anchors
 abbrev pub is_href : Criterion → Bool
@@ -75,13 +104,17 @@ abbrev pub sector_pairs : Option (List ℕ) → List Pair
 sector_pairs None = []
 sector_pairs (Some text) = record { name = codes "d"; value = text } ∷ []
 
--- an endpoint's attributes: its base, its name, its sector where it has one, its type, and its extra ones (RFC 9176 section 6.4)
+-- an endpoint's attributes: its base, its name, its sector where it has one, its type, and its
+-- extra ones (RFC 9176 section 6.4)
 unfoldable pub endpoint_pairs : Record → List Pair
 endpoint_pairs r =
     record { name = codes "base"; value = r.base } ∷ record { name = codes "ep"; value = r.name.ep }
-    ∷ (sector_pairs r.name.sector ++ (record { name = codes "rt"; value = endpoint_type } ∷ r.attrs))
+    ∷ (sector_pairs r.name.sector
+    ++ (record { name = codes "rt"; value = endpoint_type } ∷ r.attrs))
 
 -- a criterion matches an endpoint by itself: by its location, or by one of its attributes
 unfoldable pub endpoint_matches : Criterion → Record → Bool
 endpoint_matches criterion r =
-    if is_href criterion then matches_value criterion.pattern (location r.number) else matches_pairs criterion (endpoint_pairs r)
+    if is_href criterion
+    then matches_value criterion.pattern (location r.number)
+    else matches_pairs criterion (endpoint_pairs r)

@@ -1,5 +1,20 @@
--- Query options: each a name and a value, split at its first equals sign (RFC 9176 sections 5 and 6).
-use Rattle.std.specs.Prelude.{ℕ, Bool, not, ◌&&◌, List, [], length, find, Option, option_map, unwrap_or, bytes_eq, nat_le}
+-- Query options: each a name and a value, split at its first equals sign (RFC 9176 sections 5 and
+-- 6).
+use Rattle.std.specs.Prelude.{
+  ℕ,
+  Bool,
+  not,
+  ◌&&◌,
+  List,
+  [],
+  length,
+  find,
+  Option,
+  option_map,
+  unwrap_or,
+  bytes_eq,
+  nat_le,
+}
 use Rattle.std.specs.List.{list_any, list_all}
 use Rattle.std.specs.Char.{is_ascii_digit}
 use Rattle.std.specs.Str.Parse.{digits_value}
@@ -40,7 +55,11 @@ max_number = 4_294_967_295
 
 -- 1 to 10 decimal digits that write a number of 32 bits; zeros may lead it
 abbrev pub is_number : List ℕ → Bool
-is_number text = not (is_empty text) && nat_le (length text) max_digits && list_all is_ascii_digit text && nat_le (digits_value 10 text) max_number
+is_number text =
+    not (is_empty text)
+    && nat_le (length text) max_digits
+    && list_all is_ascii_digit text
+    && nat_le (digits_value 10 text) max_number
 
 -- the number that the digits write
 abbrev pub number_of : List ℕ → ℕ

@@ -1,5 +1,38 @@
--- The parameters of a registration, a simple registration and an update (RFC 9176 sections 5, 5.1 and 5.3.1).
-use Rattle.std.specs.Prelude.{ℕ, Bool, true, false, not, ◌&&◌, ◌||◌, ◌==◌, nat_lt, nat_le, List, [], ◌∷◌, length, take, drop, map, filter, codes, Option, Some, None, is_some, is_none, option_map, unwrap_or, Result, Ok, Err, if◌then◌else◌, chars}
+-- The parameters of a registration, a simple registration and an update (RFC 9176 sections 5, 5.1
+-- and 5.3.1).
+use Rattle.std.specs.Prelude.{
+  ℕ,
+  Bool,
+  true,
+  false,
+  not,
+  ◌&&◌,
+  ◌||◌,
+  ◌==◌,
+  nat_lt,
+  nat_le,
+  List,
+  [],
+  ◌∷◌,
+  length,
+  take,
+  drop,
+  map,
+  filter,
+  codes,
+  Option,
+  Some,
+  None,
+  is_some,
+  is_none,
+  option_map,
+  unwrap_or,
+  Result,
+  Ok,
+  Err,
+  if◌then◌else◌,
+  chars,
+}
 use Rattle.std.specs.List.{list_any, list_all}
 use Rattle.std.specs.Char.{is_ascii_hexdigit}
 use Rattle.std.specs.Str.{is_utf8, str_to_ascii_lowercase}
@@ -11,9 +44,25 @@ use Rattle.record_model.specs.declared.readings.Reading.{Reading}
 use Rattle.record_model.specs.declared.readings.Reading.TheVariants as reading
 use Rattle.record_model.specs.declared.readings.Why.{Why}
 use Rattle.record_model.specs.declared.readings.Why.TheVariants as why
-use Rattle.link_model.specs.Characters.{colon, left_bracket, right_bracket, is_empty, is_run_of, is_attribute_name_character}
+use Rattle.link_model.specs.Characters.{
+  colon,
+  left_bracket,
+  right_bracket,
+  is_empty,
+  is_run_of,
+  is_attribute_name_character,
+}
 use Rattle.reference_model.specs.References.{Components, before, begins_with, reference, host}
-use Rattle.record_model.specs.Options.{option_name, option_value, is_named, has_named, value_named, is_among, is_number, number_of}
+use Rattle.record_model.specs.Options.{
+  option_name,
+  option_value,
+  is_named,
+  has_named,
+  value_named,
+  is_among,
+  is_number,
+  number_of,
+}
 use Rattle.record_model.specs.Faults.{Fault, first_reason, first_fault}
 
 -- the names of the parameters that have a meaning of their own (RFC 9176 section 5)
@@ -70,20 +119,24 @@ is_base_of (Some c) = is_some c.scheme && has_host (host c) && is_none c.query &
 unfoldable pub is_base : List ℕ → Bool
 is_base value = is_base_of (reference value)
 
--- the first group of an IP literal: what stands in its brackets before the first colon, or all of it
+-- the first group of an IP literal: what stands in its brackets before the first colon, or all of
+-- it
 abbrev pub first_group : List ℕ → List ℕ
 first_group literal = before colon (before right_bracket (drop 1 literal))
 
--- four hexadecimal digits that begin a link-local address: fe8, fe9, fea or feb before the last (RFC 4291 section 2.5.6)
+-- four hexadecimal digits that begin a link-local address: fe8, fe9, fea or feb before the last
+-- (RFC 4291 section 2.5.6)
 abbrev pub is_link_local_group : List ℕ → Bool
 is_link_local_group group =
     length group == 4 && list_all is_ascii_hexdigit group
-    && is_among (codes "fe8" ∷ codes "fe9" ∷ codes "fea" ∷ codes "feb" ∷ []) (str_to_ascii_lowercase (take 3 group))
+    && is_among (codes "fe8" ∷ codes "fe9" ∷ codes "fea" ∷ codes "feb" ∷ [])
+    (str_to_ascii_lowercase (take 3 group))
 
 -- the host is an IP literal of a link-local address
 abbrev pub is_link_local_host : Option (List ℕ) → Bool
 is_link_local_host None = false
-is_link_local_host (Some text) = begins_with left_bracket text && is_link_local_group (first_group text)
+is_link_local_host (Some text) =
+    begins_with left_bracket text && is_link_local_group (first_group text)
 
 -- the host of the components is one
 abbrev pub is_link_local_in : Option Components → Bool
@@ -94,9 +147,11 @@ is_link_local_in (Some c) = is_link_local_host (host c)
 unfoldable pub is_link_local : List ℕ → Bool
 is_link_local value = is_link_local_in (reference value)
 
--- a name that an extra attribute may have: one or more characters of an attribute's name, and none of the reserved names
+-- a name that an extra attribute may have: one or more characters of an attribute's name, and none
+-- of the reserved names
 abbrev pub is_extra_name : List ℕ → Bool
-is_extra_name name = is_run_of is_attribute_name_character name && not (is_among reserved_names name)
+is_extra_name name =
+    is_run_of is_attribute_name_character name && not (is_among reserved_names name)
 
 -- an update names no endpoint and no sector
 abbrev pub is_update : Reading → Bool
@@ -112,17 +167,24 @@ is_simple _ = false
 abbrev pub name_reasons : Reading → List (List ℕ) → List ℕ → List (Bool × Why)
 name_reasons kind others query =
     (is_update kind, why.NotHere) ∷ (has_named (option_name query) others, why.Repeated)
-    ∷ (is_empty (option_value query), why.Empty) ∷ (nat_lt max_name (length (option_value query)), why.TooLong) ∷ []
+    ∷ (is_empty (option_value query), why.Empty)
+    ∷ (nat_lt max_name (length (option_value query)), why.TooLong)
+    ∷ []
 
 -- what is wrong with a lifetime
 abbrev pub lifetime_reasons : List (List ℕ) → List ℕ → List (Bool × Why)
-lifetime_reasons others query = (has_named lifetime others, why.Repeated) ∷ (not (is_lifetime (option_value query)), why.Lt) ∷ []
+lifetime_reasons others query =
+    (has_named lifetime others, why.Repeated)
+    ∷ (not (is_lifetime (option_value query)), why.Lt)
+    ∷ []
 
 -- what is wrong with a base
 abbrev pub base_reasons : Reading → List (List ℕ) → List ℕ → List (Bool × Why)
 base_reasons kind others query =
     (is_simple kind, why.NotHere) ∷ (has_named base others, why.Repeated)
-    ∷ (not (is_base (option_value query)), why.Base) ∷ (is_link_local (option_value query), why.LinkLocal) ∷ []
+    ∷ (not (is_base (option_value query)), why.Base)
+    ∷ (is_link_local (option_value query), why.LinkLocal)
+    ∷ []
 
 -- what is wrong with an extra attribute
 abbrev pub extra_reasons : List ℕ → List (Bool × Why)
@@ -136,10 +198,13 @@ reasons_of_name kind others query =
     else (if is_named base query then base_reasons kind others query
     else extra_reasons query))
 
--- what is wrong with a parameter, where others stand before it: first its octets, then its characters, then the rules of its name
+-- what is wrong with a parameter, where others stand before it: first its octets, then its
+-- characters, then the rules of its name
 unfoldable pub parameter_fault : Reading → List (List ℕ) → List ℕ → Option Why
 parameter_fault kind others query =
-    first_reason ((not (is_utf8 query), why.Utf8) ∷ (has_control (option_value query), why.Control) ∷ reasons_of_name kind others query)
+    first_reason ((not (is_utf8 query), why.Utf8)
+    ∷ (has_control (option_value query), why.Control)
+    ∷ reasons_of_name kind others query)
 
 -- what is found after the last parameter: a registration names its endpoint
 abbrev pub missing_fault : Reading → List (List ℕ) → Option Why
@@ -155,11 +220,15 @@ pair_of_option query = record { name = option_name query; value = option_value q
 
 -- the extra attributes, in order: every parameter without a meaning of its own
 abbrev pub extra_attributes : List (List ℕ) → List Pair
-extra_attributes queries = map pair_of_option (filter (λ query. not (is_among own_names (option_name query))) queries)
+extra_attributes queries =
+    map pair_of_option (filter (λ query. not (is_among own_names (option_name query))) queries)
 
 -- the name of an endpoint, with its sector where it has one
 abbrev pub endpoint_name : List (List ℕ) → Name
-endpoint_name queries = record { ep = unwrap_or (value_named ep queries) []; sector = value_named sector queries }
+endpoint_name queries = record {
+  ep = unwrap_or (value_named ep queries) [];
+  sector = value_named sector queries;
+}
 
 -- the lifetime that is given
 abbrev pub given_lifetime : List (List ℕ) → Option ℕ
@@ -176,7 +245,11 @@ registration_values queries = record {
 
 -- the parameters of an update, where they have no fault
 unfoldable pub update_values : List (List ℕ) → UpdateParams
-update_values queries = record { lt = given_lifetime queries; base = value_named base queries; attrs = extra_attributes queries }
+update_values queries = record {
+  lt = given_lifetime queries;
+  base = value_named base queries;
+  attrs = extra_attributes queries;
+}
 
 -- a value, or the fault where there is one
 abbrev pub unless_fault : {A : Type 0} → Option Fault → A → Result A Fault
@@ -185,8 +258,10 @@ unless_fault (Some fault) value = Err fault
 
 -- the parameters of a registration, or their first fault; a simple one gives no base
 unfoldable pub registration_parameters : Reading → List (List ℕ) → Result RegParams Fault
-registration_parameters kind queries = unless_fault (parameters_fault kind queries) (registration_values queries)
+registration_parameters kind queries =
+    unless_fault (parameters_fault kind queries) (registration_values queries)
 
 -- the parameters of an update, or their first fault
 unfoldable pub update_parameters : List (List ℕ) → Result UpdateParams Fault
-update_parameters queries = unless_fault (parameters_fault reading.Update queries) (update_values queries)
+update_parameters queries =
+    unless_fault (parameters_fault reading.Update queries) (update_values queries)

@@ -1,5 +1,19 @@
--- A record: what a registration makes, and what an update makes of it (RFC 9176 sections 5 and 5.3.1).
-use Rattle.std.specs.Prelude.{ℕ, Bool, not, List, ◌++◌, map, filter, is_some, option_map, unwrap_or, if◌then◌else◌, bytes_eq}
+-- A record: what a registration makes, and what an update makes of it (RFC 9176 sections 5 and
+-- 5.3.1).
+use Rattle.std.specs.Prelude.{
+  ℕ,
+  Bool,
+  not,
+  List,
+  ◌++◌,
+  map,
+  filter,
+  is_some,
+  option_map,
+  unwrap_or,
+  if◌then◌else◌,
+  bytes_eq,
+}
 use Rattle.std.specs.List.{list_any}
 use Rattle.rd_base.specs.declared.attributes.Pair.{Pair}
 use Rattle.rd_base.specs.declared.moments.Moment.{Moment}
@@ -13,7 +27,8 @@ use Rattle.record_model.specs.Bodies.{is_uri}
 use Rattle.reference_model.specs.Resolution.{resolved}
 use Rattle.record_model.specs.Bases.{registered_base, updated_base, updated_base_given}
 
--- a target or an anchor against a base: unchanged where it has a scheme, else resolved (RFC 3986 section 5.2)
+-- a target or an anchor against a base: unchanged where it has a scheme, else resolved (RFC 3986
+-- section 5.2)
 unfoldable pub based : List ℕ → List ℕ → List ℕ
 based base text = if is_uri text then text else resolved base text
 
@@ -34,13 +49,17 @@ items_of base links = map (item_of base) links
 
 -- an item against another base
 unfoldable pub rebased : List ℕ → Item → Item
-rebased base item = record item { target = based base item.target_ref; anchor = option_map (based base) item.anchor_ref }
+rebased base item = record item {
+  target = based base item.target_ref;
+  anchor = option_map (based base) item.anchor_ref;
+}
 
 -- the attribute is replaced: an update gives one of its name
 abbrev pub is_replaced : List Pair → Pair → Bool
 is_replaced given pair = list_any (λ other. bytes_eq pair.name other.name) given
 
--- the extra attributes after an update: those of a name that it gives are dropped, and its own are appended
+-- the extra attributes after an update: those of a name that it gives are dropped, and its own are
+-- appended
 unfoldable pub updated_attributes : List Pair → List Pair → List Pair
 updated_attributes given attrs = filter (λ pair. not (is_replaced given pair)) attrs ++ given
 
@@ -57,7 +76,8 @@ registered number now peer params links = record {
   items = items_of (registered_base params.base peer) links;
 }
 
--- the record after an update: its lease starts anew, and its items are resolved against its base as it is then
+-- the record after an update: its lease starts anew, and its items are resolved against its base as
+-- it is then
 unfoldable pub updated : Moment → Peer → UpdateParams → Record → Record
 updated now peer change r =
     let base = updated_base change.base r.base_given r.base peer in

@@ -1,5 +1,17 @@
 -- Why the body of a registration is refused (RFC 6690 section 2, RFC 9176 appendix C).
-use Rattle.std.specs.Prelude.{ℕ, Bool, false, not, List, Option, Some, None, is_some, is_none, position}
+use Rattle.std.specs.Prelude.{
+  ℕ,
+  Bool,
+  false,
+  not,
+  List,
+  Option,
+  Some,
+  None,
+  is_some,
+  is_none,
+  position,
+}
 use Rattle.rd_base.specs.declared.submitted_links.SubmittedLink.{SubmittedLink}
 use Rattle.record_model.specs.Bodies.{linked_references, is_limited}
 

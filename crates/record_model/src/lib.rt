@@ -1,4 +1,5 @@
-//! Definitions of what registrations and lookups mean: query options, bodies, records, matching and the lines of a listing (RFC 9176). No function.
+//! Definitions of what registrations and lookups mean: query options, bodies, records, matching and
+//! the lines of a listing (RFC 9176). No function.
 #![tactic(auto)]
 
 mod readings;

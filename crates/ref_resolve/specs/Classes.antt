@@ -1,7 +1,14 @@
--- The classes of characters of the components, and what a percent sign asks of the octets after it (RFC 3986 section 2.1).
+-- The classes of characters of the components, and what a percent sign asks of the octets after it
+-- (RFC 3986 section 2.1).
 use Rattle.std.specs.Prelude.{ℕ, Bool, ◌||◌, ◌==◌, ◌-◌, Option, Some, None, if◌then◌else◌}
 use Rattle.std.specs.Char.{is_ascii_hexdigit}
-use Rattle.link_model.specs.Characters.{percent_sign, is_name_character, is_userinfo_character, is_path_character, is_query_character}
+use Rattle.link_model.specs.Characters.{
+  percent_sign,
+  is_name_character,
+  is_userinfo_character,
+  is_path_character,
+  is_query_character,
+}
 use Rattle.reference_model.specs.References.{digits_after}
 use Rattle.ref_resolve.specs.declared.reach.Class.{Class}
 use Rattle.ref_resolve.specs.declared.reach.Class.TheVariants as class
@@ -13,7 +20,8 @@ stands_in class.User = is_userinfo_character
 stands_in class.Path = is_path_character
 stands_in class.Query = is_query_character
 
--- how many hexadecimal digits must follow the octet, where it may stand after a percent sign that misses so many
+-- how many hexadecimal digits must follow the octet, where it may stand after a percent sign that
+-- misses so many
 abbrev pub next_digits : (ℕ → Bool) → ℕ → ℕ → Option ℕ
 next_digits test digits c =
     if digits == 0 then (if c == percent_sign || test c then Some (digits_after c) else None)

@@ -6,4 +6,5 @@ use Rattle.reference_model.specs.Resolution.{up_to_last_slash}
 
 -- a slash where the base has an authority and no path, else its path up to its last slash
 abbrev pub front_of : Components → List ℕ
-front_of base = if is_some base.authority && is_empty base.path then slash ∷ [] else up_to_last_slash base.path
+front_of base =
+    if is_some base.authority && is_empty base.path then slash ∷ [] else up_to_last_slash base.path

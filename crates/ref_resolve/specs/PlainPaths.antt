@@ -1,4 +1,5 @@
--- References that are a path alone, and paths without dot segments, as one walk over their octets tells.
+-- References that are a path alone, and paths without dot segments, as one walk over their octets
+-- tells.
 use Rattle.std.specs.Prelude.{ℕ, Bool, true, false, not, ◌&&◌, ◌==◌, List, [], ◌∷◌, None}
 use Rattle.std.specs.List.{list_all}
 use Rattle.link_model.specs.Characters.{full_stop, slash, is_path_character}
@@ -11,9 +12,16 @@ is_path_alone (c ∷ cs) = c == slash && not (begins_with slash cs) && list_all 
 
 -- the components of a text that is a path
 abbrev pub with_path_alone : List ℕ → Components
-with_path_alone path = record { scheme = None; authority = None; path = path; query = None; fragment = None }
+with_path_alone path = record {
+  scheme = None;
+  authority = None;
+  path = path;
+  query = None;
+  fragment = None;
+}
 
 -- no slash stands before a full stop
 unfoldable pub has_no_dot_after_slash : List ℕ → Bool
 has_no_dot_after_slash [] = true
-has_no_dot_after_slash (c ∷ cs) = not (c == slash && begins_with full_stop cs) && has_no_dot_after_slash cs
+has_no_dot_after_slash (c ∷ cs) =
+    not (c == slash && begins_with full_stop cs) && has_no_dot_after_slash cs

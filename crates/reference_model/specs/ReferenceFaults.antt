@@ -1,9 +1,63 @@
 -- Where a text stops being the beginning of any URI-reference (RFC 3986 section 4.1).
-use Rattle.std.specs.Prelude.{ℕ, zero, suc, ◌+◌, ◌<◌, ◌≤◌, max, Bool, ◌&&◌, ◌||◌, ◌==◌, List, [], ◌∷◌, ◌++◌, length, take, Option, Some, None, unwrap_or, if◌then◌else◌}
+use Rattle.std.specs.Prelude.{
+  ℕ,
+  zero,
+  suc,
+  ◌+◌,
+  ◌<◌,
+  ◌≤◌,
+  max,
+  Bool,
+  ◌&&◌,
+  ◌||◌,
+  ◌==◌,
+  List,
+  [],
+  ◌∷◌,
+  ◌++◌,
+  length,
+  take,
+  Option,
+  Some,
+  None,
+  unwrap_or,
+  if◌then◌else◌,
+}
 use Rattle.std.specs.List.{prefix_len}
 use Rattle.std.specs.Char.{is_ascii_digit, is_ascii_hexdigit}
-use Rattle.link_model.specs.Characters.{percent_sign, colon, at_sign, left_bracket, right_bracket, is_run_of, is_name_character, is_userinfo_character, is_literal_character, is_path_character, is_query_character}
-use Rattle.reference_model.specs.References.{Components, IsReference, before, after, begins_with, has_octet, from_first, components, scheme_text, authority_text, query_text, fragment_text, where_present, is_scheme, is_authority, is_allowed, is_text_of, digits_after}
+use Rattle.link_model.specs.Characters.{
+  percent_sign,
+  colon,
+  at_sign,
+  left_bracket,
+  right_bracket,
+  is_run_of,
+  is_name_character,
+  is_userinfo_character,
+  is_literal_character,
+  is_path_character,
+  is_query_character,
+}
+use Rattle.reference_model.specs.References.{
+  Components,
+  IsReference,
+  before,
+  after,
+  begins_with,
+  has_octet,
+  from_first,
+  components,
+  scheme_text,
+  authority_text,
+  query_text,
+  fragment_text,
+  where_present,
+  is_scheme,
+  is_authority,
+  is_allowed,
+  is_text_of,
+  digits_after,
+}
 
 -- the octets begin some URI-reference
 abbrev pub BeginsReference : List ℕ → Type 0
@@ -21,8 +75,10 @@ pub record IsReferenceFault (bytes : List ℕ) (n : ℕ) : Type 0 where
 -- as many hexadecimal digits, and then characters that pass the test and percent escapes
 abbrev pub prefix_after_digits : (ℕ → Bool) → ℕ → List ℕ → ℕ
 prefix_after_digits test digits [] = 0
-prefix_after_digits test zero (c ∷ cs) = if c == percent_sign || test c then suc (prefix_after_digits test (digits_after c) cs) else 0
-prefix_after_digits test (suc n) (c ∷ cs) = if is_ascii_hexdigit c then suc (prefix_after_digits test n cs) else 0
+prefix_after_digits test zero (c ∷ cs) =
+    if c == percent_sign || test c then suc (prefix_after_digits test (digits_after c) cs) else 0
+prefix_after_digits test (suc n) (c ∷ cs) =
+    if is_ascii_hexdigit c then suc (prefix_after_digits test n cs) else 0
 
 -- characters that pass the test and percent escapes
 abbrev pub text_prefix : (ℕ → Bool) → List ℕ → ℕ
@@ -56,12 +112,16 @@ host_prefix text = if begins_with left_bracket text then literal_prefix text els
 unfoldable pub authority_prefix : List ℕ → ℕ
 authority_prefix authority =
     if is_text_of is_userinfo_character (before at_sign authority) && has_octet at_sign authority
-    then length (before at_sign authority) + 1 + host_prefix (unwrap_or (after at_sign authority) [])
-    else max (text_prefix is_userinfo_character (before at_sign authority)) (host_prefix (before at_sign authority))
+    then length (before at_sign authority)
+    + 1
+    + host_prefix (unwrap_or (after at_sign authority) [])
+    else max (text_prefix is_userinfo_character (before at_sign authority))
+    (host_prefix (before at_sign authority))
 
 -- ---- the parts of a reference in their order
 
--- a part of a reference: its text with its delimiters, whether it may stand there, and the length of its longest prefix that may
+-- a part of a reference: its text with its delimiters, whether it may stand there, and the length
+-- of its longest prefix that may
 pub record Part : Type 0 where
   pub text : List ℕ
   pub allowed : Bool
@@ -70,32 +130,63 @@ pub record Part : Type 0 where
 -- the length of the parts up to the first that may not stand there, and of the prefix of that one
 abbrev pub prefix_of_parts : List Part → ℕ
 prefix_of_parts [] = 0
-prefix_of_parts (part ∷ parts) = if part.allowed then length part.text + prefix_of_parts parts else part.prefix
+prefix_of_parts (part ∷ parts) =
+    if part.allowed then length part.text + prefix_of_parts parts else part.prefix
 
 -- what stands before a colon and is no scheme may begin a path
 abbrev pub scheme_part : Option (List ℕ) → Part
-scheme_part scheme = record { text = scheme_text scheme; allowed = where_present is_scheme scheme; prefix = text_prefix is_path_character (unwrap_or scheme []) }
+scheme_part scheme = record {
+  text = scheme_text scheme;
+  allowed = where_present is_scheme scheme;
+  prefix = text_prefix is_path_character (unwrap_or scheme []);
+}
 
 -- an authority after its two slashes
 abbrev pub authority_part : Option (List ℕ) → Part
-authority_part authority = record { text = authority_text authority; allowed = where_present is_authority authority; prefix = 2 + authority_prefix (unwrap_or authority []) }
+authority_part authority = record {
+  text = authority_text authority;
+  allowed = where_present is_authority authority;
+  prefix = 2 + authority_prefix (unwrap_or authority []);
+}
 
 -- a path
 abbrev pub path_part : List ℕ → Part
-path_part path = record { text = path; allowed = is_text_of is_path_character path; prefix = text_prefix is_path_character path }
+path_part path = record {
+  text = path;
+  allowed = is_text_of is_path_character path;
+  prefix = text_prefix is_path_character path;
+}
 
 -- a query after its question mark
 abbrev pub query_part : Option (List ℕ) → Part
-query_part query = record { text = query_text query; allowed = where_present (is_text_of is_query_character) query; prefix = 1 + text_prefix is_query_character (unwrap_or query []) }
+query_part query = record {
+  text = query_text query;
+  allowed = where_present (is_text_of is_query_character) query;
+  prefix = 1 + text_prefix is_query_character (unwrap_or query []);
+}
 
 -- a fragment after its number sign
 abbrev pub fragment_part : Option (List ℕ) → Part
-fragment_part fragment = record { text = fragment_text fragment; allowed = where_present (is_text_of is_query_character) fragment; prefix = 1 + text_prefix is_query_character (unwrap_or fragment []) }
+fragment_part fragment = record {
+  text = fragment_text fragment;
+  allowed = where_present (is_text_of is_query_character) fragment;
+  prefix = 1 + text_prefix is_query_character (unwrap_or fragment []);
+}
 
 -- the parts of a reference
 abbrev pub parts_of : Components → List Part
-parts_of c = scheme_part c.scheme ∷ authority_part c.authority ∷ path_part c.path ∷ query_part c.query ∷ fragment_part c.fragment ∷ []
+parts_of c =
+    scheme_part c.scheme
+    ∷ authority_part c.authority
+    ∷ path_part c.path
+    ∷ query_part c.query
+    ∷ fragment_part c.fragment
+    ∷ []
 
--- the offset of the first octet that no URI-reference with the same octets before it can have there, or the length; None where the text is a URI-reference: `IsReferenceFault` as a function
+-- the offset of the first octet that no URI-reference with the same octets before it can have
+-- there, or the length; None where the text is a URI-reference: `IsReferenceFault` as a function
 unfoldable pub reference_fault_at : List ℕ → Option ℕ
-reference_fault_at bytes = if is_allowed (components bytes) then None else Some (prefix_of_parts (parts_of (components bytes)))
+reference_fault_at bytes =
+    if is_allowed (components bytes)
+    then None
+    else Some (prefix_of_parts (parts_of (components bytes)))

@@ -1,8 +1,48 @@
--- References: the five components of a URI-reference, and which characters may stand in each (RFC 3986 sections 3 and 4).
-use Rattle.std.specs.Prelude.{◌≡◌, ℕ, zero, suc, Bool, true, false, not, ◌&&◌, ◌||◌, ◌==◌, List, [], ◌∷◌, ◌++◌, Option, Some, None, is_some, unwrap_or, if◌then◌else◌}
+-- References: the five components of a URI-reference, and which characters may stand in each (RFC
+-- 3986 sections 3 and 4).
+use Rattle.std.specs.Prelude.{
+  ◌≡◌,
+  ℕ,
+  zero,
+  suc,
+  Bool,
+  true,
+  false,
+  not,
+  ◌&&◌,
+  ◌||◌,
+  ◌==◌,
+  List,
+  [],
+  ◌∷◌,
+  ◌++◌,
+  Option,
+  Some,
+  None,
+  is_some,
+  unwrap_or,
+  if◌then◌else◌,
+}
 use Rattle.std.specs.List.{list_any, list_all}
 use Rattle.std.specs.Char.{is_ascii_alphabetic, is_ascii_digit, is_ascii_hexdigit}
-use Rattle.link_model.specs.Characters.{number_sign, percent_sign, slash, colon, question_mark, at_sign, left_bracket, right_bracket, is_empty, is_run_of, is_scheme_character, is_name_character, is_userinfo_character, is_literal_character, is_path_character, is_query_character}
+use Rattle.link_model.specs.Characters.{
+  number_sign,
+  percent_sign,
+  slash,
+  colon,
+  question_mark,
+  at_sign,
+  left_bracket,
+  right_bracket,
+  is_empty,
+  is_run_of,
+  is_scheme_character,
+  is_name_character,
+  is_userinfo_character,
+  is_literal_character,
+  is_path_character,
+  is_query_character,
+}
 
 -- the five components of a reference (RFC 3986 section 3)
 pub record Components : Type 0 where
@@ -51,7 +91,8 @@ scheme_in text = if has_colon_in_first_segment text then Some (before colon text
 
 -- what follows the scheme and its colon
 abbrev pub after_scheme : List ℕ → List ℕ
-after_scheme text = if has_colon_in_first_segment text then unwrap_or (after colon text) [] else text
+after_scheme text =
+    if has_colon_in_first_segment text then unwrap_or (after colon text) [] else text
 
 -- what follows two slashes at the beginning, where they stand there
 abbrev pub after_two_slashes : List ℕ → Option (List ℕ)
@@ -117,7 +158,10 @@ fragment_text fragment = marked number_sign fragment
 
 -- the text that the components spell
 unfoldable pub recomposed : Components → List ℕ
-recomposed c = scheme_text c.scheme ++ (authority_text c.authority ++ (c.path ++ (query_text c.query ++ fragment_text c.fragment)))
+recomposed c =
+    scheme_text c.scheme
+    ++ (authority_text c.authority
+    ++ (c.path ++ (query_text c.query ++ fragment_text c.fragment)))
 
 -- ---- what may stand in each component
 
@@ -126,15 +170,18 @@ abbrev pub where_present : (List ℕ → Bool) → Option (List ℕ) → Bool
 where_present test None = true
 where_present test (Some text) = test text
 
--- how many hexadecimal digits must follow the octet: two after a percent sign (RFC 3986 section 2.1)
+-- how many hexadecimal digits must follow the octet: two after a percent sign (RFC 3986 section
+-- 2.1)
 abbrev pub digits_after : ℕ → ℕ
 digits_after c = if c == percent_sign then 2 else 0
 
--- the text has as many hexadecimal digits at its beginning, and then characters that pass the test and percent escapes
+-- the text has as many hexadecimal digits at its beginning, and then characters that pass the test
+-- and percent escapes
 abbrev pub is_text_after_digits : (ℕ → Bool) → ℕ → List ℕ → Bool
 is_text_after_digits test zero [] = true
 is_text_after_digits test (suc n) [] = false
-is_text_after_digits test zero (c ∷ cs) = (c == percent_sign || test c) && is_text_after_digits test (digits_after c) cs
+is_text_after_digits test zero (c ∷ cs) =
+    (c == percent_sign || test c) && is_text_after_digits test (digits_after c) cs
 is_text_after_digits test (suc n) (c ∷ cs) = is_ascii_hexdigit c && is_text_after_digits test n cs
 
 -- the text has only characters that pass the test, and percent escapes of two hexadecimal digits
@@ -146,9 +193,11 @@ abbrev pub is_scheme : List ℕ → Bool
 is_scheme [] = false
 is_scheme (c ∷ cs) = is_ascii_alphabetic c && list_all is_scheme_character cs
 
--- the user information of an authority: what stands before its first `@`, where it has one (RFC 3986 section 3.2)
+-- the user information of an authority: what stands before its first `@`, where it has one (RFC
+-- 3986 section 3.2)
 abbrev pub userinfo_of : List ℕ → Option (List ℕ)
-userinfo_of authority = if has_octet at_sign authority then Some (before at_sign authority) else None
+userinfo_of authority =
+    if has_octet at_sign authority then Some (before at_sign authority) else None
 
 -- the host of an authority, and its port or none
 abbrev pub after_userinfo : List ℕ → List ℕ
@@ -161,21 +210,29 @@ through mark (c ∷ cs) = if c == mark then c ∷ [] else c ∷ through mark cs
 
 -- the host at the beginning of a text, an IP literal with its brackets (RFC 3986 section 3.2.2)
 abbrev pub host_in : List ℕ → List ℕ
-host_in text = if begins_with left_bracket text then through right_bracket text else before colon text
+host_in text =
+    if begins_with left_bracket text then through right_bracket text else before colon text
 
 -- a colon, and then digits or none; or nothing (RFC 3986 section 3.2.3)
 abbrev pub is_port_text : List ℕ → Bool
 is_port_text [] = true
 is_port_text (c ∷ cs) = c == colon && list_all is_ascii_digit cs
 
--- what begins with a bracket: one or more hexadecimal digits, colons and full stops, a closing bracket, and a port or none
+-- what begins with a bracket: one or more hexadecimal digits, colons and full stops, a closing
+-- bracket, and a port or none
 abbrev pub is_literal_and_port : List ℕ → Bool
 is_literal_and_port [] = false
-is_literal_and_port (c ∷ cs) = c == left_bracket && is_run_of is_literal_character (before right_bracket cs) && where_present is_port_text (after right_bracket cs) && has_octet right_bracket cs
+is_literal_and_port (c ∷ cs) =
+    c
+    == left_bracket
+    && is_run_of is_literal_character (before right_bracket cs)
+    && where_present is_port_text (after right_bracket cs)
+    && has_octet right_bracket cs
 
 -- a registered name, and a port or none
 abbrev pub is_name_and_port : List ℕ → Bool
-is_name_and_port text = is_text_of is_name_character (before colon text) && is_port_text (from_first colon text)
+is_name_and_port text =
+    is_text_of is_name_character (before colon text) && is_port_text (from_first colon text)
 
 -- a host, and a port or none
 abbrev pub is_host_and_port : List ℕ → Bool
@@ -183,26 +240,36 @@ is_host_and_port text = is_literal_and_port text || is_name_and_port text
 
 -- user information or none, a host, and a port or none (RFC 3986 section 3.2)
 abbrev pub is_authority : List ℕ → Bool
-is_authority authority = where_present (is_text_of is_userinfo_character) (userinfo_of authority) && is_host_and_port (after_userinfo authority)
+is_authority authority =
+    where_present (is_text_of is_userinfo_character) (userinfo_of authority)
+    && is_host_and_port (after_userinfo authority)
 
--- the path may stand beside the scheme and the authority: after an authority it begins with a slash or is empty,
--- without one it does not begin with two, and without a scheme its first segment has no colon (RFC 3986 section 3.3)
+-- the path may stand beside the scheme and the authority: after an authority it begins with a slash
+-- or is empty, without one it does not begin with two, and without a scheme its first segment has
+-- no colon (RFC 3986 section 3.3)
 abbrev pub path_fits : Components → Bool
 path_fits c =
     if is_some c.authority then is_empty c.path || begins_with slash c.path
-    else not (is_some (after_two_slashes c.path)) && (is_some c.scheme || not (has_colon_in_first_segment c.path))
+    else not (is_some (after_two_slashes c.path))
+    && (is_some c.scheme || not (has_colon_in_first_segment c.path))
 
 -- each component has only what may stand in it
 abbrev pub is_allowed : Components → Bool
-is_allowed c = where_present is_scheme c.scheme && where_present is_authority c.authority && is_text_of is_path_character c.path && path_fits c
-    && where_present (is_text_of is_query_character) c.query && where_present (is_text_of is_query_character) c.fragment
+is_allowed c =
+    where_present is_scheme c.scheme
+    && where_present is_authority c.authority
+    && is_text_of is_path_character c.path
+    && path_fits c
+    && where_present (is_text_of is_query_character) c.query
+    && where_present (is_text_of is_query_character) c.fragment
 
 -- the octets are a URI-reference with these components (RFC 3986 section 4.1)
 pub record IsReference (bytes : List ℕ) (c : Components) : Type 0 where
   pub spelled : bytes ≡ recomposed c
   pub allowed : is_allowed c ≡ true
 
--- the components of a URI-reference, and None where the octets are none: `IsReference` as a function
+-- the components of a URI-reference, and None where the octets are none: `IsReference` as a
+-- function
 unfoldable pub reference : List ℕ → Option Components
 reference bytes = if is_allowed (components bytes) then Some (components bytes) else None
 

@@ -1,5 +1,24 @@
 -- Resolving a reference against a base (RFC 3986 section 5.2, strict).
-use Rattle.std.specs.Prelude.{ℕ, Bool, ◌&&◌, ◌||◌, ◌==◌, List, [], ◌∷◌, ◌++◌, reverse, fold, Option, Some, None, is_some, if◌then◌else◌, bytes_eq, codes}
+use Rattle.std.specs.Prelude.{
+  ℕ,
+  Bool,
+  ◌&&◌,
+  ◌||◌,
+  ◌==◌,
+  List,
+  [],
+  ◌∷◌,
+  ◌++◌,
+  reverse,
+  fold,
+  Option,
+  Some,
+  None,
+  is_some,
+  if◌then◌else◌,
+  bytes_eq,
+  codes,
+}
 use Rattle.std.specs.List.{concat}
 use Rattle.link_model.specs.Characters.{slash, is_empty}
 use Rattle.reference_model.specs.References.{Components, begins_with, components, recomposed}
@@ -14,7 +33,8 @@ onto_first_segment c (segment ∷ segments) = (c ∷ segment) ∷ segments
 -- the segments of a path: what stands before, between and after its slashes
 unfoldable pub segments_of : List ℕ → List (List ℕ)
 segments_of [] = [] ∷ []
-segments_of (c ∷ cs) = if c == slash then [] ∷ segments_of cs else onto_first_segment c (segments_of cs)
+segments_of (c ∷ cs) =
+    if c == slash then [] ∷ segments_of cs else onto_first_segment c (segments_of cs)
 
 -- a segment of one dot
 abbrev pub is_single_dot : List ℕ → Bool
@@ -31,22 +51,28 @@ is_dot_segment segment = is_single_dot segment || is_double_dot segment
 -- the segments, and an empty one after them where the last is a dot segment
 abbrev pub with_closing_slash : List (List ℕ) → List (List ℕ)
 with_closing_slash [] = []
-with_closing_slash (segment ∷ []) = if is_dot_segment segment then segment ∷ [] ∷ [] else segment ∷ []
+with_closing_slash (segment ∷ []) =
+    if is_dot_segment segment then segment ∷ [] ∷ [] else segment ∷ []
 with_closing_slash (segment ∷ next ∷ segments) = segment ∷ with_closing_slash (next ∷ segments)
 
 -- the segments without the dot segments that stand first, where no slash stands before them
 abbrev pub without_leading_dots : List (List ℕ) → List (List ℕ)
 without_leading_dots [] = []
-without_leading_dots (segment ∷ segments) = if is_dot_segment segment then without_leading_dots segments else segment ∷ segments
+without_leading_dots (segment ∷ segments) =
+    if is_dot_segment segment then without_leading_dots segments else segment ∷ segments
 
 -- the segments without the last one that was kept
 abbrev pub without_last_kept : List (List ℕ) → List (List ℕ)
 without_last_kept [] = []
 without_last_kept (segment ∷ kept) = kept
 
--- the segments that are kept, last one first, after one more: two dots take the last one away, and one dot is left out
+-- the segments that are kept, last one first, after one more: two dots take the last one away, and
+-- one dot is left out
 abbrev pub kept_with : List (List ℕ) → List ℕ → List (List ℕ)
-kept_with kept segment = if is_double_dot segment then without_last_kept kept else (if is_single_dot segment then kept else (slash ∷ segment) ∷ kept)
+kept_with kept segment =
+    if is_double_dot segment
+    then without_last_kept kept
+    else (if is_single_dot segment then kept else (slash ∷ segment) ∷ kept)
 
 -- the path of segments, of which the first has no slash before it, without dot segments
 abbrev pub path_without_dots : List (List ℕ) → List ℕ
@@ -55,7 +81,8 @@ path_without_dots (first ∷ segments) = concat (reverse (fold kept_with (first 
 
 -- the path without its dot segments
 unfoldable pub remove_dot_segments : List ℕ → List ℕ
-remove_dot_segments path = path_without_dots (without_leading_dots (with_closing_slash (segments_of path)))
+remove_dot_segments path =
+    path_without_dots (without_leading_dots (with_closing_slash (segments_of path)))
 
 -- ---- merging paths (RFC 3986 section 5.2.3)
 
@@ -70,7 +97,10 @@ up_to_last_slash path = path_text (segments_of path)
 
 -- the path of a reference, put after that of the base
 unfoldable pub merged : Components → List ℕ → List ℕ
-merged base path = if is_some base.authority && is_empty base.path then slash ∷ path else up_to_last_slash base.path ++ path
+merged base path =
+    if is_some base.authority && is_empty base.path
+    then slash ∷ path
+    else up_to_last_slash base.path ++ path
 
 -- ---- resolving (RFC 3986 section 5.2.2)
 
@@ -87,7 +117,9 @@ with_path c path = record c { path = path }
 abbrev pub resolved_path : Components → Components → List ℕ
 resolved_path base r =
     if is_empty r.path then base.path
-    else (if begins_with slash r.path then remove_dot_segments r.path else remove_dot_segments (merged base r.path))
+    else (if begins_with slash r.path
+    then remove_dot_segments r.path
+    else remove_dot_segments (merged base r.path))
 
 -- the query of a reference with neither scheme nor authority, against a base
 abbrev pub resolved_query : Components → Components → Option (List ℕ)
@@ -97,8 +129,16 @@ resolved_query base r = if is_empty r.path then present_or r.query base.query el
 unfoldable pub resolution : Components → Components → Components
 resolution base r =
     if is_some r.scheme then record r { path = remove_dot_segments r.path }
-    else (if is_some r.authority then record r { scheme = base.scheme; path = remove_dot_segments r.path }
-    else record { scheme = base.scheme; authority = base.authority; path = resolved_path base r; query = resolved_query base r; fragment = r.fragment })
+    else (if is_some r.authority then record r
+    { scheme = base.scheme; path = remove_dot_segments r.path }
+    else record {
+      scheme = base.scheme;
+      authority = base.authority;
+      path = resolved_path base r;
+      query =
+          resolved_query base r;
+      fragment = r.fragment;
+    })
 
 -- the text of a reference, resolved against a base
 unfoldable pub resolved : List ℕ → List ℕ → List ℕ

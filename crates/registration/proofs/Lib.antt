@@ -1,5 +1,6 @@
--- Proofs of the code that makes drafts. LinkParameterLaws, ReferenceLaws, LinkLaws: one link. FaultLaws, LinksLaws:
--- all links, and their first fault. DraftLaws: what is known of a draft. WeightLaws: what it weighs.
+-- Proofs of the code that makes drafts. LinkParameterLaws, ReferenceLaws, LinkLaws: one link.
+-- FaultLaws, LinksLaws: all links, and their first fault. DraftLaws: what is known of a draft.
+-- WeightLaws: what it weighs.
 pub mod LinkParameterLaws
 pub mod ReferenceLaws
 pub mod LinkLaws

@@ -1,5 +1,28 @@
 -- The octets of lines, part by part.
-use Rattle.std.proofs.Common.{◌≡◌, ℕ, ◌+◌, Bool, true, false, List, ◌∷◌, map, sym, ◌++◌, [], length, flat_map, sum_by, decimal, codes, refl, ap, ◌∙◌, arith, length-append}
+use Rattle.std.proofs.Common.{
+  ◌≡◌,
+  ℕ,
+  ◌+◌,
+  Bool,
+  true,
+  false,
+  List,
+  ◌∷◌,
+  map,
+  sym,
+  ◌++◌,
+  [],
+  length,
+  flat_map,
+  sum_by,
+  decimal,
+  codes,
+  refl,
+  ap,
+  ◌∙◌,
+  arith,
+  length-append,
+}
 use Rattle.std.proofs.lemmas.Grind.{flat_map-append}
 use Rattle.rd_base.specs.declared.attributes.Pair.{Pair}
 use Rattle.rd_base.specs.declared.moments.Moment.{Moment}
@@ -9,28 +32,46 @@ use Rattle.rd_base.specs.LinkLines.{comma, listed}
 use Rattle.std.specs.Prelude.{IsTrue, ◌↔◌}
 use Rattle.std.specs.List.{join_with_byte}
 use Rattle.std.proofs.lemmas.List.Sums.{sum_by-cons}
-use Rattle.record_model.specs.ListingLines.{link_line, endpoint_line, weight, quoted_attribute, extra_attribute, anchor_text}
+use Rattle.record_model.specs.ListingLines.{
+  link_line,
+  endpoint_line,
+  weight,
+  quoted_attribute,
+  extra_attribute,
+  anchor_text,
+}
 use Rattle.record_model.specs.Matching.{location, sector_pairs}
 use Rattle.link_model.specs.Quoting.{quoted, escaped_character}
 use Rattle.registration.specs.Drafts.{recorded}
 use Rattle.registration.specs.declared.drafts.Draft.{Draft}
 
 -- a text in quotes
-pub quoted_size : (text : List ℕ) → length (quoted text) ≡ 2 + length (flat_map escaped_character text)
+pub quoted_size : (text : List ℕ)
+    → length (quoted text) ≡ 2 + length (flat_map escaped_character text)
 unfolding quoted
-quoted_size text = let joined = length-append (flat_map escaped_character text) (quote_mark ∷ []) in omega (arith, joined)
+quoted_size text =
+    let joined = length-append (flat_map escaped_character text) (quote_mark ∷ []) in
+    omega (arith, joined)
 
 -- links: their lines with commas between them, and one octet more
-pub listed_size : (item : Item) (items : List Item) → length (listed (item ∷ items)) + 1 ≡ sum_by (λ item. length (link_line item) + 1) (item ∷ items)
+pub listed_size : (item : Item) (items : List Item)
+    → length (listed (item ∷ items)) + 1
+    ≡ sum_by (λ item. length (link_line item) + 1) (item ∷ items)
 unfolding listed
-listed_size item [] = let all = sum_by-cons (λ (i : Item). length (link_line i) + 1) item [] in omega (arith, all)
+listed_size item [] =
+    let all = sum_by-cons (λ (i : Item). length (link_line i) + 1) item [] in omega (arith, all)
 listed_size item (next ∷ items) =
     let all = sum_by-cons (λ (i : Item). length (link_line i) + 1) item (next ∷ items) in
-    let joined = length-append (link_line item) (comma ∷ join_with_byte comma (map link_line (next ∷ items))) in
+    let joined =
+    length-append (link_line item)
+    (comma ∷ join_with_byte comma (map link_line (next ∷ items))) in
     let rest = listed_size next items in
     omega (arith, all, joined, rest)
 
-pub links_size : (items : List Item) (b : Bool) → (IsTrue b ↔ (items ≡ [])) → b ≡ false → length (listed items) + 1 ≡ sum_by (λ item. length (link_line item) + 1) items
+pub links_size : (items : List Item) (b : Bool)
+    → (IsTrue b ↔ (items ≡ []))
+    → b ≡ false
+    → length (listed items) + 1 ≡ sum_by (λ item. length (link_line item) + 1) items
 links_size [] b h e = absurd (wrong (sym e ∙ h.1 refl))
   where
     wrong : false ≡ true → ⊥
@@ -38,9 +79,15 @@ links_size [] b h e = absurd (wrong (sym e ∙ h.1 refl))
 links_size (item ∷ items) b h e = listed_size item items
 
 -- the line of an endpoint, part by part
-pub endpoint_size : (number : ℕ) (now : Moment) (draft : Draft) → length (endpoint_line (recorded number now draft))
-    ≡ 6 + length (decimal number) + length (quoted_attribute (record { name = codes "base"; value = draft.base })) + length (quoted_attribute (record { name = codes "ep"; value = draft.name.ep }))
-    + length (flat_map quoted_attribute (sector_pairs draft.name.sector)) + length (quoted_attribute (record { name = codes "rt"; value = codes "core.rd-ep" })) + length (flat_map extra_attribute draft.attrs)
+pub endpoint_size : (number : ℕ) (now : Moment) (draft : Draft)
+    → length (endpoint_line (recorded number now draft))
+    ≡ 6
+    + length (decimal number)
+    + length (quoted_attribute (record { name = codes "base"; value = draft.base }))
+    + length (quoted_attribute (record { name = codes "ep"; value = draft.name.ep }))
+    + length (flat_map quoted_attribute (sector_pairs draft.name.sector))
+    + length (quoted_attribute (record { name = codes "rt"; value = codes "core.rd-ep" }))
+    + length (flat_map extra_attribute draft.attrs)
 unfolding endpoint_line location recorded
 endpoint_size number now draft =
     let based : Pair = record { name = codes "base"; value = draft.base } in
@@ -48,22 +95,37 @@ endpoint_size number now draft =
     let typed : Pair = record { name = codes "rt"; value = codes "core.rd-ep" } in
     let sectors = sector_pairs draft.name.sector in
     let last = length-append (quoted_attribute typed) [] in
-    let three : length (flat_map quoted_attribute (sectors ++ typed ∷ [])) ≡ length (flat_map quoted_attribute sectors) + length (quoted_attribute typed) =
-    ap length (flat_map-append quoted_attribute sectors (typed ∷ [])) ∙ length-append (flat_map quoted_attribute sectors) (quoted_attribute typed ++ []) ∙ ap (λ (n : ℕ). length (flat_map quoted_attribute sectors) + n) (last ∙ add_nothing (length (quoted_attribute typed))) in
-    let two = length-append (quoted_attribute named) (flat_map quoted_attribute (sectors ++ typed ∷ [])) in
-    let one = length-append (quoted_attribute based) (quoted_attribute named ++ flat_map quoted_attribute (sectors ++ typed ∷ [])) in
+    let three :
+    length (flat_map quoted_attribute (sectors ++ typed ∷ []))
+    ≡ length (flat_map quoted_attribute sectors) + length (quoted_attribute typed) =
+    ap length (flat_map-append quoted_attribute sectors (typed ∷ []))
+    ∙ length-append (flat_map quoted_attribute sectors) (quoted_attribute typed ++ [])
+    ∙ ap (λ (n : ℕ). length (flat_map quoted_attribute sectors) + n)
+    (last ∙ add_nothing (length (quoted_attribute typed))) in
+    let two =
+    length-append (quoted_attribute named)
+    (flat_map quoted_attribute (sectors ++ typed ∷ [])) in
+    let one =
+    length-append (quoted_attribute based)
+    (quoted_attribute named ++ flat_map quoted_attribute (sectors ++ typed ∷ [])) in
     let own : List ℕ = flat_map quoted_attribute (based ∷ named ∷ (sectors ++ typed ∷ [])) in
     let extras : List ℕ = flat_map extra_attribute draft.attrs in
     let four = length-append own extras in
     let offset = length-append (codes "/rd/" ++ decimal number) (codes ">") in
     let digits = length-append (codes "/rd/") (decimal number) in
-    let whole = length-append (codes "<" ++ ((codes "/rd/" ++ decimal number) ++ codes ">")) (own ++ extras) in
+    let whole =
+    length-append (codes "<" ++ ((codes "/rd/" ++ decimal number) ++ codes ">"))
+    (own ++ extras) in
     omega (arith, one, two, three, four, offset, digits, whole)
   where
     add_nothing : (n : ℕ) → n + 0 ≡ n
     add_nothing n = omega arith
 
 -- a draft weighs its endpoint line and its link lines, each with one octet more
-pub weight_parts : (number : ℕ) (now : Moment) (draft : Draft) → weight (recorded number now draft) ≡ length (endpoint_line (recorded number now draft)) + 1 + sum_by (λ item. length (link_line item) + 1) draft.items
+pub weight_parts : (number : ℕ) (now : Moment) (draft : Draft)
+    → weight (recorded number now draft)
+    ≡ length (endpoint_line (recorded number now draft))
+    + 1
+    + sum_by (λ item. length (link_line item) + 1) draft.items
 unfolding weight recorded
 weight_parts number now draft = refl

@@ -1,4 +1,5 @@
--- Drafts: what parameters and submitted links make, and the record that a draft becomes (RFC 9176 section 5).
+-- Drafts: what parameters and submitted links make, and the record that a draft becomes (RFC 9176
+-- section 5).
 use Rattle.std.specs.Prelude.{◌≡◌, ⊤, ℕ, Bool, false, ◌&&◌, List, Some, is_some}
 use Rattle.rd_base.specs.Peers.{IsHost}
 use Rattle.rd_base.specs.declared.moments.Moment.{Moment}
@@ -42,12 +43,13 @@ recorded number now draft = record {
   items = draft.items;
 }
 
--- the target of an item is a URI-reference as it was submitted, and so is its anchor, where it has one
+-- the target of an item is a URI-reference as it was submitted, and so is its anchor, where it has
+-- one
 abbrev pub has_references : Item → Bool
 has_references item = is_reference item.target_ref && where_present is_reference item.anchor_ref
 
--- a draft that a registration can give: of a peer whose numbers fit, of parameters that are allowed, and of the links of a
--- body that is not refused (RFC 9176 section 5)
+-- a draft that a registration can give: of a peer whose numbers fit, of parameters that are
+-- allowed, and of the links of a body that is not refused (RFC 9176 section 5)
 pub record IsDraft (draft : Draft) : Type 0 where
   pub peer : Peer
   pub params : RegParams

@@ -1,5 +1,20 @@
 -- What is gathered of a link's parameters, where some of them are left (RFC 6690 sections 2 and 3).
-use Rattle.std.specs.Prelude.{◌≡◌, ℕ, ◌+◌, List, [], ◌∷◌, ◌++◌, length, map, filter, not, Option, Some, None}
+use Rattle.std.specs.Prelude.{
+  ◌≡◌,
+  ℕ,
+  ◌+◌,
+  List,
+  [],
+  ◌∷◌,
+  ◌++◌,
+  length,
+  map,
+  filter,
+  not,
+  Option,
+  Some,
+  None,
+}
 use Rattle.rd_base.specs.Drafted.{Drafted}
 use Rattle.rd_base.specs.declared.records.Item.{Item}
 use Rattle.record_model.specs.BodyFaults.{TextAtOffset, shifted, anchor_offset}
@@ -26,10 +41,15 @@ anchor_from None start rest = shifted start (anchor_offset rest)
 abbrev pub WaitsForNone : Drafted → Type 0
 WaitsForNone d = (d.raw ≡ []) × (d.pairs ≡ [])
 
--- this is what all parameters say but for those that are left, where the first of all begins at `start`, behind other links
-pub record IsGathered (before : List Item) (start : ℕ) (all rest : List Parameter) (g : Gathered) : Type 0 where
+-- this is what all parameters say but for those that are left, where the first of all begins at
+-- `start`, behind other links
+pub record IsGathered (before : List Item) (start : ℕ) (all rest : List Parameter) (g : Gathered) :
+    Type 0 where
   pub links : g.builder.links ≡ before
   pub anchor : anchor_from g.anchor g.end rest ≡ shifted start (anchor_offset all)
-  pub raw : g.builder.raw ++ parameters_text (without_anchors rest) ≡ parameters_text (without_anchors all)
-  pub pairs : g.builder.pairs ++ map pair_of (without_anchors rest) ≡ map pair_of (without_anchors all)
+  pub raw :
+      g.builder.raw ++ parameters_text (without_anchors rest)
+      ≡ parameters_text (without_anchors all)
+  pub pairs :
+      g.builder.pairs ++ map pair_of (without_anchors rest) ≡ map pair_of (without_anchors all)
   pub end : g.end + length (parameters_text rest) ≡ start + length (parameters_text all)

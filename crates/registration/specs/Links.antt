@@ -1,5 +1,31 @@
 -- Links read one after another: the first fault of those that are left, and what is read.
-use Rattle.std.specs.Prelude.{◌≡◌, ⊤, ℕ, ◌+◌, Bool, true, false, not, ◌||◌, List, [], ◌∷◌, ◌++◌, length, map, find, sum_by, Option, Some, None, option_map, Result, Ok, Err, if◌then◌else◌}
+use Rattle.std.specs.Prelude.{
+  ◌≡◌,
+  ⊤,
+  ℕ,
+  ◌+◌,
+  Bool,
+  true,
+  false,
+  not,
+  ◌||◌,
+  List,
+  [],
+  ◌∷◌,
+  ◌++◌,
+  length,
+  map,
+  find,
+  sum_by,
+  Option,
+  Some,
+  None,
+  option_map,
+  Result,
+  Ok,
+  Err,
+  if◌then◌else◌,
+}
 use Rattle.std.specs.List.{list_all}
 use Rattle.std.specs.String.{string_bytes}
 use Rattle.rd_base.specs.Drafted.{Drafted, drafted}
@@ -7,7 +33,16 @@ use Rattle.rd_base.specs.declared.records.Item.{Item}
 use Rattle.ref_resolve.specs.declared.components.Parts.{Parts}
 use Rattle.ref_resolve.specs.ComponentsOfParts.{components_of}
 use Rattle.record_model.specs.Bodies.{is_reference, is_limited, linked_references}
-use Rattle.record_model.specs.BodyFaults.{BodyFault, no_reference, not_limited, TextAtOffset, link_references, first_no_reference, reference_or_limited, body_fault}
+use Rattle.record_model.specs.BodyFaults.{
+  BodyFault,
+  no_reference,
+  not_limited,
+  TextAtOffset,
+  link_references,
+  first_no_reference,
+  reference_or_limited,
+  body_fault,
+}
 use Rattle.link_model.specs.Documents.{Link, link_text}
 use Rattle.record_model.specs.Faults.{or_else}
 use Rattle.link_model.specs.Quoting.{submitted_link}
@@ -33,12 +68,15 @@ first_bad references = option_map (λ r. r.0) (find (λ r. not (is_reference r.1
 -- what is written of an anchor against a base, and whether it has a scheme; a fault has its offset
 abbrev pub AnchorReads : Parts → Option Anchor → List ℕ → Result (Option Bool) DraftFault → Type 0
 AnchorReads base None referred (Ok None) = ⊤
-AnchorReads base (Some anchor) referred (Ok (Some has_scheme)) = IsReferred base anchor.text referred has_scheme
-AnchorReads base (Some anchor) referred (Err (fault.Reference offset)) = (offset ≡ anchor.offset) × (is_reference anchor.text ≡ false)
+AnchorReads base (Some anchor) referred (Ok (Some has_scheme)) =
+    IsReferred base anchor.text referred has_scheme
+AnchorReads base (Some anchor) referred (Err (fault.Reference offset)) =
+    (offset ≡ anchor.offset) × (is_reference anchor.text ≡ false)
 AnchorReads base anchor referred (Err fault.Starved) = ⊤
 AnchorReads base anchor referred _ = ⊥
 
--- a link by its target as it was submitted, its anchor, and both against a base, with the attributes that wait for it
+-- a link by its target as it was submitted, its anchor, and both against a base, with the
+-- attributes that wait for it
 abbrev pub added : List ℕ → Option Anchor → Option Bool → Referred → Drafted → Item
 added target_ref submitted has_scheme referred waiting = record {
   target_ref = target_ref;
@@ -50,29 +88,37 @@ added target_ref submitted has_scheme referred waiting = record {
 }
 
 -- a link that begins at an octet is read behind other links, and has no fault of its references
-pub record IsRead (base : Parts) (start : ℕ) (l : Link) (before : List Item) (read : Read) : Type 0 where
-  pub good : first_bad (link_references l) ≡ None
-  pub more : Item
-  pub builder : read.builder ≡ drafted (before ++ more ∷ []) [] []
-  pub item : (spelled : List ℕ) → IsReference spelled (components_of base) → more ≡ item_of spelled (submitted_link l)
-  pub references : has_references more ≡ true
-  pub limited : read.is_limited ≡ is_limited (submitted_link l)
-  pub end : read.end ≡ start + length (link_text l)
+pub record IsRead (base : Parts) (start : ℕ) (l : Link) (before : List Item) (read : Read) : Type 0
+  where
+    pub good : first_bad (link_references l) ≡ None
+    pub more : Item
+    pub builder : read.builder ≡ drafted (before ++ more ∷ []) [] []
+    pub item : (spelled : List ℕ)
+        → IsReference spelled (components_of base)
+        → more ≡ item_of spelled (submitted_link l)
+    pub references : has_references more ≡ true
+    pub limited : read.is_limited ≡ is_limited (submitted_link l)
+    pub end : read.end ≡ start + length (link_text l)
 
 -- what is read of a link; a fault has the offset of the first reference that is none
 abbrev pub LinkReads : Parts → ℕ → Link → List Item → Result Read DraftFault → Type 0
 LinkReads base start l before (Ok read) = IsRead base start l before read
-LinkReads base start l before (Err (fault.Reference offset)) = option_map (λ at. start + at) (first_bad (link_references l)) ≡ Some offset
+LinkReads base start l before (Err (fault.Reference offset)) =
+    option_map (λ at. start + at) (first_bad (link_references l)) ≡ Some offset
 LinkReads base start l before (Err fault.Starved) = ⊤
 LinkReads base start l before (Err _) = ⊥
 
--- the fault of links of which some are left: of the references left, which begin at an octet, and else the first unlimited link
+-- the fault of links of which some are left: of the references left, which begin at an octet, and
+-- else the first unlimited link
 abbrev pub fault_with : ℕ → ℕ → Option ℕ → Option ℕ → Option ℕ → Option BodyFault
 fault_with start index unlimited (Some offset) later = Some (no_reference (start + offset))
-fault_with start index unlimited None later = option_map not_limited (or_else unlimited (option_map (λ n. index + n) later))
+fault_with start index unlimited None later =
+    option_map not_limited (or_else unlimited (option_map (λ n. index + n) later))
 
 unfoldable pub fault_from : ℕ → ℕ → Option ℕ → List Link → Option BodyFault
-fault_from start index unlimited links = fault_with start index unlimited (first_no_reference links) (first_unlimited (map submitted_link links))
+fault_from start index unlimited links =
+    fault_with start index unlimited (first_no_reference links)
+    (first_unlimited (map submitted_link links))
 
 -- the index of the first link that is not limited, where one link more is read
 abbrev pub noted : ℕ → Bool → Option ℕ → Option ℕ
@@ -85,15 +131,19 @@ is_limited_as_referred target (Some anchor) = target || not anchor
 
 -- a fault of links
 abbrev pub IsLinksFault : List Link → DraftFault → Type 0
-IsLinksFault links (fault.Reference offset) = reference_or_limited (first_no_reference links) links ≡ Some (no_reference offset)
-IsLinksFault links (fault.Limited link) = reference_or_limited (first_no_reference links) links ≡ Some (not_limited link)
+IsLinksFault links (fault.Reference offset) =
+    reference_or_limited (first_no_reference links) links ≡ Some (no_reference offset)
+IsLinksFault links (fault.Limited link) =
+    reference_or_limited (first_no_reference links) links ≡ Some (not_limited link)
 IsLinksFault links fault.Starved = ⊤
 IsLinksFault links (fault.Links offset) = ⊥
 
 -- all links are read, and none has a fault
 pub record AreRead (base : Parts) (links : List Link) (read : List Item) : Type 0 where
   pub good : reference_or_limited (first_no_reference links) links ≡ None
-  pub items : (spelled : List ℕ) → IsReference spelled (components_of base) → read ≡ items_of spelled (map submitted_link links)
+  pub items : (spelled : List ℕ)
+      → IsReference spelled (components_of base)
+      → read ≡ items_of spelled (map submitted_link links)
   pub references : list_all has_references read ≡ true
 
 -- a body is read, and has no fault

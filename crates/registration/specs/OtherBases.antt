@@ -9,7 +9,8 @@ use Rattle.reference_model.specs.References.{IsReference}
 
 -- the text against each base that spells these parts
 abbrev pub IsBased : Parts → List ℕ → List ℕ → Type 0
-IsBased base text new = (spelled : List ℕ) → IsReference spelled (components_of base) → new ≡ based spelled text
+IsBased base text new =
+    (spelled : List ℕ) → IsReference spelled (components_of base) → new ≡ based spelled text
 
 -- the text, where there is one
 abbrev pub AreBased : Parts → Option (List ℕ) → List ℕ → Type 0
@@ -18,10 +19,12 @@ AreBased base (Some text) new = IsBased base text new
 
 -- the link against each base that spells these parts
 abbrev pub IsRebased : Parts → Item → Item → Type 0
-IsRebased base item new = (spelled : List ℕ) → IsReference spelled (components_of base) → new ≡ rebased spelled item
+IsRebased base item new =
+    (spelled : List ℕ) → IsReference spelled (components_of base) → new ≡ rebased spelled item
 
 -- the link against each such base stands behind other links
-pub record AddsRebased (base : Parts) (item : Item) (before : List Item) (new : Drafted) : Type 0 where
-  pub added : Item
-  pub builder : new ≡ drafted (before ++ added ∷ []) [] []
-  pub rebased : IsRebased base item added
+pub record AddsRebased (base : Parts) (item : Item) (before : List Item) (new : Drafted) : Type 0
+  where
+    pub added : Item
+    pub builder : new ≡ drafted (before ++ added ∷ []) [] []
+    pub rebased : IsRebased base item added

@@ -1,5 +1,19 @@
 -- A reference against a base, as an answer (RFC 3986 section 5.2).
-use Rattle.std.specs.Prelude.{◌≡◌, ⊤, ℕ, Bool, true, false, List, Option, Some, None, Result, Ok, Err}
+use Rattle.std.specs.Prelude.{
+  ◌≡◌,
+  ⊤,
+  ℕ,
+  Bool,
+  true,
+  false,
+  List,
+  Option,
+  Some,
+  None,
+  Result,
+  Ok,
+  Err,
+}
 use Rattle.rd_base.specs.declared.out_of_memory.Starved.{Starved}
 use Rattle.ref_resolve.specs.declared.components.Parts.{Parts}
 use Rattle.ref_resolve.specs.ComponentsOfParts.{components_of}
@@ -7,13 +21,18 @@ use Rattle.record_model.specs.Bodies.{is_reference, is_uri}
 use Rattle.record_model.specs.Records.{based}
 use Rattle.reference_model.specs.References.{IsReference}
 
--- the text is a reference, with a scheme or not, and this is what it is against each base that spells these parts
-pub record IsReferred (base : Parts) (submitted referred : List ℕ) (has_scheme : Bool) : Type 0 where
-  pub reference : is_reference submitted ≡ true
-  pub scheme : is_uri submitted ≡ has_scheme
-  pub text : (spelled : List ℕ) → IsReference spelled (components_of base) → referred ≡ based spelled submitted
+-- the text is a reference, with a scheme or not, and this is what it is against each base that
+-- spells these parts
+pub record IsReferred (base : Parts) (submitted referred : List ℕ) (has_scheme : Bool) : Type 0
+  where
+    pub reference : is_reference submitted ≡ true
+    pub scheme : is_uri submitted ≡ has_scheme
+    pub text : (spelled : List ℕ)
+        → IsReference spelled (components_of base)
+        → referred ≡ based spelled submitted
 
--- what is written of a text against a base: nothing is said where it is no reference; running out of memory has no cause
+-- what is written of a text against a base: nothing is said where it is no reference; running out
+-- of memory has no cause
 abbrev pub Refers : Parts → List ℕ → List ℕ → Result (Option Bool) Starved → Type 0
 Refers base text referred (Ok None) = is_reference text ≡ false
 Refers base text referred (Ok (Some has_scheme)) = IsReferred base text referred has_scheme

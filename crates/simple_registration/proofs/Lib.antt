@@ -1,6 +1,6 @@
--- The octets of requests: AskLaws.
--- Events, and the fetches that run after them: NoteLaws (one event more, for one fetch), PeerLaws (who is fetched from), RunningLaws (the list of the fetches).
--- What a table stands for: TableLaws. For a desk above: DeskLaws.
+-- The octets of requests: AskLaws. Events, and the fetches that run after them: NoteLaws (one event
+-- more, for one fetch), PeerLaws (who is fetched from), RunningLaws (the list of the fetches). What
+-- a table stands for: TableLaws. For a desk above: DeskLaws.
 pub mod AskLaws
 pub mod NoteLaws
 pub mod PeerLaws

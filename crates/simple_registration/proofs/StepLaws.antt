@@ -1,6 +1,41 @@
--- The steps of the machine, as a table of fetches answers them: responses, the start of a fetch, and requests that are sent again.
--- End theorems, for a desk above: nothing here cites them.
-use Rattle.std.proofs.Common.{◌≡◌, ◌≢◌, ℕ, ◌+◌, ◌*◌, ◌/◌, ◌%◌, ◌<◌, ◌≤◌, ◌==◌, ◌&&◌, ◌||◌, Bool, true, false, cond, List, [], ◌∷◌, ◌++◌, length, codes, find, Option, Some, None, option_map, refl, sym, ap, subst, ◌∙◌, eq-eqb, arith}
+-- The steps of the machine, as a table of fetches answers them: responses, the start of a fetch,
+-- and requests that are sent again. End theorems, for a desk above: nothing here cites them.
+use Rattle.std.proofs.Common.{
+  ◌≡◌,
+  ◌≢◌,
+  ℕ,
+  ◌+◌,
+  ◌*◌,
+  ◌/◌,
+  ◌%◌,
+  ◌<◌,
+  ◌≤◌,
+  ◌==◌,
+  ◌&&◌,
+  ◌||◌,
+  Bool,
+  true,
+  false,
+  cond,
+  List,
+  [],
+  ◌∷◌,
+  ◌++◌,
+  length,
+  codes,
+  find,
+  Option,
+  Some,
+  None,
+  option_map,
+  refl,
+  sym,
+  ap,
+  subst,
+  ◌∙◌,
+  eq-eqb,
+  arith,
+}
 use Rattle.std.specs.Prelude.{is_none, nat_le, unwrap_or}
 use Rattle.std.specs.List.{AllByRecursion}
 use Rattle.std.proofs.lemmas.Bool.{false≢true, and_parts, ne_eqb}
@@ -21,7 +56,20 @@ use Rattle.event_model.specs.declared.notes.Note.TheVariants as note
 use Rattle.event_model.specs.Same.{is_same_peer}
 use Rattle.event_model.specs.Events.{Event}
 use Rattle.event_model.specs.Flights.{max_again}
-use Rattle.event_model.specs.Fetches.{max_fetches, fetches, is_fetching, next_token, Request, request_noted, last_request, gathered, collected, is_waiting, resendings, fetch_deadline}
+use Rattle.event_model.specs.Fetches.{
+  max_fetches,
+  fetches,
+  is_fetching,
+  next_token,
+  Request,
+  request_noted,
+  last_request,
+  gathered,
+  collected,
+  is_waiting,
+  resendings,
+  fetch_deadline,
+}
 use Rattle.event_model.proofs.SameLaws.{is_same_peer-Decides, is_same_peer-refl}
 use Rattle.journal_model.specs.declared.steps.Step.{Step}
 use Rattle.journal_model.specs.declared.rows.Row.{Row}
@@ -29,9 +77,30 @@ use Rattle.journal_model.specs.Journal.{events, row_at}
 use Rattle.journal_model.specs.Effects.{Effects, nothing, joined, bare, noting, mid_of, drawn_for}
 use Rattle.journal_model.specs.Changes.{refused}
 use Rattle.journal_model.specs.Commits.{settling, fetch_request, asking, registering_simply}
-use Rattle.journal_model.specs.Responses.{is_response_to, answered_request, request_of, block_in, tag_in, is_elsewhere, ends_fetch, more_follow, completed, gathering, response_taken, response_to}
+use Rattle.journal_model.specs.Responses.{
+  is_response_to,
+  answered_request,
+  request_of,
+  block_in,
+  tag_in,
+  is_elsewhere,
+  ends_fetch,
+  more_follow,
+  completed,
+  gathering,
+  response_taken,
+  response_to,
+}
 use Rattle.journal_model.specs.Responses as responses
-use Rattle.journal_model.specs.Ticks.{octets_sent, is_confirmable_with, confirmable_sent, repeating, sent_again, request_again, fetch_again}
+use Rattle.journal_model.specs.Ticks.{
+  octets_sent,
+  is_confirmable_with,
+  confirmable_sent,
+  repeating,
+  sent_again,
+  request_again,
+  fetch_again,
+}
 use Rattle.exchange_core.specs.declared.resends.Again.{Again}
 use Rattle.exchange_core.specs.declared.resends.Again.TheVariants as again
 use Rattle.simple_registration.specs.declared.asks.Ask.{Ask}
@@ -39,54 +108,87 @@ use Rattle.simple_registration.specs.declared.hearing.Heard.{Heard}
 use Rattle.simple_registration.specs.declared.hearing.Heard.TheVariants as heard
 use Rattle.simple_registration.specs.declared.starts.StartFault.{StartFault}
 use Rattle.simple_registration.specs.declared.starts.StartFault.TheVariants as fault
-use Rattle.simple_registration.specs.Responses.{has_names_of, request_after, heard_part, heard_block, heard_by}
-use Rattle.simple_registration.specs.FetchEvents.{start_refusal, has_names_of_request, belongs_after, heard_after, fetch_due}
+use Rattle.simple_registration.specs.Responses.{
+  has_names_of,
+  request_after,
+  heard_part,
+  heard_block,
+  heard_by,
+}
+use Rattle.simple_registration.specs.FetchEvents.{
+  start_refusal,
+  has_names_of_request,
+  belongs_after,
+  heard_after,
+  fetch_due,
+}
 
 -- ---- responses
 
--- a response is to the last request of a fetch exactly where it belongs to the fetch, and has no unrecognized critical option
+-- a response is to the last request of a fetch exactly where it belongs to the fetch, and has no
+-- unrecognized critical option
 pub fetch_of-belongs : (s : Step) (m : Message) (past : List Event)
-    → responses.fetch_of s m past ≡ cond (belongs_after s.peer m past && is_none (first_bad_option m.options)) (request_of (last_request s.peer past)) None
+    → responses.fetch_of s m past
+    ≡ cond (belongs_after s.peer m past && is_none (first_bad_option m.options))
+    (request_of (last_request s.peer past)) None
 fetch_of-belongs s m past = by (is_fetching s.peer past) (request_of (last_request s.peer past))
   where
-    by : (running : Bool) (o : Option Request) → cond running (answered_request m o) None ≡ cond (running && has_names_of_request m o && is_none (first_bad_option m.options)) o None
+    by : (running : Bool) (o : Option Request)
+        → cond running (answered_request m o) None
+        ≡ cond (running && has_names_of_request m o && is_none (first_bad_option m.options)) o
+        None
     by false o = refl
     by true None = refl
     by true (Some r) = refl
 
--- what it does in the row of its step, by what comes of it: the acknowledgement of a confirmable one is sent before
+-- what it does in the row of its step, by what comes of it: the acknowledgement of a confirmable
+-- one is sent before
 pub response_effects_of : Heard → Option Block → List Row → ℕ → Step → Message → Request → Effects
 response_effects_of heard.Passed b rows moment s m request = nothing
 response_effects_of (heard.Next ask) None rows moment s m request = nothing
 response_effects_of (heard.Next ask) (Some b) rows moment s m request = record {
   sent = (ask.peer, ask.bytes) ∷ [];
-  notes = note.Gathered s.peer m.payload (tag_in m) ∷ note.Asked s.peer request.token (mid_of s.worker s.drawn) request.params (b.num + 1) ∷ [];
+  notes =
+      note.Gathered s.peer m.payload (tag_in m)
+      ∷ note.Asked s.peer request.token (mid_of s.worker s.drawn) request.params (b.num + 1)
+      ∷ [];
   drew = 1;
 }
-response_effects_of (heard.Whole params body) b rows moment s m request = completed rows moment s request body
+response_effects_of (heard.Whole params body) b rows moment s m request =
+    completed rows moment s request body
 response_effects_of heard.Ended b rows moment s m request = noting (note.Ceased s.peer ∷ [])
 response_effects_of heard.Starved b rows moment s m request = nothing
 
 pub response_to-heard : (rows : List Row) (moment : ℕ) (s : Step) (m : Message) (request : Request)
-    → response_to rows moment s m request ≡ response_effects_of (heard_after (mid_of s.worker s.drawn) s.peer m request (events rows)) (block_in m) rows moment s m request
+    → response_to rows moment s m request
+    ≡ response_effects_of (heard_after (mid_of s.worker s.drawn) s.peer m request (events rows))
+    (block_in m) rows moment s m request
 unfolding response_effects_of
 response_to-heard rows moment s m request =
-    by (is_elsewhere (block_in m) (length (collected s.peer (events rows)))) (ends_fetch m (gathered s.peer (events rows)) (length (collected s.peer (events rows))))
+    by (is_elsewhere (block_in m) (length (collected s.peer (events rows))))
+    (ends_fetch m (gathered s.peer (events rows)) (length (collected s.peer (events rows))))
   where
     part : (more : Bool) (b : Block)
         → gathering more (Some b) rows moment s m request
-        ≡ response_effects_of (heard_part more b (mid_of s.worker s.drawn) s.peer request.token request.params (collected s.peer (events rows) ++ m.payload)) (Some b) rows moment s m request
+        ≡ response_effects_of
+        (heard_part more b (mid_of s.worker s.drawn) s.peer request.token request.params
+        (collected s.peer (events rows) ++ m.payload)) (Some b) rows moment s m request
     part true b = refl
     part false b = refl
 
     block : (b : Option Block)
         → gathering (more_follow b) b rows moment s m request
-        ≡ response_effects_of (heard_block b (mid_of s.worker s.drawn) s.peer request.token request.params (collected s.peer (events rows) ++ m.payload)) b rows moment s m request
+        ≡ response_effects_of
+        (heard_block b (mid_of s.worker s.drawn) s.peer request.token request.params
+        (collected s.peer (events rows) ++ m.payload)) b rows moment s m request
     block None = refl
     block (Some b) = part b.more b
 
     by : (elsewhere ends : Bool) → response_taken elsewhere ends rows moment s m request
-        ≡ response_effects_of (heard_by elsewhere ends (heard_block (block_in m) (mid_of s.worker s.drawn) s.peer request.token request.params (collected s.peer (events rows) ++ m.payload))) (block_in m) rows moment s m request
+        ≡ response_effects_of (heard_by elsewhere ends
+        (heard_block (block_in m) (mid_of s.worker s.drawn) s.peer request.token
+        request.params (collected s.peer (events rows) ++ m.payload))) (block_in m) rows
+        moment s m request
     by true ends = refl
     by false true = refl
     by false false = block (block_in m)
@@ -94,35 +196,64 @@ response_to-heard rows moment s m request =
 -- ---- the start of a fetch
 
 -- a simple registration starts one, where nothing refuses that
-pub registering_simply-starts : (past : List Event) (place : ℕ) (s : Step) (m : Message) → start_refusal s.peer past ≡ None
-    → registering_simply past place s m ≡ joined (settling place s m (record { reply = bare codes_of.changed; notes = [] })) (asking s (s.drawn + drawn_for m.kind) (next_token past) (registration_values (queries_in m)) 0 None)
-registering_simply-starts past place s m idle = by (is_fetching s.peer past) (nat_le max_fetches (length (fetches past))) refl refl idle
+pub registering_simply-starts : (past : List Event) (place : ℕ) (s : Step) (m : Message)
+    → start_refusal s.peer past ≡ None
+    → registering_simply past place s m
+    ≡ joined (settling place s m (record { reply = bare codes_of.changed; notes = [] }))
+    (asking s (s.drawn + drawn_for m.kind) (next_token past)
+    (registration_values (queries_in m)) 0 None)
+registering_simply-starts past place s m idle =
+    by (is_fetching s.peer past) (nat_le max_fetches (length (fetches past))) refl refl idle
   where
     Goal : Type 0
-    Goal = registering_simply past place s m ≡ joined (settling place s m (record { reply = bare codes_of.changed; notes = [] })) (asking s (s.drawn + drawn_for m.kind) (next_token past) (registration_values (queries_in m)) 0 None)
+    Goal =
+        registering_simply past place s m
+        ≡ joined (settling place s m (record { reply = bare codes_of.changed; notes = [] }))
+        (asking s (s.drawn + drawn_for m.kind) (next_token past)
+        (registration_values (queries_in m)) 0 None)
 
-    by : (f n : Bool) → is_fetching s.peer past ≡ f → nat_le max_fetches (length (fetches past)) ≡ n → cond f (Some (fault.Fetching s.peer)) (cond n (Some fault.FullFetches) None) ≡ None → Goal
+    by : (f n : Bool)
+        → is_fetching s.peer past ≡ f
+        → nat_le max_fetches (length (fetches past)) ≡ n
+        → cond f (Some (fault.Fetching s.peer)) (cond n (Some fault.FullFetches) None) ≡ None
+        → Goal
     by true n e g h = absurd cc
     by false true e g h = absurd cc
     by false false e g h = rw (e, g) refl
 
 -- else it is refused by the word of the fault
-pub registering_simply-fetching : (past : List Event) (place : ℕ) (s : Step) (m : Message) (peer : Peer) → start_refusal s.peer past ≡ Some (fault.Fetching peer)
-    → registering_simply past place s m ≡ settling place s m (refused codes_of.service_unavailable (codes "fetching"))
-registering_simply-fetching past place s m peer runs = by (is_fetching s.peer past) (nat_le max_fetches (length (fetches past))) refl runs
+pub registering_simply-fetching : (past : List Event) (place : ℕ) (s : Step) (m : Message)
+    (peer : Peer)
+    → start_refusal s.peer past ≡ Some (fault.Fetching peer)
+    → registering_simply past place s m
+    ≡ settling place s m (refused codes_of.service_unavailable (codes "fetching"))
+registering_simply-fetching past place s m peer runs =
+    by (is_fetching s.peer past) (nat_le max_fetches (length (fetches past))) refl runs
   where
-    by : (f n : Bool) → is_fetching s.peer past ≡ f → cond f (Some (fault.Fetching s.peer)) (cond n (Some fault.FullFetches) None) ≡ Some (fault.Fetching peer)
-        → registering_simply past place s m ≡ settling place s m (refused codes_of.service_unavailable (codes "fetching"))
+    by : (f n : Bool)
+        → is_fetching s.peer past ≡ f
+        → cond f (Some (fault.Fetching s.peer)) (cond n (Some fault.FullFetches) None)
+        ≡ Some (fault.Fetching peer)
+        → registering_simply past place s m
+        ≡ settling place s m (refused codes_of.service_unavailable (codes "fetching"))
     by true n e h = rw e refl
     by false true e h = absurd cc
     by false false e h = absurd cc
 
-pub registering_simply-full : (past : List Event) (place : ℕ) (s : Step) (m : Message) → start_refusal s.peer past ≡ Some fault.FullFetches
-    → registering_simply past place s m ≡ settling place s m (refused codes_of.service_unavailable (codes "fetches"))
-registering_simply-full past place s m full = by (is_fetching s.peer past) (nat_le max_fetches (length (fetches past))) refl refl full
+pub registering_simply-full : (past : List Event) (place : ℕ) (s : Step) (m : Message)
+    → start_refusal s.peer past ≡ Some fault.FullFetches
+    → registering_simply past place s m
+    ≡ settling place s m (refused codes_of.service_unavailable (codes "fetches"))
+registering_simply-full past place s m full =
+    by (is_fetching s.peer past) (nat_le max_fetches (length (fetches past))) refl refl full
   where
-    by : (f n : Bool) → is_fetching s.peer past ≡ f → nat_le max_fetches (length (fetches past)) ≡ n → cond f (Some (fault.Fetching s.peer)) (cond n (Some fault.FullFetches) None) ≡ Some fault.FullFetches
-        → registering_simply past place s m ≡ settling place s m (refused codes_of.service_unavailable (codes "fetches"))
+    by : (f n : Bool)
+        → is_fetching s.peer past ≡ f
+        → nat_le max_fetches (length (fetches past)) ≡ n
+        → cond f (Some (fault.Fetching s.peer)) (cond n (Some fault.FullFetches) None)
+        ≡ Some fault.FullFetches
+        → registering_simply past place s m
+        ≡ settling place s m (refused codes_of.service_unavailable (codes "fetches"))
     by true n e g h = absurd cc
     by false true e g h = rw (e, g) refl
     by false false e g h = absurd cc
@@ -130,7 +261,9 @@ registering_simply-full past place s m full = by (is_fetching s.peer past) (nat_
 -- ---- requests that are sent again
 
 -- a request of a fetch is a confirmable message with its Message ID
-pub request_confirmable : (mid : ℕ) (token : List ℕ) (b : Option Block) → length token ≤ longest_token → is_confirmable_with mid (spelling (fetch_request mid token b)) ≡ true
+pub request_confirmable : (mid : ℕ) (token : List ℕ) (b : Option Block)
+    → length token ≤ longest_token
+    → is_confirmable_with mid (spelling (fetch_request mid token b)) ≡ true
 unfolding spelling header_spelling
 request_confirmable mid token b short = rw (first, second) refl
   where
@@ -141,39 +274,61 @@ request_confirmable mid token b short = rw (first, second) refl
     second = eq-eqb (mid / 256 * 256 + mid % 256) mid (omega arith)
 
 -- and a message of another type is none
-pub other_kind : (mid : ℕ) (m : Message) → length m.token ≤ longest_token → m.kind ≢ Con → is_confirmable_with mid (spelling m) ≡ false
+pub other_kind : (mid : ℕ) (m : Message)
+    → length m.token ≤ longest_token
+    → m.kind ≢ Con
+    → is_confirmable_with mid (spelling m) ≡ false
 unfolding spelling header_spelling
 other_kind mid m short other = rw (by m.kind other) refl
   where
-    by : (kind : Kind4) → kind ≢ Con → ((64 + kind_number kind * 16 + length m.token) / 16 == 4) ≡ false
+    by : (kind : Kind4)
+        → kind ≢ Con
+        → ((64 + kind_number kind * 16 + length m.token) / 16 == 4) ≡ false
     by Con h = absurd (h refl)
     by Non h = ne_eqb ((80 + length m.token) / 16) 4 (λ e. absurd (omega (arith, short, e)))
     by Ack h = ne_eqb ((96 + length m.token) / 16) 4 (λ e. absurd (omega (arith, short, e)))
     by Rst h = ne_eqb ((112 + length m.token) / 16) 4 (λ e. absurd (omega (arith, short, e)))
 
--- the octets that the row being made sent to a peer in the confirmable message with a Message ID: those of the first such datagram
-pub octets_sent-here : (rows : List Row) (r : Row) (peer : Peer) (mid : ℕ) (bytes : List ℕ) (front rest : List (Peer × List ℕ)) → r.sent ≡ front ++ (peer, bytes) ∷ rest
-    → AllByRecursion (λ d. (is_same_peer d.0 peer && is_confirmable_with mid d.1) ≡ false) front → is_confirmable_with mid bytes ≡ true → octets_sent (r ∷ rows) (length rows) peer mid ≡ bytes
+-- the octets that the row being made sent to a peer in the confirmable message with a Message ID:
+-- those of the first such datagram
+pub octets_sent-here : (rows : List Row) (r : Row) (peer : Peer) (mid : ℕ) (bytes : List ℕ)
+    (front rest : List (Peer × List ℕ))
+    → r.sent ≡ front ++ (peer, bytes) ∷ rest
+    → AllByRecursion (λ d. (is_same_peer d.0 peer && is_confirmable_with mid d.1) ≡ false) front
+    → is_confirmable_with mid bytes ≡ true
+    → octets_sent (r ∷ rows) (length rows) peer mid ≡ bytes
 unfolding octets_sent row_at
 octets_sent-here rows r peer mid bytes front rest sent none it =
-    rw (eqb-refl (length rows)) (rw sent (ap (λ d. unwrap_or (option_map (λ (x : Peer × List ℕ). x.1) d) []) (found front none)))
+    rw (eqb-refl (length rows)) (rw sent
+    (ap (λ d. unwrap_or (option_map (λ (x : Peer × List ℕ). x.1) d) []) (found front none)))
   where
     test : Peer × List ℕ → Bool
     test d = is_same_peer d.0 peer && is_confirmable_with mid d.1
 
-    found : (ds : List (Peer × List ℕ)) → AllByRecursion (λ d. (is_same_peer d.0 peer && is_confirmable_with mid d.1) ≡ false) ds → find test (ds ++ (peer, bytes) ∷ rest) ≡ Some (peer, bytes)
+    found : (ds : List (Peer × List ℕ))
+        → AllByRecursion (λ d. (is_same_peer d.0 peer && is_confirmable_with mid d.1) ≡ false) ds
+        → find test (ds ++ (peer, bytes) ∷ rest) ≡ Some (peer, bytes)
     found [] h = rw (is_same_peer-refl peer, it) refl
     found (d ∷ ds) h = let no : test d ≡ false = h.0 in rw no (found ds h.1)
 
 -- the octets that a row sent are sent once more, where it sent some
-pub repeating-octets : (rows : List Row) (place : ℕ) (peer : Peer) (mid : ℕ) (n : Note) → 0 < length (octets_sent rows place peer mid)
-    → repeating rows place peer mid n ≡ record { sent = (peer, octets_sent rows place peer mid) ∷ []; notes = n ∷ []; drew = 0 }
+pub repeating-octets : (rows : List Row) (place : ℕ) (peer : Peer) (mid : ℕ) (n : Note)
+    → 0 < length (octets_sent rows place peer mid)
+    → repeating rows place peer mid n ≡ record {
+      sent = (peer, octets_sent rows place peer mid) ∷ [];
+      notes = n ∷ [];
+      drew = 0;
+    }
 unfolding octets_sent
 repeating-octets rows place peer mid n some = row (row_at place rows) some
   where
     Some_again : Option (Peer × List ℕ) → Type 0
     Some_again d = 0 < length (unwrap_or (option_map (λ (x : Peer × List ℕ). x.1) d) [])
-        → sent_again d n ≡ record { sent = (peer, unwrap_or (option_map (λ (x : Peer × List ℕ). x.1) d) []) ∷ []; notes = n ∷ []; drew = 0 }
+        → sent_again d n ≡ record {
+          sent = (peer, unwrap_or (option_map (λ (x : Peer × List ℕ). x.1) d) []) ∷ [];
+          notes = n ∷ [];
+          drew = 0;
+        }
 
     test : Peer × List ℕ → Bool
     test d = is_same_peer d.0 peer && is_confirmable_with mid d.1
@@ -182,10 +337,27 @@ repeating-octets rows place peer mid n some = row (row_at place rows) some
     passes [] h = absurd (omega (arith, h))
     passes (d ∷ ds) h = by (test d) refl h (passes ds)
       where
-        by : (b : Bool) → test d ≡ b → 0 < length (unwrap_or (option_map (λ (x : Peer × List ℕ). x.1) (cond b (Some d) (find test ds))) []) → Some_again (find test ds)
-            → sent_again (cond b (Some d) (find test ds)) n ≡ record { sent = (peer, unwrap_or (option_map (λ (x : Peer × List ℕ). x.1) (cond b (Some d) (find test ds))) []) ∷ []; notes = n ∷ []; drew = 0 }
+        by : (b : Bool)
+            → test d ≡ b
+            → 0
+            < length (unwrap_or
+            (option_map (λ (x : Peer × List ℕ). x.1) (cond b (Some d) (find test ds)))
+            [])
+            → Some_again (find test ds)
+            → sent_again (cond b (Some d) (find test ds)) n ≡ record {
+              sent = (
+                peer,
+                unwrap_or
+                    (option_map (λ (x : Peer × List ℕ). x.1) (cond b (Some d) (find test ds))) [],
+              )
+                  ∷ [];
+              notes = n ∷ [];
+              drew = 0;
+            }
         by true e h more =
-            let at : d.0 ≡ peer = (is_same_peer-Decides d.0 peer).0 (and_parts (is_same_peer d.0 peer) (is_confirmable_with mid d.1) e).0 in
+            let at : d.0 ≡ peer =
+            (is_same_peer-Decides d.0 peer).0
+            (and_parts (is_same_peer d.0 peer) (is_confirmable_with mid d.1) e).0 in
             ap (λ p. record { sent = (p, d.1) ∷ []; notes = n ∷ []; drew = 0 }) at
         by false e h more = more h
 
@@ -196,17 +368,26 @@ repeating-octets rows place peer mid n some = row (row_at place rows) some
 -- what a tick does for the fetch of a peer: nothing, or its request is sent once more, or it ends
 pub due_effects : Again → List Row → Peer → Event → Request → Effects
 due_effects again.Wait rows peer e request = nothing
-due_effects again.Send rows peer e request = repeating rows e.place peer request.mid (note.Resent peer)
+due_effects again.Send rows peer e request =
+    repeating rows e.place peer request.mid (note.Resent peer)
 due_effects again.GaveUp rows peer e request = noting (note.Ceased peer ∷ [])
 
 -- by what is due of it
-pub fetch_again-due : (rows : List Row) (moment : ℕ) (peer : Peer) (e : Event) (request : Request) → last_request peer (events rows) ≡ Some e → request_noted e.note ≡ Some request
-    → fetch_again rows moment peer (last_request peer (events rows)) ≡ due_effects (fetch_due moment peer e (events rows)) rows peer e request
+pub fetch_again-due : (rows : List Row) (moment : ℕ) (peer : Peer) (e : Event) (request : Request)
+    → last_request peer (events rows) ≡ Some e
+    → request_noted e.note ≡ Some request
+    → fetch_again rows moment peer (last_request peer (events rows))
+    ≡ due_effects (fetch_due moment peer e (events rows)) rows peer e request
 unfolding fetch_due due_effects
 fetch_again-due rows moment peer e request last made =
-    rw (last, made) (by (nat_le (fetch_deadline peer e (events rows)) moment) (is_waiting peer (events rows) || nat_le max_again (length (resendings peer (events rows)))))
+    rw (last, made) (by (nat_le (fetch_deadline peer e (events rows)) moment)
+    (is_waiting peer (events rows)
+    || nat_le max_again (length (resendings peer (events rows)))))
   where
-    by : (due over : Bool) → request_again due over rows peer e (Some request) ≡ due_effects (cond due (cond over again.GaveUp again.Send) again.Wait) rows peer e request
+    by : (due over : Bool)
+        → request_again due over rows peer e (Some request)
+        ≡ due_effects (cond due (cond over again.GaveUp again.Send) again.Wait) rows peer e
+        request
     by false over = refl
     by true true = refl
     by true false = refl

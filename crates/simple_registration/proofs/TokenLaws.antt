@@ -32,10 +32,14 @@ octet_7 : (n : ℕ) → byte_at 7 (n % 18446744073709551616) ≡ byte_at 7 n
 octet_7 n = omega arith
 
 octets_low : (n : ℕ) → bytes_high_first 8 (n % 18446744073709551616) ≡ bytes_high_first 8 n
-octets_low n = rw (octet_0 n, octet_1 n, octet_2 n, octet_3 n, octet_4 n, octet_5 n, octet_6 n, octet_7 n) refl
+octets_low n =
+    rw (octet_0 n, octet_1 n, octet_2 n, octet_3 n, octet_4 n, octet_5 n, octet_6 n, octet_7 n) refl
 
 -- the octets of the number after one, as 64 bits count both
-pub octets_after : (n : ℕ) → bytes_high_first 8 ((n % 2 ^ 64 + 1) % 2 ^ 64) ≡ bytes_high_first 8 (n + 1)
+pub octets_after : (n : ℕ)
+    → bytes_high_first 8 ((n % 2 ^ 64 + 1) % 2 ^ 64) ≡ bytes_high_first 8 (n + 1)
 octets_after n =
-    let same : (n % 18446744073709551616 + 1) % 18446744073709551616 ≡ (n + 1) % 18446744073709551616 = omega arith in
+    let same :
+    (n % 18446744073709551616 + 1) % 18446744073709551616 ≡ (n + 1) % 18446744073709551616 =
+    omega arith in
     ap (bytes_high_first 8) same ∙ octets_low (n + 1)

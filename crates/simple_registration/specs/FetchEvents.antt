@@ -1,5 +1,23 @@
--- Which events of a journal a table of fetches stands for, and what it answers by them (RFC 9176 section 5.1).
-use Rattle.std.specs.Prelude.{◌≡◌, ℕ, ◌+◌, Bool, true, false, ◌&&◌, ◌||◌, nat_le, List, ◌++◌, length, Option, Some, None, if◌then◌else◌}
+-- Which events of a journal a table of fetches stands for, and what it answers by them (RFC 9176
+-- section 5.1).
+use Rattle.std.specs.Prelude.{
+  ◌≡◌,
+  ℕ,
+  ◌+◌,
+  Bool,
+  true,
+  false,
+  ◌&&◌,
+  ◌||◌,
+  nat_le,
+  List,
+  ◌++◌,
+  length,
+  Option,
+  Some,
+  None,
+  if◌then◌else◌,
+}
 use Rattle.std.specs.Prelude.{Result, Ok, Err}
 use Rattle.rd_base.specs.declared.peers.Peer.{Peer}
 use Rattle.message_model.specs.declared.blocks.Block.{Block}
@@ -7,7 +25,21 @@ use Rattle.message_model.specs.Message.{Message}
 use Rattle.event_model.specs.declared.notes.Note.TheVariants as note
 use Rattle.event_model.specs.Events.{Event}
 use Rattle.event_model.specs.Flights.{OctetsSent, max_again}
-use Rattle.event_model.specs.Fetches.{Request, max_fetches, fetches, is_fetching, last_request, request_noted, gathered, collected, fetches_started, fetches_running, is_waiting, resendings, fetch_deadline}
+use Rattle.event_model.specs.Fetches.{
+  Request,
+  max_fetches,
+  fetches,
+  is_fetching,
+  last_request,
+  request_noted,
+  gathered,
+  collected,
+  fetches_started,
+  fetches_running,
+  is_waiting,
+  resendings,
+  fetch_deadline,
+}
 use Rattle.journal_model.specs.Responses.{request_of, block_in, is_elsewhere, ends_fetch}
 use Rattle.exchange_core.specs.declared.resends.Again.{Again}
 use Rattle.exchange_core.specs.declared.resends.Again.TheVariants as again
@@ -18,7 +50,8 @@ use Rattle.simple_registration.specs.declared.starts.StartFault.TheVariants as f
 use Rattle.simple_registration.specs.Responses.{has_names_of, heard_block, heard_by}
 use Rattle.simple_registration.specs.Table.{Table}
 
--- a table stands for events, and for the octets that rows sent: its fetches are those that run, and it counts those that started
+-- a table stands for events, and for the octets that rows sent: its fetches are those that run, and
+-- it counts those that started
 pub record FetchesStandFor (octets : OctetsSent) (events : List Event) (t : Table) : Type 0 where
   pub running : t.fetches ≡ fetches_running octets events
   pub started : t.started ≡ fetches_started events
@@ -43,18 +76,25 @@ has_names_of_request m (Some request) = has_names_of m request.token request.mid
 
 -- a response belongs to the fetch of a peer that runs after these events
 abbrev pub belongs_after : Peer → Message → List Event → Bool
-belongs_after peer m events = is_fetching peer events && has_names_of_request m (request_of (last_request peer events))
+belongs_after peer m events =
+    is_fetching peer events && has_names_of_request m (request_of (last_request peer events))
 
--- what comes of a response to a request of the fetch of a peer after these events, where a further request has this Message ID
+-- what comes of a response to a request of the fetch of a peer after these events, where a further
+-- request has this Message ID
 abbrev pub heard_after : ℕ → Peer → Message → Request → List Event → Heard
 heard_after mid peer m request events =
-    heard_by (is_elsewhere (block_in m) (length (collected peer events))) (ends_fetch m (gathered peer events) (length (collected peer events)))
-    (heard_block (block_in m) mid peer request.token request.params (collected peer events ++ m.payload))
+    heard_by (is_elsewhere (block_in m) (length (collected peer events)))
+    (ends_fetch m (gathered peer events) (length (collected peer events)))
+    (heard_block (block_in m) mid peer request.token request.params
+    (collected peer events ++ m.payload))
 
--- what is due at a moment of the fetch of a peer, by the event of its last request: nothing before the deadline, and then the request once more,
--- or the end where it was sent as often as it may be, or where it was acknowledged
+-- what is due at a moment of the fetch of a peer, by the event of its last request: nothing before
+-- the deadline, and then the request once more, or the end where it was sent as often as it may be,
+-- or where it was acknowledged
 unfoldable pub fetch_due : ℕ → Peer → Event → List Event → Again
 fetch_due now peer e events =
     if nat_le (fetch_deadline peer e events) now
-    then (if is_waiting peer events || nat_le max_again (length (resendings peer events)) then again.GaveUp else again.Send)
+    then (if is_waiting peer events || nat_le max_again (length (resendings peer events))
+    then again.GaveUp
+    else again.Send)
     else again.Wait

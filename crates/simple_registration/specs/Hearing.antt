@@ -35,7 +35,9 @@ fetch_started now word mid peer token params = record {
 abbrev pub first_ask : ℕ → Peer → List ℕ → Ask
 first_ask mid peer token = record { peer = peer; bytes = first_octets mid token }
 
--- what a response leaves of a fetch: where the next block is asked for, the block of the response is collected; else all is as before
+-- what a response leaves of a fetch: where the next block is asked for, the block of the response
+-- is collected; else all is as before
 abbrev pub IsLeftBy : Heard → ℕ → ℕ → ℕ → Message → Fetch → Fetch → Type 0
-IsLeftBy (heard.Next ask) now word mid m before after = (b : Block) → block_in m ≡ Some b → after ≡ with_next now word mid m b before
+IsLeftBy (heard.Next ask) now word mid m before after =
+    (b : Block) → block_in m ≡ Some b → after ≡ with_next now word mid m b before
 IsLeftBy _ now word mid m before after = after ≡ before

@@ -1,5 +1,26 @@
--- What a response to a fetch says, by what is known of the fetch (RFC 9176 section 5.1, RFC 7959 section 2.4).
-use Rattle.std.specs.Prelude.{ℕ, ◌+◌, Bool, true, false, not, ◌&&◌, ◌||◌, ◌==◌, nat_lt, List, ◌++◌, length, Option, Some, None, is_some, is_none, bytes_eq}
+-- What a response to a fetch says, by what is known of the fetch (RFC 9176 section 5.1, RFC 7959
+-- section 2.4).
+use Rattle.std.specs.Prelude.{
+  ℕ,
+  ◌+◌,
+  Bool,
+  true,
+  false,
+  not,
+  ◌&&◌,
+  ◌||◌,
+  ◌==◌,
+  nat_lt,
+  List,
+  ◌++◌,
+  length,
+  Option,
+  Some,
+  None,
+  is_some,
+  is_none,
+  bytes_eq,
+}
 use Rattle.rd_base.specs.declared.peers.Peer.{Peer}
 use Rattle.rd_base.specs.declared.parameters.RegParams.{RegParams}
 use Rattle.message_model.specs.declared.blocks.Block.{Block}
@@ -20,11 +41,13 @@ abbrev pub block_said : Option (List ℕ) → Option Block
 block_said None = None
 block_said (Some value) = block_read value
 
--- the response has the token of a request and, where it is piggybacked, its Message ID (RFC 7252 section 5.3.2)
+-- the response has the token of a request and, where it is piggybacked, its Message ID (RFC 7252
+-- section 5.3.2)
 abbrev pub has_names_of : Message → List ℕ → ℕ → Bool
 has_names_of m token mid = bytes_eq m.token token && has_mid_of m.kind m.mid mid
 
--- the response ends a fetch with this tag of the first block, where one came, and with so much collected: the endings of the definition
+-- the response ends a fetch with this tag of the first block, where one came, and with so much
+-- collected: the endings of the definition
 abbrev pub ends_by : Message → Option (Option (List ℕ)) → ℕ → Bool
 ends_by m first size =
     not (m.code == codes_of.content)
@@ -43,9 +66,11 @@ block_after b = record { num = b.num + 1; more = false; szx = b.szx }
 abbrev pub request_after : ℕ → List ℕ → Block → List ℕ
 request_after mid token b = spelling (fetch_request mid token (Some (block_after b)))
 
--- what comes of a block that is collected: where more follow, the next one is asked for under a Message ID, and else the body is whole
+-- what comes of a block that is collected: where more follow, the next one is asked for under a
+-- Message ID, and else the body is whole
 abbrev pub heard_part : Bool → Block → ℕ → Peer → List ℕ → RegParams → List ℕ → Heard
-heard_part true b mid peer token params body = heard.Next (record { peer = peer; bytes = request_after mid token b })
+heard_part true b mid peer token params body =
+    heard.Next (record { peer = peer; bytes = request_after mid token b })
 heard_part false b mid peer token params body = heard.Whole params body
 
 -- a response that is no block has the whole body

@@ -1,5 +1,19 @@
 -- A fetch that runs: what a response says of it, what is due of its request, and how it changes.
-use Rattle.std.specs.Prelude.{ℕ, ◌+◌, Bool, true, false, nat_lt, List, ◌++◌, length, Option, Some, None, if◌then◌else◌}
+use Rattle.std.specs.Prelude.{
+  ℕ,
+  ◌+◌,
+  Bool,
+  true,
+  false,
+  nat_lt,
+  List,
+  ◌++◌,
+  length,
+  Option,
+  Some,
+  None,
+  if◌then◌else◌,
+}
 use Rattle.message_model.specs.declared.blocks.Block.{Block}
 use Rattle.message_model.specs.Message.{Message}
 use Rattle.event_model.specs.Flights.{Retransmission, Sent, first_wait}
@@ -9,7 +23,13 @@ use Rattle.exchange_core.specs.declared.resends.Again.{Again}
 use Rattle.exchange_core.specs.declared.resends.Again.TheVariants as again
 use Rattle.exchange_core.specs.Retransmissions.{kept_due, kept_after}
 use Rattle.simple_registration.specs.declared.hearing.Heard.{Heard}
-use Rattle.simple_registration.specs.Responses.{has_names_of, ends_by, request_after, heard_block, heard_by}
+use Rattle.simple_registration.specs.Responses.{
+  has_names_of,
+  ends_by,
+  request_after,
+  heard_block,
+  heard_by,
+}
 
 -- a response is to its last request
 abbrev pub is_answered_by : Message → Fetch → Bool
@@ -28,7 +48,11 @@ first_tag (Some first) tag = Some first
 
 -- a request that is sent at a moment, in a row with a word
 abbrev pub sent_first : ℕ → ℕ → ℕ → List ℕ → Sent
-sent_first now word mid octets = record { mid = mid; octets = octets; resend = record { sent = now; wait = first_wait word; again = 0 } }
+sent_first now word mid octets = record {
+  mid = mid;
+  octets = octets;
+  resend = record { sent = now; wait = first_wait word; again = 0 };
+}
 
 -- with a block more
 abbrev pub with_block : List ℕ → Option (List ℕ) → Fetch → Fetch
@@ -36,17 +60,25 @@ with_block octets tag f = record f { body = f.body ++ octets; tag = first_tag f.
 
 -- with another request
 abbrev pub with_request : ℕ → ℕ → ℕ → ℕ → List ℕ → Fetch → Fetch
-with_request number now word mid octets f = record f { number = number; asked = now; waits = sent_first now word mid octets; acknowledged = false }
+with_request number now word mid octets f = record f {
+  number = number;
+  asked = now;
+  waits = sent_first now word mid octets;
+  acknowledged = false;
+}
 
 -- with the block of a response, and the request for the next
 abbrev pub with_next : ℕ → ℕ → ℕ → Message → Block → Fetch → Fetch
-with_next now word mid m b f = with_request (b.num + 1) now word mid (request_after mid f.token b) (with_block m.payload (tag_in m) f)
+with_next now word mid m b f =
+    with_request (b.num + 1) now word mid (request_after mid f.token b)
+    (with_block m.payload (tag_in m) f)
 
 -- with its request acknowledged
 abbrev pub awaiting : Fetch → Fetch
 awaiting f = record f { acknowledged = true }
 
--- what is due at a moment of a fetch whose response comes apart: nothing until it has waited as long as it may
+-- what is due at a moment of a fetch whose response comes apart: nothing until it has waited as
+-- long as it may
 abbrev pub due_apart : ℕ → Fetch → Again
 due_apart now f = if nat_lt now (f.asked + response_wait) then again.Wait else again.GaveUp
 
@@ -56,4 +88,8 @@ due_of now f = if f.acknowledged then due_apart now f else kept_due now f.waits.
 
 -- what is left of it after that
 abbrev pub after_due : Again → ℕ → Fetch → Fetch
-after_due due now f = record f { waits = record { mid = f.waits.mid; octets = f.waits.octets; resend = kept_after due now f.waits.resend } }
+after_due due now f = record f {
+  waits =
+      record
+      { mid = f.waits.mid; octets = f.waits.octets; resend = kept_after due now f.waits.resend };
+}

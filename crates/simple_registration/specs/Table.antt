@@ -8,7 +8,8 @@ use Rattle.simple_registration.specs.declared.hearing.Heard.{Heard}
 use Rattle.simple_registration.specs.declared.hearing.Heard.TheVariants as heard
 use Rattle.simple_registration.specs.Running.{is_answered_by}
 
--- what a table of fetches shows: the fetches that run, in the order in which they started, and how many were started, as 64 bits count
+-- what a table of fetches shows: the fetches that run, in the order in which they started, and how
+-- many were started, as 64 bits count
 pub record Table : Type 0 where
   pub fetches : List Fetch
   pub started : ℕ

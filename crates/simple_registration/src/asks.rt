@@ -1,14 +1,14 @@
 //! The request of a fetch: a confirmable GET of /.well-known/core (RFC 9176 section 5.1).
 ghost use Rattle.std.specs.Prelude.{◌≡◌, ◌≤◌, ◌<◌, [], length, None, IfOk};
 ghost use Rattle.message_model.specs.Codes as codes_of;
-ghost use Rattle.message_model.specs.Message.{longest_token, last_number, longest_value, end_number};
+ghost use Rattle.message_model.specs.Message.{last_number, longest_value, end_number};
 ghost use Rattle.message_model.specs.Blocks.{IsBlock};
 ghost use Rattle.message_model.specs.Spelling.{spelling};
 ghost use Rattle.coap_message.specs.PartialMessages.{longest_datagram, with_last_option};
 ghost use Rattle.journal_model.specs.Commits.{fetch_request};
 
 use block_wise::{Block, block_write};
-use coap_message::{Kind4, TooLong, Writer};
+use coap_message::{Kind4, TokenRef, TooLong, Writer};
 use rd_base::{Bytes, Peer, Starved};
 use std::alloc::Global;
 
@@ -37,7 +37,8 @@ fn put_option(request: &mut Writer, number: u32, value: &[u8])
     requires ascends { end_number 0 request.old.options ≤ number }
     requires number { number ≤ last_number }
     requires value { length value.now ≤ longest_value }
-    requires short { length (spelling (with_last_option request.old (number, value.now))) ≤ longest_datagram }
+    requires short { length (spelling (with_last_option request.old (number, value.now)))
+        ≤ longest_datagram }
     ensures { request.new ≡ with_last_option request.old (number, value.now) }
 {
     match request.option(number, value) {
@@ -46,10 +47,9 @@ fn put_option(request: &mut Writer, number: u32, value: &[u8])
     }
 }
 
-/// The GET of /.well-known/core under a Message ID and a token, which has at most eight octets.
-fn core_request(mid: u16, token: &[u8]) -> Writer
-    requires { length token.now ≤ longest_token }
-    ensures { result ≡ fetch_request mid token.now None }
+/// The GET of /.well-known/core under a Message ID and a token.
+fn core_request(mid: u16, token: TokenRef<'_>) -> Writer
+    ensures { result ≡ fetch_request mid token.entry.octets.now None }
 {
     let mut request = Writer::start(Kind4::Con, GET, mid, token);
     put_option(&mut request, URI_PATH, b".well-known");
@@ -74,11 +74,12 @@ fn datagram_of(alloc: Global, mut request: Writer) -> Result<Bytes, Starved>
     }
 }
 
-/// The datagram of the first request of a fetch, which has no other option than its path (RFC 9176 section 5.1).
+/// The datagram of the first request of a fetch, which has no other option than its path (RFC 9176
+/// section 5.1).
 /// `Starved`: out of memory.
-pub(crate) fn first_request(alloc: Global, mid: u16, token: &[u8]) -> Result<Bytes, Starved>
-    requires { length token.now ≤ longest_token }
-    ensures spelled { IfOk result (λ bytes. bytes ≡ spelling (fetch_request mid token.now None)) }
+pub(crate) fn first_request(alloc: Global, mid: u16, token: TokenRef<'_>) -> Result<Bytes, Starved>
+    ensures spelled { IfOk result (λ bytes. bytes
+        ≡ spelling (fetch_request mid token.entry.octets.now None)) }
     ensures some { IfOk result (λ bytes. 0 < length bytes) }
 {
     datagram_of(alloc, core_request(mid, token))
@@ -88,12 +89,12 @@ pub(crate) fn first_request(alloc: Global, mid: u16, token: &[u8]) -> Result<Byt
 pub(crate) fn request_for(
     alloc: Global,
     mid: u16,
-    token: &[u8],
+    token: TokenRef<'_>,
     block: &Block,
 ) -> Result<Bytes, Starved>
-    requires token { length token.now ≤ longest_token }
     requires block { IsBlock block.now }
-    ensures spelled { IfOk result (λ bytes. bytes ≡ spelling (fetch_request mid token.now (Some block.now))) }
+    ensures spelled { IfOk result (λ bytes. bytes
+        ≡ spelling (fetch_request mid token.entry.octets.now (Some block.now))) }
     ensures some { IfOk result (λ bytes. 0 < length bytes) }
 {
     let mut value = [0u8; 3];

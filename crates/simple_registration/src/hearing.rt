@@ -9,7 +9,8 @@ pub enum Heard {
     Passed,
     /// Its block is collected, and the next one is asked for.
     Next(Ask),
-    /// It completes the body, which is to be registered with these parameters. The fetch is still there.
+    /// It completes the body, which is to be registered with these parameters. The fetch is still
+    /// there.
     Whole(RegParams, Bytes),
     /// It ends the fetch without a registration.
     Ended,

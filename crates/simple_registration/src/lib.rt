@@ -1,4 +1,5 @@
-//! Simple registration: the directory fetches the links of a device itself, block by block (RFC 9176 section 5.1).
+//! Simple registration: the directory fetches the links of a device itself, block by block (RFC
+//! 9176 section 5.1).
 #![tactic(auto)]
 
 mod asks;

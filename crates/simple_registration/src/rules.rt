@@ -4,7 +4,6 @@ ghost use Rattle.std.specs.Option.{ForSome};
 ghost use Rattle.message_model.specs.Blocks.{IsBlock};
 ghost use Rattle.message_model.specs.Refusals as refusals;
 ghost use Rattle.coap_message.specs.Views.{message_in};
-ghost use Rattle.coap_options.specs.Meanings.{IsMeaning};
 ghost use Rattle.journal_model.specs.Responses as responses;
 ghost use Rattle.simple_registration.specs.Responses.{has_names_of, block_said};
 
@@ -16,11 +15,12 @@ use coap_options::{Meaning, etags};
 /// The format of link documents (RFC 7252 section 12.3).
 const LINK_FORMAT: u16 = 40;
 
-/// Whether a message has a token and, where it is an acknowledgement, a Message ID (RFC 7252 section 5.3.2).
+/// Whether a message has a token and, where it is an acknowledgement, a Message ID (RFC 7252
+/// section 5.3.2).
 pub(crate) fn has_names_of(view: &View<'_>, token: &[u8], mid: u16) -> bool
     ensures { result ≡ has_names_of (message_in view.now) token.now mid }
 {
-    if view.token != token {
+    if view.token.octets != token {
         return false;
     }
     match view.kind {
@@ -29,7 +29,8 @@ pub(crate) fn has_names_of(view: &View<'_>, token: &[u8], mid: u16) -> bool
     }
 }
 
-/// The block that a Block2 option says; none where there is no such option, or it has the reserved exponent.
+/// The block that a Block2 option says; none where there is no such option, or it has the reserved
+/// exponent.
 fn block_of(value: Option<&[u8]>) -> Option<Block>
     requires { ForSome value (λ v. length v.now ≤ 3) }
     ensures value { result ≡ block_said (option_map (λ v. v.now) value.entry) }
@@ -43,7 +44,6 @@ fn block_of(value: Option<&[u8]>) -> Option<Block>
 
 /// The block that a response is, where it is one.
 pub(crate) fn block_in(meaning: &Meaning<'_>) -> Option<Block>
-    requires { IsMeaning (message_in meaning.now.view) meaning.now }
     ensures value { result ≡ responses.block_in (message_in meaning.now.view) }
     ensures sound { IfSome result (λ b. IsBlock b) }
 {
@@ -89,9 +89,11 @@ fn first_etag<'a>(meaning: &Meaning<'a>) -> Option<&'a [u8]>
     etags(meaning).next()
 }
 
-/// The entity tag of a response: the first that is recognized, of at most eight octets (RFC 7252 section 5.10.6).
+/// The entity tag of a response: the first that is recognized, of at most eight octets (RFC 7252
+/// section 5.10.6).
 pub(crate) fn tag_in<'a>(meaning: &Meaning<'a>) -> Option<&'a [u8]>
-    ensures value { option_map (λ tag. tag.now) result ≡ responses.tag_in (message_in meaning.now.view) }
+    ensures value { option_map (λ tag. tag.now) result
+        ≡ responses.tag_in (message_in meaning.now.view) }
     ensures short { IfSome result (λ tag. length tag.now ≤ 8) }
 {
     first_etag(meaning)

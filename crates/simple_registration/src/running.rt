@@ -1,11 +1,11 @@
 //! A fetch that runs.
-ghost use Rattle.std.specs.Prelude.{◌≡◌, ◌≢◌, ◌≤◌, ◌<◌, ◌+◌, ◌++◌, ◌==◌, length, IfOk, OnOk, OnErr, option_map, Some, false};
+ghost use Rattle.std.specs.Prelude.{◌≡◌, ◌≢◌, ◌≤◌, ◌<◌, ◌+◌, ◌++◌, ◌==◌, length, IfOk, OnOk, OnErr};
+ghost use Rattle.std.specs.Prelude.{option_map, Some, false};
 ghost use Rattle.std.specs.Option.{ForSome};
 ghost use Rattle.rd_base.specs.declared.peers.Peer.{Peer};
 ghost use Rattle.message_model.specs.Blocks.{IsBlock};
 ghost use Rattle.message_model.specs.Spelling.{spelling};
 ghost use Rattle.coap_message.specs.Views.{message_in};
-ghost use Rattle.coap_options.specs.Meanings.{IsMeaning};
 ghost use Rattle.event_model.specs.Same.{is_same_peer};
 ghost use Rattle.event_model.specs.Uploads.{max_body};
 ghost use Rattle.journal_model.specs.Commits.{fetch_request};
@@ -20,7 +20,7 @@ use crate::rules::{
     block_in, has_names_of, is_cut_short, is_elsewhere, is_other_format, is_other_tag, tag_in,
 };
 use block_wise::Block;
-use coap_message::View;
+use coap_message::{TokenRef, View};
 use coap_options::Meaning;
 use exchange_core::{Again, Octets, Resend, Sent, Token};
 use rd_base::{Bytes, Moment, Peer, RegParams, Starved};
@@ -30,7 +30,8 @@ use std::marker::Model;
 /// The most octets of a body.
 const MAX_BODY: usize = 8_192;
 
-/// How long a fetch waits for a response that comes apart, in milliseconds (RFC 7252 section 4.8.2, MAX_TRANSMIT_WAIT).
+/// How long a fetch waits for a response that comes apart, in milliseconds (RFC 7252 section 4.8.2,
+/// MAX_TRANSMIT_WAIT).
 const RESPONSE_WAIT: u64 = 93_000;
 
 /// The code of a response with content, 2.05 (RFC 7252 section 5.9.1.5).
@@ -130,7 +131,10 @@ impl Fetch {
         ensures fetch { IfOk result (λ x. x.0 ≡ fetch_started now.0 word mid peer token params) }
         ensures ask { IfOk result (λ x. x.1 ≡ first_ask mid peer token) }
     {
-        let kept = first_request(alloc, mid, token.as_slice())?;
+        let named = TokenRef {
+            octets: token.as_slice(),
+        };
+        let kept = first_request(alloc, mid, named)?;
         let bytes = Bytes::copy_of(alloc, kept.as_slice())?;
         let fetch = Fetch {
             peer,
@@ -175,7 +179,8 @@ impl Fetch {
         self.waits.bytes.as_slice()
     }
 
-    /// Whether a message is a response to its last request, by its token and, where it is an acknowledgement, its Message ID.
+    /// Whether a message is a response to its last request, by its token and, where it is an
+    /// acknowledgement, its Message ID.
     pub(crate) fn is_answered_by(&self, view: &View<'_>) -> bool
         ensures { result ≡ running.is_answered_by (message_in view.now) self.now }
     {
@@ -192,7 +197,8 @@ impl Fetch {
     /// What is due of it now. A retransmission counts as made now.
     pub(crate) fn timeout(&mut self, now: Moment) -> Again
         ensures due { result ≡ running.due_of now.0 self.old }
-        ensures after { self.new ≡ running.after_due (running.due_of now.0 self.old) now.0 self.old }
+        ensures after { self.new
+            ≡ running.after_due (running.due_of now.0 self.old) now.0 self.old }
     {
         if !self.acknowledged {
             return self.waits.resend.at_tick(now);
@@ -205,10 +211,10 @@ impl Fetch {
 
     /// Whether a response ends it without a registration.
     fn is_ended_by(&self, meaning: &Meaning<'_>, block: &Option<Block>) -> bool
-        requires meaning { IsMeaning (message_in meaning.now.view) meaning.now }
         requires block { block.now ≡ responses.block_in (message_in meaning.now.view) }
         requires sound { ForSome block.now (λ b. IsBlock b) }
-        ensures { result ≡ ends_by (message_in meaning.now.view) self.now.tag (length self.now.body) }
+        ensures { result
+            ≡ ends_by (message_in meaning.now.view) self.now.tag (length self.now.body) }
     {
         let size = meaning.view.payload.len();
         if meaning.view.code != CONTENT {
@@ -232,7 +238,8 @@ impl Fetch {
         MAX_BODY - self.body.len() < size
     }
 
-    /// Collects the block of a response and asks for the next. `Starved`: out of memory, and all is as before.
+    /// Collects the block of a response and asks for the next. `Starved`: out of memory, and all is
+    /// as before.
     fn ask_next(
         &mut self,
         alloc: Global,
@@ -242,12 +249,19 @@ impl Fetch {
         meaning: &Meaning<'_>,
         block: &Block,
     ) -> Result<Ask, Starved>
-        requires meaning { IsMeaning (message_in meaning.now.view) meaning.now }
         requires block { IsBlock block.now }
         requires here { responses.is_elsewhere (Some block.now) (length self.old.body) ≡ false }
         requires fits { length self.old.body + length meaning.now.view.payload.now ≤ max_body }
-        ensures ask { IfOk result (λ ask. ask ≡ record { peer = self.old.peer; bytes = request_after mid self.old.token block.now }) }
-        ensures next { OnOk result (self.new ≡ running.with_next now.0 word mid (message_in meaning.now.view) block.now self.old) }
+        ensures ask { IfOk result (λ ask.
+            ask
+            ≡ record {
+              peer = self.old.peer;
+              bytes = request_after mid self.old.token
+                  block.now;
+            }) }
+        ensures next { OnOk result (self.new
+            ≡ running.with_next now.0 word mid (message_in meaning.now.view) block.now
+            self.old) }
         ensures kept { OnErr result (self.new ≡ self.old) }
     {
         let next = Block {
@@ -255,7 +269,10 @@ impl Fetch {
             more: false,
             szx: block.szx,
         };
-        let kept = request_for(alloc, mid, self.token.as_slice(), &next)?;
+        let token = TokenRef {
+            octets: self.token.as_slice(),
+        };
+        let kept = request_for(alloc, mid, token, &next)?;
         let bytes = Bytes::copy_of(alloc, kept.as_slice())?;
         self.body.append(meaning.view.payload)?;
         self.tag = first_tag(&self.tag, tag_in(meaning));
@@ -269,18 +286,20 @@ impl Fetch {
         })
     }
 
-    /// The whole body, which a response completes, and the parameters of the registration. `Starved`: out of memory.
+    /// The whole body, which a response completes, and the parameters of the registration.
+    /// `Starved`: out of memory.
     fn whole(&self, alloc: Global, payload: &[u8]) -> Result<(RegParams, Bytes), Starved>
         ensures params { IfOk result (λ x. x.0 ≡ self.now.params) }
         ensures body { IfOk result (λ x. x.1 ≡ self.now.body ++ payload.now) }
     {
-        let params = self.params.copy(alloc)?;
+        let params = self.params.clone()?;
         let mut body = Bytes::copy_of(alloc, self.body.as_slice())?;
         body.append(payload)?;
         Ok((params, body))
     }
 
-    /// What comes of a response to its last request, with the Message ID of a further request. Where that is not asked for, all is as before.
+    /// What comes of a response to its last request, with the Message ID of a further request.
+    /// Where that is not asked for, all is as before.
     pub(crate) fn hear(
         &mut self,
         alloc: Global,
@@ -289,9 +308,10 @@ impl Fetch {
         mid: u16,
         meaning: &Meaning<'_>,
     ) -> Heard
-        requires { IsMeaning (message_in meaning.now.view) meaning.now }
-        ensures answer { result ≢ Heard.Starved → result ≡ running.heard_of mid (message_in meaning.now.view) self.old }
-        ensures left { IsLeftBy result now.0 word mid (message_in meaning.now.view) self.old self.new }
+        ensures answer { result ≢ Heard.Starved
+            → result ≡ running.heard_of mid (message_in meaning.now.view) self.old }
+        ensures left { IsLeftBy result now.0 word mid (message_in meaning.now.view) self.old
+            self.new }
     {
         let block = block_in(meaning);
         if is_elsewhere(&block, self.body.len()) {

@@ -1,11 +1,12 @@
 //! The table of fetches.
-ghost use Rattle.std.specs.Prelude.{◌≡◌, ◌≢◌, ◌+◌, ◌<◌, [], ◌∷◌, true, false, length, List, ◌==◌, IfOk, OnErr, IfSome, is_some, Some, None, slice_get, option_map, find, vec_capacity};
+ghost use Rattle.std.specs.Prelude.{◌≡◌, ◌≢◌, ◌+◌, ◌<◌, [], ◌∷◌, true, false, length, List, ◌==◌};
+ghost use Rattle.std.specs.Prelude.{IfOk, OnErr, IfSome, is_some, Some, None, slice_get};
+ghost use Rattle.std.specs.Prelude.{option_map, find, vec_capacity};
 ghost use Rattle.std.specs.List.{position};
 ghost use Rattle.rd_base.specs.declared.peers.Peer.{Peer};
 ghost use Rattle.message_model.specs.declared.blocks.Block.{Block};
 ghost use Rattle.message_model.specs.Spelling.{spelling};
 ghost use Rattle.coap_message.specs.Views.{message_in};
-ghost use Rattle.coap_options.specs.Meanings.{IsMeaning};
 ghost use Rattle.event_model.specs.declared.notes.Note.TheVariants as note;
 ghost use Rattle.event_model.specs.Events.{Event};
 ghost use Rattle.event_model.specs.Flights.{OctetsSent};
@@ -15,7 +16,9 @@ ghost use Rattle.journal_model.specs.Responses.{request_of, block_in, tag_in};
 ghost use Rattle.journal_model.specs.EmptyMessages.{is_last_request};
 ghost use Rattle.rd_base.specs.Firsts.{without_first};
 ghost use Rattle.simple_registration.specs.Table.{is_of, some_passes, belongs_among, IsKeptAfter};
-ghost use Rattle.simple_registration.specs.FetchEvents.{FetchesStandFor, start_refusal, IsRefusedAs, belongs_after, heard_after, fetch_due};
+ghost use Rattle.simple_registration.specs.FetchEvents.{FetchesStandFor, start_refusal};
+ghost use Rattle.simple_registration.specs.FetchEvents.{IsRefusedAs, belongs_after, heard_after};
+ghost use Rattle.simple_registration.specs.FetchEvents.{fetch_due};
 
 use crate::running::Fetch;
 use crate::{Ask, Heard, StartFault};
@@ -29,7 +32,8 @@ use std::marker::Model;
 /// The most fetches that run.
 const MAX_FETCHES: usize = 64;
 
-/// The fetches that run, at most one of a peer and 64 in all, and how many were started (RFC 9176 section 5.1).
+/// The fetches that run, at most one of a peer and 64 in all, and how many were started (RFC 9176
+/// section 5.1).
 #[derive(Debug, Drop)]
 pub struct Fetches {
     /// The fetches, in the order in which they started.
@@ -58,9 +62,11 @@ impl Fetches {
         Ok(Fetches { rows, started: 0 })
     }
 
-    /// Starts a fetch of a peer's links, and gives its first GET, under this Message ID. The first wait is made from the word.
+    /// Starts a fetch of a peer's links, and gives its first GET, under this Message ID. The first
+    /// wait is made from the word.
     ///
-    /// `Fetching`: a fetch of this peer runs. `FullFetches`: none does, and 64 others run. `Starved`: out of memory.
+    /// `Fetching`: a fetch of this peer runs. `FullFetches`: none does, and 64 others run.
+    /// `Starved`: out of memory.
     pub fn start(
         &mut self,
         alloc: Global,
@@ -70,12 +76,26 @@ impl Fetches {
         peer: Peer,
         params: RegParams,
     ) -> Result<Ask, StartFault>
-        ensures refused { (octets : OctetsSent) (events : List Event) → FetchesStandFor octets events self.old → IsRefusedAs result (start_refusal peer events) }
-        ensures ask { (octets : OctetsSent) (events : List Event) → FetchesStandFor octets events self.old
-            → IfOk result (λ ask. ask ≡ record { peer = peer; bytes = spelling (fetch_request mid (next_token events) None) }) }
-        ensures started { (octets : OctetsSent) (events : List Event) (e : Event) → FetchesStandFor octets events self.old
-            → e.note ≡ note.Asked peer (next_token events) mid params 0 → e.moment ≡ now.0 → e.word ≡ word
-            → IfOk result (λ ask. octets e.place peer mid ≡ ask.bytes → FetchesStandFor octets (e ∷ events) self.new) }
+        ensures refused { (octets : OctetsSent) (events : List Event)
+            → FetchesStandFor octets events self.old
+            → IsRefusedAs result (start_refusal peer events) }
+        ensures ask { (octets : OctetsSent) (events : List Event)
+            → FetchesStandFor octets events self.old
+            → IfOk result (λ ask.
+            ask
+            ≡ record {
+              peer = peer;
+              bytes = spelling
+                  (fetch_request mid (next_token events) None);
+            }) }
+        ensures started { (octets : OctetsSent) (events : List Event) (e : Event)
+            → FetchesStandFor octets events self.old
+            → e.note ≡ note.Asked peer (next_token events) mid params 0
+            → e.moment ≡ now.0
+            → e.word ≡ word
+            → IfOk result (λ ask.
+            octets e.place peer mid ≡ ask.bytes
+            → FetchesStandFor octets (e ∷ events) self.new) }
         ensures kept { OnErr result (self.new ≡ self.old) }
     {
         if index_of(&self.rows, &peer).is_some() {
@@ -92,11 +112,13 @@ impl Fetches {
         Ok(ask)
     }
 
-    /// Whether a response belongs to the fetch of a peer: it has the token and, where it is an acknowledgement, the Message ID of the last GET
-    /// (RFC 7252 section 5.3.2).
+    /// Whether a response belongs to the fetch of a peer: it has the token and, where it is an
+    /// acknowledgement, the Message ID of the last GET (RFC 7252 section 5.3.2).
     pub fn belongs(&self, peer: &Peer, view: &View<'_>) -> bool
         ensures table { result ≡ belongs_among peer.now (message_in view.now) self.now.fetches }
-        ensures events { (octets : OctetsSent) (events : List Event) → FetchesStandFor octets events self.now → result ≡ belongs_after peer.now (message_in view.now) events }
+        ensures events { (octets : OctetsSent) (events : List Event)
+            → FetchesStandFor octets events self.now
+            → result ≡ belongs_after peer.now (message_in view.now) events }
     {
         match fetch_of(&self.rows, peer) {
             Some(fetch) => fetch.is_answered_by(view),
@@ -104,8 +126,9 @@ impl Fetches {
         }
     }
 
-    /// What comes of a response that belongs to the fetch of a peer (RFC 9176 section 5.1, RFC 7959 section 2.4). A further GET has this Message ID,
-    /// and its first wait is made from the word. `Ended` takes the fetch out. After `Passed`, `Whole` and `Starved` all is as before.
+    /// What comes of a response that belongs to the fetch of a peer (RFC 9176 section 5.1, RFC 7959
+    /// section 2.4). A further GET has this Message ID, and its first wait is made from the word.
+    /// `Ended` takes the fetch out. After `Passed`, `Whole` and `Starved` all is as before.
     pub fn response(
         &mut self,
         alloc: Global,
@@ -115,16 +138,31 @@ impl Fetches {
         peer: Peer,
         meaning: &Meaning<'_>,
     ) -> Heard
-        requires meaning { IsMeaning (message_in meaning.now.view) meaning.now }
-        requires belongs { belongs_among peer (message_in meaning.now.view) self.old.fetches ≡ true }
-        ensures answer { (octets : OctetsSent) (events : List Event) (request : Request) → FetchesStandFor octets events self.old
-            → request_of (last_request peer events) ≡ Some request → result ≢ Heard.Starved → result ≡ heard_after mid peer (message_in meaning.now.view) request events }
-        ensures next { (octets : OctetsSent) (events : List Event) (request : Request) (block : Block) (gathered asked : Event) (ask : Ask) → FetchesStandFor octets events self.old
-            → request_of (last_request peer events) ≡ Some request → block_in (message_in meaning.now.view) ≡ Some block → result ≡ Heard.Next ask
-            → gathered.note ≡ note.Gathered peer meaning.now.view.payload.now (tag_in (message_in meaning.now.view))
-            → asked.note ≡ note.Asked peer request.token mid request.params (block.num + 1) → asked.moment ≡ now.0 → asked.word ≡ word → octets asked.place peer mid ≡ ask.bytes
+        requires belongs { belongs_among peer (message_in meaning.now.view) self.old.fetches
+            ≡ true }
+        ensures answer { (octets : OctetsSent) (events : List Event) (request : Request)
+            → FetchesStandFor octets events self.old
+            → request_of (last_request peer events) ≡ Some request
+            → result ≢ Heard.Starved
+            → result ≡ heard_after mid peer (message_in meaning.now.view) request events }
+        ensures next { (octets : OctetsSent) (events : List Event) (request : Request)
+            (block : Block) (gathered asked : Event) (ask : Ask)
+            → FetchesStandFor octets events self.old
+            → request_of (last_request peer events) ≡ Some request
+            → block_in (message_in meaning.now.view) ≡ Some block
+            → result ≡ Heard.Next ask
+            → gathered.note
+            ≡ note.Gathered peer meaning.now.view.payload.now
+            (tag_in (message_in meaning.now.view))
+            → asked.note ≡ note.Asked peer request.token mid request.params (block.num + 1)
+            → asked.moment ≡ now.0
+            → asked.word ≡ word
+            → octets asked.place peer mid ≡ ask.bytes
             → FetchesStandFor octets (asked ∷ gathered ∷ events) self.new }
-        ensures ended { (octets : OctetsSent) (events : List Event) (e : Event) → FetchesStandFor octets events self.old → result ≡ Heard.Ended → e.note ≡ note.Ceased peer
+        ensures ended { (octets : OctetsSent) (events : List Event) (e : Event)
+            → FetchesStandFor octets events self.old
+            → result ≡ Heard.Ended
+            → e.note ≡ note.Ceased peer
             → FetchesStandFor octets (e ∷ events) self.new }
         ensures kept { IsKeptAfter result self.old self.new }
     {
@@ -141,16 +179,25 @@ impl Fetches {
 
     /// Ends the fetch of a peer, where one runs.
     pub fn end(&mut self, peer: &Peer)
-        ensures { (octets : OctetsSent) (events : List Event) (e : Event) → FetchesStandFor octets events self.old → e.note ≡ note.Ceased peer.now → FetchesStandFor octets (e ∷ events) self.new }
+        ensures { (octets : OctetsSent) (events : List Event) (e : Event)
+            → FetchesStandFor octets events self.old
+            → e.note ≡ note.Ceased peer.now
+            → FetchesStandFor octets (e ∷ events) self.new }
     {
         drop_first(&mut self.rows, peer);
     }
 
-    /// An empty acknowledgement with this Message ID came from a peer. Where it is of the last GET of a fetch of that peer, the fetch waits for a response
-    /// that comes apart (RFC 7252 section 5.2.2). Whether it is.
+    /// An empty acknowledgement with this Message ID came from a peer. Where it is of the last GET
+    /// of a fetch of that peer, the fetch waits for a response that comes apart (RFC 7252 section
+    /// 5.2.2). Whether it is.
     pub fn acked(&mut self, peer: &Peer, mid: u16) -> bool
-        ensures answer { (octets : OctetsSent) (events : List Event) → FetchesStandFor octets events self.old → result ≡ is_last_request peer.now mid events }
-        ensures waiting { (octets : OctetsSent) (events : List Event) (e : Event) → FetchesStandFor octets events self.old → result ≡ true → e.note ≡ note.Waiting peer.now
+        ensures answer { (octets : OctetsSent) (events : List Event)
+            → FetchesStandFor octets events self.old
+            → result ≡ is_last_request peer.now mid events }
+        ensures waiting { (octets : OctetsSent) (events : List Event) (e : Event)
+            → FetchesStandFor octets events self.old
+            → result ≡ true
+            → e.note ≡ note.Waiting peer.now
             → FetchesStandFor octets (e ∷ events) self.new }
         ensures kept { result ≡ false → self.new ≡ self.old }
     {
@@ -161,10 +208,16 @@ impl Fetches {
         true
     }
 
-    /// A Reset with this Message ID came from a peer. Where it is of the last GET of a fetch of that peer, the fetch ends (RFC 7252 section 4.2). Whether it is.
+    /// A Reset with this Message ID came from a peer. Where it is of the last GET of a fetch of
+    /// that peer, the fetch ends (RFC 7252 section 4.2). Whether it is.
     pub fn reset(&mut self, peer: &Peer, mid: u16) -> bool
-        ensures answer { (octets : OctetsSent) (events : List Event) → FetchesStandFor octets events self.old → result ≡ is_last_request peer.now mid events }
-        ensures ended { (octets : OctetsSent) (events : List Event) (e : Event) → FetchesStandFor octets events self.old → result ≡ true → e.note ≡ note.Ceased peer.now
+        ensures answer { (octets : OctetsSent) (events : List Event)
+            → FetchesStandFor octets events self.old
+            → result ≡ is_last_request peer.now mid events }
+        ensures ended { (octets : OctetsSent) (events : List Event) (e : Event)
+            → FetchesStandFor octets events self.old
+            → result ≡ true
+            → e.note ≡ note.Ceased peer.now
             → FetchesStandFor octets (e ∷ events) self.new }
         ensures kept { result ≡ false → self.new ≡ self.old }
     {
@@ -175,13 +228,21 @@ impl Fetches {
         true
     }
 
-    /// What is due now of the fetch at an index, which is in range (RFC 7252 section 4.2). A retransmission counts as made now. `GaveUp` leaves the fetch.
+    /// What is due now of the fetch at an index, which is in range (RFC 7252 section 4.2). A
+    /// retransmission counts as made now. `GaveUp` leaves the fetch.
     pub fn timeout(&mut self, now: Moment, index: usize) -> Again
         requires { index < length self.old.fetches }
-        ensures answer { (octets : OctetsSent) (events : List Event) (peer : Peer) (e : Event) → FetchesStandFor octets events self.old → slice_get (fetches events) index ≡ Some peer
+        ensures answer { (octets : OctetsSent) (events : List Event) (peer : Peer) (e : Event)
+            → FetchesStandFor octets events self.old
+            → slice_get (fetches events) index ≡ Some peer
             → last_request peer events ≡ Some e → result ≡ fetch_due now.0 peer e events }
-        ensures resent { (octets : OctetsSent) (events : List Event) (peer : Peer) (e : Event) → FetchesStandFor octets events self.old → slice_get (fetches events) index ≡ Some peer
-            → result ≡ Again.Send → e.note ≡ note.Resent peer → e.moment ≡ now.0 → FetchesStandFor octets (e ∷ events) self.new }
+        ensures resent { (octets : OctetsSent) (events : List Event) (peer : Peer) (e : Event)
+            → FetchesStandFor octets events self.old
+            → slice_get (fetches events) index ≡ Some peer
+            → result ≡ Again.Send
+            → e.note ≡ note.Resent peer
+            → e.moment ≡ now.0
+            → FetchesStandFor octets (e ∷ events) self.new }
         ensures kept { result ≢ Again.Send → self.new ≡ self.old }
     {
         self.rows[index].timeout(now)
@@ -200,7 +261,8 @@ impl Fetches {
     /// The last GET of the fetch at an index, which is in range, as it was sent.
     pub fn sent(&self, index: usize) -> &[u8]
         requires { index < length self.now.fetches }
-        ensures octets { option_map (λ f. f.waits.octets) (slice_get self.now.fetches index) ≡ Some result.now }
+        ensures octets { option_map (λ f. f.waits.octets) (slice_get self.now.fetches index)
+            ≡ Some result.now }
         ensures some { 0 < length result.now }
     {
         self.rows[index].request()
@@ -224,7 +286,8 @@ fn index_of(rows: &Vec<Fetch>, peer: &Peer) -> Option<usize>
 /// The index of the fetch of a peer, where its last request has this Message ID.
 fn index_of_request(rows: &Vec<Fetch>, peer: &Peer, mid: u16) -> Option<usize>
     ensures index { IfSome result (λ i. position (is_of peer.now) rows.now.items ≡ Some i) }
-    ensures answer { is_some result ≡ some_passes (λ f. f.waits.mid == mid) (find (is_of peer.now) rows.now.items) }
+    ensures answer { is_some result
+        ≡ some_passes (λ f. f.waits.mid == mid) (find (is_of peer.now) rows.now.items) }
 {
     let Some(index) = index_of(rows, peer) else {
         return None;

@@ -1,5 +1,18 @@
 -- How traces and what is written of them are spelled out in examples.
-use Rattle.std.specs.Prelude.{ℕ, Bool, List, [], ◌∷◌, ◌++◌, map, reverse, flat_map, replicate, Some, None}
+use Rattle.std.specs.Prelude.{
+  ℕ,
+  Bool,
+  List,
+  [],
+  ◌∷◌,
+  ◌++◌,
+  map,
+  reverse,
+  flat_map,
+  replicate,
+  Some,
+  None,
+}
 use Rattle.line_model.specs.declared.lines.Reason.{Reason}
 use Rattle.journal_model.specs.declared.rows.Row.{Row}
 use Rattle.event_model.specs.Due.{Watching, observers_standing}
@@ -18,7 +31,10 @@ writes texts = record { text = lines texts; bad = None }
 
 -- these lines are written before the first bad line
 abbrev pub stops_at : ℕ → Reason → List (List ℕ) → Output
-stops_at number why texts = record { text = lines texts; bad = Some (record { line = number; why = why }) }
+stops_at number why texts = record {
+  text = lines texts;
+  bad = Some (record { line = number; why = why });
+}
 
 -- digits many times
 abbrev pub many : ℕ → List ℕ → List ℕ

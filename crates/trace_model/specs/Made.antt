@@ -20,10 +20,13 @@ made_line lines = ended (codes "made " ++ decimal lines)
 
 -- how many datagrams were sent, and how many octets they have together
 abbrev pub sent_line : List (Peer × List ℕ) → List ℕ
-sent_line sent = ended (codes "sent " ++ (decimal (length sent) ++ (codes " " ++ decimal (octets_sent sent))))
+sent_line sent =
+    ended (codes "sent " ++ (decimal (length sent) ++ (codes " " ++ decimal (octets_sent sent))))
 
--- what a make run writes for a number of devices and of workers: the lines that it made, what it sent, and the last line
+-- what a make run writes for a number of devices and of workers: the lines that it made, what it
+-- sent, and the last line
 unfoldable pub made_output : ℕ → ℕ → List ℕ
 made_output devices workers =
     made_line (length (generated_lines devices workers))
-    ++ (sent_line (datagrams (journal workers (generated devices workers))) ++ last_line (journal workers (generated devices workers)))
+    ++ (sent_line (datagrams (journal workers (generated devices workers)))
+    ++ last_line (journal workers (generated devices workers)))

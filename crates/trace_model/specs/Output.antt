@@ -1,5 +1,18 @@
 -- What is written of a trace: a line for each datagram that is sent, and the last line.
-use Rattle.std.specs.Prelude.{ℕ, List, [], ◌∷◌, ◌++◌, length, flat_map, codes, decimal, Option, Some, None}
+use Rattle.std.specs.Prelude.{
+  ℕ,
+  List,
+  [],
+  ◌∷◌,
+  ◌++◌,
+  length,
+  flat_map,
+  codes,
+  decimal,
+  Option,
+  Some,
+  None,
+}
 use Rattle.line_model.specs.declared.lines.LineBad.{LineBad}
 use Rattle.line_model.specs.Lines.{out_text}
 use Rattle.line_model.specs.Texts.{line_feed}
@@ -22,12 +35,13 @@ unfoldable pub text : List Row → List ℕ
 text [] = []
 text (r ∷ before) = text before ++ out_lines r
 
--- the last line: how many changes were accepted, how many registrations are live at the greatest moment that was handed in,
--- and how many observers there are
+-- the last line: how many changes were accepted, how many registrations are live at the greatest
+-- moment that was handed in, and how many observers there are
 unfoldable pub last_line : List Row → List ℕ
 last_line rows =
     ended (codes "end " ++ (decimal (length (entries rows)) ++ (codes " "
-    ++ (decimal (length (live (entries rows) (latest rows))) ++ (codes " " ++ decimal (length (observers (events rows))))))))
+    ++ (decimal (length (live (entries rows) (latest rows)))
+    ++ (codes " " ++ decimal (length (observers (events rows))))))))
 
 -- all that is written of a trace, and the first bad line where there is one
 pub record Output : Type 0 where

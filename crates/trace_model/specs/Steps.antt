@@ -1,5 +1,23 @@
--- The steps of a trace: what each line makes a worker do, up to the first bad line; and the journal that runs them.
-use Rattle.std.specs.Prelude.{ℕ, ◌+◌, Bool, true, false, max, nat_lt, List, [], ◌∷◌, Option, Some, None, Result, Ok, Err}
+-- The steps of a trace: what each line makes a worker do, up to the first bad line; and the journal
+-- that runs them.
+use Rattle.std.specs.Prelude.{
+  ℕ,
+  ◌+◌,
+  Bool,
+  true,
+  false,
+  max,
+  nat_lt,
+  List,
+  [],
+  ◌∷◌,
+  Option,
+  Some,
+  None,
+  Result,
+  Ok,
+  Err,
+}
 use Rattle.rd_base.specs.declared.peers.Host.TheVariants as host
 use Rattle.rd_base.specs.declared.peers.Peer.{Peer}
 use Rattle.line_model.specs.declared.lines.Line.{Line}
@@ -21,7 +39,8 @@ use Rattle.journal_model.specs.Machine.{Job, hearing, job_of, mids_drawn, run, u
 abbrev pub nobody : Peer
 nobody = record { host = host.V4 (0 ∷ 0 ∷ 0 ∷ 0 ∷ []); port = 0 }
 
--- a step of a worker after a journal: the moment handed in is the greatest of that of its line and of those handed in before
+-- a step of a worker after a journal: the moment handed in is the greatest of that of its line and
+-- of those handed in before
 abbrev pub step_after : List Row → StepKind → ℕ → ℕ → ℕ → Peer → List ℕ → Step
 step_after rows kind worker moment word peer datagram = record {
   kind = kind;
@@ -36,18 +55,22 @@ step_after rows kind worker moment word peer datagram = record {
 -- a worker that holds a job can hear nothing
 abbrev pub come_step : Option Job → List Row → ℕ → ℕ → Peer → List ℕ → Result (Option Step) Reason
 come_step (Some job) rows worker moment peer datagram = Err reason.Busy
-come_step None rows worker moment peer datagram = Ok (Some (step_after rows (hearing datagram) worker moment 0 peer datagram))
+come_step None rows worker moment peer datagram =
+    Ok (Some (step_after rows (hearing datagram) worker moment 0 peer datagram))
 
 -- a worker ends the job that it holds, and makes no step where it holds none
 abbrev pub go_step : Option Job → List Row → ℕ → ℕ → Result (Option Step) Reason
-go_step (Some job) rows worker moment = Ok (Some (step_after rows job.kind worker moment 0 job.peer job.datagram))
+go_step (Some job) rows worker moment =
+    Ok (Some (step_after rows job.kind worker moment 0 job.peer job.datagram))
 go_step None rows worker moment = Ok None
 
 -- the step of a line for a worker that there is
 abbrev pub step_of_worker : List Row → Line → Result (Option Step) Reason
-step_of_worker rows (line.Come worker moment peer datagram) = come_step (job_of worker rows) rows worker moment.0 peer datagram
+step_of_worker rows (line.Come worker moment peer datagram) =
+    come_step (job_of worker rows) rows worker moment.0 peer datagram
 step_of_worker rows (line.Go worker moment) = go_step (job_of worker rows) rows worker moment.0
-step_of_worker rows (line.Tick worker moment word) = Ok (Some (step_after rows step.Tick worker moment.0 word nobody []))
+step_of_worker rows (line.Tick worker moment word) =
+    Ok (Some (step_after rows step.Tick worker moment.0 word nobody []))
 
 -- the worker of a line
 abbrev pub worker_of : Line → ℕ
@@ -88,12 +111,13 @@ trace_line number rows later (Err why) = stopped number why
 trace_line number rows later (Ok None) = later rows
 trace_line number rows later (Ok (Some s)) = onto_step s (later (row rows s false ∷ rows))
 
--- what lines say from the one of a number on, where those before it made a journal: from it is known who holds which job,
--- how many Message IDs each worker drew, and the greatest moment
+-- what lines say from the one of a number on, where those before it made a journal: from it is
+-- known who holds which job, how many Message IDs each worker drew, and the greatest moment
 unfoldable pub trace_from : ℕ → ℕ → List Row → List (List ℕ) → Trace
 trace_from workers number rows [] = no_line
 trace_from workers number rows (text ∷ texts) =
-    trace_line number rows (λ more. trace_from workers (number + 1) more texts) (step_of_line workers rows (line_of text))
+    trace_line number rows (λ more. trace_from workers (number + 1) more texts)
+    (step_of_line workers rows (line_of text))
 
 -- what a trace says for a number of workers
 abbrev pub trace_of : ℕ → List ℕ → Trace

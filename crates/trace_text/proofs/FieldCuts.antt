@@ -1,5 +1,27 @@
 -- The fields of a text by the offset of its first space.
-use Rattle.std.proofs.Common.{◌≡◌, ℕ, ◌+◌, ◌≤◌, Bool, true, false, cond, List, [], ◌∷◌, length, take, drop, Some, None, refl, sym, ap, ◌∙◌, arith}
+use Rattle.std.proofs.Common.{
+  ◌≡◌,
+  ℕ,
+  ◌+◌,
+  ◌≤◌,
+  Bool,
+  true,
+  false,
+  cond,
+  List,
+  [],
+  ◌∷◌,
+  length,
+  take,
+  drop,
+  Some,
+  None,
+  refl,
+  sym,
+  ap,
+  ◌∙◌,
+  arith,
+}
 use Rattle.std.specs.Prelude.{◌==◌, position}
 use Rattle.std.specs.List.{position_or_len}
 use Rattle.std.proofs.lemmas.Bool.{ltb-false, ltb-true}
@@ -22,12 +44,16 @@ some_there false i at e = cc
 -- without a space there is one field
 pub one_field : (text : List ℕ) → None ≡ position (λ b. b == space) text → fields text ≡ text ∷ []
 one_field text e =
-    let all : length text ≤ first_space text = ltb-false (first_space text) (length text) (none_there _ (first_space text) e) in
+    let all : length text ≤ first_space text =
+    ltb-false (first_space text) (length text) (none_there _ (first_space text) e) in
     slice_split_none (λ b. b == space) text
-    (All-from_get_or (λ b. (b == space) ≡ false) text 0 λ k h. fails_before_first (λ b. b == space) text k 0 (omega (arith, all, h)))
+    (All-from_get_or (λ b. (b == space) ≡ false) text 0
+    λ k h. fails_before_first (λ b. b == space) text k 0 (omega (arith, all, h)))
 
 -- the field before the first space, and the fields after it
-pub first_field : (text : List ℕ) (at : ℕ) → Some at ≡ position (λ b. b == space) text → fields text ≡ take at text ∷ fields (drop (at + 1) text)
+pub first_field : (text : List ℕ) (at : ℕ)
+    → Some at ≡ position (λ b. b == space) text
+    → fields text ≡ take at text ∷ fields (drop (at + 1) text)
 first_field text at e =
     let there = some_there _ (first_space text) at e in
     slice_split_first (λ b. b == space) text 0 (ltb-true (first_space text) (length text) there.0)

@@ -1,12 +1,46 @@
 -- What fields say, by their number, and that what is said is a line.
-use Rattle.std.proofs.Common.{◌≡◌, ℕ, ◌<◌, ◌≤◌, List, [], ◌∷◌, length, None, Ok, refl, sym, ap, subst, inl, inr, ◌∙◌, arith}
+use Rattle.std.proofs.Common.{
+  ◌≡◌,
+  ℕ,
+  ◌<◌,
+  ◌≤◌,
+  List,
+  [],
+  ◌∷◌,
+  length,
+  None,
+  Ok,
+  refl,
+  sym,
+  ap,
+  subst,
+  inl,
+  inr,
+  ◌∙◌,
+  arith,
+}
 use Rattle.std.proofs.lemmas.List.Splits.{length-slice_split}
 use Rattle.std.specs.Prelude.{◌==◌}
 use Rattle.hex.specs.Hex.{IsBytes}
 use Rattle.hex.proofs.HexLemmas.{decode_of-ok}
 use Rattle.line_model.specs.declared.lines.Line.{Line}
 use Rattle.line_model.specs.Datagrams.{max_datagram, IsDatagramText}
-use Rattle.line_model.specs.Lines.{space, fields, said_by, line_of, line_text, IsLine, come, go, tick, AreFieldsOf, comes, goes, ticks, ticks_alone}
+use Rattle.line_model.specs.Lines.{
+  space,
+  fields,
+  said_by,
+  line_of,
+  line_text,
+  IsLine,
+  come,
+  go,
+  tick,
+  AreFieldsOf,
+  comes,
+  goes,
+  ticks,
+  ticks_alone,
+}
 use Rattle.line_model.proofs.PrintedLines.{line_of-line_text}
 
 module _ (text : List ℕ) where
@@ -16,7 +50,10 @@ module _ (text : List ℕ) where
   one_says_nothing e = ap (λ fs. said_by fs) e
 
   -- two fields
-  pub two_say_nothing : (first rest : List ℕ) → fields text ≡ first ∷ fields rest → fields rest ≡ rest ∷ [] → said_by (fields text) ≡ None
+  pub two_say_nothing : (first rest : List ℕ)
+      → fields text ≡ first ∷ fields rest
+      → fields rest ≡ rest ∷ []
+      → said_by (fields text) ≡ None
   unfolding said_by
   two_say_nothing first rest e h = ap (λ fs. said_by fs) (e ∙ ap (λ fs. first ∷ fs) h)
 
@@ -24,21 +61,36 @@ module _ (text : List ℕ) where
 has_field : (text : List ℕ) → 0 < length (fields text)
 has_field text = omega (arith, length-slice_split (λ b. b == space) text)
 
-six : (a b c d e : List ℕ) (more : List (List ℕ)) → 0 < length more → said_by (a ∷ b ∷ c ∷ d ∷ e ∷ more) ≡ None
+six : (a b c d e : List ℕ) (more : List (List ℕ))
+    → 0 < length more
+    → said_by (a ∷ b ∷ c ∷ d ∷ e ∷ more) ≡ None
 unfolding said_by
 six a b c d e [] h = absurd (omega (arith, h))
 six a b c d e (f ∷ more) h = refl
 
 -- six fields or more
-pub six_say_nothing : (text a text1 b text2 c text3 d text4 e text5 : List ℕ) → fields text ≡ a ∷ fields text1 → fields text1 ≡ b ∷ fields text2 → fields text2 ≡ c ∷ fields text3
-    → fields text3 ≡ d ∷ fields text4 → fields text4 ≡ e ∷ fields text5 → said_by (fields text) ≡ None
+pub six_say_nothing : (text a text1 b text2 c text3 d text4 e text5 : List ℕ)
+    → fields text ≡ a ∷ fields text1
+    → fields text1 ≡ b ∷ fields text2
+    → fields text2 ≡ c ∷ fields text3
+    → fields text3 ≡ d ∷ fields text4
+    → fields text4 ≡ e ∷ fields text5
+    → said_by (fields text) ≡ None
 six_say_nothing text a text1 b text2 c text3 d text4 e text5 ea eb ec ed ee =
-    ap (λ fs. said_by fs) (ea ∙ ap (λ fs. a ∷ fs) (eb ∙ ap (λ fs. b ∷ fs) (ec ∙ ap (λ fs. c ∷ fs) (ed ∙ ap (λ fs. d ∷ fs) ee))))
+    ap (λ fs. said_by fs) (ea
+    ∙ ap (λ fs. a ∷ fs)
+    (eb ∙ ap (λ fs. b ∷ fs) (ec ∙ ap (λ fs. c ∷ fs) (ed ∙ ap (λ fs. d ∷ fs) ee))))
     ∙ six a b c d e (fields text5) (has_field text5)
 
 -- what a text writes is octets, and not too many
-datagram_fits : (text octets : List ℕ) → IsDatagramText text octets → (length octets ≤ max_datagram) × IsBytes octets
-datagram_fits text octets (inl h) = (subst (λ (xs : List ℕ). length xs ≤ max_datagram) (sym h.1) (omega arith), subst IsBytes (sym h.1) (λ k. omega arith))
+datagram_fits : (text octets : List ℕ)
+    → IsDatagramText text octets
+    → (length octets ≤ max_datagram) × IsBytes octets
+datagram_fits text octets (inl h) = (
+  subst (λ (xs : List ℕ). length xs ≤ max_datagram) (sym h.1) (omega arith),
+  subst IsBytes
+      (sym h.1) (λ k. omega arith),
+)
 datagram_fits text octets (inr h) = (h.2, (decode_of-ok text octets h.0).3)
 
 -- what fields spell is a line

@@ -11,7 +11,8 @@ use std::alloc::Global;
 /// The most octets of a datagram.
 const MAX_DATAGRAM: usize = 4096;
 
-/// The datagram that a text writes: `-` for the empty one, or 1 to 4,096 octets in digits of either case. `Starved`: out of memory;
+/// The datagram that a text writes: `-` for the empty one, or 1 to 4,096 octets in digits of either
+/// case. `Starved`: out of memory;
 /// `Form`: it is neither.
 #[tactic(auto, unfolding(line_model::specs::Datagrams::datagram_of))]
 pub fn datagram_read(alloc: Global, text: &[u8]) -> Result<Bytes, FieldFault>

@@ -5,7 +5,8 @@ ghost use Rattle.trace_text.specs.Fields.{fields_of_cut};
 
 /// What stands before the first space, and what stands after it; nothing where there is no space.
 pub fn cut(text: &[u8]) -> Option<(&[u8], &[u8])>
-    ensures { fields text.now ≡ fields_of_cut text.now (option_map (λ p. (p.0.now, p.1.now)) result) }
+    ensures { fields text.now
+        ≡ fields_of_cut text.now (option_map (λ p. (p.0.now, p.1.now)) result) }
 {
     match offset_of_space(text) {
         None => None,

@@ -1,8 +1,10 @@
-//! The trace that is generated for a number of devices: each registers and is served at once, and each tenth is followed by an observer.
-ghost use Rattle.std.specs.Prelude.{◌≡◌, ◌+◌, ◌*◌, ◌%◌, false, ◌<◌, ◌≤◌, [], ◌∷◌, ◌++◌, length, codes, decimal, IfOk, OnOk};
+//! The trace that is generated for a number of devices: each registers and is served at once, and
+//! each tenth is followed by an observer.
+ghost use Rattle.std.specs.Prelude.{◌≡◌, ◌+◌, ◌*◌, ◌%◌, false, ◌<◌, ◌≤◌, [], ◌∷◌, ◌++◌, length};
+ghost use Rattle.std.specs.Prelude.{codes, decimal, IfOk, OnOk};
 ghost use Rattle.std.specs.String.{string_bytes};
 ghost use Rattle.message_model.specs.Codes as codes_of;
-ghost use Rattle.message_model.specs.Message.{longest_token, end_number};
+ghost use Rattle.message_model.specs.Message.{end_number};
 ghost use Rattle.message_model.specs.declared.messages.Kind4.TheVariants as kind;
 ghost use Rattle.message_model.specs.OptionTable as table;
 ghost use Rattle.message_model.specs.Spelling.{spelling};
@@ -13,7 +15,7 @@ ghost use Rattle.line_model.specs.Texts.{line_feed};
 ghost use Rattle.line_model.specs.Generator as generator;
 
 use crate::line_printer::{come_print, go_print, tick_print};
-use coap_message::{Kind4, Writer};
+use coap_message::{Kind4, TokenRef, Writer};
 use rd_base::{Bytes, Host, Moment, Peer, Starved};
 use std::alloc::Global;
 
@@ -89,7 +91,8 @@ fn name_query(alloc: Global, i: u16) -> Result<String, Starved>
 
 /// Its lifetime, as a query option (RFC 9176 section 5). `Starved`: out of memory.
 fn lifetime_query(alloc: Global, i: u16) -> Result<String, Starved>
-    ensures { IfOk result (λ text. string_bytes text ≡ codes "lt=" ++ decimal (generator.lifetime i)) }
+    ensures { IfOk result
+        (λ text. string_bytes text ≡ codes "lt=" ++ decimal (generator.lifetime i)) }
 {
     let seconds = lifetime(i);
     Ok(format!(in alloc; "lt={seconds}")?)
@@ -105,10 +108,9 @@ fn kind_query(alloc: Global, i: u16) -> Result<String, Starved>
 }
 
 /// A confirmable request, without options so far (RFC 7252 section 4.2).
-fn begin(code: u8, mid: u16, token: &[u8]) -> Writer
+fn begin(code: u8, mid: u16, token: TokenRef<'_>) -> Writer
     requires code { (codes_of.empty < code) × (codes_of.is_reserved code ≡ false) }
-    requires token { length token.now ≤ longest_token }
-    ensures begun { result ≡ bare_message kind.Con code mid token.now }
+    ensures begun { result ≡ bare_message kind.Con code mid token.entry.octets.now }
     ensures size { length (spelling result) ≤ 12 }
 {
     Writer::start(Kind4::Con, code, mid, token)
@@ -137,7 +139,10 @@ fn begin_registration(i: u16, name: &[u8], lifetime: &[u8]) -> Writer
     ensures begun { result ≡ with_payload (generator.device_registration i) [] }
     ensures size { length (spelling result) ≤ 200 }
 {
-    let mut writer = begin(POST, i, &[(i % 256) as u8]);
+    let token = TokenRef {
+        octets: &[(i % 256) as u8],
+    };
+    let mut writer = begin(POST, i, token);
     put(&mut writer, URI_PATH, b"rd");
     put(&mut writer, URI_QUERY, name);
     put(&mut writer, URI_QUERY, lifetime);
@@ -151,7 +156,10 @@ fn begin_observation(i: u16, kind: &[u8]) -> Writer
     ensures begun { result ≡ generator.observation i }
     ensures size { length (spelling result) ≤ 200 }
 {
-    let mut writer = begin(GET, 20000 + i, &i.to_be_bytes());
+    let token = TokenRef {
+        octets: &i.to_be_bytes(),
+    };
+    let mut writer = begin(GET, 20000 + i, token);
     put(&mut writer, OBSERVE, b"");
     put(&mut writer, URI_PATH, b"rd-lookup");
     put(&mut writer, URI_PATH, b"res");
@@ -167,7 +175,8 @@ fn turn(i: u16, workers: u8) -> u8
     (i % u16::from(workers)) as u8
 }
 
-/// The line of a message that comes with this payload, of at most 100 octets. `Starved`: out of memory.
+/// The line of a message that comes with this payload, of at most 100 octets. `Starved`: out of
+/// memory.
 #[tactic(auto, unfolding(line_model::specs::Lines::line_text))]
 fn come_line(
     alloc: Global,
@@ -181,7 +190,10 @@ fn come_line(
     requires open { writer.old.payload ≡ [] }
     requires room { length (spelling writer.old) ≤ 200 }
     requires payload { length payload.now ≤ 100 }
-    ensures { IfOk result (λ text. string_bytes text ≡ line_text (line_kind.Come worker (record { 0 = at }) peer.now (spelling (with_payload writer.old payload.now)))) }
+    ensures { IfOk result (λ text.
+        string_bytes text
+        ≡ line_text (line_kind.Come worker (record { 0 = at }) peer.now
+        (spelling (with_payload writer.old payload.now)))) }
 {
     let Ok(datagram) = writer.finish(payload) else {
         unreachable!()
@@ -191,7 +203,10 @@ fn come_line(
 
 /// The line of a device's registration. `Starved`: out of memory.
 fn registration_line(alloc: Global, i: u16, worker: u8) -> Result<String, Starved>
-    ensures { IfOk result (λ text. string_bytes text ≡ line_text (line_kind.Come worker (record { 0 = generator.pace * i }) (generator.device i) (spelling (generator.device_registration i)))) }
+    ensures { IfOk result (λ text.
+        string_bytes text
+        ≡ line_text (line_kind.Come worker (record { 0 = generator.pace * i })
+        (generator.device i) (spelling (generator.device_registration i)))) }
 {
     let name = name_query(alloc, i)?;
     let lifetime = lifetime_query(alloc, i)?;
@@ -204,7 +219,10 @@ fn registration_line(alloc: Global, i: u16, worker: u8) -> Result<String, Starve
 /// The line of the observer that comes with a device. `Starved`: out of memory.
 fn observation_line(alloc: Global, i: u16, worker: u8) -> Result<String, Starved>
     requires { i ≤ 4_000 }
-    ensures { IfOk result (λ text. string_bytes text ≡ line_text (line_kind.Come worker (record { 0 = generator.pace * i + 2 }) generator.onlooker (spelling (generator.observation i)))) }
+    ensures { IfOk result (λ text.
+        string_bytes text
+        ≡ line_text (line_kind.Come worker (record { 0 = generator.pace * i + 2 })
+        generator.onlooker (spelling (generator.observation i)))) }
 {
     let kind = kind_query(alloc, i)?;
     let mut writer = begin_observation(i, kind.as_bytes());
@@ -215,7 +233,9 @@ fn observation_line(alloc: Global, i: u16, worker: u8) -> Result<String, Starved
 /// The line of a device's service, a millisecond after its registration. `Starved`: out of memory.
 #[tactic(auto, unfolding(line_model::specs::Lines::line_text))]
 fn service_line(alloc: Global, i: u16, worker: u8) -> Result<String, Starved>
-    ensures { IfOk result (λ text. string_bytes text ≡ line_text (line_kind.Go worker (record { 0 = generator.pace * i + 1 }))) }
+    ensures { IfOk result (λ text.
+        string_bytes text
+        ≡ line_text (line_kind.Go worker (record { 0 = generator.pace * i + 1 }))) }
 {
     go_print(alloc, worker, Moment(PACE * u64::from(i) + 1))
 }
@@ -223,7 +243,8 @@ fn service_line(alloc: Global, i: u16, worker: u8) -> Result<String, Starved>
 /// The line of time that passes at a worker, with a word. `Starved`: out of memory.
 #[tactic(auto, unfolding(line_model::specs::Lines::line_text))]
 fn tick_line(alloc: Global, worker: u8, at: u64, word: u32) -> Result<String, Starved>
-    ensures { IfOk result (λ text. string_bytes text ≡ line_text (line_kind.Tick worker (record { 0 = at }) word)) }
+    ensures { IfOk result
+        (λ text. string_bytes text ≡ line_text (line_kind.Tick worker (record { 0 = at }) word)) }
 {
     tick_print(alloc, worker, Moment(at), word)
 }
@@ -240,7 +261,8 @@ fn put_line(text: &mut Bytes, line: &str) -> Result<(), Starved>
 fn put_observer(text: &mut Bytes, alloc: Global, i: u16, workers: u8) -> Result<(), Starved>
     requires number { i ≤ 4_000 }
     requires workers { 1 ≤ workers }
-    ensures { OnOk result (text.new ≡ text.old ++ generator.text_of (generator.observer_lines workers i)) }
+    ensures { OnOk result
+        (text.new ≡ text.old ++ generator.text_of (generator.observer_lines workers i)) }
 {
     if i % 10 != 0 {
         return Ok(());
@@ -252,7 +274,8 @@ fn put_observer(text: &mut Bytes, alloc: Global, i: u16, workers: u8) -> Result<
 /// Time passes with each hundredth device, and its number is the word. `Starved`: out of memory.
 fn put_tick(text: &mut Bytes, alloc: Global, i: u16, workers: u8) -> Result<(), Starved>
     requires { 1 ≤ workers }
-    ensures { OnOk result (text.new ≡ text.old ++ generator.text_of (generator.tick_lines workers i)) }
+    ensures { OnOk result
+        (text.new ≡ text.old ++ generator.text_of (generator.tick_lines workers i)) }
 {
     if i % 100 != 0 {
         return Ok(());
@@ -266,7 +289,8 @@ fn put_tick(text: &mut Bytes, alloc: Global, i: u16, workers: u8) -> Result<(), 
 fn put_device(text: &mut Bytes, alloc: Global, i: u16, workers: u8) -> Result<(), Starved>
     requires number { i ≤ 4_000 }
     requires workers { 1 ≤ workers }
-    ensures { OnOk result (text.new ≡ text.old ++ generator.text_of (generator.device_lines workers i)) }
+    ensures { OnOk result
+        (text.new ≡ text.old ++ generator.text_of (generator.device_lines workers i)) }
 {
     let worker = turn(i, workers);
     let registration = registration_line(alloc, i, worker)?;
@@ -277,11 +301,13 @@ fn put_device(text: &mut Bytes, alloc: Global, i: u16, workers: u8) -> Result<()
     put_tick(text, alloc, i, workers)
 }
 
-/// The trace that is generated for a number of devices, 1 to 4,000, and of workers, 1 to 16, as text.
+/// The trace that is generated for a number of devices, 1 to 4,000, and of workers, 1 to 16, as
+/// text.
 ///
-/// Devices are numbered from 1, 200 milliseconds stand between two of them, and the workers take turns. Each device registers
-/// (RFC 9176 section 5) and is served a millisecond later. With each tenth an observer comes, which looks up the links of its kind
-/// (RFC 9176 section 6, RFC 7641 section 2), and with each hundredth time passes. A last tick ends the trace.
+/// Devices are numbered from 1, 200 milliseconds stand between two of them, and the workers take
+/// turns. Each device registers (RFC 9176 section 5) and is served a millisecond later. With each
+/// tenth an observer comes, which looks up the links of its kind (RFC 9176 section 6, RFC 7641
+/// section 2), and with each hundredth time passes. A last tick ends the trace.
 /// `Starved`: out of memory.
 pub fn make(alloc: Global, devices: u32, workers: u8) -> Result<Bytes, Starved>
     requires devices { (1 ≤ devices) × (devices ≤ 4_000) }

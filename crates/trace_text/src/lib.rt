@@ -1,4 +1,5 @@
-//! Traces as text: each line is read in one way or refused with its reason, and what is printed is read back.
+//! Traces as text: each line is read in one way or refused with its reason, and what is printed is
+//! read back.
 #![tactic(auto)]
 
 mod datagrams;

@@ -74,7 +74,8 @@ fn tick_read(worker: &[u8], moment: &[u8]) -> Option<Line>
 /// What the fields of time that passes say, with a word.
 #[tactic(auto, unfolding(line_model::specs::Lines::tick_of))]
 fn tick_word_read(worker: &[u8], moment: &[u8], word: &[u8]) -> Option<Line>
-    ensures { result ≡ lines.tick_of worker.now moment.now (numbers.number_of numbers.max_word word.now) }
+    ensures { result
+        ≡ lines.tick_of worker.now moment.now (numbers.number_of numbers.max_word word.now) }
 {
     let worker = number_read(MAX_WORKER, worker)?;
     let moment = number_read(MAX_MOMENT, moment)?;
@@ -121,7 +122,8 @@ fn five_read(
     peer: &[u8],
     octets: &[u8],
 ) -> Result<Line, FieldFault>
-    ensures { IsSaid result (lines.said_by (verb.now ∷ worker.now ∷ moment.now ∷ peer.now ∷ octets.now ∷ [])) }
+    ensures { IsSaid result
+        (lines.said_by (verb.now ∷ worker.now ∷ moment.now ∷ peer.now ∷ octets.now ∷ [])) }
 {
     if verb == b"in".as_slice() {
         return come_read(alloc, worker, moment, peer, octets);
@@ -166,9 +168,10 @@ fn read(alloc: Global, line: &[u8]) -> Result<Line, LineFault>
     }
 }
 
-/// The line that a text is, without its line feed. `Starved`: out of memory. `Long` comes exactly where it has more than
-/// 8,600 bytes, and `Form` exactly where it has not and is none of the three forms: `in`, a worker, a moment, a peer and
-/// octets; `go`, a worker and a moment; `tick`, a worker, a moment and maybe a word.
+/// The line that a text is, without its line feed. `Starved`: out of memory. `Long` comes exactly
+/// where it has more than 8,600 bytes, and `Form` exactly where it has not and is none of the three
+/// forms: `in`, a worker, a moment, a peer and octets; `go`, a worker and a moment; `tick`, a
+/// worker, a moment and maybe a word.
 pub fn line_read(alloc: Global, line: &[u8]) -> Result<Line, LineFault>
     ensures answered { IsAnswered line.now result }
     ensures read { IsRead result (lines.line_of line.now) }

@@ -17,7 +17,10 @@ pub(crate) fn come_print(
     peer: &Peer,
     octets: &[u8],
 ) -> Result<String, Starved>
-    ensures { IfOk result (λ text. string_bytes text ≡ lines.joined (lines.printed_fields (line_kind.Come worker moment peer.now octets.now))) }
+    ensures { IfOk result (λ text.
+        string_bytes text
+        ≡ lines.joined
+        (lines.printed_fields (line_kind.Come worker moment peer.now octets.now))) }
 {
     let Moment(at) = moment;
     let peer = peer_text(alloc, peer)?;
@@ -28,7 +31,9 @@ pub(crate) fn come_print(
 
 /// The line of a worker that ends its job.
 pub(crate) fn go_print(alloc: Global, worker: u8, moment: Moment) -> Result<String, Starved>
-    ensures { IfOk result (λ text. string_bytes text ≡ lines.joined (lines.printed_fields (line_kind.Go worker moment))) }
+    ensures { IfOk result (λ text.
+        string_bytes text
+        ≡ lines.joined (lines.printed_fields (line_kind.Go worker moment))) }
 {
     let Moment(at) = moment;
     Ok(format!(in alloc; "go {worker} {at}")?)
@@ -41,7 +46,9 @@ pub(crate) fn tick_print(
     moment: Moment,
     word: u32,
 ) -> Result<String, Starved>
-    ensures { IfOk result (λ text. string_bytes text ≡ lines.joined (lines.printed_fields (line_kind.Tick worker moment word))) }
+    ensures { IfOk result (λ text.
+        string_bytes text
+        ≡ lines.joined (lines.printed_fields (line_kind.Tick worker moment word))) }
 {
     let Moment(at) = moment;
     if word == 0 {
@@ -72,7 +79,8 @@ fn printed(alloc: Global, line: &Line) -> Result<String, Starved>
 }
 
 /// A line as it is printed, without its line feed: digits in lower case, and a word of 0 left out.
-/// The line is one that [`crate::line_read`] can give, and what is printed is read back as it. `Starved`: out of memory.
+/// The line is one that [`crate::line_read`] can give, and what is printed is read back as it.
+/// `Starved`: out of memory.
 pub fn line_print(alloc: Global, line: &Line) -> Result<Bytes, Starved>
     requires { lines.IsLine line.now }
     ensures text { IfOk result (λ text. text ≡ lines.line_text line.now) }
@@ -82,7 +90,8 @@ pub fn line_print(alloc: Global, line: &Line) -> Result<Bytes, Starved>
     Ok(Bytes::of(text.into_bytes()))
 }
 
-/// The line of a datagram that is sent: `out`, the worker, the peer and the octets in lower case, without its line feed. `Starved`: out of memory.
+/// The line of a datagram that is sent: `out`, the worker, the peer and the octets in lower case,
+/// without its line feed. `Starved`: out of memory.
 #[tactic(auto, unfolding(line_model::specs::Lines::out_text))]
 pub fn out_print(alloc: Global, worker: u8, peer: &Peer, datagram: &[u8]) -> Result<Bytes, Starved>
     ensures { IfOk result (λ text. text ≡ lines.out_text worker peer.now datagram.now) }

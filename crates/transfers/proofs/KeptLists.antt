@@ -1,5 +1,25 @@
 -- Laws of the kept answers of a table.
-use Rattle.std.proofs.Common.{◌≡◌, ℕ, ◌≤◌, zero, suc, true, false, List, [], ◌∷◌, length, take, Option, Some, None, is_some, refl, sym, arith}
+use Rattle.std.proofs.Common.{
+  ◌≡◌,
+  ℕ,
+  ◌≤◌,
+  zero,
+  suc,
+  true,
+  false,
+  List,
+  [],
+  ◌∷◌,
+  length,
+  take,
+  Option,
+  Some,
+  None,
+  is_some,
+  refl,
+  sym,
+  arith,
+}
 use Rattle.std.proofs.lemmas.Bool.{false≢true}
 use Rattle.event_model.specs.KeptAnswers.{KeptAnswer}
 use Rattle.transfers.specs.Keeping.{NamedAnswer, used, kept_at, kept_each}
@@ -20,11 +40,14 @@ is_present None h = absurd (false≢true (sym h))
 is_present (Some x) h = (x, refl)
 
 -- answers that are kept one after the other
-pub kept_each-next : (now : ℕ) (a : NamedAnswer) (more : List NamedAnswer) (xs : List KeptAnswer) → kept_each now (a ∷ more) xs ≡ kept_each now more (used (kept_at now a) xs)
+pub kept_each-next : (now : ℕ) (a : NamedAnswer) (more : List NamedAnswer) (xs : List KeptAnswer)
+    → kept_each now (a ∷ more) xs ≡ kept_each now more (used (kept_at now a) xs)
 unfolding kept_each
 kept_each-next now a more xs = refl
 
-pub none_left : (now : ℕ) (more : List NamedAnswer) (xs : List KeptAnswer) → length more ≡ 0 → xs ≡ kept_each now more xs
+pub none_left : (now : ℕ) (more : List NamedAnswer) (xs : List KeptAnswer)
+    → length more ≡ 0
+    → xs ≡ kept_each now more xs
 unfolding kept_each
 none_left now [] xs none = refl
 none_left now (a ∷ more) xs none = absurd (omega (arith, none))

@@ -1,5 +1,5 @@
--- The uploads of a table as lists: UploadLists. What they stand for: UploadEvents.
--- The kept answers of a table as lists: KeptLists; by their numbers: NumberLaws. What they stand for: KeptEvents.
+-- The uploads of a table as lists: UploadLists. What they stand for: UploadEvents. The kept answers
+-- of a table as lists: KeptLists; by their numbers: NumberLaws. What they stand for: KeptEvents.
 -- The table as a whole, for the desk: TransferLaws.
 pub mod UploadLists
 pub mod UploadEvents

@@ -1,5 +1,18 @@
 -- How a block of an upload is answered (RFC 7959 sections 2.5 and 2.9).
-use Rattle.std.specs.Prelude.{ℕ, ◌+◌, Bool, true, false, nat_lt, List, ◌++◌, length, Option, Some, None}
+use Rattle.std.specs.Prelude.{
+  ℕ,
+  ◌+◌,
+  Bool,
+  true,
+  false,
+  nat_lt,
+  List,
+  ◌++◌,
+  length,
+  Option,
+  Some,
+  None,
+}
 use Rattle.message_model.specs.declared.blocks.Block.{Block}
 use Rattle.event_model.specs.Uploads.{max_body}
 use Rattle.journal_model.specs.Registrations.{collected_before, is_one_too_many}
@@ -11,7 +24,8 @@ abbrev pub answer_taken : Bool → List ℕ → Upload
 answer_taken true body = upload.More
 answer_taken false body = upload.Whole body
 
--- a block that goes on with what is collected, unless too much is collected or too many uploads live
+-- a block that goes on with what is collected, unless too much is collected or too many uploads
+-- live
 abbrev pub answer_unless : Bool → Bool → Bool → List ℕ → Upload
 answer_unless true too_many more body = upload.TooLarge
 answer_unless false true more body = upload.FullUploads
@@ -20,8 +34,11 @@ answer_unless false false more body = answer_taken more body
 -- a block, by what is collected before it
 abbrev pub answer_after : Option (List ℕ) → List ℕ → Bool → Bool → Upload
 answer_after None piece too_many more = upload.OutOfOrder
-answer_after (Some collected) piece too_many more = answer_unless (nat_lt max_body (length collected + length piece)) too_many more (collected ++ piece)
+answer_after (Some collected) piece too_many more =
+    answer_unless (nat_lt max_body (length collected + length piece)) too_many more
+    (collected ++ piece)
 
 -- a block with these octets, by the live upload of its name and by how many uploads live
 unfoldable pub answer_to : Block → List ℕ → Option (List ℕ) → ℕ → Upload
-answer_to b piece body live = answer_after (collected_before b body) piece (is_one_too_many b body live) b.more
+answer_to b piece body live =
+    answer_after (collected_before b body) piece (is_one_too_many b body live) b.more

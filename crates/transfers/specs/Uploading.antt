@@ -1,5 +1,21 @@
--- The uploads of a table, in the order in which they began: which is found, and what a block changes (RFC 7959 section 2.5).
-use Rattle.std.specs.Prelude.{ℕ, Bool, not, ◌&&◌, ◌==◌, List, [], ◌∷◌, ◌++◌, find, filter, Option, option_map, if◌then◌else◌}
+-- The uploads of a table, in the order in which they began: which is found, and what a block
+-- changes (RFC 7959 section 2.5).
+use Rattle.std.specs.Prelude.{
+  ℕ,
+  Bool,
+  not,
+  ◌&&◌,
+  ◌==◌,
+  List,
+  [],
+  ◌∷◌,
+  ◌++◌,
+  find,
+  filter,
+  Option,
+  option_map,
+  if◌then◌else◌,
+}
 use Rattle.rd_base.specs.Firsts.{changed_first}
 use Rattle.message_model.specs.declared.blocks.Block.{Block}
 use Rattle.event_model.specs.Same.{RequestName, is_same_request}
@@ -48,4 +64,5 @@ gone_on now name octets us = changed_first (is_live_as now name) (with_block oct
 
 -- the uploads after a block was collected
 abbrev pub taken : Block → ℕ → RequestName → List ℕ → List Upload → List Upload
-taken b now name octets us = if b.num == 0 then begun now name octets us else gone_on now name octets us
+taken b now name octets us =
+    if b.num == 0 then begun now name octets us else gone_on now name octets us

@@ -1,10 +1,14 @@
-//! The cache of kept answers, that of the latest use first. Its keys are numbers, so that an answer is found by its name without memory.
-ghost use Rattle.std.specs.Prelude.{◌≡◌, ℕ, ◌+◌, ◌<◌, ◌≤◌, [], ◌∷◌, List, find, length, option_map, option_and_then, is_some, nat_eq, Some, None, IfOk, OnOk, OnErr};
+//! The cache of kept answers, that of the latest use first. Its keys are numbers, so that an answer
+//! is found by its name without memory.
+ghost use Rattle.std.specs.Prelude.{◌≡◌, ℕ, ◌+◌, ◌<◌, ◌≤◌, [], ◌∷◌, List, find, length, option_map};
+ghost use Rattle.std.specs.Prelude.{option_and_then, is_some, nat_eq, Some, None, IfOk, OnOk};
+ghost use Rattle.std.specs.Prelude.{OnErr};
 ghost use Rattle.std.specs.List.{IsDistinct};
 ghost use Rattle.std.specs.Map.{keys_of, lookup, lookup_entry, remove_entry};
 ghost use Rattle.lru.specs.LruCache.{lru_cache};
 ghost use Rattle.event_model.specs.KeptAnswers.{max_answers, KeptAnswer};
-ghost use Rattle.transfers.specs.Keeping.{is_kept_as, live_kept, used, used_at, kept_each, values, after_reading, AreBelow, number_for};
+ghost use Rattle.transfers.specs.Keeping.{is_kept_as, live_kept, used, used_at, kept_each, values};
+ghost use Rattle.transfers.specs.Keeping.{after_reading, AreBelow, number_for};
 
 use crate::{Answers, Kept};
 use lru::LruCache;
@@ -32,7 +36,8 @@ pub(crate) fn empty(alloc: Global) -> Result<Cache, Starved>
 
 /// The answer that is kept under this peer and request key, and its number.
 fn entry_of<'a>(cache: &'a Cache, peer: Peer, key: &Key) -> Option<(u64, &'a Kept)>
-    ensures { option_map (λ p. (p.0, p.1.now)) result ≡ find (λ p. is_kept_as (peer, key.now) p.1) cache.now.entries }
+    ensures { option_map (λ p. (p.0, p.1.now)) result
+        ≡ find (λ p. is_kept_as (peer, key.now) p.1) cache.now.entries }
 {
     let mut left = cache.iter();
     'pairs: while let Some((number, kept)) = left.next() {
@@ -43,7 +48,8 @@ fn entry_of<'a>(cache: &'a Cache, peer: Peer, key: &Key) -> Option<(u64, &'a Kep
     None
 }
 
-/// No number stands twice, and no more answers are kept than have room: this is known of each cache.
+/// No number stands twice, and no more answers are kept than have room: this is known of each
+/// cache.
 fn known(cache: &Cache)
     ensures distinct { IsDistinct nat_eq (keys_of cache.now.entries) }
     ensures few { length cache.now.entries ≤ cache.now.cap }
@@ -51,7 +57,8 @@ fn known(cache: &Cache)
     let _ = cache.len();
 }
 
-/// The number under which an answer is put: that of the answer that is kept under its name, and else a new one.
+/// The number under which an answer is put: that of the answer that is kept under its name, and
+/// else a new one.
 fn number_for(cache: &Cache, kept: &Kept, number: u64) -> u64
     ensures { result ≡ number_for kept.now.name number cache.now.entries }
 {
@@ -63,7 +70,12 @@ fn number_for(cache: &Cache, kept: &Kept, number: u64) -> u64
 
 /// Puts the answer with a number first, as used now.
 fn use_again(cache: &mut Cache, number: u64, now: Moment)
-    ensures used { (p : ℕ × KeptAnswer) → lookup_entry (nat_eq number) cache.old.entries ≡ Some p → cache.new ≡ lru_cache ((p.0, used_at now.0 p.1) ∷ remove_entry (nat_eq number) cache.old.entries) cache.old.cap }
+    ensures used { (p : ℕ × KeptAnswer)
+        → lookup_entry (nat_eq number) cache.old.entries ≡ Some p
+        → cache.new
+        ≡ lru_cache
+        ((p.0, used_at now.0 p.1) ∷ remove_entry (nat_eq number) cache.old.entries)
+        cache.old.cap }
     ensures room { cache.new.cap ≡ cache.old.cap }
 {
     if let Some(kept) = cache.get_mut(&number) {
@@ -71,12 +83,18 @@ fn use_again(cache: &mut Cache, number: u64, now: Moment)
     }
 }
 
-/// The number of the answer of this peer and request key, where it is kept and lives. It is used then; where there is none all is as before.
+/// The number of the answer of this peer and request key, where it is kept and lives. It is used
+/// then; where there is none all is as before.
 pub(crate) fn read(cache: &mut Cache, now: Moment, peer: Peer, key: &Key) -> Option<u64>
     requires { cache.old.cap ≡ max_answers }
-    ensures found { is_some result ≡ is_some (live_kept now.0 (peer, key.now) (values cache.old.entries)) }
-    ensures value { option_and_then (λ n. lookup (nat_eq n) cache.new.entries) result ≡ option_map (used_at now.0) (live_kept now.0 (peer, key.now) (values cache.old.entries)) }
-    ensures answers { values cache.new.entries ≡ after_reading now.0 (live_kept now.0 (peer, key.now) (values cache.old.entries)) (values cache.old.entries) }
+    ensures found { is_some result
+        ≡ is_some (live_kept now.0 (peer, key.now) (values cache.old.entries)) }
+    ensures value { option_and_then (λ n. lookup (nat_eq n) cache.new.entries) result
+        ≡ option_map (used_at now.0)
+        (live_kept now.0 (peer, key.now) (values cache.old.entries)) }
+    ensures answers { values cache.new.entries
+        ≡ after_reading now.0 (live_kept now.0 (peer, key.now) (values cache.old.entries))
+        (values cache.old.entries) }
     ensures room { cache.new.cap ≡ cache.old.cap }
 {
     known(cache);
@@ -90,11 +108,13 @@ pub(crate) fn read(cache: &mut Cache, now: Moment, peer: Peer, key: &Key) -> Opt
     Some(number)
 }
 
-/// Puts an answer first, in place of what was kept under its name. The number is above those of the cache. `Starved`: out of memory.
+/// Puts an answer first, in place of what was kept under its name. The number is above those of the
+/// cache. `Starved`: out of memory.
 fn keep(cache: &mut Cache, number: u64, kept: Kept) -> Result<(), Starved>
     requires room { cache.old.cap ≡ max_answers }
     requires fresh { AreBelow number cache.old.entries }
-    ensures answers { OnOk result (values cache.new.entries ≡ used kept (values cache.old.entries)) }
+    ensures answers { OnOk result
+        (values cache.new.entries ≡ used kept (values cache.old.entries)) }
     ensures numbers { OnOk result (AreBelow (number + 1) cache.new.entries) }
     ensures room { cache.new.cap ≡ cache.old.cap }
 {
@@ -104,11 +124,13 @@ fn keep(cache: &mut Cache, number: u64, kept: Kept) -> Result<(), Starved>
     Ok(())
 }
 
-/// Keeps answers, one after the other. The numbers of the cache are below 64. `Starved`: out of memory.
+/// Keeps answers, one after the other. The numbers of the cache are below 64. `Starved`: out of
+/// memory.
 fn keep_each(cache: &mut Cache, alloc: Global, now: Moment, more: Answers) -> Result<(), Starved>
     requires room { cache.old.cap ≡ max_answers }
     requires fresh { AreBelow 64 cache.old.entries }
-    ensures answers { OnOk result (values cache.new.entries ≡ kept_each now.0 more (values cache.old.entries)) }
+    ensures answers { OnOk result
+        (values cache.new.entries ≡ kept_each now.0 more (values cache.old.entries)) }
     ensures room { cache.new.cap ≡ cache.old.cap }
 {
     let mut number = MAX_ANSWERS as u64;
@@ -146,7 +168,8 @@ pub(crate) fn with_more(
     more: Answers,
 ) -> Result<Cache, Starved>
     requires { cache.now.cap ≡ max_answers }
-    ensures answers { IfOk result (λ c. values c.entries ≡ kept_each now.0 more (values cache.now.entries)) }
+    ensures answers { IfOk result
+        (λ c. values c.entries ≡ kept_each now.0 more (values cache.now.entries)) }
     ensures room { IfOk result (λ c. c.cap ≡ max_answers) }
 {
     let mut copy = copied(alloc, cache)?;

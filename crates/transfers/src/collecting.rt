@@ -9,7 +9,8 @@ use rd_base::{Bytes, Key, Moment, Peer, Starved};
 use std::alloc::Global;
 use std::marker::Model;
 
-/// How long an upload lives after its last block, in milliseconds (RFC 7252 section 4.8.2, EXCHANGE_LIFETIME).
+/// How long an upload lives after its last block, in milliseconds (RFC 7252 section 4.8.2,
+/// EXCHANGE_LIFETIME).
 const UPLOAD_LIFETIME: u64 = 247_000;
 
 /// How a block of an upload is answered (RFC 7959 section 2.9).
@@ -17,7 +18,8 @@ const UPLOAD_LIFETIME: u64 = 247_000;
 pub enum Upload {
     /// The block was collected, and more follow.
     More,
-    /// It is the last block of this body. What was collected before it stays, until the upload is ended.
+    /// It is the last block of this body. What was collected before it stays, until the upload is
+    /// ended.
     Whole(Bytes),
     /// The block does not begin where what is collected ends.
     OutOfOrder,
@@ -61,7 +63,7 @@ impl Collected {
     ) -> Result<Collected, Starved>
         ensures { IfOk result (λ u. u ≡ first_block (peer, key.now) piece.now now.0) }
     {
-        let key = key.copy(alloc)?;
+        let key = key.clone()?;
         let body = Bytes::copy_of(alloc, piece)?;
         Ok(Collected {
             peer,
@@ -99,7 +101,8 @@ impl Collected {
         self.body.as_slice()
     }
 
-    /// Goes on with a further block, which comes now. `Starved`: out of memory, and it is as before.
+    /// Goes on with a further block, which comes now. `Starved`: out of memory, and it is as
+    /// before.
     pub(crate) fn go_on(&mut self, now: Moment, piece: &[u8]) -> Result<(), Starved>
         ensures ok { OnOk result (self.new ≡ with_block piece.now now.0 self.old) }
         ensures err { OnErr result (self.new ≡ self.old) }

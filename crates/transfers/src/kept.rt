@@ -9,7 +9,8 @@ use std::alloc::Global;
 use std::marker::Model;
 use std::sync::Arc;
 
-/// How long a kept answer lives after its last use, in milliseconds (RFC 7252 section 4.8.2, EXCHANGE_LIFETIME).
+/// How long a kept answer lives after its last use, in milliseconds (RFC 7252 section 4.8.2,
+/// EXCHANGE_LIFETIME).
 const ANSWER_LIFETIME: u64 = 247_000;
 
 /// An answer that is kept, and when it was last used. Copies of it share the answer.
@@ -27,7 +28,13 @@ impl Model for Kept {
 
     ghost Value = { KeptAnswer };
 
-    ghost view = { λ k. record { name = (arc_value k.answer).name; answer = (arc_value k.answer).answer; moment = k.last.0 } };
+    ghost view = { λ k. record {
+      name =
+          (arc_value k.answer).name;
+      answer =
+          (arc_value k.answer).answer;
+      moment = k.last.0;
+    } };
 }
 
 impl Kept {
@@ -39,7 +46,8 @@ impl Kept {
         Ok(Kept { answer, last: now })
     }
 
-    /// The same kept answer, which shares the answer. `Starved`: it is shared as often as can be counted.
+    /// The same kept answer, which shares the answer. `Starved`: it is shared as often as can be
+    /// counted.
     pub(crate) fn share(&self) -> Result<Kept, Starved>
         ensures { IfOk result (λ k. k ≡ self.now) }
     {

@@ -24,7 +24,8 @@ impl Model for Answer {
 
     ghost Value = { NamedAnswer };
 
-    ghost view = { λ a. record { name = (a.peer, a.key); answer = record { body = arc_value a.body; tag = a.tag.0 } } };
+    ghost view = { λ a. record
+        { name = (a.peer, a.key); answer = record { body = arc_value a.body; tag = a.tag.0 } } };
 }
 
 /// Answers that are to be kept, one after the other.

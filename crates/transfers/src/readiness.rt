@@ -2,7 +2,8 @@
 use crate::caching::Cache;
 use std::marker::Model;
 
-/// The kept answers of a table with more that were kept after them. All the memory that they need is taken.
+/// The kept answers of a table with more that were kept after them. All the memory that they need
+/// is taken.
 #[derive(Drop)]
 pub struct Ready {
     /// The kept answers.

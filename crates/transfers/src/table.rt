@@ -4,7 +4,9 @@ ghost use Rattle.std.specs.Borrow.{sem};
 ghost use Rattle.event_model.specs.declared.notes.Note.TheVariants as note;
 ghost use Rattle.event_model.specs.Events.{Event, noted};
 ghost use Rattle.event_model.specs.KeptAnswers.{kept_answer};
-ghost use Rattle.transfers.specs.TransferEvents.{TransfersStandFor, UploadsStandFor, AnswersStandFor, block_answer, kept_note, answer_read, AfterReading};
+ghost use Rattle.transfers.specs.TransferEvents.{TransfersStandFor, UploadsStandFor};
+ghost use Rattle.transfers.specs.TransferEvents.{AnswersStandFor, block_answer, kept_note};
+ghost use Rattle.transfers.specs.TransferEvents.{answer_read, AfterReading};
 ghost use Rattle.transfers.specs.Ends.{ends_so};
 
 use crate::caching::Cache;
@@ -14,7 +16,8 @@ use rd_base::{Bytes, Key, Moment, Peer, Starved, Tag};
 use std::alloc::Global;
 use std::marker::Model;
 
-/// The bodies that are collected block by block, and the answers that are kept for further blocks (RFC 7959 sections 2.4 and 2.5).
+/// The bodies that are collected block by block, and the answers that are kept for further blocks
+/// (RFC 7959 sections 2.4 and 2.5).
 #[derive(Drop)]
 pub struct Transfers {
     /// The uploads, in the order in which they began.
@@ -34,11 +37,14 @@ impl Model for Transfers {
 
     ghost view = { λ t. record { uploads = t.uploads.items; answers = values t.answers.entries } };
 
-    ghost invariant = { λ t. (64 ≤ vec_capacity t.uploads) × (vec_len t.uploads ≤ 64) × (t.answers.cap ≡ max_answers) };
+    ghost invariant = { λ t. (64 ≤ vec_capacity t.uploads)
+        × (vec_len t.uploads ≤ 64)
+        × (t.answers.cap ≡ max_answers) };
 }
 
 impl Transfers {
-    /// No uploads and no kept answers, with room for as many uploads as live at most, 64. `Starved`: out of memory.
+    /// No uploads and no kept answers, with room for as many uploads as live at most, 64.
+    /// `Starved`: out of memory.
     pub fn make(alloc: Global) -> Result<Transfers, Starved>
         ensures { IfOk result (λ t. (at : ℕ) → TransfersStandFor at [] t) }
     {
@@ -47,9 +53,10 @@ impl Transfers {
         Ok(Transfers { uploads, answers })
     }
 
-    /// How a block of a body is answered that comes now from a peer, under the key of its request (RFC 7959 sections 2.5 and 2.9).
-    /// One that more follow is collected where it is answered by `More`. After any other answer all is as before: the last block,
-    /// answered by `Whole` with the whole body, can come again until the upload is ended.
+    /// How a block of a body is answered that comes now from a peer, under the key of its request
+    /// (RFC 7959 sections 2.5 and 2.9). One that more follow is collected where it is answered by
+    /// `More`. After any other answer all is as before: the last block, answered by `Whole` with
+    /// the whole body, can come again until the upload is ended.
     pub fn upload(
         &mut self,
         alloc: Global,
@@ -59,8 +66,18 @@ impl Transfers {
         block: &Block,
         piece: &[u8],
     ) -> Upload
-        ensures answer { (at : ℕ) (events : List Event) → at ≤ now.0 → TransfersStandFor at events self.old → result ≢ Upload.Starved → result ≡ block_answer now.0 (peer, key.now) block.now piece.now events }
-        ensures more { (at : ℕ) (events : List Event) (e : Event) → at ≤ now.0 → result ≡ Upload.More → e.note ≡ note.Piece peer key.now block.now.num piece.now → e.moment ≡ now.0 → TransfersStandFor at events self.old → TransfersStandFor now.0 (e ∷ events) self.new }
+        ensures answer { (at : ℕ) (events : List Event)
+            → at ≤ now.0
+            → TransfersStandFor at events self.old
+            → result ≢ Upload.Starved
+            → result ≡ block_answer now.0 (peer, key.now) block.now piece.now events }
+        ensures more { (at : ℕ) (events : List Event) (e : Event)
+            → at ≤ now.0
+            → result ≡ Upload.More
+            → e.note ≡ note.Piece peer key.now block.now.num piece.now
+            → e.moment ≡ now.0
+            → TransfersStandFor at events self.old
+            → TransfersStandFor now.0 (e ∷ events) self.new }
         ensures other { result ≢ Upload.More → self.new ≡ self.old }
         ensures answers { self.new.answers ≡ self.old.answers }
     {
@@ -69,15 +86,22 @@ impl Transfers {
 
     /// Ends the upload of this peer and request key, where there is one. Takes no memory.
     pub fn end_upload(&mut self, peer: Peer, key: &Key)
-        ensures stands { (at : ℕ) (events : List Event) (e : Event) → e.note ≡ note.Finished peer key.now → TransfersStandFor at events self.old → TransfersStandFor at (e ∷ events) self.new }
+        ensures stands { (at : ℕ) (events : List Event) (e : Event)
+            → e.note ≡ note.Finished peer key.now
+            → TransfersStandFor at events self.old
+            → TransfersStandFor at (e ∷ events) self.new }
         ensures answers { self.new.answers ≡ self.old.answers }
     {
         uploading::drop_upload(&mut self.uploads, peer, key);
     }
 
-    /// The kept answers with each of these kept after them now, one after the other. `Starved`: out of memory.
+    /// The kept answers with each of these kept after them now, one after the other. `Starved`: out
+    /// of memory.
     pub fn ready(&self, alloc: Global, now: Moment, more: Answers) -> Result<Ready, Starved>
-        ensures { IfOk result (λ r. (events : List Event) (place word : ℕ) → AnswersStandFor events self.now.answers → AnswersStandFor (noted place now.0 word (map kept_note more) events) r) }
+        ensures { IfOk result (λ r.
+            (events : List Event) (place word : ℕ)
+            → AnswersStandFor events self.now.answers
+            → AnswersStandFor (noted place now.0 word (map kept_note more) events) r) }
     {
         let answers = caching::with_more(alloc, &self.answers, now, more)?;
         Ok(Ready { answers })
@@ -87,17 +111,25 @@ impl Transfers {
     pub fn adopt(&mut self, ready: Ready)
         ensures uploads { self.new.uploads ≡ self.old.uploads }
         ensures answers { self.new.answers ≡ ready }
-        ensures stands { (at : ℕ) (events : List Event) → UploadsStandFor at events self.old.uploads → AnswersStandFor events ready → TransfersStandFor at events self.new }
+        ensures stands { (at : ℕ) (events : List Event)
+            → UploadsStandFor at events self.old.uploads
+            → AnswersStandFor events ready
+            → TransfersStandFor at events self.new }
     {
         let Ready { answers } = ready;
         self.answers = answers;
     }
 
-    /// The body and the entity tag that are kept for this peer and request key; none where no such answer lives now (RFC 7959 section 2.4).
-    /// Reading is a use of the answer, also where the block that is wanted lies past its end. Takes no memory.
+    /// The body and the entity tag that are kept for this peer and request key; none where no such
+    /// answer lives now (RFC 7959 section 2.4). Reading is a use of the answer, also where the
+    /// block that is wanted lies past its end. Takes no memory.
     pub fn kept_block(&mut self, now: Moment, peer: Peer, key: &Key) -> Option<(&Bytes, Tag)>
-        ensures* ends { sem 𝓛 (ends_so self.entry (λ n. AfterReading (option_map answer_read result) now.0 peer key.now self.old n)) }
-        ensures answer { (at : ℕ) (events : List Event) → TransfersStandFor at events self.old → option_map answer_read result ≡ kept_answer now.0 (peer, key.now) events }
+        ensures* ends { sem 𝓛 (ends_so self.entry
+            (λ n. AfterReading (option_map answer_read result) now.0 peer key.now self.old
+            n)) }
+        ensures answer { (at : ℕ) (events : List Event)
+            → TransfersStandFor at events self.old
+            → option_map answer_read result ≡ kept_answer now.0 (peer, key.now) events }
     {
         let number = caching::read(&mut self.answers, now, peer, key)?;
         let kept = self.answers.peek(&number)?;

@@ -1,11 +1,14 @@
 //! The uploads of a table, in the order in which they began.
-ghost use Rattle.std.specs.Prelude.{◌≡◌, ◌≢◌, ◌<◌, ◌≤◌, ◌==◌, ◌++◌, Bool, not, ◌&&◌, length, filter, find, option_map, IfOk, OnOk, OnErr};
+ghost use Rattle.std.specs.Prelude.{◌≡◌, ◌≢◌, ◌<◌, ◌≤◌, ◌==◌, ◌++◌, Bool, not, ◌&&◌, length};
+ghost use Rattle.std.specs.Prelude.{filter, find, option_map, IfOk, OnOk, OnErr};
 ghost use Rattle.std.specs.List.{position};
 ghost use Rattle.std.specs.Vec.{vec_len, vec_capacity};
 ghost use Rattle.journal_model.specs.Registrations.{collected_before, is_one_too_many};
 ghost use Rattle.rd_base.specs.Firsts.{changed_first};
 ghost use Rattle.event_model.specs.Uploads.{Upload as LiveUpload};
-ghost use Rattle.transfers.specs.Uploading.{is_of, is_live_as, live_body, young_uploads, other_uploads, with_block, begun, taken, without_upload};
+ghost use Rattle.transfers.specs.Uploading.{is_of, is_live_as, live_body, young_uploads};
+ghost use Rattle.transfers.specs.Uploading.{other_uploads, with_block, begun, taken};
+ghost use Rattle.transfers.specs.Uploading.{without_upload};
 ghost use Rattle.transfers.specs.BlockAnswers.{answer_to};
 
 use crate::collecting::begins_at;
@@ -29,10 +32,14 @@ fn live_index(uploads: &Vec<Collected>, now: Moment, peer: Peer, key: &Key) -> O
         .position(|upload| upload.is_live_as(now, peer, key))
 }
 
-/// The octets of the upload with an index, where there is one. The index is that of the first upload that passes a test.
+/// The octets of the upload with an index, where there is one. The index is that of the first
+/// upload that passes a test.
 fn body_at<'a>(uploads: &'a Vec<Collected>, index: Option<usize>) -> Option<&'a [u8]>
     requires { (test : LiveUpload → Bool) × (index ≡ position test uploads.now.items) }
-    ensures { (test : LiveUpload → Bool) → index ≡ position test uploads.now.items → option_map (λ s. s.now) result ≡ option_map (λ u. u.body) (find test uploads.now.items) }
+    ensures { (test : LiveUpload → Bool)
+        → index ≡ position test uploads.now.items
+        → option_map (λ s. s.now) result
+        ≡ option_map (λ u. u.body) (find test uploads.now.items) }
 {
     match index {
         Some(at) => Some(uploads[at].body()),
@@ -47,10 +54,11 @@ fn count_live(uploads: &Vec<Collected>, now: Moment) -> usize
     uploads.iter().filter(|upload| upload.is_young(now)).count()
 }
 
-/// What is collected before a block: nothing before the first, and else what the live upload has, where the block begins there.
-/// None where the block is out of order.
+/// What is collected before a block: nothing before the first, and else what the live upload has,
+/// where the block begins there. None where the block is out of order.
 fn collected<'a>(body: Option<&'a [u8]>, block: &Block) -> Option<&'a [u8]>
-    ensures { option_map (λ s. s.now) result ≡ collected_before block.now (option_map (λ s. s.now) body.entry) }
+    ensures { option_map (λ s. s.now) result
+        ≡ collected_before block.now (option_map (λ s. s.now) body.entry) }
 {
     if block.num == 0 {
         return Some(&[]);
@@ -71,7 +79,9 @@ fn is_one_too_many(
     block: &Block,
     body: Option<&[u8]>,
 ) -> bool
-    ensures { result ≡ is_one_too_many block.now (option_map (λ s. s.now) body.entry) (length (young_uploads now.0 uploads.now.items)) }
+    ensures { result
+        ≡ is_one_too_many block.now (option_map (λ s. s.now) body.entry)
+        (length (young_uploads now.0 uploads.now.items)) }
 {
     block.num == 0 && block.more && body.is_none() && MAX_UPLOADS <= count_live(uploads, now)
 }
@@ -102,7 +112,8 @@ pub(crate) fn drop_upload(uploads: &mut Vec<Collected>, peer: Peer, key: &Key)
     uploads.retain(|upload| !upload.is_of(peer, key));
 }
 
-/// Begins the upload of this peer and request key anew, with a first block. `Starved`: out of memory, and all is as before.
+/// Begins the upload of this peer and request key anew, with a first block. `Starved`: out of
+/// memory, and all is as before.
 #[tactic(auto, unfolding(crate::specs::Uploading::begun))]
 fn begin(
     uploads: &mut Vec<Collected>,
@@ -112,8 +123,10 @@ fn begin(
     key: &Key,
     piece: &[u8],
 ) -> Result<(), Starved>
-    requires { length (other_uploads now.0 (peer, key.now) uploads.old.items) < vec_capacity uploads.old }
-    ensures ok { OnOk result (uploads.new.items ≡ begun now.0 (peer, key.now) piece.now uploads.old.items) }
+    requires { length (other_uploads now.0 (peer, key.now) uploads.old.items)
+        < vec_capacity uploads.old }
+    ensures ok { OnOk result
+        (uploads.new.items ≡ begun now.0 (peer, key.now) piece.now uploads.old.items) }
     ensures err { OnErr result (uploads.new.items ≡ uploads.old.items) }
     ensures capacity { vec_capacity uploads.new ≡ vec_capacity uploads.old }
 {
@@ -123,7 +136,8 @@ fn begin(
     Ok(())
 }
 
-/// Goes on with the upload with an index, where there is one. The index is that of the first upload that passes a test. `Starved`: out of memory, and all is as before.
+/// Goes on with the upload with an index, where there is one. The index is that of the first upload
+/// that passes a test. `Starved`: out of memory, and all is as before.
 fn go_on(
     uploads: &mut Vec<Collected>,
     now: Moment,
@@ -131,7 +145,10 @@ fn go_on(
     piece: &[u8],
 ) -> Result<(), Starved>
     requires { (test : LiveUpload → Bool) × (index ≡ position test uploads.old.items) }
-    ensures ok { (test : LiveUpload → Bool) → index ≡ position test uploads.old.items → OnOk result (uploads.new.items ≡ changed_first test (with_block piece.now now.0) uploads.old.items) }
+    ensures ok { (test : LiveUpload → Bool)
+        → index ≡ position test uploads.old.items
+        → OnOk result (uploads.new.items
+        ≡ changed_first test (with_block piece.now now.0) uploads.old.items) }
     ensures err { OnErr result (uploads.new.items ≡ uploads.old.items) }
     ensures capacity { vec_capacity uploads.new ≡ vec_capacity uploads.old }
 {
@@ -142,7 +159,8 @@ fn go_on(
     Ok(())
 }
 
-/// Collects a block that more follow, by the index of the upload of its peer and request key, where that lives. `Starved`: out of memory, and all is as before.
+/// Collects a block that more follow, by the index of the upload of its peer and request key, where
+/// that lives. `Starved`: out of memory, and all is as before.
 #[tactic(auto, unfolding(crate::specs::Uploading::gone_on))]
 fn take(
     uploads: &mut Vec<Collected>,
@@ -154,9 +172,11 @@ fn take(
     block: &Block,
     piece: &[u8],
 ) -> Result<(), Starved>
-    requires room { length (other_uploads now.0 (peer, key.now) uploads.old.items) < vec_capacity uploads.old }
+    requires room { length (other_uploads now.0 (peer, key.now) uploads.old.items)
+        < vec_capacity uploads.old }
     requires index { index ≡ position (is_live_as now.0 (peer, key.now)) uploads.old.items }
-    ensures ok { OnOk result (uploads.new.items ≡ taken block.now now.0 (peer, key.now) piece.now uploads.old.items) }
+    ensures ok { OnOk result
+        (uploads.new.items ≡ taken block.now now.0 (peer, key.now) piece.now uploads.old.items) }
     ensures err { OnErr result (uploads.new.items ≡ uploads.old.items) }
     ensures capacity { vec_capacity uploads.new ≡ vec_capacity uploads.old }
 {
@@ -166,7 +186,8 @@ fn take(
     go_on(uploads, now, index, piece)
 }
 
-/// How a block is answered, by what is collected of its upload and by how many uploads live; a last block is joined to what is collected.
+/// How a block is answered, by what is collected of its upload and by how many uploads live; a last
+/// block is joined to what is collected.
 #[tactic(auto, unfolding(crate::specs::BlockAnswers::answer_to))]
 fn judge(
     uploads: &Vec<Collected>,
@@ -176,7 +197,10 @@ fn judge(
     piece: &[u8],
     body: Option<&[u8]>,
 ) -> Upload
-    ensures { result ≢ Upload.Starved → result ≡ answer_to block.now piece.now (option_map (λ s. s.now) body.entry) (length (young_uploads now.0 uploads.now.items)) }
+    ensures { result ≢ Upload.Starved
+        → result
+        ≡ answer_to block.now piece.now (option_map (λ s. s.now) body.entry)
+        (length (young_uploads now.0 uploads.now.items)) }
 {
     let Some(octets) = collected(body, block) else {
         return Upload::OutOfOrder;
@@ -196,7 +220,8 @@ fn judge(
     }
 }
 
-/// How a block is answered. One that more follow is collected where it is answered by `More`; after any other answer all is as before.
+/// How a block is answered. One that more follow is collected where it is answered by `More`; after
+/// any other answer all is as before.
 #[tactic(auto, unfolding(crate::specs::Uploading::live_body))]
 pub(crate) fn upload(
     uploads: &mut Vec<Collected>,
@@ -209,8 +234,12 @@ pub(crate) fn upload(
 ) -> Upload
     requires room { 64 ≤ vec_capacity uploads.old }
     requires few { vec_len uploads.old ≤ 64 }
-    ensures answer { result ≢ Upload.Starved → result ≡ answer_to block.now piece.now (live_body now.0 (peer, key.now) uploads.old.items) (length (young_uploads now.0 uploads.old.items)) }
-    ensures more { result ≡ Upload.More → uploads.new.items ≡ taken block.now now.0 (peer, key.now) piece.now uploads.old.items }
+    ensures answer { result ≢ Upload.Starved
+        → result
+        ≡ answer_to block.now piece.now (live_body now.0 (peer, key.now) uploads.old.items)
+        (length (young_uploads now.0 uploads.old.items)) }
+    ensures more { result ≡ Upload.More
+        → uploads.new.items ≡ taken block.now now.0 (peer, key.now) piece.now uploads.old.items }
     ensures other { result ≢ Upload.More → uploads.new.items ≡ uploads.old.items }
     ensures few { vec_len uploads.new ≤ 64 }
     ensures capacity { vec_capacity uploads.new ≡ vec_capacity uploads.old }

@@ -1,11 +1,52 @@
 -- Taking the turn, or failing to, keeps the rule.
-use Rattle.std.proofs.Common.{◌≡◌, ℕ, ◌+◌, ◌%◌, ◌<◌, ◌==◌, Bool, true, false, List, [], ◌∷◌, length, Option, Some, get_or, sym, refl, ◌∙◌, subst, ap, arith, length-set, get_or-set_same, set, ⊎_elim, true≢false, zero, suc}
+use Rattle.std.proofs.Common.{
+  ◌≡◌,
+  ℕ,
+  ◌+◌,
+  ◌%◌,
+  ◌<◌,
+  ◌==◌,
+  Bool,
+  true,
+  false,
+  List,
+  [],
+  ◌∷◌,
+  length,
+  Option,
+  Some,
+  get_or,
+  sym,
+  refl,
+  ◌∙◌,
+  subst,
+  ap,
+  arith,
+  length-set,
+  get_or-set_same,
+  set,
+  ⊎_elim,
+  true≢false,
+  zero,
+  suc,
+}
 use Rattle.std.specs.Bool.{MatchBool}
 use mathlib.Core.Option.{some, none, some-ne-none}
 use Rattle.std.proofs.lemmas.Bool.Decides.{nat_tests}
 use lib.ListN.{get_elem?}
 use prog.Atomic.{either}
-use Rattle.atomic_table.specs.Table.{State, Me, Act, Valid, carried_after, keeps, takes, Allows, step, stepped}
+use Rattle.atomic_table.specs.Table.{
+  State,
+  Me,
+  Act,
+  Valid,
+  carried_after,
+  keeps,
+  takes,
+  Allows,
+  step,
+  stepped,
+}
 use Rattle.atomic_table.proofs.Lists.{at_set, set_here, set_again}
 use Rattle.turn_lock.specs.Histories.{Extends, rows_of, AllBelow}
 use Rattle.turn_lock.specs.Rule.{word_of, Kept}
@@ -38,7 +79,10 @@ module _ {T R L : Type 0} (stands : List R → T → Type 0) (number : R → ℕ
     pub only : v.mine ≡ rows_of number v.number history
     pub label_is : v.label ≡ lab
 
-  pub fits : (lab : L) (s : State (Option T) (View R L)) (k : Kept stands number label lab s) (id : ℕ) (v : View R L) → get_elem? s.views id ≡ some v → Fits lab k.history id v
+  pub fits : (lab : L) (s : State (Option T) (View R L)) (k : Kept stands number label lab s)
+      (id : ℕ) (v : View R L)
+      → get_elem? s.views id ≡ some v
+      → Fits lab k.history id v
   fits lab s k id v at = record {
     seen = k.seen id v at;
     whole = k.whole id v at;
@@ -50,9 +94,18 @@ module _ {T R L : Type 0} (stands : List R → T → Type 0) (number : R → ℕ
 
   -- the holder's view after it took the turn
   abbrev taken : View R L → List R → View R L
-  taken v history = record { number = v.number; seen = history; mine = v.mine; label = v.label; holding = true; last = v.last }
+  taken v history = record {
+    number = v.number;
+    seen = history;
+    mine = v.mine;
+    label = v.label;
+    holding = true;
+    last = v.last;
+  }
 
-  fits_taken : (lab : L) (history : List R) (id : ℕ) (v : View R L) → Fits lab history id v → Fits lab history id (taken v history)
+  fits_taken : (lab : L) (history : List R) (id : ℕ) (v : View R L)
+      → Fits lab history id v
+      → Fits lab history id (taken v history)
   fits_taken lab history id v f = record {
     seen = ([], refl);
     whole = λ h. refl;
@@ -62,8 +115,10 @@ module _ {T R L : Type 0} (stands : List R → T → Type 0) (number : R → ℕ
     label_is = f.label_is;
   }
 
-  module _ (lab : L) (id : ℕ) (m : Me (Option T) (View R L)) (old : ℕ) (s : State (Option T) (View R L)) (k : Kept stands number label lab s)
-      (at : get_elem? s.views id ≡ some m.0) (free : k.held ≡ false) (here : get_or s.words 0 0 ≡ old) where
+  module _ (lab : L) (id : ℕ) (m : Me (Option T) (View R L)) (old : ℕ)
+      (s : State (Option T) (View R L)) (k : Kept stands number label lab s)
+      (at : get_elem? s.views id ≡ some m.0) (free : k.held ≡ false)
+      (here : get_or s.words 0 0 ≡ old) where
     abbrev views' : List (View R L)
     views' = set s.views id (taken m.0 k.history)
 
@@ -72,7 +127,9 @@ module _ {T R L : Type 0} (stands : List R → T → Type 0) (number : R → ℕ
 
     fits_each : (j : ℕ) (w : View R L) → get_elem? views' j ≡ some w → Fits lab k.history j w
     fits_each j w e = ⊎_elim
-        (λ t. subst (Fits lab k.history j) t.1 (subst (λ (i : ℕ). Fits lab k.history i (taken m.0 k.history)) (sym t.0) (fits_taken lab k.history id m.0 (fits lab s k id m.0 at))))
+        (λ t. subst (Fits lab k.history j) t.1
+        (subst (λ (i : ℕ). Fits lab k.history i (taken m.0 k.history)) (sym t.0)
+        (fits_taken lab k.history id m.0 (fits lab s k id m.0 at))))
         (λ t. fits lab s k j w t.1)
         (at_set s.views id j (taken m.0 k.history) w e)
 
@@ -82,19 +139,23 @@ module _ {T R L : Type 0} (stands : List R → T → Type 0) (number : R → ℕ
     even : old ≡ word_of (length k.history) false
     even = sym here ∙ (k.word ∙ ap (word_of (length k.history)) free)
 
-    kept_taken : Kept stands number label lab (stepped s 0 (old + 1) id m.1 (taken m.0 k.history) (takes 0 (Some (k.home free).value)))
+    kept_taken : Kept stands number label lab
+        (stepped s 0 (old + 1) id m.1 (taken m.0 k.history) (takes 0 (Some (k.home free).value)))
     kept_taken = record {
       history = k.history;
       held = true;
       words = length-set s.words 0 (old + 1) ∙ k.words;
       slots = length-set s.homes 0 _ ∙ k.slots;
-      word = get_or-set_same s.words 0 (old + 1) 0 (omega (arith, k.words)) ∙ (ap (λ (n : ℕ). n + 1) even ∙ odd_word (length k.history));
+      word =
+          get_or-set_same s.words 0 (old + 1) 0 (omega (arith, k.words))
+          ∙ (ap (λ (n : ℕ). n + 1) even ∙ odd_word (length k.history));
       seen = λ j w e. (fits_each j w e).seen;
       all_seen = (id, taken m.0 k.history, there, refl);
       holder = λ h. (id, taken m.0 k.history, there, refl);
       idle = λ h. absurd (true≢false h);
       one = λ i j v w a b x y. ⊎_elim
-          (λ t. ⊎_elim (λ u. t.0 ∙ sym u.0) (λ u. absurd (true≢false (sym y ∙ k.idle free j w u.1))) (at_set s.views id j (taken m.0 k.history) w b))
+          (λ t. ⊎_elim (λ u. t.0 ∙ sym u.0) (λ u. absurd (true≢false (sym y ∙ k.idle free j w u.1)))
+          (at_set s.views id j (taken m.0 k.history) w b))
           (λ t. absurd (true≢false (sym x ∙ k.idle free i v t.1)))
           (at_set s.views id i (taken m.0 k.history) v a);
       home = λ h. absurd (true≢false h);
@@ -105,28 +166,46 @@ module _ {T R L : Type 0} (stands : List R → T → Type 0) (number : R → ℕ
       only = λ j w e. (fits_each j w e).only;
       label_is = λ j w e. (fits_each j w e).label_is;
       last = λ j w e x. ⊎_elim
-          (λ t. (ap (λ (i : ℕ). i + 1) t.0 ∙ k.last id m.0 at (ap (λ (u : View R L). u.last) t.1 ∙ x)) ∙ wide)
+          (λ t.
+          (ap (λ (i : ℕ). i + 1) t.0 ∙ k.last id m.0 at (ap (λ (u : View R L). u.last) t.1 ∙ x))
+          ∙ wide)
           (λ t. k.last j w t.1 x ∙ wide)
           (at_set s.views id j (taken m.0 k.history) w e);
     }
 
-  state_same : (s : State (Option T) (View R L)) (id : ℕ) (m : Me (Option T) (View R L)) → get_elem? s.views id ≡ some m.0 → length s.words ≡ 1
+  state_same : (s : State (Option T) (View R L)) (id : ℕ) (m : Me (Option T) (View R L))
+      → get_elem? s.views id ≡ some m.0
+      → length s.words ≡ 1
       → s ≡ stepped s 0 (get_or s.words 0 0) id m.1 m.0 keeps
-  state_same s id m at one i = record { words = same_words s.words one i; homes = s.homes; views = sym (set_again s.views id m.0 at) i }
+  state_same s id m at one i = record {
+    words = same_words s.words one i;
+    homes = s.homes;
+    views = sym (set_again s.views id m.0 at) i;
+  }
 
-  kept_same : (lab : L) (id : ℕ) (m : Me (Option T) (View R L)) (s : State (Option T) (View R L)) → Kept stands number label lab s → get_elem? s.views id ≡ some m.0
+  kept_same : (lab : L) (id : ℕ) (m : Me (Option T) (View R L)) (s : State (Option T) (View R L))
+      → Kept stands number label lab s
+      → get_elem? s.views id ≡ some m.0
       → Kept stands number label lab (stepped s 0 (get_or s.words 0 0) id m.1 m.0 keeps)
-  kept_same lab id m s k at = subst (λ (x : State (Option T) (View R L)). Kept stands number label lab x) (state_same s id m at k.words) k
+  kept_same lab id m s k at =
+      subst (λ (x : State (Option T) (View R L)). Kept stands number label lab x)
+      (state_same s id m at k.words) k
 
   allowed_by : (lab : L) (id : ℕ) (m : Me (Option T) (View R L)) (old : ℕ) → old % 2 ≡ 0 → m.1 ≡ []
-      → (s : State (Option T) (View R L)) → Kept stands number label lab s → get_elem? s.views id ≡ some m.0
+      → (s : State (Option T) (View R L))
+      → Kept stands number label lab s
+      → get_elem? s.views id ≡ some m.0
       → (b : Bool) → (get_or s.words 0 0 == old) ≡ b
       → (w : View R L) × (a : Act (Option T)) × Valid s.homes m.1 a
-      × Kept stands number label lab (stepped s 0 (either b (old + 1) (get_or s.words 0 0)) id m.1 w a)
-      × MatchBool b (Took stands number label m (w, carried_after m.1 a) (get_or s.words 0 0)) (DidNotTake stands number label m (w, carried_after m.1 a))
+      × Kept stands number label lab
+      (stepped s 0 (either b (old + 1) (get_or s.words 0 0)) id m.1 w a)
+      × MatchBool b (Took stands number label m (w, carried_after m.1 a) (get_or s.words 0 0))
+      (DidNotTake stands number label m (w, carried_after m.1 a))
   allowed_by lab id m old even bare s k at true found =
       let here : get_or s.words 0 0 ≡ old = grind (arith, nat_tests) in
-      let free : k.held ≡ false = held_is (length k.history) (get_or s.words 0 0) k.held k.word (subst (λ (n : ℕ). n % 2 ≡ 0) (sym here) even) in
+      let free : k.held ≡ false =
+      held_is (length k.history) (get_or s.words 0 0) k.held k.word
+      (subst (λ (n : ℕ). n % 2 ≡ 0) (sym here) even) in
       let f = k.home free in (
         taken m.0 k.history,
         takes 0 (Some f.value),
@@ -146,8 +225,13 @@ module _ {T R L : Type 0} (stands : List R → T → Type 0) (number : R → ℕ
           word = k.word ∙ ap (word_of (length k.history)) free;
         },
       )
-  allowed_by lab id m old even bare s k at false found = (m.0, keeps, tt, kept_same lab id m s k at, refl)
+  allowed_by lab id m old even bare s k at false found =
+      (m.0, keeps, tt, kept_same lab id m s k at, refl)
 
-  pub takes_allowed : (lab : L) (id : ℕ) (m : Me (Option T) (View R L)) (old : ℕ) → old % 2 ≡ 0 → m.1 ≡ []
-      → Allows (Kept stands number label lab) 1 id m 0 (λ n. either (n == old) (old + 1) n) (Takes stands number label (step 1 0 old (old + 1) none) m)
-  takes_allowed lab id m old even bare s k wide at small = allowed_by lab id m old even bare s k at (get_or s.words 0 0 == old) refl
+  pub takes_allowed : (lab : L) (id : ℕ) (m : Me (Option T) (View R L)) (old : ℕ)
+      → old % 2 ≡ 0
+      → m.1 ≡ []
+      → Allows (Kept stands number label lab) 1 id m 0 (λ n. either (n == old) (old + 1) n)
+      (Takes stands number label (step 1 0 old (old + 1) none) m)
+  takes_allowed lab id m old even bare s k wide at small =
+      allowed_by lab id m old even bare s k at (get_or s.words 0 0 == old) refl

@@ -1,5 +1,23 @@
 -- The rule of the turn: what holds of the word, of the slot and of all views between any two steps.
-use Rattle.std.specs.Prelude.{◌≡◌, ◌⊎◌, ℕ, ◌+◌, ◌*◌, ◌%◌, ◌^◌, Bool, true, false, cond, List, [], length, Option, Some, slice_index}
+use Rattle.std.specs.Prelude.{
+  ◌≡◌,
+  ◌⊎◌,
+  ℕ,
+  ◌+◌,
+  ◌*◌,
+  ◌%◌,
+  ◌^◌,
+  Bool,
+  true,
+  false,
+  cond,
+  List,
+  [],
+  length,
+  Option,
+  Some,
+  slice_index,
+}
 use mathlib.Core.Option.{some}
 use lib.ListN.{get_elem?}
 use Rattle.atomic_table.specs.Table.{State}
@@ -12,11 +30,19 @@ word_of n held = 2 * (n % 2 ^ 62) + cond held 1 0
 
 -- what the first pass knows
 abbrev pub first_view : {R L : Type 0} → L → View R L
-first_view lab = record { number = 0; seen = []; mine = []; label = lab; holding = false; last = true }
+first_view lab = record {
+  number = 0;
+  seen = [];
+  mine = [];
+  label = lab;
+  holding = false;
+  last = true;
+}
 
 module _ {T R L : Type 0} (stands : List R → T → Type 0) (number : R → ℕ) (label : T → L) where
   -- the slot is at home, and its value stands for the history and has the lock's label
-  pub record IsHome (lab : L) (history : List R) (homes : List (mathlib.Core.Option.Option (Option T))) : Type 0 where
+  pub record IsHome (lab : L) (history : List R)
+      (homes : List (mathlib.Core.Option.Option (Option T))) : Type 0 where
     pub value : T
     pub home : get_elem? homes 0 ≡ some (some (Some value))
     pub stands_for : stands history value
@@ -25,31 +51,59 @@ module _ {T R L : Type 0} (stands : List R → T → Type 0) (number : R → ℕ
   pub record Kept (lab : L) (s : State (Option T) (View R L)) : Type 0 where
     pub history : List R
     pub held : Bool
-    -- There is one word, which has the length of the history and whether the turn is held, and one slot.
+    -- There is one word, which has the length of the history and whether the turn is held, and one
+    -- slot.
     pub words : length s.words ≡ 1
     pub slots : length s.homes ≡ 1
     pub word : slice_index s.words 0 ≡ word_of (length history) held
-    -- 1. What a view has seen is the history as it once was, so of two such lists one is the beginning of the other; one view has seen all of it.
+    -- 1. What a view has seen is the history as it once was, so of two such lists one is the
+    -- beginning of the other; one view has seen all of it.
     pub seen : (id : ℕ) (v : View R L) → get_elem? s.views id ≡ some v → Extends v.seen history
     pub all_seen : (id : ℕ) × (v : View R L) × (get_elem? s.views id ≡ some v) × (v.seen ≡ history)
     -- 2. The turn is held exactly where a view is holding, and at most one is.
-    pub holder : held ≡ true → (id : ℕ) × (v : View R L) × (get_elem? s.views id ≡ some v) × (v.holding ≡ true)
-    pub idle : held ≡ false → (id : ℕ) (v : View R L) → get_elem? s.views id ≡ some v → v.holding ≡ false
-    pub one : (i j : ℕ) (v w : View R L) → get_elem? s.views i ≡ some v → get_elem? s.views j ≡ some w → v.holding ≡ true → w.holding ≡ true → i ≡ j
+    pub holder : held ≡ true
+        → (id : ℕ) × (v : View R L) × (get_elem? s.views id ≡ some v) × (v.holding ≡ true)
+    pub idle : held ≡ false
+        → (id : ℕ) (v : View R L)
+        → get_elem? s.views id ≡ some v
+        → v.holding ≡ false
+    pub one : (i j : ℕ) (v w : View R L)
+        → get_elem? s.views i ≡ some v
+        → get_elem? s.views j ≡ some w
+        → v.holding ≡ true
+        → w.holding ≡ true
+        → i ≡ j
     -- 3. Where no view is holding, the slot is at home and its value stands for the history.
     pub home : held ≡ false → IsHome lab history s.homes
     -- 4. A view that is holding has seen all of the history.
-    pub whole : (id : ℕ) (v : View R L) → get_elem? s.views id ≡ some v → v.holding ≡ true → v.seen ≡ history
-    -- 5. Each row names a view. A view's number is its place among the views; its own rows are those of what it has seen that name it, and the history has no further ones.
+    pub whole : (id : ℕ) (v : View R L)
+        → get_elem? s.views id ≡ some v
+        → v.holding ≡ true
+        → v.seen ≡ history
+    -- 5. Each row names a view. A view's number is its place among the views; its own rows are
+    -- those of what it has seen that name it, and the history has no further ones.
     pub rows : AllBelow number (length s.views) history
     pub number_is : (id : ℕ) (v : View R L) → get_elem? s.views id ≡ some v → v.number ≡ id
-    pub mine : (id : ℕ) (v : View R L) → get_elem? s.views id ≡ some v → v.mine ≡ rows_of number v.number v.seen
-    pub only : (id : ℕ) (v : View R L) → get_elem? s.views id ≡ some v → v.mine ≡ rows_of number v.number history
+    pub mine : (id : ℕ) (v : View R L)
+        → get_elem? s.views id ≡ some v
+        → v.mine ≡ rows_of number v.number v.seen
+    pub only : (id : ℕ) (v : View R L)
+        → get_elem? s.views id ≡ some v
+        → v.mine ≡ rows_of number v.number history
     -- 6. All views have the lock's label, and so has the value at home.
     pub label_is : (id : ℕ) (v : View R L) → get_elem? s.views id ≡ some v → v.label ≡ lab
     -- The mark of the view that was made last: while passes are made, each is cut off it.
-    pub last : (id : ℕ) (v : View R L) → get_elem? s.views id ≡ some v → v.last ≡ true → id + 1 ≡ length s.views
+    pub last : (id : ℕ) (v : View R L)
+        → get_elem? s.views id ≡ some v
+        → v.last ≡ true
+        → id + 1 ≡ length s.views
 
   -- of what two views have seen, one is the other as it once was
   abbrev pub SeenInOrder : Type 0
-  SeenInOrder = (lab : L) (s : State (Option T) (View R L)) → Kept lab s → (i j : ℕ) (v w : View R L) → get_elem? s.views i ≡ some v → get_elem? s.views j ≡ some w → Extends v.seen w.seen ⊎ Extends w.seen v.seen
+  SeenInOrder =
+      (lab : L) (s : State (Option T) (View R L))
+      → Kept lab s
+      → (i j : ℕ) (v w : View R L)
+      → get_elem? s.views i ≡ some v
+      → get_elem? s.views j ≡ some w
+      → Extends v.seen w.seen ⊎ Extends w.seen v.seen

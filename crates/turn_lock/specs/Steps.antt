@@ -1,5 +1,20 @@
--- The six kinds of step. Each changes the view of the seat that steps, and no other; m is the seat before, n the seat after.
-use Rattle.std.specs.Prelude.{◌≡◌, ℕ, ◌+◌, ◌==◌, true, false, List, [], ◌∷◌, length, Option, Some, None}
+-- The six kinds of step. Each changes the view of the seat that steps, and no other; m is the seat
+-- before, n the seat after.
+use Rattle.std.specs.Prelude.{
+  ◌≡◌,
+  ℕ,
+  ◌+◌,
+  ◌==◌,
+  true,
+  false,
+  List,
+  [],
+  ◌∷◌,
+  length,
+  Option,
+  Some,
+  None,
+}
 use Rattle.std.specs.Bool.{MatchBool}
 use Rattle.atomic_table.specs.Table.{Me, Step}
 use Rattle.turn_lock.specs.Histories.{Extends, rows_of}
@@ -8,14 +23,29 @@ use Rattle.turn_lock.specs.declared.views.View.{View}
 
 -- the splitting view, which loses its mark
 abbrev pub kept_view : {R L : Type 0} → View R L → View R L
-kept_view v = record { number = v.number; seen = v.seen; mine = v.mine; label = v.label; holding = v.holding; last = false }
+kept_view v = record {
+  number = v.number;
+  seen = v.seen;
+  mine = v.mine;
+  label = v.label;
+  holding = v.holding;
+  last = false;
+}
 
 -- the view that is split off: the next number, the same history and label, and no row of its own
 abbrev pub next_view : {R L : Type 0} → View R L → View R L
-next_view v = record { number = v.number + 1; seen = v.seen; mine = []; label = v.label; holding = false; last = true }
+next_view v = record {
+  number = v.number + 1;
+  seen = v.seen;
+  mine = [];
+  label = v.label;
+  holding = false;
+  last = true;
+}
 
 module _ {T R L : Type 0} (stands : List R → T → Type 0) (number : R → ℕ) (label : T → L) where
-  -- Take, on the word, from free to held: the pass is holding, has seen the whole history, and has the slot, whose value stands for it.
+  -- Take, on the word, from free to held: the pass is holding, has seen the whole history, and has
+  -- the slot, whose value stands for it.
   pub record Took (m n : Me (Option T) (View R L)) (found : ℕ) : Type 0 where
     pub value : T
     pub slot : n.1 ≡ (0, Some value) ∷ []
@@ -34,7 +64,11 @@ module _ {T R L : Type 0} (stands : List R → T → Type 0) (number : R → ℕ
   DidNotTake m n = n ≡ m
 
   -- which of these two it is shows in the number that was found
-  abbrev pub Takes : Step (Option T) → Me (Option T) (View R L) → ℕ → Me (Option T) (View R L) → Type 0
+  abbrev pub Takes : Step (Option T)
+      → Me (Option T) (View R L)
+      → ℕ
+      → Me (Option T) (View R L)
+      → Type 0
   Takes st m found n = MatchBool (found == st.first) (Took m n found) (DidNotTake m n)
 
   -- Slot out, by the holder: the value comes out, and the view stays.
@@ -49,7 +83,8 @@ module _ {T R L : Type 0} (stands : List R → T → Type 0) (number : R → ℕ
     pub after : n.1 ≡ (0, Some value) ∷ []
     pub view : n.0 ≡ m.0
 
-  -- the turn may be given back: the pass is holding, and the value in its slot stands for the history with a row more, which names the pass
+  -- the turn may be given back: the pass is holding, and the value in its slot stands for the
+  -- history with a row more, which names the pass
   pub record IsReady (added : R) (m : Me (Option T) (View R L)) : Type 0 where
     pub value : T
     pub slot : m.1 ≡ (0, Some value) ∷ []
@@ -58,7 +93,8 @@ module _ {T R L : Type 0} (stands : List R → T → Type 0) (number : R → ℕ
     pub stands_for : stands (added ∷ m.0.seen) value
     pub label_is : label value ≡ m.0.label
 
-  -- Give, on the word, to one row more and free: the row goes to what was seen and to the pass's own rows, and the slot goes home.
+  -- Give, on the word, to one row more and free: the row goes to what was seen and to the pass's
+  -- own rows, and the slot goes home.
   pub record Gave (added : R) (m n : Me (Option T) (View R L)) : Type 0 where
     pub slot : n.1 ≡ []
     pub holding : n.0.holding ≡ false
@@ -68,7 +104,12 @@ module _ {T R L : Type 0} (stands : List R → T → Type 0) (number : R → ℕ
     pub number_is : n.0.number ≡ m.0.number
     pub label_is : n.0.label ≡ m.0.label
 
-  abbrev pub Gives : Option R → Step (Option T) → Me (Option T) (View R L) → ℕ → Me (Option T) (View R L) → Type 0
+  abbrev pub Gives : Option R
+      → Step (Option T)
+      → Me (Option T) (View R L)
+      → ℕ
+      → Me (Option T) (View R L)
+      → Type 0
   Gives picked st m found n = (added : R) × (picked ≡ Some added) × Gave added m n
 
 -- Split, while the lock is made: the view is cut in two, and nothing else changes.

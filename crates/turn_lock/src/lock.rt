@@ -19,7 +19,8 @@ use std::sync::atomic::{AtomicU64, Ordering};
 #[derive(Drop)]
 pub struct TurnLock<T: Replays> {
     table: Table<Option<T>, View<T::Row, T::Label>, Snapshot<T>, Turn<T>, Global>,
-    /// How many workers sleep until the turn is given back, or are about to. Where it is 0, a give wakes nobody.
+    /// How many workers sleep until the turn is given back, or are about to. Where it is 0, a give
+    /// wakes nobody.
     sleepers: AtomicU64,
     ghost words: { table.shared.table_id.words ≡ 1 },
     ghost slots: { table.shared.table_id.slots ≡ 1 },
@@ -76,15 +77,18 @@ fn new_pass<T: Replays>(seat: Seat<Option<T>, View<T::Row, T::Label>>) -> Pass<T
 }
 
 impl<T: Replays> TurnLock<T> {
-    ghost use Rattle.std.specs.Prelude.{◌%◌, ◌<◌, ◌≤◌, List, length, true, None, IfOk, IfErr, IfSome, IsSome, slice_get, slice_index_or, All};
+    ghost use Rattle.std.specs.Prelude.{◌%◌, ◌<◌, ◌≤◌, List, length, true, None, IfOk, IfErr};
+    ghost use Rattle.std.specs.Prelude.{IfSome, IsSome, slice_get, slice_index_or, All};
     ghost use Rattle.std.specs.Bool.{MatchBool};
     ghost use Rattle.std.specs.Vec.{vec_capacity};
     ghost use Rattle.turn_lock.specs.Histories.{Extends, rows_of};
     ghost use Rattle.std.specs.Mem.Slots.{slots_len, IsFull};
     ghost use Rattle.turn_lock.specs.Endings.{IfFree, HasValueWhereFree, IsFreeWith};
-    ghost use Rattle.turn_lock.specs.Steps.{Took, DidNotTake, CameOut, WentIn, IsReady, Gave, WasSplit};
+    ghost use Rattle.turn_lock.specs.Steps.{Took, DidNotTake, CameOut, WentIn, IsReady, Gave};
+    ghost use Rattle.turn_lock.specs.Steps.{WasSplit};
     ghost use Rattle.turn_lock.specs.Passes.{IsFresh};
-    ghost use Rattle.turn_lock.specs.Shown.{id_of, lock_of, number_of, label_of, is_holding, seen_of, mine_of, list_of, IsNew};
+    ghost use Rattle.turn_lock.specs.Shown.{id_of, lock_of, number_of, label_of, is_holding};
+    ghost use Rattle.turn_lock.specs.Shown.{seen_of, mine_of, list_of, IsNew};
 
     /// Waits for the turn and takes the value out. It stands for all that the pass has seen then.
     pub fn take<R: Wait>(&self, rt: &R, pass: &mut Pass<T>) -> T
@@ -128,7 +132,9 @@ impl<T: Replays> TurnLock<T> {
 
     /// Sleeps while the word is this one.
     ///
-    /// A sleeper is counted before the word is compared, and a give changes the word before it reads the count: so a give that finds no sleeper changed the word before it was compared, and nobody sleeps through it.
+    /// A sleeper is counted before the word is compared, and a give changes the word before it
+    /// reads the count: so a give that finds no sleeper changed the word before it was compared,
+    /// and nobody sleeps through it.
     fn sleep<R: Wait>(&self, rt: &R, word: u64) {
         self.sleepers.fetch_add(1, Ordering::SeqCst);
         self.table.shared.park(rt, 0, (word & 0xffff_ffff) as u32);
@@ -141,7 +147,9 @@ impl<T: Replays> TurnLock<T> {
         requires bare { seat.old.me.1 ≡ [] }
         requires free { word % 2 ≡ 0 }
         ensures lock { seat.new.table_id ≡ seat.old.table_id }
-        ensures took { MatchBool result (Took T.stands T.number T.label seat.old.me seat.new.me word) (DidNotTake T.stands T.number T.label seat.old.me seat.new.me) }
+        ensures took { MatchBool result
+            (Took T.stands T.number T.label seat.old.me seat.new.me word)
+            (DidNotTake T.stands T.number T.label seat.old.me seat.new.me) }
     {
         let shared = &self.table.shared;
         shared.compare_exchange::<Take<T>>(seat, 0, word, word + 1) == word
@@ -168,7 +176,8 @@ impl<T: Replays> TurnLock<T> {
         let None = out else { unreachable!() };
     }
 
-    /// Gives the turn back with the value, which stands for what the pass has seen with one row more.
+    /// Gives the turn back with the value, which stands for what the pass has seen with one row
+    /// more.
     pub fn give<S: Added<T::Row>>(&self, pass: &mut Pass<T>, value: T)
         requires lock { lock_of pass.old ≡ id_of self.now }
         requires holding { is_holding pass.old ≡ true }
@@ -198,9 +207,13 @@ impl<T: Replays> TurnLock<T> {
     )
         requires lock { seat.old.table_id ≡ self.now.table.shared.table_id }
         requires word { word ≡ word_of (length seat.old.me.0.seen + 1) false }
-        requires ready { (row : T.Row) × (S.added ≡ Some row) × IsReady T.stands T.number T.label row seat.old.me }
+        requires ready { (row : T.Row)
+            × (S.added ≡ Some row)
+            × IsReady T.stands T.number T.label row seat.old.me }
         ensures lock { seat.new.table_id ≡ seat.old.table_id }
-        ensures gave { (row : T.Row) × (S.added ≡ Some row) × Gave T.stands T.number T.label row seat.old.me seat.new.me }
+        ensures gave { (row : T.Row)
+            × (S.added ≡ Some row)
+            × Gave T.stands T.number T.label row seat.old.me seat.new.me }
     {
         let shared = &self.table.shared;
         shared.swap::<Give<T, S>>(seat, 0, word);
@@ -217,7 +230,8 @@ impl<T: Replays> TurnLock<T> {
         requires lock { last.old.table_id ≡ self.now.table.shared.table_id }
         requires last { last.old.me.0.last ≡ true }
         requires idle { last.old.me.0.holding ≡ false }
-        ensures lock { (last.new.table_id ≡ last.old.table_id) × (result.table_id ≡ last.old.table_id) }
+        ensures lock { (last.new.table_id ≡ last.old.table_id)
+            × (result.table_id ≡ last.old.table_id) }
         ensures split { WasSplit last.old.me last.new.me result.me }
     {
         self.table.shared.split_seat::<Next>(last)
@@ -251,7 +265,8 @@ impl<T: Replays> TurnLock<T> {
         passes
     }
 
-    /// The lock round the value, and its passes, numbered from 0. Where no memory is found, the value comes back.
+    /// The lock round the value, and its passes, numbered from 0. Where no memory is found, the
+    /// value comes back.
     pub fn make_or_return(
         alloc: Global,
         seats: u32,
@@ -260,8 +275,12 @@ impl<T: Replays> TurnLock<T> {
         requires seats { (1 ≤ seats) × (seats ≤ 16) }
         requires value { T.stands [] value }
         ensures count { IfOk result (λ made. length (list_of made.1) ≡ seats) }
-        ensures fresh { IfOk result (λ made. (i : ℕ) (d : _) → i < length (list_of made.1) → IsNew (T.label value) i (slice_index_or (list_of made.1) i d)) }
-        ensures lock { IfOk result (λ made. All (λ pass. lock_of pass ≡ id_of made.0) (list_of made.1)) }
+        ensures fresh { IfOk result (λ made.
+            (i : ℕ) (d : _)
+            → i < length (list_of made.1)
+            → IsNew (T.label value) i (slice_index_or (list_of made.1) i d)) }
+        ensures lock { IfOk result
+            (λ made. All (λ pass. lock_of pass ≡ id_of made.0) (list_of made.1)) }
         ensures back { IfErr result (λ unmade. unmade.value ≡ value) }
     {
         let Ok(passes) = Vec::with_capacity(alloc, seats as usize) else {
@@ -343,8 +362,12 @@ impl<T: Replays + Drop> TurnLock<T> {
         requires seats { (1 ≤ seats) × (seats ≤ 16) }
         requires value { T.stands [] value }
         ensures count { IfOk result (λ made. length (list_of made.1) ≡ seats) }
-        ensures fresh { IfOk result (λ made. (i : ℕ) (d : _) → i < length (list_of made.1) → IsNew (T.label value) i (slice_index_or (list_of made.1) i d)) }
-        ensures lock { IfOk result (λ made. All (λ pass. lock_of pass ≡ id_of made.0) (list_of made.1)) }
+        ensures fresh { IfOk result (λ made.
+            (i : ℕ) (d : _)
+            → i < length (list_of made.1)
+            → IsNew (T.label value) i (slice_index_or (list_of made.1) i d)) }
+        ensures lock { IfOk result
+            (λ made. All (λ pass. lock_of pass ≡ id_of made.0) (list_of made.1)) }
     {
         match TurnLock::make_or_return(alloc, seats, value) {
             Ok(made) => Ok(made),

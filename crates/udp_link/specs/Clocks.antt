@@ -17,6 +17,7 @@ but_first [] = []
 but_first (x ∷ []) = x ∷ []
 but_first (x ∷ y ∷ ys) = y ∷ ys
 
--- what a call gave is the first of the list, or `absent` of an empty one, and it is taken off unless it is the last
+-- what a call gave is the first of the list, or `absent` of an empty one, and it is taken off
+-- unless it is the last
 abbrev pub GivesFirst : {A : Type 0} → A → A → List A → List A → Type 0
 GivesFirst absent result before now = (result ≡ first_or absent before) × (now ≡ but_first before)

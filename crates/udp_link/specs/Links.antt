@@ -19,10 +19,12 @@ IsWithinLimit came.TooLong = ⊤
 IsWithinLimit came.Nothing = ⊤
 IsWithinLimit came.Failed = ⊤
 
--- A receive takes the first datagram off those that are coming: it hands it over whole, or it is longer than the limit and lost. Nothing comes only where none is left. A failure takes none.
+-- A receive takes the first datagram off those that are coming: it hands it over whole, or it is
+-- longer than the limit and lost. Nothing comes only where none is left. A failure takes none.
 abbrev pub TakesFirst : Came → List ℕ → List Datagram → List Datagram → Type 0
 TakesFirst (came.Datagram peer n) into before now = before ≡ (peer, take n into) ∷ now
-TakesFirst came.TooLong into before now = (long : Datagram) × ((MAX_DATAGRAM < length long.1) × (before ≡ long ∷ now))
+TakesFirst came.TooLong into before now =
+    (long : Datagram) × ((MAX_DATAGRAM < length long.1) × (before ≡ long ∷ now))
 TakesFirst came.Nothing into before now = (before ≡ []) × (now ≡ [])
 TakesFirst came.Failed into before now = now ≡ before
 
@@ -45,7 +47,8 @@ CountsSent before now went.Failed = (before ≤ now) × Rose before now
 
 -- this datagram was handed over whole, or it is longer than the limit
 abbrev pub IsDelivered : Came → Datagram → List ℕ → Type 0
-IsDelivered (came.Datagram peer n) datagram into = (n ≤ MAX_DATAGRAM) × ((peer, take n into) ≡ datagram)
+IsDelivered (came.Datagram peer n) datagram into =
+    (n ≤ MAX_DATAGRAM) × ((peer, take n into) ≡ datagram)
 IsDelivered came.TooLong datagram into = MAX_DATAGRAM < length datagram.1
 IsDelivered came.Nothing datagram into = ⊥
 IsDelivered came.Failed datagram into = ⊥

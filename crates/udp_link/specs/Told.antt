@@ -2,7 +2,11 @@
 use Rattle.std.specs.Prelude.{◌≡◌, List, Option, None, Some, ⊤}
 
 -- a list that is told before is told after too, and the two stand in this relation
-abbrev pub WhereTold : {A : Type 0} → (List A → List A → Type 0) → Option (List A) → Option (List A) → Type 0
+abbrev pub WhereTold : {A : Type 0}
+    → (List A → List A → Type 0)
+    → Option (List A)
+    → Option (List A)
+    → Type 0
 WhereTold R None now = ⊤
 WhereTold R (Some before) None = ⊥
 WhereTold R (Some before) (Some now) = R before now

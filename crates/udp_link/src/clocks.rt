@@ -20,7 +20,8 @@ pub trait Clock {
     /// The moment now, at most 10^15 milliseconds.
     fn now(&mut self) -> Moment
         ensures early { IsHandedIn result }
-        ensures gives { WhereTold (GivesFirst (record { 0 = 0 }) result) (times self.old) (times self.new) }
+        ensures gives { WhereTold (GivesFirst (record { 0 = 0 }) result) (times self.old)
+            (times self.new) }
         ensures words_stay { Stays (words self.old) (words self.new) };
 
     /// A word.

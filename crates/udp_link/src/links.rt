@@ -1,7 +1,8 @@
 //! Links: where datagrams come from and go to.
 ghost use Rattle.std.specs.Prelude.{◌≡◌, ◌≤◌, ℕ, List, Option, length};
 ghost use Rattle.udp_link.specs.Told.{WhereTold, Stays};
-ghost use Rattle.udp_link.specs.Links.{Datagram, IsWithinLimit, TakesFirst, AddsLast, CountsReceived, CountsSent};
+ghost use Rattle.udp_link.specs.Links.{Datagram, IsWithinLimit, TakesFirst, AddsLast};
+ghost use Rattle.udp_link.specs.Links.{CountsReceived, CountsSent};
 
 use rd_base::Peer;
 
@@ -55,7 +56,8 @@ pub trait Link {
 
     /// Sends `piece` to `peer` as one datagram.
     fn send(&mut self, peer: Peer, piece: &[u8]) -> Went
-        ensures adds { WhereTold (AddsLast result (peer, piece.now)) (gone self.old) (gone self.new) }
+        ensures adds { WhereTold (AddsLast result (peer, piece.now)) (gone self.old)
+            (gone self.new) }
         ensures cause { CountsSent (send_faults self.old) (send_faults self.new) result }
         ensures coming_stays { Stays (coming self.old) (coming self.new) }
         ensures receives_stand { recv_faults self.new ≡ recv_faults self.old };

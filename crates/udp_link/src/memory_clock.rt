@@ -6,7 +6,8 @@ use crate::clock_lists::next_of;
 use crate::{Clock, Moments, Words};
 use rd_base::Moment;
 
-/// A clock that gives the moments and the words of two lists in order, and then the last ones again.
+/// A clock that gives the moments and the words of two lists in order, and then the last ones
+/// again.
 #[derive(Debug, Drop)]
 pub struct MemClock {
     moments: Moments,
@@ -19,7 +20,8 @@ pub struct MemClock {
 }
 
 impl MemClock {
-    /// A clock that gives `moments`, each at most 10^15 milliseconds, and `words`. It gives 0 where a list is empty.
+    /// A clock that gives `moments`, each at most 10^15 milliseconds, and `words`. It gives 0 where
+    /// a list is empty.
     pub fn of(moments: Moments, words: Words) -> MemClock
         requires { All IsHandedIn moments }
         ensures times { ⟦<MemClock as Clock>⟧.times result ≡ Some moments }

@@ -1,6 +1,7 @@
 //! A link in memory, of which chosen calls fail.
 ghost use Rattle.std.specs.Prelude.{◌≡◌, ◌↔◌, ◌≤◌, true, Some, [], length, drop};
-ghost use Rattle.udp_link.specs.Links.{IsWithinLimit, TakesFirst, AddsLast, CountsReceived, CountsSent};
+ghost use Rattle.udp_link.specs.Links.{IsWithinLimit, TakesFirst, AddsLast, CountsReceived};
+ghost use Rattle.udp_link.specs.Links.{CountsSent};
 ghost use Rattle.udp_link.specs.Plans.{is_planned, Advanced};
 ghost use Rattle.udp_link.specs.declared.links.TheConstants.{MAX_DATAGRAM};
 
@@ -25,7 +26,8 @@ pub struct MemLink {
 }
 
 impl MemLink {
-    /// A link to which the datagrams of `coming` come. `fail_recv` and `fail_send` list the numbers, from 0 and up to 255, of the calls that fail.
+    /// A link to which the datagrams of `coming` come. `fail_recv` and `fail_send` list the
+    /// numbers, from 0 and up to 255, of the calls that fail.
     pub fn of(alloc: Global, coming: Arrivals, fail_recv: Bytes, fail_send: Bytes) -> MemLink
         ensures coming { ⟦<MemLink as Link>⟧.coming result ≡ Some coming }
         ensures gone { ⟦<MemLink as Link>⟧.gone result ≡ Some [] }
@@ -67,7 +69,8 @@ impl Link for MemLink {
     fn recv(&mut self, into: &mut [u8]) -> Came
         requires { MAX_DATAGRAM ≤ length into.old }
         ensures within { IsWithinLimit result }
-        ensures takes { TakesFirst result into.new (drop self.old.taken self.old.coming) (drop self.new.taken self.new.coming) }
+        ensures takes { TakesFirst result into.new (drop self.old.taken self.old.coming)
+            (drop self.new.taken self.new.coming) }
         ensures cause { CountsReceived self.old.recv_faults self.new.recv_faults result }
         ensures sent_stays { self.new.gone ≡ self.old.gone }
         ensures sends_stand { self.new.send_faults ≡ self.old.send_faults }
@@ -87,11 +90,13 @@ impl Link for MemLink {
         came
     }
 
-    /// Keeps the datagram. The sends that are planned to fail do, and so does one that is out of memory.
+    /// Keeps the datagram. The sends that are planned to fail do, and so does one that is out of
+    /// memory.
     fn send(&mut self, peer: Peer, piece: &[u8]) -> Went
         ensures adds { AddsLast result (peer, piece.now) self.old.gone self.new.gone }
         ensures cause { CountsSent self.old.send_faults self.new.send_faults result }
-        ensures coming_stays { drop self.new.taken self.new.coming ≡ drop self.old.taken self.old.coming }
+        ensures coming_stays { drop self.new.taken self.new.coming
+            ≡ drop self.old.taken self.old.coming }
         ensures receives_stand { self.new.recv_faults ≡ self.old.recv_faults }
         ensures planned { is_planned self.old.sends ≡ true → result ≡ Went.Failed }
         ensures advanced { Advanced self.old.sends self.new.sends }

@@ -18,7 +18,8 @@ use std::time::Duration;
 /// How long a receive waits for a datagram, in milliseconds.
 const WAIT: u64 = 50;
 
-/// Room for a datagram, in octets: one more than the longest that is read, by which a longer one is told.
+/// Room for a datagram, in octets: one more than the longest that is read, by which a longer one is
+/// told.
 const ROOM: usize = MAX_DATAGRAM + 1;
 
 /// A link over a UDP socket, which other links may share. It tells no datagrams.
@@ -34,7 +35,8 @@ pub struct UdpLink {
 }
 
 impl UdpLink {
-    /// A link over `socket`. Its receives wait for 50 ms, and the system is asked for room for a burst of datagrams. Where the socket takes no such limit, each receive fails.
+    /// A link over `socket`. Its receives wait for 50 ms, and the system is asked for room for a
+    /// burst of datagrams. Where the socket takes no such limit, each receive fails.
     pub fn of(socket: Arc<UdpSocket>) -> UdpLink
         ensures coming { ⟦<UdpLink as Link>⟧.coming result ≡ None }
         ensures gone { ⟦<UdpLink as Link>⟧.gone result ≡ None }
@@ -55,7 +57,9 @@ impl UdpLink {
     }
 }
 
-/// Whether an error of a receive is no fault of the link: no datagram came in time, or an earlier datagram of this socket did not reach its peer (RFC 792, destination unreachable), which the system tells by a later receive.
+/// Whether an error of a receive is no fault of the link: no datagram came in time, or an earlier
+/// datagram of this socket did not reach its peer (RFC 792, destination unreachable), which the
+/// system tells by a later receive.
 fn is_no_fault(kind: ErrorKind) -> bool {
     matches!(
         kind,
@@ -125,7 +129,8 @@ impl<R: time::Clock> Clock for UdpClock<R> {
 
     ghost words = { λ _. None };
 
-    /// The milliseconds since 1970. Where the machine's time cannot be read, the moment that was given last.
+    /// The milliseconds since 1970. Where the machine's time cannot be read, the moment that was
+    /// given last.
     fn now(&mut self) -> Moment {
         if let Ok(time) = self.system.since_1970() {
             let millis = time.as_secs().saturating_mul(1000);

@@ -1,4 +1,5 @@
--- The registration that the tests make: its parameters are allowed, its body without octets has no links, and its entry is one of its draft.
+-- The registration that the tests make: its parameters are allowed, its body without octets has no
+-- links, and its entry is one of its draft.
 use Rattle.std.proofs.Common.{◌≡◌, [], Some, Option, refl, ap, sym, ◌∙◌, arith}
 use Rattle.std.specs.Prelude.{option_map}
 use Rattle.rd_base.specs.declared.moments.Moment.{Moment}
@@ -32,12 +33,23 @@ some_same : {A : Type 0} (x y : A) → Some x ≡ Some y → x ≡ y
 some_same x y e = cc
 
 -- what its body is built into is its draft
-pub sample_made : (draft : Draft) → option_map (drafted sample_peer sample_params) (linked_references []) ≡ Some draft → draft ≡ drafted sample_peer sample_params []
+pub sample_made : (draft : Draft)
+    → option_map (drafted sample_peer sample_params) (linked_references []) ≡ Some draft
+    → draft ≡ drafted sample_peer sample_params []
 sample_made draft e =
     let made : Option Draft = Some (drafted sample_peer sample_params []) in
-    let found : made ≡ Some draft = sym (ap (option_map (drafted sample_peer sample_params)) no_links) ∙ e in
+    let found : made ≡ Some draft =
+    sym (ap (option_map (drafted sample_peer sample_params)) no_links) ∙ e in
     sym (some_same (drafted sample_peer sample_params []) draft found)
 
 -- its draft becomes its entry
-pub sample_registers : (now : Moment) (draft : Draft) → draft ≡ drafted sample_peer sample_params [] → IsRegistrationOf now draft (sample_entry now.0)
-sample_registers now draft made = record { params = sample_params; links = []; moment = refl; change = refl; made = made }
+pub sample_registers : (now : Moment) (draft : Draft)
+    → draft ≡ drafted sample_peer sample_params []
+    → IsRegistrationOf now draft (sample_entry now.0)
+sample_registers now draft made = record {
+  params = sample_params;
+  links = [];
+  moment = refl;
+  change = refl;
+  made = made;
+}

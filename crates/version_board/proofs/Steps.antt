@@ -1,5 +1,27 @@
 -- The step that enters an entry keeps the rule of the book.
-use Rattle.std.proofs.Common.{◌≡◌, ℕ, ◌+◌, ◌<◌, ◌==◌, Bool, true, false, List, [], ◌∷◌, ◌++◌, length, refl, ap, sym, subst, arith, inl, length-append, None}
+use Rattle.std.proofs.Common.{
+  ◌≡◌,
+  ℕ,
+  ◌+◌,
+  ◌<◌,
+  ◌==◌,
+  Bool,
+  true,
+  false,
+  List,
+  [],
+  ◌∷◌,
+  ◌++◌,
+  length,
+  refl,
+  ap,
+  sym,
+  subst,
+  arith,
+  inl,
+  length-append,
+  None,
+}
 use Rattle.std.proofs.lemmas.List.{append-nil}
 use Rattle.std.proofs.lemmas.Bool.Decides.{nat_tests}
 use mathlib.Core.List.{IsPrefix}
@@ -17,13 +39,18 @@ abbrev pub moved : List Entry → List Entry → ℕ → Type 0
 moved xs ys n = Unit {0}
 
 -- in a book with these entries the step enters one more, or finds another number than it expects
-pub enters_goes : (log v : List Entry) (e : Entry) (old new : ℕ) → length v ≡ old → new ≡ old + 1 → IsPrefix v log
+pub enters_goes : (log v : List Entry) (e : Entry) (old new : ℕ)
+    → length v ≡ old
+    → new ≡ old + 1
+    → IsPrefix v log
     → (b : Bool) → (length log == old) ≡ b
-    → Goes IsKept shown moved 0 (v, (no_nib, None)) (λ n. either (n == old) new n) (Enters (step 0 old new e) (v, (no_nib, None))) ((length log, true) ∷ (0, true) ∷ []) log
+    → Goes IsKept shown moved 0 (v, (no_nib, None)) (λ n. either (n == old) new n)
+    (Enters (step 0 old new e) (v, (no_nib, None))) ((length log, true) ∷ (0, true) ∷ []) log
 enters_goes log v e old new len next pre true is =
     let here : length log ≡ old = grind (arith, nat_tests) in
     let same : v ≡ log = prefix_whole v log pre (omega arith) in
-    let n : either (length log == old) new (length log) ≡ length (log ++ e ∷ []) = rw is (omega (arith, length-append log (e ∷ []))) in (
+    let n : either (length log == old) new (length log) ≡ length (log ++ e ∷ []) =
+    rw is (omega (arith, length-append log (e ∷ []))) in (
       keeps,
       e ∷ [],
       None,
@@ -34,7 +61,8 @@ enters_goes log v e old new len next pre true is =
     )
 enters_goes log v e old new len next pre false is =
     let all : log ++ [] ≡ log = append-nil log in
-    let n : either (length log == old) new (length log) ≡ length (log ++ []) = rw is (ap length (sym all)) in (
+    let n : either (length log == old) new (length log) ≡ length (log ++ []) =
+    rw is (ap length (sym all)) in (
       keeps,
       [],
       None,
@@ -44,9 +72,17 @@ enters_goes log v e old new len next pre false is =
       rw is (ap length all),
     )
 
--- whatever the book is, the step enters the entry after all that was seen, or finds that the book is longer
+-- whatever the book is, the step enters the entry after all that was seen, or finds that the book
+-- is longer
 pub enters_moves : (v : List Entry) (e : Entry) (old new : ℕ) → length v ≡ old → new ≡ old + 1
-    → Moves IsKept shown moved 0 (v, (no_nib, None)) (λ n. either (n == old) new n) (Enters (step 0 old new e) (v, (no_nib, None)))
+    → Moves IsKept shown moved 0 (v, (no_nib, None)) (λ n. either (n == old) new n)
+    (Enters (step 0 old new e) (v, (no_nib, None)))
 enters_moves v e old new len next cs log kept pre away =
-    let P : List Cell → Type 0 = λ c. (0 < length c) × ((cell c 0).1 ≡ true) × Goes IsKept shown moved 0 (v, (no_nib, None)) (λ n. either (n == old) new n) (Enters (step 0 old new e) (v, (no_nib, None))) c log in
-    subst P (sym kept) (omega arith, refl, enters_goes log v e old new len next pre (length log == old) refl)
+    let P : List Cell → Type 0 =
+    λ c.
+    (0 < length c)
+    × ((cell c 0).1 ≡ true)
+    × Goes IsKept shown moved 0 (v, (no_nib, None)) (λ n. either (n == old) new n)
+    (Enters (step 0 old new e) (v, (no_nib, None))) c log in
+    subst P (sym kept)
+    (omega arith, refl, enters_goes log v e old new len next pre (length log == old) refl)

@@ -6,4 +6,8 @@ use Rattle.version_board.specs.Names.{name_of}
 
 -- the name of the board, the version, and the entries that it stands for
 abbrev pub content_of : Published → Content
-content_of p = record { name = name_of p.front.book; version = arc_value p.version; entries = p.front.log }
+content_of p = record {
+  name = name_of p.front.book;
+  version = arc_value p.version;
+  entries = p.front.log;
+}

@@ -19,11 +19,17 @@ unknown = record { known = false; name = [] }
 
 -- whoever knows a name knows that of what is shown
 abbrev pub AllKnow : Published → List Known → Type 0
-AllKnow shown views = (seat : ℕ) (v : Known) → get_elem? views seat ≡ some v → v.known ≡ true → v ≡ knowing (name_of shown.front.book)
+AllKnow shown views =
+    (seat : ℕ) (v : Known)
+    → get_elem? views seat ≡ some v
+    → v.known ≡ true
+    → v ≡ knowing (name_of shown.front.book)
 
 -- enter: a reader takes what is shown, and knows its name
 abbrev pub Takes : Known → Published → Published → Known → Type 0
-Takes v before after w = (w ≡ knowing (name_of before.front.book)) × (v.known ≡ true → v ≡ knowing (name_of before.front.book))
+Takes v before after w =
+    (w ≡ knowing (name_of before.front.book))
+    × (v.known ≡ true → v ≡ knowing (name_of before.front.book))
 
 -- the first publishing: the publisher learns the name
 abbrev pub Names : Known → Published → Published → Known → Type 0

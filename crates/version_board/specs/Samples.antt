@@ -12,8 +12,18 @@ sample_peer = record { host = V4 (192 ∷ 0 ∷ 2 ∷ 10 ∷ []); port = 5683 }
 
 -- its parameters; it has no links
 abbrev pub sample_params : RegParams
-sample_params = record { name = record { ep = codes "node"; sector = None }; lt = 600; base = None; attrs = [] }
+sample_params = record {
+  name = record { ep = codes "node"; sector = None };
+  lt = 600;
+  base = None;
+  attrs = [];
+}
 
 -- its entry at a moment
 abbrev pub sample_entry : ℕ → Entry
-sample_entry moment = record { moment = record { 0 = moment }; worker = 0; peer = sample_peer; change = Register sample_params [] }
+sample_entry moment = record {
+  moment = record { 0 = moment };
+  worker = 0;
+  peer = sample_peer;
+  change = Register sample_params [];
+}

@@ -8,7 +8,9 @@ use Rattle.history_model.specs.ChangedParts.{is_other_part}
 use Rattle.history_model.proofs.ChangedLines.{same_from_test, test_from_same}
 
 -- an answer that tells whether the parts are the same, turned
-pub other_by : (query : Query) (old new : Option Record) (answer : Bool) → ((answer ≡ true) ↔ (part_or_none query old ≡ part_or_none query new)) → not answer ≡ is_other_part query old new
+pub other_by : (query : Query) (old new : Option Record) (answer : Bool)
+    → ((answer ≡ true) ↔ (part_or_none query old ≡ part_or_none query new))
+    → not answer ≡ is_other_part query old new
 other_by query old new answer same = by answer (is_other_part query old new) refl refl
   where
     by : (a b : Bool) → answer ≡ a → is_other_part query old new ≡ b → not a ≡ b

@@ -1,5 +1,34 @@
--- For the crate above: the query that is watched at a place, after one watcher more, after one fewer, and after a body was set.
-use Rattle.std.proofs.Common.{◌≡◌, ℕ, ◌+◌, ◌-◌, ◌<◌, ◌≤◌, nat_eq, nat_le, Bool, true, false, cond, List, [], ◌∷◌, ◌++◌, Some, None, Option, option_map, refl, sym, ap, subst, ◌∙◌, arith, eqb-true}
+-- For the crate above: the query that is watched at a place, after one watcher more, after one
+-- fewer, and after a body was set.
+use Rattle.std.proofs.Common.{
+  ◌≡◌,
+  ℕ,
+  ◌+◌,
+  ◌-◌,
+  ◌<◌,
+  ◌≤◌,
+  nat_eq,
+  nat_le,
+  Bool,
+  true,
+  false,
+  cond,
+  List,
+  [],
+  ◌∷◌,
+  ◌++◌,
+  Some,
+  None,
+  Option,
+  option_map,
+  refl,
+  sym,
+  ap,
+  subst,
+  ◌∙◌,
+  arith,
+  eqb-true,
+}
 use Rattle.std.specs.Map.{lookup, remove_entry, set_value}
 use Rattle.std.proofs.lemmas.Bool.{false≢true, leb-true}
 use Rattle.rd_base.specs.declared.queries.Query.{Query}
@@ -8,9 +37,31 @@ use Rattle.event_model.specs.declared.notes.Observer.{Observer}
 use Rattle.event_model.specs.Same.{is_same_query}
 use Rattle.event_model.specs.Observers.{is_watched}
 use Rattle.event_model.proofs.SameLaws.{is_same_query-Decides}
-use Rattle.watch_table.specs.WatchedQueries.{Watched, Table, watched_at, query_at, place_of, watched_first, one_more, more_at, one_fewer, fewer_at, fewer_of, body_set, with_body, IsPlaceOf, IsPlaceFor}
+use Rattle.watch_table.specs.WatchedQueries.{
+  Watched,
+  Table,
+  watched_at,
+  query_at,
+  place_of,
+  watched_first,
+  one_more,
+  more_at,
+  one_fewer,
+  fewer_at,
+  fewer_of,
+  body_set,
+  with_body,
+  IsPlaceOf,
+  IsPlaceFor,
+}
 use Rattle.watch_table.specs.Watchers.{AreApart, watchers_of, observers_of, WatchesStandFor}
-use Rattle.watch_table.proofs.WatcherLaws.{one, observers-between, place_of-found, counted_at, any_counts}
+use Rattle.watch_table.proofs.WatcherLaws.{
+  one,
+  observers-between,
+  place_of-found,
+  counted_at,
+  any_counts,
+}
 
 abbrev query_of : Option Watched → Option Query
 query_of w = option_map (λ (x : Watched). x.query) w
@@ -18,55 +69,87 @@ query_of w = option_map (λ (x : Watched). x.query) w
 -- ---- what is found at a place
 
 -- where what is watched at a place is replaced
-found_set : (place : ℕ) (t : Table) (w v : Watched) → lookup (nat_eq place) t ≡ Some w → lookup (nat_eq place) (set_value (nat_eq place) t v) ≡ Some v
+found_set : (place : ℕ) (t : Table) (w v : Watched)
+    → lookup (nat_eq place) t ≡ Some w
+    → lookup (nat_eq place) (set_value (nat_eq place) t v) ≡ Some v
 found_set place [] w v is = absurd cc
 found_set place (e ∷ es) w v is = by (nat_eq place e.0) refl is (found_set place es w v)
   where
-    by : (b : Bool) → nat_eq place e.0 ≡ b → cond b (Some e.1) (lookup (nat_eq place) es) ≡ Some w → (lookup (nat_eq place) es ≡ Some w → lookup (nat_eq place) (set_value (nat_eq place) es v) ≡ Some v)
-        → lookup (nat_eq place) (cond b ((e.0, v) ∷ es) (e ∷ set_value (nat_eq place) es v)) ≡ Some v
+    by : (b : Bool)
+        → nat_eq place e.0 ≡ b
+        → cond b (Some e.1) (lookup (nat_eq place) es) ≡ Some w
+        → (lookup (nat_eq place) es ≡ Some w
+        → lookup (nat_eq place) (set_value (nat_eq place) es v) ≡ Some v)
+        → lookup (nat_eq place) (cond b ((e.0, v) ∷ es) (e ∷ set_value (nat_eq place) es v))
+        ≡ Some v
     by true here g more = rw here refl
     by false here g more = rw here (more g)
 
 -- another place
-away : (place other : ℕ) (e : ℕ × Watched) → nat_eq place other ≡ false → nat_eq place e.0 ≡ true → nat_eq other e.0 ≡ false
+away : (place other : ℕ) (e : ℕ × Watched)
+    → nat_eq place other ≡ false
+    → nat_eq place e.0 ≡ true
+    → nat_eq other e.0 ≡ false
 away place other e apart here = by (nat_eq other e.0) refl
   where
     by : (b : Bool) → nat_eq other e.0 ≡ b → b ≡ false
     by false g = refl
-    by true g = absurd (false≢true (sym apart ∙ subst (λ n. nat_eq place n ≡ true) (sym (eqb-true other e.0 g)) here))
+    by true g =
+        absurd (false≢true
+        (sym apart ∙ subst (λ n. nat_eq place n ≡ true) (sym (eqb-true other e.0 g)) here))
 
-set_other : (place other : ℕ) (t : Table) (v : Watched) → nat_eq place other ≡ false → lookup (nat_eq other) (set_value (nat_eq place) t v) ≡ lookup (nat_eq other) t
+set_other : (place other : ℕ) (t : Table) (v : Watched)
+    → nat_eq place other ≡ false
+    → lookup (nat_eq other) (set_value (nat_eq place) t v) ≡ lookup (nat_eq other) t
 set_other place other [] v apart = refl
-set_other place other (e ∷ es) v apart = by (nat_eq place e.0) refl (set_other place other es v apart)
+set_other place other (e ∷ es) v apart =
+    by (nat_eq place e.0) refl (set_other place other es v apart)
   where
-    by : (b : Bool) → nat_eq place e.0 ≡ b → lookup (nat_eq other) (set_value (nat_eq place) es v) ≡ lookup (nat_eq other) es
-        → lookup (nat_eq other) (cond b ((e.0, v) ∷ es) (e ∷ set_value (nat_eq place) es v)) ≡ lookup (nat_eq other) (e ∷ es)
+    by : (b : Bool)
+        → nat_eq place e.0 ≡ b
+        → lookup (nat_eq other) (set_value (nat_eq place) es v) ≡ lookup (nat_eq other) es
+        → lookup (nat_eq other) (cond b ((e.0, v) ∷ es) (e ∷ set_value (nat_eq place) es v))
+        ≡ lookup (nat_eq other) (e ∷ es)
     by true here more = rw (away place other e apart here) refl
     by false here more = ap (λ o. cond (nat_eq other e.0) (Some e.1) o) more
 
-removed_other : (place other : ℕ) (t : Table) → nat_eq place other ≡ false → lookup (nat_eq other) (remove_entry (nat_eq place) t) ≡ lookup (nat_eq other) t
+removed_other : (place other : ℕ) (t : Table)
+    → nat_eq place other ≡ false
+    → lookup (nat_eq other) (remove_entry (nat_eq place) t) ≡ lookup (nat_eq other) t
 removed_other place other [] apart = refl
-removed_other place other (e ∷ es) apart = by (nat_eq place e.0) refl (removed_other place other es apart)
+removed_other place other (e ∷ es) apart =
+    by (nat_eq place e.0) refl (removed_other place other es apart)
   where
-    by : (b : Bool) → nat_eq place e.0 ≡ b → lookup (nat_eq other) (remove_entry (nat_eq place) es) ≡ lookup (nat_eq other) es
-        → lookup (nat_eq other) (cond b es (e ∷ remove_entry (nat_eq place) es)) ≡ lookup (nat_eq other) (e ∷ es)
+    by : (b : Bool)
+        → nat_eq place e.0 ≡ b
+        → lookup (nat_eq other) (remove_entry (nat_eq place) es) ≡ lookup (nat_eq other) es
+        → lookup (nat_eq other) (cond b es (e ∷ remove_entry (nat_eq place) es))
+        ≡ lookup (nat_eq other) (e ∷ es)
     by true here more = rw (away place other e apart here) refl
     by false here more = ap (λ o. cond (nat_eq other e.0) (Some e.1) o) more
 
-pushed_found : (place : ℕ) (t : Table) (e : ℕ × Watched) (w : Watched) → lookup (nat_eq place) t ≡ Some w → lookup (nat_eq place) (t ++ e ∷ []) ≡ Some w
+pushed_found : (place : ℕ) (t : Table) (e : ℕ × Watched) (w : Watched)
+    → lookup (nat_eq place) t ≡ Some w
+    → lookup (nat_eq place) (t ++ e ∷ []) ≡ Some w
 pushed_found place [] e w is = absurd cc
 pushed_found place (x ∷ xs) e w is = by (nat_eq place x.0) is (pushed_found place xs e w)
   where
-    by : (b : Bool) → cond b (Some x.1) (lookup (nat_eq place) xs) ≡ Some w → (lookup (nat_eq place) xs ≡ Some w → lookup (nat_eq place) (xs ++ e ∷ []) ≡ Some w)
+    by : (b : Bool)
+        → cond b (Some x.1) (lookup (nat_eq place) xs) ≡ Some w
+        → (lookup (nat_eq place) xs ≡ Some w → lookup (nat_eq place) (xs ++ e ∷ []) ≡ Some w)
         → cond b (Some x.1) (lookup (nat_eq place) (xs ++ e ∷ [])) ≡ Some w
     by true g more = g
     by false g more = more g
 
-pushed_own : (place : ℕ) (t : Table) (w : Watched) → lookup (nat_eq place) t ≡ None → lookup (nat_eq place) (t ++ (place, w) ∷ []) ≡ Some w
+pushed_own : (place : ℕ) (t : Table) (w : Watched)
+    → lookup (nat_eq place) t ≡ None
+    → lookup (nat_eq place) (t ++ (place, w) ∷ []) ≡ Some w
 pushed_own place [] w is = rw (eqb-refl place) refl
 pushed_own place (x ∷ xs) w is = by (nat_eq place x.0) is (pushed_own place xs w)
   where
-    by : (b : Bool) → cond b (Some x.1) (lookup (nat_eq place) xs) ≡ None → (lookup (nat_eq place) xs ≡ None → lookup (nat_eq place) (xs ++ (place, w) ∷ []) ≡ Some w)
+    by : (b : Bool)
+        → cond b (Some x.1) (lookup (nat_eq place) xs) ≡ None
+        → (lookup (nat_eq place) xs ≡ None → lookup (nat_eq place) (xs ++ (place, w) ∷ []) ≡ Some w)
         → cond b (Some x.1) (lookup (nat_eq place) (xs ++ (place, w) ∷ [])) ≡ Some w
     by true g more = absurd cc
     by false g more = more g
@@ -74,7 +157,11 @@ pushed_own place (x ∷ xs) w is = by (nat_eq place x.0) is (pushed_own place xs
 -- ---- one watcher more
 
 -- what is watched at the place of a query is that query, where something is
-pub query_at-same : (query own : Query) (place : ℕ) (t : Table) → AreApart t → IsPlaceFor query place t → query_at place t ≡ Some own → own ≡ query
+pub query_at-same : (query own : Query) (place : ℕ) (t : Table)
+    → AreApart t
+    → IsPlaceFor query place t
+    → query_at place t ≡ Some own
+    → own ≡ query
 query_at-same query own place t apart for is = by (place_of query t) refl for
   where
     by : (o : Option ℕ) → place_of query t ≡ o → IsPlaceOf o place t → own ≡ query
@@ -86,83 +173,147 @@ query_at-same query own place t apart for is = by (place_of query t) refl for
         sym same ∙ (is_same_query-Decides found.0.query query).0 found.2
 
 -- the query is watched at its place
-pub query_at-own : (query : Query) (place : ℕ) (t : Table) → AreApart t → IsPlaceFor query place t → query_at place (one_more place query t) ≡ Some query
+pub query_at-own : (query : Query) (place : ℕ) (t : Table)
+    → AreApart t
+    → IsPlaceFor query place t
+    → query_at place (one_more place query t) ≡ Some query
 query_at-own query place t apart for = by (watched_at place t) refl
   where
-    by : (o : Option Watched) → watched_at place t ≡ o → query_at place (more_at o place query t) ≡ Some query
+    by : (o : Option Watched)
+        → watched_at place t ≡ o
+        → query_at place (more_at o place query t) ≡ Some query
     by None is = ap query_of (pushed_own place t (watched_first query) is)
-    by (Some w) is = ap query_of (found_set place t w (record w { watchers = w.watchers + 1 }) is) ∙ ap (λ q. Some q) (query_at-same query w.query place t apart for (ap query_of is))
+    by (Some w) is =
+        ap query_of (found_set place t w (record w { watchers = w.watchers + 1 }) is)
+        ∙ ap (λ q. Some q) (query_at-same query w.query place t apart for (ap query_of is))
 
 -- and at the other places, and at its own where it was watched, all is as before
-pub query_at-more : (query own : Query) (place other : ℕ) (t : Table) → query_at other t ≡ Some own → query_at other (one_more place query t) ≡ Some own
+pub query_at-more : (query own : Query) (place other : ℕ) (t : Table)
+    → query_at other t ≡ Some own
+    → query_at other (one_more place query t) ≡ Some own
 query_at-more query own place other t is = by (watched_at place t) refl
   where
-    pushed : (o : Option Watched) → lookup (nat_eq other) t ≡ o → query_of o ≡ Some own → query_of (lookup (nat_eq other) (t ++ (place, watched_first query) ∷ [])) ≡ Some own
+    pushed : (o : Option Watched)
+        → lookup (nat_eq other) t ≡ o
+        → query_of o ≡ Some own
+        → query_of (lookup (nat_eq other) (t ++ (place, watched_first query) ∷ [])) ≡ Some own
     pushed None e g = absurd cc
     pushed (Some w) e g = ap query_of (pushed_found other t (place, watched_first query) w e) ∙ g
 
-    set : (w : Watched) (b : Bool) → watched_at place t ≡ Some w → nat_eq place other ≡ b → query_of (lookup (nat_eq other) (set_value (nat_eq place) t (record w { watchers = w.watchers + 1 }))) ≡ Some own
-    set w false e apart = ap query_of (set_other place other t (record w { watchers = w.watchers + 1 }) apart) ∙ is
+    set : (w : Watched) (b : Bool)
+        → watched_at place t ≡ Some w
+        → nat_eq place other ≡ b
+        → query_of (lookup (nat_eq other)
+        (set_value (nat_eq place) t (record w { watchers = w.watchers + 1 })))
+        ≡ Some own
+    set w false e apart =
+        ap query_of (set_other place other t (record w { watchers = w.watchers + 1 }) apart) ∙ is
     set w true e same =
         let here = eqb-true place other same in
-        ap (λ n. query_of (lookup (nat_eq n) (set_value (nat_eq place) t (record w { watchers = w.watchers + 1 })))) (sym here)
-        ∙ (ap query_of (found_set place t w (record w { watchers = w.watchers + 1 }) e) ∙ (sym (ap query_of e) ∙ (ap (λ n. query_at n t) here ∙ is)))
+        ap (λ n.
+        query_of (lookup (nat_eq n)
+        (set_value (nat_eq place) t (record w { watchers = w.watchers + 1 }))))
+        (sym here)
+        ∙ (ap query_of (found_set place t w (record w { watchers = w.watchers + 1 }) e)
+        ∙ (sym (ap query_of e) ∙ (ap (λ n. query_at n t) here ∙ is)))
 
-    by : (o : Option Watched) → watched_at place t ≡ o → query_at other (more_at o place query t) ≡ Some own
+    by : (o : Option Watched)
+        → watched_at place t ≡ o
+        → query_at other (more_at o place query t) ≡ Some own
     by None e = pushed (lookup (nat_eq other) t) refl is
     by (Some w) e = set w (nat_eq place other) e refl
 
 -- ---- one watcher fewer
 
 -- a query that is still observed is watched where it was
-pub query_at-fewer : (front back : List Observer) (o : Observer) (own : Query) (place other : ℕ) (t : Table) → query_at place t ≡ Some o.query → query_at other t ≡ Some own → is_watched own (front ++ back) ≡ true
+pub query_at-fewer : (front back : List Observer) (o : Observer) (own : Query) (place other : ℕ)
+    (t : Table)
+    → query_at place t ≡ Some o.query
+    → query_at other t ≡ Some own
+    → is_watched own (front ++ back) ≡ true
     → WatchesStandFor (front ++ o ∷ back) t → query_at other (one_fewer place t) ≡ Some own
 unfolding one_fewer
 query_at-fewer front back o own place other t at is observed h = by (watched_at place t) refl at
   where
     -- at another place
-    apart_from : (w : Watched) (b : Bool) → nat_eq place other ≡ false → query_of (lookup (nat_eq other) (cond b (remove_entry (nat_eq place) t) (set_value (nat_eq place) t (record w { watchers = w.watchers - 1 })))) ≡ Some own
+    apart_from : (w : Watched) (b : Bool)
+        → nat_eq place other ≡ false
+        → query_of (lookup (nat_eq other) (cond b (remove_entry (nat_eq place) t)
+        (set_value (nat_eq place) t (record w { watchers = w.watchers - 1 }))))
+        ≡ Some own
     apart_from w true apart = ap query_of (removed_other place other t apart) ∙ is
-    apart_from w false apart = ap query_of (set_other place other t (record w { watchers = w.watchers - 1 }) apart) ∙ is
+    apart_from w false apart =
+        ap query_of (set_other place other t (record w { watchers = w.watchers - 1 }) apart) ∙ is
 
     -- at this place others watch it
-    still : (w : Watched) (b : Bool) → watched_at place t ≡ Some w → w.query ≡ own → o.query ≡ own → nat_le w.watchers 1 ≡ b
-        → query_of (lookup (nat_eq place) (cond b (remove_entry (nat_eq place) t) (set_value (nat_eq place) t (record w { watchers = w.watchers - 1 })))) ≡ Some own
-    still w false e same mine last = ap query_of (found_set place t w (record w { watchers = w.watchers - 1 }) e) ∙ ap (λ q. Some q) same
+    still : (w : Watched) (b : Bool)
+        → watched_at place t ≡ Some w
+        → w.query ≡ own
+        → o.query ≡ own
+        → nat_le w.watchers 1 ≡ b
+        → query_of (lookup (nat_eq place) (cond b (remove_entry (nat_eq place) t)
+        (set_value (nat_eq place) t (record w { watchers = w.watchers - 1 }))))
+        ≡ Some own
+    still w false e same mine last =
+        ap query_of (found_set place t w (record w { watchers = w.watchers - 1 }) e)
+        ∙ ap (λ q. Some q) same
     still w true e same mine last =
         let few = leb-true w.watchers 1 last in
-        let count = counted_at own place t w h.apart e ((is_same_query-Decides w.query own).1 same) in
+        let count =
+        counted_at own place t w h.apart e ((is_same_query-Decides w.query own).1 same) in
         let stands = h.watchers own in
         let between = observers-between own front back o in
         let here : one own o ≡ 1 = rw ((is_same_query-Decides o.query own).1 mine) refl in
         let more = any_counts own (front ++ back) observed in
         absurd (omega (arith, few, count, stands, between, here, more))
 
-    by_place : (w : Watched) (b : Bool) → watched_at place t ≡ Some w → w.query ≡ o.query → nat_eq place other ≡ b → query_at other (fewer_of w place t) ≡ Some own
+    by_place : (w : Watched) (b : Bool)
+        → watched_at place t ≡ Some w
+        → w.query ≡ o.query
+        → nat_eq place other ≡ b
+        → query_at other (fewer_of w place t) ≡ Some own
     by_place w false e same apart = apart_from w (nat_le w.watchers 1) apart
     by_place w true e same here =
         let n = eqb-true place other here in
-        let own_is : Some w.query ≡ Some own = sym (ap query_of e) ∙ (ap (λ m. query_at m t) n ∙ is) in
+        let own_is : Some w.query ≡ Some own =
+        sym (ap query_of e) ∙ (ap (λ m. query_at m t) n ∙ is) in
         let mine : w.query ≡ own = cc in
-        ap (λ m. query_at m (fewer_of w place t)) (sym n) ∙ still w (nat_le w.watchers 1) e mine (sym same ∙ mine) refl
+        ap (λ m. query_at m (fewer_of w place t)) (sym n)
+        ∙ still w (nat_le w.watchers 1) e mine (sym same ∙ mine) refl
 
-    by : (x : Option Watched) → watched_at place t ≡ x → option_map (λ (w : Watched). w.query) x ≡ Some o.query → query_at other (fewer_at x place t) ≡ Some own
+    by : (x : Option Watched)
+        → watched_at place t ≡ x
+        → option_map (λ (w : Watched). w.query) x ≡ Some o.query
+        → query_at other (fewer_at x place t) ≡ Some own
     by None e g = absurd cc
-    by (Some w) e g = let same : w.query ≡ o.query = cc in by_place w (nat_eq place other) e same refl
+    by (Some w) e g =
+        let same : w.query ≡ o.query = cc in by_place w (nat_eq place other) e same refl
 
 -- ---- bodies
 
 -- a body leaves each query at its place
-pub query_at-body : (place other : ℕ) (body : List ℕ) (t : Table) → query_at other (with_body place body t) ≡ query_at other t
+pub query_at-body : (place other : ℕ) (body : List ℕ) (t : Table)
+    → query_at other (with_body place body t) ≡ query_at other t
 query_at-body place other body t = by (watched_at place t) refl
   where
-    set : (w : Watched) (b : Bool) → watched_at place t ≡ Some w → nat_eq place other ≡ b → query_of (lookup (nat_eq other) (set_value (nat_eq place) t (record w { body = Some body }))) ≡ query_at other t
-    set w false e apart = ap query_of (set_other place other t (record w { body = Some body }) apart)
+    set : (w : Watched) (b : Bool)
+        → watched_at place t ≡ Some w
+        → nat_eq place other ≡ b
+        → query_of
+        (lookup (nat_eq other) (set_value (nat_eq place) t (record w { body = Some body })))
+        ≡ query_at other t
+    set w false e apart =
+        ap query_of (set_other place other t (record w { body = Some body }) apart)
     set w true e same =
         let here = eqb-true place other same in
-        ap (λ n. query_of (lookup (nat_eq n) (set_value (nat_eq place) t (record w { body = Some body })))) (sym here)
-        ∙ (ap query_of (found_set place t w (record w { body = Some body }) e) ∙ (sym (ap query_of e) ∙ ap (λ n. query_at n t) here))
+        ap (λ n.
+        query_of (lookup (nat_eq n)
+        (set_value (nat_eq place) t (record w { body = Some body })))) (sym here)
+        ∙ (ap query_of (found_set place t w (record w { body = Some body }) e)
+        ∙ (sym (ap query_of e) ∙ ap (λ n. query_at n t) here))
 
-    by : (o : Option Watched) → watched_at place t ≡ o → query_at other (body_set o place body t) ≡ query_at other t
+    by : (o : Option Watched)
+        → watched_at place t ≡ o
+        → query_at other (body_set o place body t) ≡ query_at other t
     by None e = refl
     by (Some w) e = set w (nat_eq place other) e refl

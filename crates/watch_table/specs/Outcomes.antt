@@ -16,7 +16,8 @@ pub record IsRefused (query : Query) (before after : Table) : Type 0 where
   pub full : IsFullFor query before
   pub same : after ≡ before
 
--- what comes of it, where one watcher fewer comes first: `old` is the table before, `gone` the one with that watcher taken off
+-- what comes of it, where one watcher fewer comes first: `old` is the table before, `gone` the one
+-- with that watcher taken off
 abbrev pub Watches : Query → Table → Table → Result ℕ WatchFault → Table → Type 0
 Watches query old gone (Ok place) new = IsWatchedOnceMore query place gone new
 Watches query old gone (Err fault.FullWatches) new = IsRefused query gone new

@@ -1,5 +1,29 @@
 -- Watched queries, each at its place: what is at a place, and what changes (RFC 7641 section 1.3).
-use Rattle.std.specs.Prelude.{◌≡◌, ℕ, ◌+◌, ◌-◌, ◌≤◌, Bool, true, false, nat_eq, nat_le, List, [], ◌∷◌, ◌++◌, map, find, length, Option, Some, None, option_map, option_and_then, if◌then◌else◌}
+use Rattle.std.specs.Prelude.{
+  ◌≡◌,
+  ℕ,
+  ◌+◌,
+  ◌-◌,
+  ◌≤◌,
+  Bool,
+  true,
+  false,
+  nat_eq,
+  nat_le,
+  List,
+  [],
+  ◌∷◌,
+  ◌++◌,
+  map,
+  find,
+  length,
+  Option,
+  Some,
+  None,
+  option_map,
+  option_and_then,
+  if◌then◌else◌,
+}
 use Rattle.std.specs.Map.{lookup, remove_entry, set_value}
 use Rattle.rd_base.specs.declared.queries.Query.{Query}
 use Rattle.rd_base.specs.declared.records.Record.{Record}
@@ -7,7 +31,8 @@ use Rattle.history_model.specs.ChangedParts.{is_other_part}
 use Rattle.event_model.specs.Same.{is_same_query}
 use Rattle.event_model.specs.Observers.{max_watched}
 
--- a watched query: how many watch it, whether its lines changed since the marks were taken off, and the body that was last formed for it
+-- a watched query: how many watch it, whether its lines changed since the marks were taken off, and
+-- the body that was last formed for it
 pub record Watched : Type 0 where
   pub query : Query
   pub watchers : ℕ
@@ -58,7 +83,10 @@ one_more place query t = more_at (watched_at place t) place query t
 
 -- one watcher fewer of what is watched at a place: it goes with its last
 abbrev pub fewer_of : Watched → ℕ → Table → Table
-fewer_of w place t = if nat_le w.watchers 1 then remove_entry (nat_eq place) t else set_value (nat_eq place) t (record w { watchers = w.watchers - 1 })
+fewer_of w place t =
+    if nat_le w.watchers 1
+    then remove_entry (nat_eq place) t
+    else set_value (nat_eq place) t (record w { watchers = w.watchers - 1 })
 
 abbrev pub fewer_at : Option Watched → ℕ → Table → Table
 fewer_at None place t = t
@@ -73,7 +101,8 @@ abbrev pub without : Option ℕ → Table → Table
 without None t = t
 without (Some place) t = one_fewer place t
 
--- the place of a query to be watched: its own, or else one of the first 257 where nothing is watched
+-- the place of a query to be watched: its own, or else one of the first 257 where nothing is
+-- watched
 abbrev pub IsPlaceOf : Option ℕ → ℕ → Table → Type 0
 IsPlaceOf (Some own) place t = place ≡ own
 IsPlaceOf None place t = (watched_at place t ≡ None) × (place ≤ max_watched)
@@ -86,9 +115,11 @@ pub record IsFullFor (query : Query) (t : Table) : Type 0 where
   pub other : place_of query t ≡ None
   pub full : max_watched ≤ length t
 
--- a watched query after a change of a registration: where its lines changed it is marked, and its body is dropped
+-- a watched query after a change of a registration: where its lines changed it is marked, and its
+-- body is dropped
 abbrev pub touched : Option Record → Option Record → Watched → Watched
-touched old new w = if is_other_part w.query old new then record w { marked = true; body = None } else w
+touched old new w =
+    if is_other_part w.query old new then record w { marked = true; body = None } else w
 
 -- each of the watched queries after a change of a registration
 abbrev pub all_touched : Option Record → Option Record → Table → Table

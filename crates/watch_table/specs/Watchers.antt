@@ -1,5 +1,21 @@
 -- Which observers a table of watched queries stands for (RFC 7641 section 4.1).
-use Rattle.std.specs.Prelude.{◌≡◌, ℕ, ◌≤◌, ◌<◌, Bool, false, ◌||◌, nat_eq, nat_lt, List, [], ◌∷◌, sum_by, count_by, if◌then◌else◌}
+use Rattle.std.specs.Prelude.{
+  ◌≡◌,
+  ℕ,
+  ◌≤◌,
+  ◌<◌,
+  Bool,
+  false,
+  ◌||◌,
+  nat_eq,
+  nat_lt,
+  List,
+  [],
+  ◌∷◌,
+  sum_by,
+  count_by,
+  if◌then◌else◌,
+}
 use Rattle.std.specs.List.{AllByRecursion}
 use Rattle.rd_base.specs.declared.queries.Query.{Query}
 use Rattle.event_model.specs.declared.notes.Observer.{Observer}
@@ -28,7 +44,8 @@ abbrev pub AreApart : Table → Type 0
 AreApart [] = Unit {0}
 AreApart (e ∷ es) = AllByRecursion (IsApart e) es × AreApart es
 
--- a table stands for observers: each query has as many watchers as observe it, and each that is watched has some, at one place of its own
+-- a table stands for observers: each query has as many watchers as observe it, and each that is
+-- watched has some, at one place of its own
 pub record WatchesStandFor (standing : List Observer) (t : Table) : Type 0 where
   pub watchers : (query : Query) → watchers_of query t ≡ observers_of query standing
   pub some : AllByRecursion (λ e. 0 < e.1.watchers) t
@@ -36,4 +53,5 @@ pub record WatchesStandFor (standing : List Observer) (t : Table) : Type 0 where
 
 -- so many other queries are observed that one more has no room
 abbrev pub IsFullAmong : Query → List Observer → Type 0
-IsFullAmong query standing = (is_watched query standing || nat_lt (number_watched standing) max_watched) ≡ false
+IsFullAmong query standing =
+    (is_watched query standing || nat_lt (number_watched standing) max_watched) ≡ false

@@ -17,7 +17,6 @@ use crate::WatchFault;
 use crate::watch::Watch;
 use indexmap::IndexMap;
 use rd_base::{Bytes, Query, Record};
-use std::alloc::Global;
 use std::sync::Arc;
 
 /// How many queries are watched at most.
@@ -188,7 +187,6 @@ fn watch_given(
 /// is taken before anything changes.
 pub(crate) fn watch_instead(
     watches: &mut IndexMap<u32, Watch>,
-    alloc: Global,
     instead_of: Option<u32>,
     query: &Query,
 ) -> Result<u32, WatchFault>
@@ -197,7 +195,7 @@ pub(crate) fn watch_instead(
         result watches.new.entries }
     ensures few { index_map_len watches.new ≤ 256 }
 {
-    let given = query.copy(alloc)?;
+    let given = query.clone()?;
     watches.reserve(1)?;
     if is_counted_out(watches) {
         return Err(WatchFault::Starved);

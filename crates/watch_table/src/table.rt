@@ -85,7 +85,7 @@ impl WatchTable {
             → self.new ≡ without instead_of self.old }
         ensures starved { result ≡ Err WatchFault.Starved → self.new ≡ self.old }
     {
-        watch_instead(&mut self.watches, alloc, instead_of, query)
+        watch_instead(&mut self.watches, instead_of, query)
     }
 
     /// One watcher fewer of the query at a place; it is dropped with its last. The places of the

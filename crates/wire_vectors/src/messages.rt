@@ -23,7 +23,7 @@ fn put_message(page: &mut String, view: &View<'_>) -> Result<(), Starved> {
     let detail = view.code % 32;
     let mid = view.mid;
     write!(page, "{kind} {class}.{detail:02} m={mid:04x} t=")?;
-    put_datagram(page, view.token)?;
+    put_datagram(page, view.token.octets)?;
     'options: for option in options_of(view) {
         put_option(page, &option)?;
     }

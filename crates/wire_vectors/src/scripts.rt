@@ -4,7 +4,7 @@ ghost use Rattle.message_model.specs.Codes as codes_of;
 ghost use Rattle.message_model.specs.Message.{end_number};
 
 use crate::kinds::{code_of, is_reserved, kind_of};
-use coap_message::{Kind4, Writer};
+use coap_message::{Kind4, TokenRef, Writer};
 use rd_base::Bytes;
 use std::alloc::Global;
 use vector_words::{NoAnswer, cut, datagram_of, number_of, octets_of};
@@ -88,8 +88,8 @@ fn head_of(
 impl Script {
     /// A message that is not empty, with neither options nor payload.
     fn begin(head: &Head) -> Result<Script, NoAnswer> {
-        let token = head.token.as_slice();
-        if token.len() > LONGEST_TOKEN {
+        let octets = head.token.as_slice();
+        if octets.len() > LONGEST_TOKEN {
             return Err(NoAnswer::Form);
         }
         if is_reserved(head.code) {
@@ -99,7 +99,7 @@ impl Script {
             return Err(NoAnswer::Form);
         }
         Ok(Script {
-            writer: Writer::start(head.kind, head.code, head.mid, token),
+            writer: Writer::start(head.kind, head.code, head.mid, TokenRef { octets }),
             last: 0,
         })
     }
@@ -160,7 +160,7 @@ impl Script {
 
 /// The datagram of an empty message (RFC 7252 section 4.1).
 fn written_empty(alloc: Global, kind: Kind4, mid: u16) -> Result<Option<Bytes>, NoAnswer> {
-    let mut writer = Writer::start(kind, 0, mid, b"");
+    let mut writer = Writer::start(kind, 0, mid, TokenRef { octets: b"" });
     match writer.finish(b"") {
         Ok(datagram) => Ok(Some(Bytes::copy_of(alloc, datagram)?)),
         Err(_) => Ok(None),

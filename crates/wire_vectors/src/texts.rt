@@ -20,7 +20,7 @@ fn character(alloc: Global, said: &str) -> Result<String, NoAnswer> {
     'characters: for character in text_of(alloc, more)?.as_str().chars() {
         text.push(alloc, character)?;
     }
-    Ok(shown(alloc, text.copy(alloc)?.as_bytes())?)
+    Ok(shown(alloc, text.clone()?.as_bytes())?)
 }
 
 /// The word for an order.

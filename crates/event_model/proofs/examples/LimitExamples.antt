@@ -1,4 +1,5 @@
--- Tables at their limits, computed on events: kept answers, observers, and queries that are observed.
+-- Tables at their limits, computed on events: kept answers, observers, and queries that are
+-- observed.
 use Rattle.std.proofs.Common.{◌≡◌, ℕ, ◌-◌, true, false, List, [], ◌∷◌, map, is_some, refl}
 use Rattle.std.specs.List.{range_with_len}
 use Rattle.event_model.specs.declared.notes.Note.{Note}
@@ -32,11 +33,19 @@ unfolding events_on_literals
 second_is_kept = refl
 
 -- where the first is used once more before the last is kept, it stays, and the second goes
-first_is_used : is_some (kept_answer 0 (peer 1, 1 ∷ []) (keeps 65 ∷ at_first (note.Used (peer 1) (1 ∷ [])) ∷ map keeps (map (λ k. 64 - k) (range_with_len 0 64)))) ≡ true
+first_is_used :
+    is_some (kept_answer 0 (peer 1, 1 ∷ []) (keeps 65
+    ∷ at_first (note.Used (peer 1) (1 ∷ []))
+    ∷ map keeps (map (λ k. 64 - k) (range_with_len 0 64))))
+    ≡ true
 unfolding events_on_literals
 first_is_used = refl
 
-second_is_gone : is_some (kept_answer 0 (peer 2, 1 ∷ []) (keeps 65 ∷ at_first (note.Used (peer 1) (1 ∷ [])) ∷ map keeps (map (λ k. 64 - k) (range_with_len 0 64)))) ≡ false
+second_is_gone :
+    is_some (kept_answer 0 (peer 2, 1 ∷ []) (keeps 65
+    ∷ at_first (note.Used (peer 1) (1 ∷ []))
+    ∷ map keeps (map (λ k. 64 - k) (range_with_len 0 64))))
+    ≡ false
 unfolding events_on_literals
 second_is_gone = refl
 

@@ -1,5 +1,24 @@
--- Each datagram that a row sends can be read and fits, to who asked or observes; and what is noted as formed is sent (the sentence SendsToWhoAsked).
-use Rattle.std.proofs.Common.{◌≡◌, ℕ, ◌||◌, true, List, ◌∷◌, length, Option, Some, None, Ok, option_map, refl, sym, ap, subst, ◌∙◌}
+-- Each datagram that a row sends can be read and fits, to who asked or observes; and what is noted
+-- as formed is sent (the sentence SendsToWhoAsked).
+use Rattle.std.proofs.Common.{
+  ◌≡◌,
+  ℕ,
+  ◌||◌,
+  true,
+  List,
+  ◌∷◌,
+  length,
+  Option,
+  Some,
+  None,
+  Ok,
+  option_map,
+  refl,
+  sym,
+  ap,
+  subst,
+  ◌∙◌,
+}
 use Rattle.std.proofs.lemmas.Bool.{and_from}
 use Rattle.message_model.specs.declared.messages.Role.TheVariants as role
 use Rattle.message_model.specs.Message.{Message, role_of}
@@ -32,8 +51,12 @@ use Rattle.journal_model.proofs.datagrams.DatagramRows.{sent-fitting, sent-forme
 use Rattle.journal_model.proofs.datagrams.DatagramRows.{sent-content, desk_sent}
 
 -- what a look held has a tag of eight octets
-tag_short : (rows : List Row) (worker : ℕ) (m : Message) (body current : List ℕ) → KeepOf rows worker m body current → length current ≡ 8
-tag_short rows worker m body current kept = ap length kept.is_kept.tag_is ∙ tag-length (entries (kept.look.row ∷ kept.look.before)) kept.look.row.moment.0
+tag_short : (rows : List Row) (worker : ℕ) (m : Message) (body current : List ℕ)
+    → KeepOf rows worker m body current
+    → length current ≡ 8
+tag_short rows worker m body current kept =
+    ap length kept.is_kept.tag_is
+    ∙ tag-length (entries (kept.look.row ∷ kept.look.before)) kept.look.row.moment.0
 
 -- each look, commit and keep is made for a request, and each keep has a tag of eight octets
 journal_requests : (rows : List Row) → IsJournal rows → AreForRequests rows
@@ -52,28 +75,43 @@ journal_requests rows journal before r m within read = by r.step.kind refl
     kind k is = ap (λ (s : Step). s.kind) (sym same) ∙ is
 
     looked : LooksAt (reading it.step.datagram) → role_of m.kind m.code ≡ role.Request
-    looked look = subst (λ (x : Message). role_of x.kind x.code ≡ role.Request) (same_message look.message m it.step.datagram look.read_is reads) look.asks
+    looked look =
+        subst (λ (x : Message). role_of x.kind x.code ≡ role.Request)
+        (same_message look.message m it.step.datagram look.read_is reads) look.asks
 
     committed : (place : ℕ) → AdmittedAt before place r.step → role_of m.kind m.code ≡ role.Request
     committed place at =
         subst (λ (x : Message). role_of x.kind x.code ≡ role.Request)
-        (same_message at.message m at.row.step.datagram at.read (ap reading at.datagram ∙ read)) at.asks
+        (same_message at.message m at.row.step.datagram at.read (ap reading at.datagram ∙ read))
+        at.asks
 
-    kept : (body current : List ℕ) → KeepOf before it.step.worker m body current → (role_of m.kind m.code ≡ role.Request) × (length current ≡ 8)
+    kept : (body current : List ℕ)
+        → KeepOf before it.step.worker m body current
+        → (role_of m.kind m.code ≡ role.Request) × (length current ≡ 8)
     kept body current keeps = (keeps.asks, tag_short before it.step.worker m body current keeps)
 
     by : (k : StepKind) → r.step.kind ≡ k → IsForRequest k m
     by step.Admit is = tt
-    by step.Look is = looked (a_look_reads (reading it.step.datagram) (looked_a_look before it.step it.may (kind step.Look is)))
-    by (step.Commit place) is = committed place (journal-place rows before r place journal within is)
-    by (step.Keep body current) is = kept body current (keep_of before it.step m body current it.journal it.may.begin (kind (step.Keep body current) is) reads)
+    by step.Look is =
+        looked (a_look_reads (reading it.step.datagram)
+        (looked_a_look before it.step it.may (kind step.Look is)))
+    by (step.Commit place) is =
+        committed place (journal-place rows before r place journal within is)
+    by (step.Keep body current) is =
+        kept body current (keep_of before it.step m body current it.journal it.may.begin
+        (kind (step.Keep body current) is) reads)
     by step.Tick is = tt
 
 journal_sent : (rows : List Row) → IsJournal rows → AllSent rows
-journal_sent rows journal = rows_sent rows (journal-AreRows rows journal) (λ before r place within commits. journal-place rows before r place journal within commits) (journal_requests rows journal)
+journal_sent rows journal =
+    rows_sent rows (journal-AreRows rows journal)
+    (λ before r place within commits. journal-place rows before r place journal within commits)
+    (journal_requests rows journal)
 
 -- an observer is named
-named_of : (o : Option Observer) (asked : Asked) → option_map (λ x. asked_by_observer x) o ≡ Some asked → (x : Observer) × (o ≡ Some x)
+named_of : (o : Option Observer) (asked : Asked)
+    → option_map (λ x. asked_by_observer x) o ≡ Some asked
+    → (x : Observer) × (o ≡ Some x)
 named_of None asked h = absurd (let no : None ≡ Some asked = h in cc)
 named_of (Some x) asked h = (x, refl)
 
@@ -89,16 +127,26 @@ addressed rows all sent formed responds = by sent.here.row.step.kind refl
     answers : IsNoTick sent.here.row.step.kind → IsAnswer sent.here sent.peer sent.message
     answers no_tick = sent-answer rows all sent no_tick responds
 
-    notifies : sent.here.row.step.kind ≡ step.Tick → is_content sent.message ≡ true → IsNotice sent.here sent.peer sent.message
+    notifies : sent.here.row.step.kind ≡ step.Tick
+        → is_content sent.message ≡ true
+        → IsNotice sent.here sent.peer sent.message
     notifies tick content =
         let f : FormedAs sent.here sent.peer sent.message =
         formed tick
-        (and_from (is_content sent.message) (answers_lookup sent.here.row.step.kind (reading sent.here.row.step.datagram) || is_tagged sent.message) content
-        (ap (λ k. answers_lookup k (reading sent.here.row.step.datagram) || is_tagged sent.message) tick)) in
-        let o = named_of (observer_named (sent.peer, sent.message.token) sent.here.before) f.asked (ap (λ k. asked_at k (sent.peer, sent.message.token) sent.here) (sym tick) ∙ f.asks) in
+        (and_from (is_content sent.message)
+        (answers_lookup sent.here.row.step.kind (reading sent.here.row.step.datagram)
+        || is_tagged sent.message) content
+        (ap (λ k. answers_lookup k (reading sent.here.row.step.datagram) || is_tagged sent.message)
+        tick)) in
+        let o =
+        named_of (observer_named (sent.peer, sent.message.token) sent.here.before) f.asked
+        (ap (λ k. asked_at k (sent.peer, sent.message.token) sent.here) (sym tick) ∙ f.asks)
+        in
         record { content = content; observer = o.0; named = o.1 }
 
-    by : (k : StepKind) → sent.here.row.step.kind ≡ k → IsAddressed k sent.here sent.peer sent.message
+    by : (k : StepKind)
+        → sent.here.row.step.kind ≡ k
+        → IsAddressed k sent.here sent.peer sent.message
     by step.Admit is = answers (subst IsNoTick (sym is) tt)
     by step.Look is = answers (subst IsNoTick (sym is) tt)
     by (step.Commit place) is = answers (subst IsNoTick (sym is) tt)

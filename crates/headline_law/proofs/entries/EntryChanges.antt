@@ -1,4 +1,5 @@
--- An entry has the moment, the worker and the peer of its row, and is the change that its request asks for.
+-- An entry has the moment, the worker and the peer of its row, and is the change that its request
+-- asks for.
 use Rattle.std.proofs.Common.{◌≡◌, ℕ, ◌+◌, ◌==◌, Bool, true, false, List, [], ◌∷◌, ◌++◌, length}
 use Rattle.std.proofs.Common.{Option, Some, None, Ok, refl, sym, ap, subst, ◌∙◌, eqb-true, nat_lt}
 use Rattle.std.proofs.Common.{nat_le, cond}
@@ -25,16 +26,77 @@ use Rattle.history_model.specs.Refusals.{change_refusal}
 use Rattle.event_model.specs.declared.notes.Note.{Note}
 use Rattle.event_model.specs.declared.notes.Note.TheVariants as note
 use Rattle.event_model.specs.Uploads.{max_body, live_upload, live_uploads}
-use Rattle.event_model.specs.Fetches.{Request, gathered, collected, max_fetches, fetches, is_fetching}
+use Rattle.event_model.specs.Fetches.{
+  Request,
+  gathered,
+  collected,
+  max_fetches,
+  fetches,
+  is_fetching,
+}
 use Rattle.journal_model.specs.declared.steps.Step.{Step}
 use Rattle.journal_model.specs.declared.rows.Row.{Row}
 use Rattle.journal_model.specs.Journal.{events, entries, entries_of}
 use Rattle.journal_model.specs.Effects.{answering}
-use Rattle.journal_model.specs.Requests.{sent_block, Method, get, post, put, delete, other_method, method_of}
-use Rattle.journal_model.specs.Changes.{Outcome, refused_as, entered_unless, change_made, BodyRead, bad_body, good_body, body_read, registered_links, registration, created_at, number_after, entry_of_step}
-use Rattle.journal_model.specs.Registrations.{collected_before, is_one_too_many, block_taken, block_unless, block_after, block_uploaded, registration_outcome, registering}
-use Rattle.journal_model.specs.Commits.{settling, simple_unless, on_location, write_done, commit_effects, updating, removing}
-use Rattle.journal_model.specs.Responses.{fetch_of, strange, acknowledgement, more_follow, block_in, is_elsewhere, ends_fetch, completed, gathering, response_taken, response_to, response_to_request, response_effects}
+use Rattle.journal_model.specs.Requests.{
+  sent_block,
+  Method,
+  get,
+  post,
+  put,
+  delete,
+  other_method,
+  method_of,
+}
+use Rattle.journal_model.specs.Changes.{
+  Outcome,
+  refused_as,
+  entered_unless,
+  change_made,
+  BodyRead,
+  bad_body,
+  good_body,
+  body_read,
+  registered_links,
+  registration,
+  created_at,
+  number_after,
+  entry_of_step,
+}
+use Rattle.journal_model.specs.Registrations.{
+  collected_before,
+  is_one_too_many,
+  block_taken,
+  block_unless,
+  block_after,
+  block_uploaded,
+  registration_outcome,
+  registering,
+}
+use Rattle.journal_model.specs.Commits.{
+  settling,
+  simple_unless,
+  on_location,
+  write_done,
+  commit_effects,
+  updating,
+  removing,
+}
+use Rattle.journal_model.specs.Responses.{
+  fetch_of,
+  strange,
+  acknowledgement,
+  more_follow,
+  block_in,
+  is_elsewhere,
+  ends_fetch,
+  completed,
+  gathering,
+  response_taken,
+  response_to,
+  response_to_request,
+  response_effects,
+}
 use Rattle.journal_model.specs.Rows.{row_moment, row, AreRows}
 use Rattle.journal_model.specs.PlacedRows.{Within}
 use Rattle.journal_model.specs.declared.steps.StepKind.{StepKind}
@@ -45,7 +107,12 @@ use Rattle.journal_model.proofs.NoteKinds.{empty-entries_in}
 use Rattle.journal_model.proofs.EntriesNoted.{entries_in}
 use Rattle.journal_model.proofs.notes.StepTable.{StepNoted, effects-StepNoted}
 use Rattle.journal_model.proofs.notes.StepTable as noted
-use Rattle.journal_model.proofs.entries.QuietSteps.{keep_effects-entries_in, lookup_effects-entries_in, write_effects-entries_in, tick_effects-entries_in}
+use Rattle.journal_model.proofs.entries.QuietSteps.{
+  keep_effects-entries_in,
+  lookup_effects-entries_in,
+  write_effects-entries_in,
+  tick_effects-entries_in,
+}
 use Rattle.journal_model.proofs.entries.JournalLaws.{RowMade, each_made}
 
 -- whatever a note enters is so
@@ -62,21 +129,32 @@ none_enter : (P : Entry → Type 0) (notes : List Note) → entries_in notes ≡
 none_enter P [] h = tt
 none_enter P (n ∷ notes) h = by n h (λ e. none_enter P notes e)
   where
-    by : (x : Note) → entries_in (x ∷ notes) ≡ [] → (entries_in notes ≡ [] → AllEnter P notes) → AllEnter P (x ∷ notes)
+    by : (x : Note)
+        → entries_in (x ∷ notes) ≡ []
+        → (entries_in notes ≡ [] → AllEnter P notes)
+        → AllEnter P (x ∷ notes)
     by (note.Entered entry) e more = absurd (let no : entry ∷ entries_in notes ≡ [] = e in cc)
     by _ e more = (tt, more e)
 
 -- the entries that notes hold
-entered : (P : Entry → Type 0) (notes : List Note) → AllEnter P notes → AllByRecursion P (entries_in notes)
+entered : (P : Entry → Type 0) (notes : List Note)
+    → AllEnter P notes
+    → AllByRecursion P (entries_in notes)
 entered P [] all = tt
 entered P (n ∷ notes) all = by n all.0 (entered P notes all.1)
   where
-    by : (x : Note) → Enters P x → AllByRecursion P (entries_in notes) → AllByRecursion P (entries_in (x ∷ notes))
+    by : (x : Note)
+        → Enters P x
+        → AllByRecursion P (entries_in notes)
+        → AllByRecursion P (entries_in (x ∷ notes))
     by (note.Entered entry) h more = (h, more)
     by _ h more = more
 
 -- a change
-change_made-enters : (P : Entry → Type 0) (history : List Entry) (entry : Entry) (done : Outcome) → P entry → AllEnter P done.notes → AllEnter P (change_made history entry done).notes
+change_made-enters : (P : Entry → Type 0) (history : List Entry) (entry : Entry) (done : Outcome)
+    → P entry
+    → AllEnter P done.notes
+    → AllEnter P (change_made history entry done).notes
 change_made-enters P history entry done good notes = by (change_refusal 0 history entry)
   where
     refused : (why : Refusal) → AllEnter P (refused_as why).notes
@@ -90,23 +168,38 @@ change_made-enters P history entry done good notes = by (change_refusal 0 histor
     by None = (good, notes)
 
 -- a registration of a body
-registration-enters : (P : Entry → Type 0) (history : List Entry) (moment : ℕ) (s : Step) (params : RegParams) (body : List ℕ) (further : List Opt) (notes : List Note)
-    → ((links : List SubmittedLink) → body_read body ≡ good_body links → P (entry_of_step moment s (change.Register params links))) → AllEnter P notes → AllEnter P (registration history moment s params body further notes).notes
+registration-enters : (P : Entry → Type 0) (history : List Entry) (moment : ℕ) (s : Step)
+    (params : RegParams) (body : List ℕ) (further : List Opt) (notes : List Note)
+    → ((links : List SubmittedLink)
+    → body_read body ≡ good_body links
+    → P (entry_of_step moment s (change.Register params links)))
+    → AllEnter P notes
+    → AllEnter P (registration history moment s params body further notes).notes
 unfolding registration
-registration-enters P history moment s params body further notes good others = by (body_read body) refl
+registration-enters P history moment s params body further notes good others =
+    by (body_read body) refl
   where
-    by : (read : BodyRead) → body_read body ≡ read → AllEnter P (registered_links history moment s params further notes read).notes
+    by : (read : BodyRead)
+        → body_read body ≡ read
+        → AllEnter P (registered_links history moment s params further notes read).notes
     by (bad_body word) e = tt
     by (good_body links) e =
         let entry : Entry = entry_of_step moment s (change.Register params links) in
-        change_made-enters P history entry (record { reply = created_at (number_after params.name moment (history ++ entry ∷ [])) further; notes = notes }) (good links e) others
+        change_made-enters P history entry
+        (record {
+          reply = created_at (number_after params.name moment (history ++ entry ∷ []))
+              further;
+          notes = notes;
+        }) (good links e) others
 
 -- the entry of a request
 abbrev OfRequest : Path → List Row → ℕ → Step → Message → Entry → Type 0
-OfRequest p rows moment s m entry = (entry ≡ entry_of_step moment s entry.change) × AsksChange p rows moment s m entry.change
+OfRequest p rows moment s m entry =
+    (entry ≡ entry_of_step moment s entry.change) × AsksChange p rows moment s m entry.change
 
 -- a registration, whole or a block of one
-registering-enters : (rows : List Row) (moment : ℕ) (s : Step) (m : Message) → AllEnter (OfRequest path.Rd rows moment s m) (registering rows moment s m).notes
+registering-enters : (rows : List Row) (moment : ℕ) (s : Step) (m : Message)
+    → AllEnter (OfRequest path.Rd rows moment s m) (registering rows moment s m).notes
 unfolding registering block_uploaded
 registering-enters rows moment s m = by (sent_block m) refl
   where
@@ -118,7 +211,8 @@ registering-enters rows moment s m = by (sent_block m) refl
         → AllEnter P (block_taken more rows moment s m b (before ++ m.payload)).notes
     taken true b before last is e = (tt, tt)
     taken false b before last is e =
-        registration-enters P (entries rows) moment s (registration_values (queries_in m)) (before ++ m.payload) _ (note.Finished s.peer (key_in m) ∷ [])
+        registration-enters P (entries rows) moment s (registration_values (queries_in m))
+        (before ++ m.payload) _ (note.Finished s.peer (key_in m) ∷ [])
         (λ links read. (
           refl,
           (
@@ -132,21 +226,32 @@ registering-enters rows moment s m = by (sent_block m) refl
           ),
         )) (tt, tt)
 
-    unless : (too_long too_many : Bool) (b : Block) (before : List ℕ) → sent_block m ≡ Some b → collected_before b (live_upload moment (s.peer, key_in m) (events rows)) ≡ Some before
+    unless : (too_long too_many : Bool) (b : Block) (before : List ℕ)
+        → sent_block m ≡ Some b
+        → collected_before b (live_upload moment (s.peer, key_in m) (events rows)) ≡ Some before
         → AllEnter P (block_unless too_long too_many rows moment s m b (before ++ m.payload)).notes
     unless true too_many b before is e = tt
     unless false true b before is e = tt
     unless false false b before is e = taken b.more b before refl is e
 
-    after : (front : Option (List ℕ)) (b : Block) → sent_block m ≡ Some b → collected_before b (live_upload moment (s.peer, key_in m) (events rows)) ≡ front
-        → AllEnter P (block_after front (live_upload moment (s.peer, key_in m) (events rows)) rows moment s m b).notes
+    after : (front : Option (List ℕ)) (b : Block)
+        → sent_block m ≡ Some b
+        → collected_before b (live_upload moment (s.peer, key_in m) (events rows)) ≡ front
+        → AllEnter P
+        (block_after front (live_upload moment (s.peer, key_in m) (events rows)) rows moment s m
+        b).notes
     after None b is e = tt
     after (Some front) b is e =
-        unless (nat_lt max_body (length front + length m.payload)) (is_one_too_many b (live_upload moment (s.peer, key_in m) (events rows)) (live_uploads moment (events rows))) b front is e
+        unless (nat_lt max_body (length front + length m.payload))
+        (is_one_too_many b (live_upload moment (s.peer, key_in m) (events rows))
+        (live_uploads moment (events rows))) b front is e
 
-    by : (b : Option Block) → sent_block m ≡ b → AllEnter P (registration_outcome b rows moment s m).notes
+    by : (b : Option Block)
+        → sent_block m ≡ b
+        → AllEnter P (registration_outcome b rows moment s m).notes
     by None is =
-        registration-enters P (entries rows) moment s (registration_values (queries_in m)) m.payload [] []
+        registration-enters P (entries rows) moment s (registration_values (queries_in m)) m.payload
+        [] []
         (λ links read. (
           refl,
           (
@@ -159,10 +264,16 @@ registering-enters rows moment s m = by (sent_block m) refl
             },
           ),
         )) tt
-    by (Some b) is = after (collected_before b (live_upload moment (s.peer, key_in m) (events rows))) b is refl
+    by (Some b) is =
+        after (collected_before b (live_upload moment (s.peer, key_in m) (events rows))) b is refl
 
 -- the method of a code that is none of POST
-method_but_post : (a b c d : Bool) (P : Method → Type 0) → b ≡ false → P get → P put → P delete → P other_method
+method_but_post : (a b c d : Bool) (P : Method → Type 0)
+    → b ≡ false
+    → P get
+    → P put
+    → P delete
+    → P other_method
     → P (cond a get (cond b post (cond c put (cond d delete other_method))))
 method_but_post true b c d P e g p x o = g
 method_but_post false true c d P e g p x o = absurd cc
@@ -171,41 +282,67 @@ method_but_post false false false true P e g p x o = x
 method_but_post false false false false P e g p x o = o
 
 -- a commit
-commit_enters : (rows : List Row) (moment place : ℕ) (s : Step) (m : Message) → AllEnter (OfRequest (path_in m) rows moment s m) (commit_effects rows moment place s m).notes
+commit_enters : (rows : List Row) (moment place : ℕ) (s : Step) (m : Message)
+    → AllEnter (OfRequest (path_in m) rows moment s m) (commit_effects rows moment place s m).notes
 unfolding commit_effects answering
 commit_enters rows moment place s m = by (path_in m)
   where
-    settled : (P : Entry → Type 0) (outcome : Outcome) → AllEnter P outcome.notes → AllEnter P (settling place s m outcome).notes
+    settled : (P : Entry → Type 0) (outcome : Outcome)
+        → AllEnter P outcome.notes
+        → AllEnter P (settling place s m outcome).notes
     settled P outcome h = each_append (Enters P) outcome.notes _ h (tt, tt)
 
-    simple : (running too_many : Bool) → AllEnter (OfRequest path.SimpleRd rows moment s m) (simple_unless running too_many (events rows) place s m).notes
+    simple : (running too_many : Bool)
+        → AllEnter (OfRequest path.SimpleRd rows moment s m)
+        (simple_unless running too_many (events rows) place s m).notes
     simple true too_many = (tt, tt)
     simple false true = (tt, tt)
     simple false false = (tt, (tt, tt))
 
-    updated : (number : ℕ) → (m.code == codes_of.post) ≡ true → AllEnter (OfRequest (path.Location number) rows moment s m) (settling place s m (updating rows moment s m number)).notes
+    updated : (number : ℕ)
+        → (m.code == codes_of.post) ≡ true
+        → AllEnter (OfRequest (path.Location number) rows moment s m)
+        (settling place s m (updating rows moment s m number)).notes
     updated number e =
         settled (OfRequest (path.Location number) rows moment s m) (updating rows moment s m number)
-        (change_made-enters (OfRequest (path.Location number) rows moment s m) (entries rows) _ _ (refl, (eqb-true m.code codes_of.post e, refl, refl)) tt)
+        (change_made-enters (OfRequest (path.Location number) rows moment s m) (entries rows) _ _
+        (refl, (eqb-true m.code codes_of.post e, refl, refl)) tt)
 
-    removed : (number : ℕ) → (m.code == codes_of.post) ≡ false → AllEnter (OfRequest (path.Location number) rows moment s m) (settling place s m (removing rows moment s number)).notes
+    removed : (number : ℕ)
+        → (m.code == codes_of.post) ≡ false
+        → AllEnter (OfRequest (path.Location number) rows moment s m)
+        (settling place s m (removing rows moment s number)).notes
     removed number e =
         settled (OfRequest (path.Location number) rows moment s m) (removing rows moment s number)
-        (change_made-enters (OfRequest (path.Location number) rows moment s m) (entries rows) _ _ (refl, (e, refl)) tt)
+        (change_made-enters (OfRequest (path.Location number) rows moment s m) (entries rows) _ _
+        (refl, (e, refl)) tt)
 
-    location : (number : ℕ) (b : Bool) → (m.code == codes_of.post) ≡ b → AllEnter (OfRequest (path.Location number) rows moment s m) (on_location (method_of m.code) rows moment place s m number).notes
+    location : (number : ℕ) (b : Bool)
+        → (m.code == codes_of.post) ≡ b
+        → AllEnter (OfRequest (path.Location number) rows moment s m)
+        (on_location (method_of m.code) rows moment place s m number).notes
     location number true e =
-        subst (λ (w : Method). AllEnter (OfRequest (path.Location number) rows moment s m) (on_location w rows moment place s m number).notes)
+        subst (λ (w : Method).
+        AllEnter (OfRequest (path.Location number) rows moment s m)
+        (on_location w rows moment place s m number).notes)
         (sym (ap method_of (eqb-true m.code codes_of.post e))) (updated number e)
     location number false e =
-        method_but_post (m.code == codes_of.get) (m.code == codes_of.post) (m.code == codes_of.put) (m.code == codes_of.delete)
-        (λ (w : Method). AllEnter (OfRequest (path.Location number) rows moment s m) (on_location w rows moment place s m number).notes) e
+        method_but_post (m.code == codes_of.get) (m.code == codes_of.post) (m.code == codes_of.put)
+        (m.code == codes_of.delete)
+        (λ (w : Method).
+        AllEnter (OfRequest (path.Location number) rows moment s m)
+        (on_location w rows moment place s m number).notes) e
         (removed number e) (removed number e) (removed number e) (removed number e)
 
-    by : (p : Path) → AllEnter (OfRequest p rows moment s m) (write_done p rows moment place s m).notes
+    by : (p : Path)
+        → AllEnter (OfRequest p rows moment s m) (write_done p rows moment place s m).notes
     by path.Core = tt
-    by path.SimpleRd = simple (is_fetching s.peer (events rows)) (nat_le max_fetches (length (fetches (events rows))))
-    by path.Rd = settled (OfRequest path.Rd rows moment s m) (registering rows moment s m) (registering-enters rows moment s m)
+    by path.SimpleRd =
+        simple (is_fetching s.peer (events rows))
+        (nat_le max_fetches (length (fetches (events rows))))
+    by path.Rd =
+        settled (OfRequest path.Rd rows moment s m) (registering rows moment s m)
+        (registering-enters rows moment s m)
     by (path.Location number) = location number (m.code == codes_of.post) refl
     by path.Res = tt
     by path.Ep = tt
@@ -240,7 +377,8 @@ response_enters rows moment s m P good = by (fetch_of s m (events rows)) refl
         → AllEnter P (completed rows moment s request
         (collected s.peer (events rows) ++ m.payload)).notes
     whole request e ended =
-        each_append (Enters P) (registration (entries rows) moment s request.params (collected s.peer (events rows) ++ m.payload) [] []).notes (note.Ceased s.peer ∷ [])
+        each_append (Enters P) (registration (entries rows) moment s request.params
+        (collected s.peer (events rows) ++ m.payload) [] []).notes (note.Ceased s.peer ∷ [])
         (registration-enters P (entries rows) moment s request.params
         (collected s.peer (events rows) ++ m.payload) [] []
         (λ links read. good request links e ended read) tt) (tt, tt)
@@ -269,15 +407,20 @@ response_enters rows moment s m P good = by (fetch_of s m (events rows)) refl
         })
         (λ none. ap more_follow none)
 
-    by : (request : Option Request) → fetch_of s m (events rows) ≡ request → AllEnter P (response_to_request request rows moment s m).notes
+    by : (request : Option Request)
+        → fetch_of s m (events rows) ≡ request
+        → AllEnter P (response_to_request request rows moment s m).notes
     by None e = foreign m.kind
     by (Some request) e =
-        each_append (Enters P) (acknowledgement s m m.kind).notes (response_to rows moment s m request).notes (acknowledged m.kind)
+        each_append (Enters P) (acknowledgement s m m.kind).notes
+        (response_to rows moment s m request).notes (acknowledged m.kind)
         (taken (is_elsewhere (block_in m) size)
         (ends_fetch m (gathered s.peer (events rows)) size) request e refl refl)
 
 -- whatever a step enters
-step_enters : (starved : Bool) (rows : List Row) (moment : ℕ) (s : Step) (ns : List Note) → StepNoted s.kind starved rows moment s ns → AllEnter (IsEntryOf rows moment s) ns
+step_enters : (starved : Bool) (rows : List Row) (moment : ℕ) (s : Step) (ns : List Note)
+    → StepNoted s.kind starved rows moment s ns
+    → AllEnter (IsEntryOf rows moment s) ns
 step_enters starved rows moment s ns it = by it
   where
     P : Entry → Type 0
@@ -301,10 +444,13 @@ step_enters starved rows moment s ns it = by it
 
     by : StepNoted s.kind starved rows moment s ns → AllEnter P ns
     by (noted.nothing blank) = none_enter P ns (ap entries_in blank)
-    by (noted.write m here read asks is) = none_enter P ns (ap entries_in is ∙ write_effects-entries_in (events rows) moment s m)
-    by (noted.lookup m here read at is) = none_enter P ns (ap entries_in is ∙ lookup_effects-entries_in rows moment s m)
+    by (noted.write m here read asks is) =
+        none_enter P ns (ap entries_in is ∙ write_effects-entries_in (events rows) moment s m)
+    by (noted.lookup m here read at is) =
+        none_enter P ns (ap entries_in is ∙ lookup_effects-entries_in rows moment s m)
     by (noted.empty here all) = none_enter P ns (empty-entries_in ns all)
-    by (noted.response m here read responds is) = subst (AllEnter P) (sym is) (response_enters rows moment s m P
+    by (noted.response m here read responds is) =
+        subst (AllEnter P) (sym is) (response_enters rows moment s m P
         (λ request links e ended body. record {
           stamped = refl;
           asked = subst (λ (k : StepKind). IsAskedBy k rows moment s
@@ -326,18 +472,30 @@ step_enters starved rows moment s ns it = by it
         (committed place commits m read (commit_effects rows moment place s m).notes
         (commit_enters rows moment place s m))
     by (noted.failed place commits is) = none_enter P ns (ap entries_in is)
-    by (noted.keep m body tag keeps is) = none_enter P ns (ap entries_in is ∙ keep_effects-entries_in s m body tag)
-    by (noted.tick ticks is) = none_enter P ns (ap entries_in is ∙ tick_effects-entries_in starved rows moment s)
+    by (noted.keep m body tag keeps is) =
+        none_enter P ns (ap entries_in is ∙ keep_effects-entries_in s m body tag)
+    by (noted.tick ticks is) =
+        none_enter P ns (ap entries_in is ∙ tick_effects-entries_in starved rows moment s)
 
 -- whatever a row enters
-row_enters : (rows : List Row) (s : Step) (starved : Bool) → AllEnter (IsEntryOf rows (row rows s starved).moment.0 s) (row rows s starved).notes
+row_enters : (rows : List Row) (s : Step) (starved : Bool)
+    → AllEnter (IsEntryOf rows (row rows s starved).moment.0 s) (row rows s starved).notes
 unfolding row
-row_enters rows s starved = step_enters starved rows (row_moment rows s) s _ (effects-StepNoted s.kind starved rows (row_moment rows s) s)
+row_enters rows s starved =
+    step_enters starved rows (row_moment rows s) s _
+    (effects-StepNoted s.kind starved rows (row_moment rows s) s)
 
 -- so it is of rows of steps
-pub rows-entry : (rows before : List Row) (r : Row) (entry : Entry) → AreRows rows → Within rows before r → entries_of r ≡ entry ∷ [] → IsEntryOf before r.moment.0 r.step entry
+pub rows-entry : (rows before : List Row) (r : Row) (entry : Entry)
+    → AreRows rows
+    → Within rows before r
+    → entries_of r ≡ entry ∷ []
+    → IsEntryOf before r.moment.0 r.step entry
 unfolding row
 rows-entry rows before r entry all_rows within is =
     let it : RowMade before r = each_made rows before r all_rows within in
-    let all : AllEnter (IsEntryOf before r.moment.0 r.step) r.notes = subst (λ (x : Row). AllEnter (IsEntryOf before x.moment.0 x.step) x.notes) (sym it.is) (row_enters before it.step it.starved) in
-    (subst (AllByRecursion (IsEntryOf before r.moment.0 r.step)) is (entered (IsEntryOf before r.moment.0 r.step) r.notes all)).0
+    let all : AllEnter (IsEntryOf before r.moment.0 r.step) r.notes =
+    subst (λ (x : Row). AllEnter (IsEntryOf before x.moment.0 x.step) x.notes) (sym it.is)
+    (row_enters before it.step it.starved) in
+    (subst (AllByRecursion (IsEntryOf before r.moment.0 r.step)) is
+    (entered (IsEntryOf before r.moment.0 r.step) r.notes all)).0

@@ -1,5 +1,29 @@
 -- A write that is noted to have failed ended in 5.00, which was sent.
-use Rattle.std.proofs.Common.{◌≡◌, ◌⊎◌, inl, inr, ℕ, ◌==◌, ◌||◌, Bool, true, false, List, [], ◌∷◌, length, Result, Ok, Err, refl, sym, ap, subst, ◌∙◌, eqb-true}
+use Rattle.std.proofs.Common.{
+  ◌≡◌,
+  ◌⊎◌,
+  inl,
+  inr,
+  ℕ,
+  ◌==◌,
+  ◌||◌,
+  Bool,
+  true,
+  false,
+  List,
+  [],
+  ◌∷◌,
+  length,
+  Result,
+  Ok,
+  Err,
+  refl,
+  sym,
+  ap,
+  subst,
+  ◌∙◌,
+  eqb-true,
+}
 use Rattle.std.specs.List.{list_any}
 use Rattle.std.proofs.lemmas.Bool.{false≢true}
 use Rattle.message_model.specs.declared.messages.Unread.{Unread}
@@ -22,11 +46,28 @@ use Rattle.journal_model.specs.Commits.{commit_effects}
 use Rattle.journal_model.specs.Rows.{done, effects, row_moment, row, AreRows}
 use Rattle.journal_model.specs.PlacedRows.{Within, Placed, Commits, code_sent}
 use Rattle.journal_model.specs.HoldsEachOnce.{EndedWithoutMemory}
-use Rattle.journal_model.proofs.NoteKinds.{of_lookup, of_write, of_empty, of_tick, of_response, are, none_of}
-use Rattle.journal_model.proofs.StepNotes.{keep_effects-notes, lookup_effects-notes, write_effects-notes, tick_effects-notes}
+use Rattle.journal_model.proofs.NoteKinds.{
+  of_lookup,
+  of_write,
+  of_empty,
+  of_tick,
+  of_response,
+  are,
+  none_of,
+}
+use Rattle.journal_model.proofs.StepNotes.{
+  keep_effects-notes,
+  lookup_effects-notes,
+  write_effects-notes,
+  tick_effects-notes,
+}
 use Rattle.journal_model.proofs.notes.StepTable.{StepNoted, effects-StepNoted}
 use Rattle.journal_model.proofs.notes.StepTable as noted
-use Rattle.journal_model.proofs.notes.ChangeNotes.{of_done, commit_effects-done, response_effects-notes}
+use Rattle.journal_model.proofs.notes.ChangeNotes.{
+  of_done,
+  commit_effects-done,
+  response_effects-notes,
+}
 use Rattle.journal_model.proofs.entries.JournalLaws.{RowMade, each_made}
 
 -- one of the notes says that the write of a place failed
@@ -34,7 +75,11 @@ abbrev fails : ℕ → List Note → Bool
 fails place notes = list_any (is_failure_of place) notes
 
 -- notes of a kind that no failure is of
-never_of : (kind : Note → Bool) → ((p : ℕ) → kind (note.Failed p) ≡ false) → (place : ℕ) (notes : List Note) → are kind notes ≡ true → fails place notes ≡ false
+never_of : (kind : Note → Bool)
+    → ((p : ℕ) → kind (note.Failed p) ≡ false)
+    → (place : ℕ) (notes : List Note)
+    → are kind notes ≡ true
+    → fails place notes ≡ false
 never_of kind never place notes h = none_of kind (is_failure_of place) other notes h
   where
     other : (n : Note) → kind n ≡ true → is_failure_of place n ≡ false
@@ -42,7 +87,11 @@ never_of kind never place notes h = none_of kind (is_failure_of place) other not
     other _ fits = refl
 
 -- only the commit of a place notes that its write failed
-commit_of_failure : (kind : StepKind) (starved : Bool) (rows : List Row) (moment : ℕ) (s : Step) (place : ℕ) (ns : List Note) → StepNoted kind starved rows moment s ns → fails place ns ≡ true → kind ≡ step.Commit place
+commit_of_failure : (kind : StepKind) (starved : Bool) (rows : List Row) (moment : ℕ) (s : Step)
+    (place : ℕ) (ns : List Note)
+    → StepNoted kind starved rows moment s ns
+    → fails place ns ≡ true
+    → kind ≡ step.Commit place
 commit_of_failure kind starved rows moment s place ns it h = by it
   where
     no : (fails place ns ≡ false) → kind ≡ step.Commit place
@@ -54,51 +103,85 @@ commit_of_failure kind starved rows moment s place ns it h = by it
 
     by : StepNoted kind starved rows moment s ns → kind ≡ step.Commit place
     by (noted.nothing blank) = no (ap (fails place) blank)
-    by (noted.write m here read asks is) = no (never_of of_write (λ p. refl) place ns (ap (are of_write) is ∙ write_effects-notes (events rows) moment s m))
-    by (noted.lookup m here read at is) = no (never_of of_lookup (λ p. refl) place ns (ap (are of_lookup) is ∙ lookup_effects-notes rows moment s m))
+    by (noted.write m here read asks is) =
+        no (never_of of_write (λ p. refl) place ns
+        (ap (are of_write) is ∙ write_effects-notes (events rows) moment s m))
+    by (noted.lookup m here read at is) =
+        no (never_of of_lookup (λ p. refl) place ns
+        (ap (are of_lookup) is ∙ lookup_effects-notes rows moment s m))
     by (noted.empty here all) = no (never_of of_empty (λ p. refl) place ns all)
-    by (noted.response m here read responds is) = no (never_of of_response (λ p. refl) place ns (ap (are of_response) is ∙ response_effects-notes rows moment s m))
-    by (noted.commit m p commits read is) = no (never_of of_done (λ q. refl) place ns (ap (are of_done) is ∙ commit_effects-done rows moment p s m))
-    by (noted.failed p commits is) = commits ∙ ap (λ q. step.Commit q) (one p (p == place) refl (sym (ap (fails place) is) ∙ h))
-    by (noted.keep m body tag keeps is) = no (never_of of_lookup (λ p. refl) place ns (ap (are of_lookup) (is ∙ keep_effects-notes s m body tag)))
-    by (noted.tick ticks is) = no (never_of of_tick (λ p. refl) place ns (ap (are of_tick) is ∙ tick_effects-notes starved rows moment s))
+    by (noted.response m here read responds is) =
+        no (never_of of_response (λ p. refl) place ns
+        (ap (are of_response) is ∙ response_effects-notes rows moment s m))
+    by (noted.commit m p commits read is) =
+        no (never_of of_done (λ q. refl) place ns
+        (ap (are of_done) is ∙ commit_effects-done rows moment p s m))
+    by (noted.failed p commits is) =
+        commits ∙ ap (λ q. step.Commit q) (one p (p == place) refl (sym (ap (fails place) is) ∙ h))
+    by (noted.keep m body tag keeps is) =
+        no (never_of of_lookup (λ p. refl) place ns
+        (ap (are of_lookup) (is ∙ keep_effects-notes s m body tag)))
+    by (noted.tick ticks is) =
+        no (never_of of_tick (λ p. refl) place ns
+        (ap (are of_tick) is ∙ tick_effects-notes starved rows moment s))
 
 -- and then 5.00 is sent
-failure_sent : (starved : Bool) (rows : List Row) (moment place : ℕ) (s : Step) (read : Result Message Unread) → fails place (done starved rows moment place s read).notes ≡ true
+failure_sent : (starved : Bool) (rows : List Row) (moment place : ℕ) (s : Step)
+    (read : Result Message Unread)
+    → fails place (done starved rows moment place s read).notes ≡ true
     → code_sent (done starved rows moment place s read).sent ≡ codes_of.internal_server_error
 unfolding answering spelling header_spelling
 failure_sent starved rows moment place s (Err fault) h = absurd (false≢true h)
 failure_sent true rows moment place s (Ok m) h = refl
-failure_sent false rows moment place s (Ok m) h = absurd (false≢true (sym (never_of of_done (λ q. refl) place (commit_effects rows moment place s m).notes (commit_effects-done rows moment place s m)) ∙ h))
+failure_sent false rows moment place s (Ok m) h =
+    absurd (false≢true
+    (sym (never_of of_done (λ q. refl) place (commit_effects rows moment place s m).notes
+    (commit_effects-done rows moment place s m))
+    ∙ h))
 
 -- so it is of each row
 record FailedRow (place : ℕ) (r : Row) : Type 0 where
   commits : Commits r place
   sent : code_sent r.sent ≡ codes_of.internal_server_error
 
-row_failed : (rows : List Row) (s : Step) (starved : Bool) (place : ℕ) → fails place (row rows s starved).notes ≡ true → FailedRow place (row rows s starved)
+row_failed : (rows : List Row) (s : Step) (starved : Bool) (place : ℕ)
+    → fails place (row rows s starved).notes ≡ true
+    → FailedRow place (row rows s starved)
 unfolding row effects
 row_failed rows s starved place h =
-    let is : s.kind ≡ step.Commit place = commit_of_failure s.kind starved rows (row_moment rows s) s place _ (effects-StepNoted s.kind starved rows (row_moment rows s) s) h in
+    let is : s.kind ≡ step.Commit place =
+    commit_of_failure s.kind starved rows (row_moment rows s) s place _
+    (effects-StepNoted s.kind starved rows (row_moment rows s) s) h in
     record {
       commits = is;
       sent = ap (λ k. code_sent (effects k starved rows (row_moment rows s) s).sent) is
-          ∙ failure_sent starved rows (row_moment rows s) place s (reading s.datagram) (sym (ap (λ k. fails place (effects k starved rows (row_moment rows s) s).notes) is) ∙ h);
+          ∙ failure_sent starved rows (row_moment rows s) place s (reading s.datagram)
+          (sym (ap (λ k. fails place (effects k starved rows (row_moment rows s) s).notes) is)
+          ∙ h);
     }
 
 -- ---- rows of steps
 
 -- what one of the events is, a note of the newest row is, or one of the events before
-newest_or_before : (test : Note → Bool) (place moment word : ℕ) (notes : List Note) (before : List Event) → has_event test (noted place moment word notes before) ≡ true
+newest_or_before : (test : Note → Bool) (place moment word : ℕ) (notes : List Note)
+    (before : List Event)
+    → has_event test (noted place moment word notes before) ≡ true
     → (list_any test notes ≡ true) ⊎ (has_event test before ≡ true)
 newest_or_before test place moment word [] before h = inr h
-newest_or_before test place moment word (n ∷ notes) before h = by (newest_or_before test place moment word notes (event_at place moment word n ∷ before) h) (test n) refl
+newest_or_before test place moment word (n ∷ notes) before h =
+    by (newest_or_before test place moment word notes (event_at place moment word n ∷ before) h)
+    (test n) refl
   where
     left : (b c : Bool) → b ≡ true → (c || b) ≡ true
     left b true e = refl
     left b false e = e
 
-    by : (list_any test notes ≡ true) ⊎ (has_event test (event_at place moment word n ∷ before) ≡ true) → (b : Bool) → test n ≡ b → (list_any test (n ∷ notes) ≡ true) ⊎ (has_event test before ≡ true)
+    by :
+        (list_any test notes ≡ true)
+        ⊎ (has_event test (event_at place moment word n ∷ before) ≡ true)
+        → (b : Bool)
+        → test n ≡ b
+        → (list_any test (n ∷ notes) ≡ true) ⊎ (has_event test before ≡ true)
     by (inl later) b e = inl (left (list_any test notes) (test n) later)
     by (inr here) true e = inl (rw e refl)
     by (inr here) false e = inr (sym (rw e refl) ∙ here)
@@ -109,22 +192,55 @@ record Noting (test : Note → Bool) (rows : List Row) : Type 0 where
   within : Within rows placed.before placed.row
   notes : list_any test placed.row.notes ≡ true
 
-row_noting : (test : Note → Bool) (rows : List Row) → has_event test (events rows) ≡ true → Noting test rows
+row_noting : (test : Note → Bool) (rows : List Row)
+    → has_event test (events rows) ≡ true
+    → Noting test rows
 unfolding events
 row_noting test [] h = absurd (false≢true h)
-row_noting test (r ∷ before) h = by (newest_or_before test (length before) r.moment.0 r.step.word r.notes (events before) h) (λ e. row_noting test before e)
+row_noting test (r ∷ before) h =
+    by (newest_or_before test (length before) r.moment.0 r.step.word r.notes (events before) h)
+    (λ e. row_noting test before e)
   where
-    by : (list_any test r.notes ≡ true) ⊎ (has_event test (events before) ≡ true) → (has_event test (events before) ≡ true → Noting test before) → Noting test (r ∷ before)
-    by (inl here) more = record { placed = record { row = r; before = before }; within = record { later = []; whole = refl }; notes = here }
+    by : (list_any test r.notes ≡ true) ⊎ (has_event test (events before) ≡ true)
+        → (has_event test (events before) ≡ true → Noting test before)
+        → Noting test (r ∷ before)
+    by (inl here) more = record {
+      placed = record { row = r; before = before };
+      within = record { later = []; whole = refl };
+      notes = here;
+    }
     by (inr further) more =
         let it : Noting test before = more further in
-        record { placed = it.placed; within = record { later = r ∷ it.within.later; whole = ap (λ (rows : List Row). r ∷ rows) it.within.whole }; notes = it.notes }
+        record {
+          placed = it.placed;
+          within =
+              record {
+                later =
+                    r ∷ it.within.later;
+                whole =
+                    ap (λ (rows : List Row). r ∷ rows) it.within.whole;
+              };
+          notes = it.notes;
+        }
 
 -- so it is among rows of steps
-pub ended_without_memory : (rows : List Row) (place : ℕ) → AreRows rows → has_event (is_failure_of place) (events rows) ≡ true → EndedWithoutMemory rows place
+pub ended_without_memory : (rows : List Row) (place : ℕ)
+    → AreRows rows
+    → has_event (is_failure_of place) (events rows) ≡ true
+    → EndedWithoutMemory rows place
 ended_without_memory rows place all h =
     let it : Noting (is_failure_of place) rows = row_noting (is_failure_of place) rows h in
-    let made : RowMade it.placed.before it.placed.row = each_made rows it.placed.before it.placed.row all it.within in
+    let made : RowMade it.placed.before it.placed.row =
+    each_made rows it.placed.before it.placed.row all it.within in
     let failed : FailedRow place it.placed.row =
-    subst (λ (r : Row). FailedRow place r) (sym made.is) (row_failed it.placed.before made.step made.starved place (subst (λ (r : Row). fails place r.notes ≡ true) made.is it.notes)) in
-    record { before = it.placed.before; row = it.placed.row; within = it.within; commits = failed.commits; failed = it.notes; sent = failed.sent }
+    subst (λ (r : Row). FailedRow place r) (sym made.is)
+    (row_failed it.placed.before made.step made.starved place (subst (λ (r : Row). fails place
+    r.notes ≡ true) made.is it.notes)) in
+    record {
+      before = it.placed.before;
+      row = it.placed.row;
+      within = it.within;
+      commits = failed.commits;
+      failed = it.notes;
+      sent = failed.sent;
+    }

@@ -1,4 +1,5 @@
--- What a tick sends carries the listing of the row that formed it, and what is in flight after it is known.
+-- What a tick sends carries the listing of the row that formed it, and what is in flight after it
+-- is known.
 use Rattle.std.proofs.Common.{◌≡◌, ℕ, ◌||◌, Bool, true, false, cond, List, ◌∷◌, Option, Some}
 use Rattle.std.proofs.Common.{option_map, Ok, refl, sym, ap, ap₂, subst, ◌∙◌}
 use Rattle.std.proofs.lemmas.Bool.{false≢true}
@@ -31,7 +32,11 @@ use Rattle.journal_model.proofs.flights.NoticesAgain.{events_after_again, stood}
 -- whatever listing a datagram of a row is read to have was formed as the headline says
 abbrev pub Carried : Placed → Peer × List ℕ → Type 0
 Carried here d =
-    (m : Message) → reading d.1 ≡ Ok m → is_content m ≡ true → (answers_lookup here.row.step.kind (reading here.row.step.datagram) || is_tagged m) ≡ true → FormedAs here d.0 m
+    (m : Message)
+    → reading d.1 ≡ Ok m
+    → is_content m ≡ true
+    → (answers_lookup here.row.step.kind (reading here.row.step.datagram) || is_tagged m) ≡ true
+    → FormedAs here d.0 m
 
 -- ---- what the worker had seen
 
@@ -68,31 +73,50 @@ former_holds_seen k peer mid here former formed new asker asks = by k formed new
 -- ---- observers
 
 -- so an observer that stands stood before
-pub stood_before : (rows : List Row) (moment word : ℕ) (o : Observer) → Among o (observers (events_after_again rows moment word)) → Among o (observers (events rows))
+pub stood_before : (rows : List Row) (moment word : ℕ) (o : Observer)
+    → Among o (observers (events_after_again rows moment word))
+    → Among o (observers (events rows))
 stood_before rows moment word o stands =
-    all_among (λ x. Among x (observers (events rows))) o (observers (events_after_again rows moment word))
-    (stood rows moment word (λ x. Among x (observers (events rows))) (among_all (λ x. Among x (observers (events rows))) (observers (events rows)) (λ x h. h))) stands
+    all_among (λ x. Among x (observers (events rows))) o
+    (observers (events_after_again rows moment word))
+    (stood rows moment word (λ x. Among x (observers (events rows)))
+    (among_all (λ x. Among x (observers (events rows))) (observers (events rows)) (λ x h. h)))
+    stands
 
 -- an observer that stands is the one of its name
-pub observer_named-Some : (rows : List Row) (o : Observer) → Among o (observers (events rows)) → observer_named (name_of o) rows ≡ Some o
+pub observer_named-Some : (rows : List Row) (o : Observer)
+    → Among o (observers (events rows))
+    → observer_named (name_of o) rows ≡ Some o
 observer_named-Some rows o stands =
-    find_only (λ x. is_same_request (name_of x) (name_of o)) o (observers (events rows)) stands (is_same_request-refl (name_of o))
-    (all_among (λ x. Only x (observers (events rows))) o (observers (events rows)) (apart_only (observers (events rows)) (observers-apart (events rows))) stands)
+    find_only (λ x. is_same_request (name_of x) (name_of o)) o (observers (events rows)) stands
+    (is_same_request-refl (name_of o))
+    (all_among (λ x. Only x (observers (events rows))) o (observers (events rows))
+    (apart_only (observers (events rows)) (observers-apart (events rows))) stands)
 
 -- ---- a message of a tick
 
 -- a message that an observer is sent, as the headline has it
-pub observer_formed : (here former : Placed) (o : Observer) (d : Peer × List ℕ) (m : Message) → here.row.step.kind ≡ step.Tick → Among o (observers (events here.before)) → d.0 ≡ o.peer
-    → Bears (wanted_by_observer o) (listing o.query (entries (former.row ∷ former.before)) former.row.moment.0) (tag (entries (former.row ∷ former.before)) former.row.moment.0) m
+pub observer_formed : (here former : Placed) (o : Observer) (d : Peer × List ℕ) (m : Message)
+    → here.row.step.kind ≡ step.Tick
+    → Among o (observers (events here.before))
+    → d.0 ≡ o.peer
+    → Bears (wanted_by_observer o)
+    (listing o.query (entries (former.row ∷ former.before)) former.row.moment.0)
+    (tag (entries (former.row ∷ former.before)) former.row.moment.0) m
     → former_at step.Tick d.0 m.mid here ≡ Some former → FormedAs here d.0 m
 observer_formed here former o d m tick stands same bears formed = record {
   former = former;
   formed = at_kind;
   asked = asked_by_observer o;
   asks = subst (λ k. asked_at k (d.0, m.token) here ≡ Some (asked_by_observer o)) (sym tick)
-      (ap (λ (name : RequestName). option_map (λ (x : Observer). asked_by_observer x) (observer_named name here.before)) (ap₂ (λ p t. (p, t)) same bears.token_is)
-      ∙ ap (λ found. option_map (λ (x : Observer). asked_by_observer x) found) (observer_named-Some here.before o stands));
-  carries = bears_carries (wanted_by_observer o) o.query (entries (former.row ∷ former.before)) former.row.moment.0 m bears;
+      (ap (λ (name : RequestName).
+      option_map (λ (x : Observer). asked_by_observer x) (observer_named name here.before))
+      (ap₂ (λ p t. (p, t)) same bears.token_is)
+      ∙ ap (λ found. option_map (λ (x : Observer). asked_by_observer x) found)
+      (observer_named-Some here.before o stands));
+  carries =
+      bears_carries (wanted_by_observer o) o.query (entries (former.row ∷ former.before))
+      former.row.moment.0 m bears;
   holds_seen = former_holds_seen here.row.step.kind d.0 m.mid here former at_kind;
 }
   where

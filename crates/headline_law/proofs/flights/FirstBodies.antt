@@ -1,4 +1,5 @@
--- What a row that is no tick forms for observers: no notice, and a first body for each that it adds.
+-- What a row that is no tick forms for observers: no notice, and a first body for each that it
+-- adds.
 use Rattle.std.proofs.Common.{◌≡◌, ℕ, true, false, List, ◌∷◌, None, refl, sym, subst, ◌∙◌}
 use Rattle.std.specs.List.{list_any, AllByRecursion}
 use Rattle.std.proofs.lemmas.Bool.{false≢true}
@@ -19,8 +20,14 @@ use Rattle.std.proofs.lemmas.Bool.{or_right}
 use Rattle.rd_base.proofs.lemmas.Each.{each_append, none_pass, each_failing}
 
 -- notes that do nothing for observers
-observing_none : (P : Observer → Type 0) (notes : List Note) → list_any is_observing notes ≡ false → (list_any is_notice notes ≡ false) × AllByRecursion (OfWatched P) notes
-observing_none P notes none = (none_pass is_observing is_notice forms_none notes none, each_failing is_observing (OfWatched P) adds_none notes none)
+observing_none : (P : Observer → Type 0) (notes : List Note)
+    → list_any is_observing notes ≡ false
+    → (list_any is_notice notes ≡ false) × AllByRecursion (OfWatched P) notes
+observing_none P notes none = (
+  none_pass is_observing is_notice forms_none notes none,
+  each_failing is_observing (OfWatched P)
+      adds_none notes none,
+)
   where
     forms_none : (x : Note) → is_observing x ≡ false → is_notice x ≡ false
     forms_none (note.Formed peer token body mid) h = absurd (false≢true (sym h))
@@ -33,21 +40,31 @@ observing_none P notes none = (none_pass is_observing is_notice forms_none notes
 -- what a row that is no tick forms for observers: no notice, and something for whomever it adds
 pub record FormsFirst (notes : List Note) : Type 0 where
   pub none : list_any is_notice notes ≡ false
-  pub added : AllByRecursion (OfWatched (λ o. list_any (is_forming_for (name_of o)) notes ≡ true)) notes
+  pub added : AllByRecursion (OfWatched (λ o. list_any (is_forming_for (name_of o)) notes ≡ true))
+      notes
 
 -- so it is of each row that is no tick
-pub first_forms : (rows : List Row) (moment : ℕ) (notes : List Note) → ObserverNotes rows moment notes → FormsFirst notes
+pub first_forms : (rows : List Row) (moment : ℕ) (notes : List Note)
+    → ObserverNotes rows moment notes
+    → FormsFirst notes
 first_forms rows moment notes (quiet h) =
     let it = observing_none (λ o. list_any (is_forming_for (name_of o)) notes ≡ true) notes h in
     record { none = it.0; added = it.1 }
-first_forms rows moment notes (adds o front back body is before after listed silent) = subst FormsFirst (sym is) (record {
-  none = list_any-append is_notice front (note.Watched o ∷ note.Formed o.peer o.token body None ∷ back) ∙ rw (first.0, last.0) refl;
-  added = each_append (OfWatched P) front (note.Watched o ∷ note.Formed o.peer o.token body None ∷ back) first.1 (
-    list_any-append (is_forming_for (name_of o)) front (note.Watched o ∷ note.Formed o.peer o.token body None ∷ back)
-        ∙ or_right (list_any (is_forming_for (name_of o)) front) _ (rw (is_same_request-refl (name_of o)) refl),
-    (tt, last.1),
-  );
-})
+first_forms rows moment notes (adds o front back body is before after listed silent) =
+    subst FormsFirst (sym is) (record {
+      none =
+          list_any-append is_notice front (note.Watched o ∷ note.Formed o.peer o.token body None ∷ back)
+          ∙ rw (first.0, last.0) refl;
+      added =
+          each_append (OfWatched P) front (note.Watched o ∷ note.Formed o.peer o.token body None ∷ back)
+          first.1 (
+            list_any-append (is_forming_for (name_of o)) front
+                (note.Watched o ∷ note.Formed o.peer o.token body None ∷ back)
+                ∙ or_right (list_any (is_forming_for (name_of o)) front) _
+                (rw (is_same_request-refl (name_of o)) refl),
+            (tt, last.1),
+          );
+    })
   where
     P : Observer → Type 0
     P x = list_any (is_forming_for (name_of x)) (around front o body back) ≡ true

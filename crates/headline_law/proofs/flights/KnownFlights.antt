@@ -1,5 +1,22 @@
--- What is known of each notice in flight: the row that formed it, and that it bears the listing there.
-use Rattle.std.proofs.Common.{◌≡◌, ℕ, ◌<◌, Bool, true, false, List, ◌∷◌, length, Some, None, refl, sym, ◌∙◌, arith}
+-- What is known of each notice in flight: the row that formed it, and that it bears the listing
+-- there.
+use Rattle.std.proofs.Common.{
+  ◌≡◌,
+  ℕ,
+  ◌<◌,
+  Bool,
+  true,
+  false,
+  List,
+  ◌∷◌,
+  length,
+  Some,
+  None,
+  refl,
+  sym,
+  ◌∙◌,
+  arith,
+}
 use Rattle.std.specs.List.{list_any, AllByRecursion}
 use Rattle.std.proofs.lemmas.Bool.{false≢true, ne_eqb}
 use Rattle.rd_base.specs.declared.peers.Peer.{Peer}
@@ -30,29 +47,38 @@ pub record NoticeOf (rows : List Row) (o : Observer) (mid place : ℕ) : Type 0 
   pub below : place < length rows
   pub at_place : row_at place rows ≡ Some placed.row
   pub sent : AllByRecursion (λ (d : Peer × List ℕ). is_same_peer d.0 o.peer ≡ true
-      → IsBodyOf (wanted_by_observer o) (listing o.query (entries (placed.row ∷ placed.before)) placed.row.moment.0) (tag (entries (placed.row ∷ placed.before)) placed.row.moment.0) d.1) placed.row.sent
+      → IsBodyOf (wanted_by_observer o)
+      (listing o.query (entries (placed.row ∷ placed.before)) placed.row.moment.0)
+      (tag (entries (placed.row ∷ placed.before)) placed.row.moment.0) d.1) placed.row.sent
 
 -- whatever notice is in flight to an observer
 abbrev pub FlightKnown : List Row → Observer → Type 0
-FlightKnown rows o = (mid place : ℕ) → flight_key o (events rows) ≡ Some (mid, place) → NoticeOf rows o mid place
+FlightKnown rows o =
+    (mid place : ℕ) → flight_key o (events rows) ≡ Some (mid, place) → NoticeOf rows o mid place
 
 -- and to all that stand
 abbrev pub FlightsKnown : List Row → Type 0
 FlightsKnown rows = AllByRecursion (FlightKnown rows) (observers (events rows))
 
 -- after a row that forms no notice to the peer with this Message ID
-pub notice_of_row : (rows : List Row) (r : Row) (o : Observer) (mid place : ℕ) → list_any (forms_notice o.peer mid) r.notes ≡ false → NoticeOf rows o mid place → NoticeOf (r ∷ rows) o mid place
+pub notice_of_row : (rows : List Row) (r : Row) (o : Observer) (mid place : ℕ)
+    → list_any (forms_notice o.peer mid) r.notes ≡ false
+    → NoticeOf rows o mid place
+    → NoticeOf (r ∷ rows) o mid place
 unfolding last_row row_at
 notice_of_row rows r o mid place none it = record {
   placed = it.placed;
   last = rw none it.last;
   below = omega (arith, it.below);
-  at_place = rw (ne_eqb place (length rows) (λ same. absurd (omega (arith, same, it.below)))) it.at_place;
+  at_place =
+      rw (ne_eqb place (length rows) (λ same. absurd (omega (arith, same, it.below)))) it.at_place;
   sent = it.sent;
 }
 
 -- notes that form no notice form none to a peer
-no_notice_to : (peer : Peer) (mid : ℕ) (notes : List Note) → list_any is_notice notes ≡ false → list_any (forms_notice peer mid) notes ≡ false
+no_notice_to : (peer : Peer) (mid : ℕ) (notes : List Note)
+    → list_any is_notice notes ≡ false
+    → list_any (forms_notice peer mid) notes ≡ false
 no_notice_to peer mid notes none = none_pass is_notice (forms_notice peer mid) by notes none
   where
     by : (x : Note) → is_notice x ≡ false → forms_notice peer mid x ≡ false
@@ -61,33 +87,63 @@ no_notice_to peer mid notes none = none_pass is_notice (forms_notice peer mid) b
     by _ h = refl
 
 -- where a row forms something for an observer, and no notice, none is in flight to it
-none_in_flight : (rows : List Row) (r : Row) (o : Observer) → list_any is_notice r.notes ≡ false → list_any (is_forming_for (name_of o)) r.notes ≡ true → flight_key o (events (r ∷ rows)) ≡ None
+none_in_flight : (rows : List Row) (r : Row) (o : Observer)
+    → list_any is_notice r.notes ≡ false
+    → list_any (is_forming_for (name_of o)) r.notes ≡ true
+    → flight_key o (events (r ∷ rows)) ≡ None
 unfolding events
 none_in_flight rows r o none forms =
-    let found : Found (is_forming_for (name_of o)) (noted (length rows) r.moment.0 r.step.word r.notes (events rows)) (length rows) r.moment.0 =
-    last_event-here (is_forming_for (name_of o)) (length rows) r.moment.0 r.step.word r.notes (events rows) forms in
-    let it = found_in (is_forming_for (name_of o)) (length rows) r.moment.0 r.step.word r.notes (events rows) found.event forms found.last in
-    key_none o (noted (length rows) r.moment.0 r.step.word r.notes (events rows)) found.event found.last
-    (all_among (λ n. is_notice n ≡ false) found.event.note r.notes (each_failing is_notice (λ n. is_notice n ≡ false) (λ n h. h) r.notes none) it.0)
+    let found : Found (is_forming_for (name_of o))
+    (noted (length rows) r.moment.0 r.step.word r.notes (events rows)) (length rows)
+    r.moment.0 =
+    last_event-here (is_forming_for (name_of o)) (length rows) r.moment.0 r.step.word r.notes
+    (events rows) forms in
+    let it =
+    found_in (is_forming_for (name_of o)) (length rows) r.moment.0 r.step.word r.notes
+    (events rows) found.event forms found.last in
+    key_none o (noted (length rows) r.moment.0 r.step.word r.notes (events rows)) found.event
+    found.last
+    (all_among (λ n. is_notice n ≡ false) found.event.note r.notes
+    (each_failing is_notice (λ n. is_notice n ≡ false) (λ n h. h) r.notes none) it.0)
 
 -- after a row that forms no notice, and whatever observer it adds is formed for
-pub flights_row : (rows : List Row) (r : Row) → list_any is_notice r.notes ≡ false → AllByRecursion (OfWatched (λ o. list_any (is_forming_for (name_of o)) r.notes ≡ true)) r.notes → FlightsKnown rows → FlightsKnown (r ∷ rows)
+pub flights_row : (rows : List Row) (r : Row)
+    → list_any is_notice r.notes ≡ false
+    → AllByRecursion (OfWatched (λ o. list_any (is_forming_for (name_of o)) r.notes ≡ true)) r.notes
+    → FlightsKnown rows
+    → FlightsKnown (r ∷ rows)
 unfolding events
 flights_row rows r none added all =
-    observers_all (FlightKnown (r ∷ rows)) (length rows) r.moment.0 r.step.word r.notes (events rows) (each_weaker (OfWatched (λ o. list_any (is_forming_for (name_of o)) r.notes ≡ true)) (OfWatched (FlightKnown (r ∷ rows))) new r.notes added) (each_weaker (FlightKnown rows) (FlightKnown (r ∷ rows)) stays (observers (events rows)) all)
+    observers_all (FlightKnown (r ∷ rows)) (length rows) r.moment.0 r.step.word r.notes
+    (events rows)
+    (each_weaker (OfWatched (λ o. list_any (is_forming_for (name_of o)) r.notes ≡ true))
+    (OfWatched (FlightKnown (r ∷ rows))) new r.notes added)
+    (each_weaker (FlightKnown rows) (FlightKnown (r ∷ rows)) stays (observers (events rows))
+    all)
   where
-    vacuous : (o : Observer) → list_any (is_forming_for (name_of o)) r.notes ≡ true → FlightKnown (r ∷ rows) o
-    vacuous o forms mid place found = absurd (let both : None ≡ Some (mid, place) = sym (none_in_flight rows r o none forms) ∙ found in cc)
+    vacuous : (o : Observer)
+        → list_any (is_forming_for (name_of o)) r.notes ≡ true
+        → FlightKnown (r ∷ rows) o
+    vacuous o forms mid place found =
+        absurd (let both : None ≡ Some (mid, place) =
+        sym (none_in_flight rows r o none forms) ∙ found in
+        cc)
 
-    new : (n : Note) → OfWatched (λ o. list_any (is_forming_for (name_of o)) r.notes ≡ true) n → OfWatched (FlightKnown (r ∷ rows)) n
+    new : (n : Note)
+        → OfWatched (λ o. list_any (is_forming_for (name_of o)) r.notes ≡ true) n
+        → OfWatched (FlightKnown (r ∷ rows)) n
     new (note.Watched o) h = vacuous o h
     new _ h = tt
 
     stays : (o : Observer) → FlightKnown rows o → FlightKnown (r ∷ rows) o
     stays o known = by (list_any (is_forming_for (name_of o)) r.notes) refl
       where
-        by : (b : Bool) → list_any (is_forming_for (name_of o)) r.notes ≡ b → FlightKnown (r ∷ rows) o
+        by : (b : Bool)
+            → list_any (is_forming_for (name_of o)) r.notes ≡ b
+            → FlightKnown (r ∷ rows) o
         by true forms = vacuous o forms
         by false quiet = λ mid place found.
             notice_of_row rows r o mid place (no_notice_to o.peer mid r.notes none)
-            (known mid place (key_before_all o (length rows) r.moment.0 r.step.word r.notes (events rows) (mid, place) quiet found))
+            (known mid place
+            (key_before_all o (length rows) r.moment.0 r.step.word r.notes (events rows)
+            (mid, place) quiet found))

@@ -1,4 +1,5 @@
--- Each lookup answers the listing of the history at the row that formed it, in each journal of the machine.
+-- Each lookup answers the listing of the history at the row that formed it, in each journal of the
+-- machine.
 use Rattle.std.proofs.Common.{◌≡◌, ℕ, ◌||◌, Bool, true, false, List, [], ◌∷◌, ◌++◌, length, Ok}
 use Rattle.std.proofs.Common.{refl, sym, ap, subst, ◌∙◌}
 use Rattle.std.specs.List.{list_any, AllByRecursion}
@@ -41,7 +42,18 @@ use Rattle.headline_law.proofs.flights.TickFlights.{tick_flights}
 use Rattle.headline_law.proofs.notes.TickNotes.{tick_notes_as_asked}
 use Rattle.headline_law.proofs.flights.FirstBodies.{FormsFirst, first_forms}
 use Rattle.headline_law.proofs.flights.KnownFlights.{FlightsKnown, flights_row}
-use Rattle.headline_law.proofs.sends.StepOutcomes.{is_keeping, StepOutcome, plain, look, lookup, keep, heard_outcome, looked_outcome, done_outcome, kept_outcome}
+use Rattle.headline_law.proofs.sends.StepOutcomes.{
+  is_keeping,
+  StepOutcome,
+  plain,
+  look,
+  lookup,
+  keep,
+  heard_outcome,
+  looked_outcome,
+  done_outcome,
+  kept_outcome,
+}
 use Rattle.headline_law.proofs.rows.RowCarries.{NoteAsFormed, RowCarries, asks_as_noted, plain_row}
 use Rattle.headline_law.proofs.rows.RowCarries.{look_row, own_notes_as_formed}
 use Rattle.headline_law.proofs.rows.LookupRows.{lookup_row}
@@ -107,12 +119,22 @@ unfolding tick_effects
 tick_of keeps rows r starved asked all tick sent notes = by starved sent notes
   where
     same_entries : entries (r ∷ rows) ≡ entries rows
-    same_entries = entries-none_noted rows r (ap entries_in notes ∙ tick_effects-entries_in starved rows r.moment.0 r.step)
+    same_entries =
+        entries-none_noted rows r
+        (ap entries_in notes ∙ tick_effects-entries_in starved rows r.moment.0 r.step)
 
-    asking : (o : Observer) → Among o (observers (events_after_again rows r.moment.0 r.step.word)) → IsAsking o
-    asking o stands = all_among IsAsking o (observers (events_after_again rows r.moment.0 r.step.word)) (stood rows r.moment.0 r.step.word IsAsking all.asking) stands
+    asking : (o : Observer)
+        → Among o (observers (events_after_again rows r.moment.0 r.step.word))
+        → IsAsking o
+    asking o stands =
+        all_among IsAsking o (observers (events_after_again rows r.moment.0 r.step.word))
+        (stood rows r.moment.0 r.step.word IsAsking all.asking) stands
 
-    with_parts : (notified : Effects) → TickSoFar rows r.moment.0 r.step.word notified → r.sent ≡ notified.sent ++ (requests_again rows r.moment.0).sent → r.notes ≡ notified.notes ++ (requests_again rows r.moment.0).notes → TickRow rows r
+    with_parts : (notified : Effects)
+        → TickSoFar rows r.moment.0 r.step.word notified
+        → r.sent ≡ notified.sent ++ (requests_again rows r.moment.0).sent
+        → r.notes ≡ notified.notes ++ (requests_again rows r.moment.0).notes
+        → TickRow rows r
     with_parts notified so_far sends noted = record {
       notified = notified;
       requests = requests_again rows r.moment.0;
@@ -126,9 +148,15 @@ tick_of keeps rows r starved asked all tick sent notes = by starved sent notes
       known = all.flights;
     }
 
-    by : (b : Bool) → r.sent ≡ (tick_effects b rows r.moment.0 r.step).sent → r.notes ≡ (tick_effects b rows r.moment.0 r.step).notes → TickRow rows r
-    by true s n = with_parts (notices_again rows r.moment.0) (tick_begins rows r.moment.0 r.step.word) s n
-    by false s n = with_parts (notices (ticking rows r.moment.0 r.step) (notices_again rows r.moment.0)) (tick_notifies rows r.moment.0 r.step asking) s n
+    by : (b : Bool)
+        → r.sent ≡ (tick_effects b rows r.moment.0 r.step).sent
+        → r.notes ≡ (tick_effects b rows r.moment.0 r.step).notes
+        → TickRow rows r
+    by true s n =
+        with_parts (notices_again rows r.moment.0) (tick_begins rows r.moment.0 r.step.word) s n
+    by false s n =
+        with_parts (notices (ticking rows r.moment.0 r.step) (notices_again rows r.moment.0))
+        (tick_notifies rows r.moment.0 r.step asking) s n
 
 -- what is known is known with a row of a tick
 tick_step : (keeps : Bool) (rows : List Row) (r : Row) (starved : Bool) → AskedPlain rows
@@ -137,7 +165,10 @@ tick_step : (keeps : Bool) (rows : List Row) (r : Row) (starved : Bool) → Aske
     → r.notes ≡ (tick_effects starved rows r.moment.0 r.step).notes → CarriesAll keeps (r ∷ rows)
 tick_step keeps rows r starved asked all tick sent notes =
     let t : TickRow rows r = tick_of keeps rows r starved asked all tick sent notes in
-    let asked_now = subst (NotesAsAsked rows r.moment.0) (sym notes) (tick_notes_as_asked starved rows r.moment.0 r.step (stood rows r.moment.0 r.step.word IsAsking all.asking)) in
+    let asked_now =
+    subst (NotesAsAsked rows r.moment.0) (sym notes)
+    (tick_notes_as_asked starved rows r.moment.0 r.step (stood rows r.moment.0 r.step.word
+    IsAsking all.asking)) in
     let noted : AllByRecursion (NoteAsFormed (record { row = r; before = rows })) r.notes =
     own_notes_as_formed rows r
     (ap (λ k. former_of_body k (record { row = r; before = rows })) tick) t.same_entries r.notes
@@ -163,28 +194,45 @@ row_step keeps rows s starved made_so known all = by s.kind refl
     facts : AllRows RowFacts rows
     facts = rows_facts rows made_so
 
-    sent_of : (k : StepKind) → s.kind ≡ k → (row rows s starved).sent ≡ (effects k starved rows (row_moment rows s) s).sent
+    sent_of : (k : StepKind)
+        → s.kind ≡ k
+        → (row rows s starved).sent ≡ (effects k starved rows (row_moment rows s) s).sent
     sent_of k is = ap (λ x. (effects x starved rows (row_moment rows s) s).sent) is
 
-    notes_of : (k : StepKind) → s.kind ≡ k → (row rows s starved).notes ≡ (effects k starved rows (row_moment rows s) s).notes
+    notes_of : (k : StepKind)
+        → s.kind ≡ k
+        → (row rows s starved).notes ≡ (effects k starved rows (row_moment rows s) s).notes
     notes_of k is = ap (λ x. (effects x starved rows (row_moment rows s) s).notes) is
 
-    with_outcome : (k : StepKind) → s.kind ≡ k → StepOutcome rows (row_moment rows s) s (effects k starved rows (row_moment rows s) s) → IsNoTick k
+    with_outcome : (k : StepKind)
+        → s.kind ≡ k
+        → StepOutcome rows (row_moment rows s) s (effects k starved rows (row_moment rows s) s)
+        → IsNoTick k
         → CarriesAll keeps (row rows s starved ∷ rows)
     with_outcome k is outcome no_tick =
         quiet_step keeps rows (row rows s starved)
         (row_of_outcome keeps rows (row rows s starved)
         (effects k starved rows (row_moment rows s) s) all.each known (sent_of k is)
         (notes_of k is) outcome)
-        (subst FormsFirst (sym (notes_of k is)) (first_forms rows (row_moment rows s) (effects k starved rows (row_moment rows s) s).notes (step_observer_notes k starved rows (row_moment rows s) s no_tick))) all
+        (subst FormsFirst (sym (notes_of k is)) (first_forms rows (row_moment rows s)
+        (effects k starved rows (row_moment rows s) s).notes
+        (step_observer_notes k starved rows (row_moment rows s) s no_tick))) all
 
     by : (k : StepKind) → s.kind ≡ k → CarriesAll keeps (row rows s starved ∷ rows)
     by step.Admit is = with_outcome step.Admit is
         (heard_outcome starved rows (row_moment rows s) s (reading s.datagram)
         (settled_plain rows facts) (ap is_heard is) refl) tt
-    by step.Look is = with_outcome step.Look is (looked_outcome starved rows (row_moment rows s) s (reading s.datagram) (ap is_heard is) refl) tt
-    by (step.Commit place) is = with_outcome (step.Commit place) is (done_outcome starved rows (row_moment rows s) place s (reading s.datagram)) tt
-    by (step.Keep body current) is = with_outcome (step.Keep body current) is (kept_outcome starved rows (row_moment rows s) s (reading s.datagram) body current refl is) tt
+    by step.Look is =
+        with_outcome step.Look is
+        (looked_outcome starved rows (row_moment rows s) s (reading s.datagram) (ap is_heard is)
+        refl) tt
+    by (step.Commit place) is =
+        with_outcome (step.Commit place) is
+        (done_outcome starved rows (row_moment rows s) place s (reading s.datagram)) tt
+    by (step.Keep body current) is =
+        with_outcome (step.Keep body current) is
+        (kept_outcome starved rows (row_moment rows s) s (reading s.datagram) body current refl
+        is) tt
     by step.Tick is = tick_step keeps rows (row rows s starved) starved
         (asked_plain rows facts) all is (sent_of step.Tick is) (notes_of step.Tick is)
 
@@ -222,7 +270,11 @@ carried_by keeps rows all sent listed known =
     sent.within).carried known) sent.message sent.read parts.0 parts.1
 
 -- each answer was formed as the headline says
-pub answer_formed : (rows : List Row) → IsJournal rows → (sent : Sent rows) → is_listing sent ≡ true → FormedAs sent.here sent.peer sent.message
+pub answer_formed : (rows : List Row)
+    → IsJournal rows
+    → (sent : Sent rows)
+    → is_listing sent ≡ true
+    → FormedAs sent.here sent.peer sent.message
 answer_formed rows journal sent listed =
     carried_by true rows
     (rows_carry true rows (journal-AreRows rows journal) (journal_keeps rows journal)) sent listed
@@ -241,7 +293,8 @@ pub desk-DeskAnswersAsFormed : (rows : List Row) → IsDeskJournal rows → Desk
 desk-DeskAnswersAsFormed rows journal =
     record { carried = λ sent listed formed. desk_answer_formed rows journal sent listed formed }
 
--- each lookup answers the listing of the history at the row that formed it, and 2.03 is sent exactly where a look names the tag
+-- each lookup answers the listing of the history at the row that formed it, and 2.03 is sent
+-- exactly where a look names the tag
 pub answers_as_formed : (rows : List Row) → IsJournal rows → AnswersAsFormed rows
 answers_as_formed rows journal = record {
   carried = λ sent listed. answer_formed rows journal sent listed;

@@ -15,7 +15,13 @@ use Rattle.journal_model.specs.declared.steps.StepKind.{StepKind}
 use Rattle.journal_model.specs.declared.steps.StepKind.TheVariants as step
 use Rattle.journal_model.specs.declared.rows.Row.{Row}
 use Rattle.journal_model.specs.Journal.{entries}
-use Rattle.journal_model.specs.Requests.{refusal_of_request, query_of, asked_block, only_looks, is_look_request}
+use Rattle.journal_model.specs.Requests.{
+  refusal_of_request,
+  query_of,
+  asked_block,
+  only_looks,
+  is_look_request,
+}
 use Rattle.journal_model.specs.Bodies.{is_long}
 use Rattle.message_model.specs.declared.requests.Path.{Path}
 use Rattle.message_model.specs.declared.requests.Path.TheVariants as path
@@ -24,9 +30,28 @@ use Rattle.history_model.specs.declared.entries.Entry.{Entry}
 use Rattle.event_model.specs.KeptAnswers.{Answer}
 use Rattle.std.proofs.lemmas.Option.{same_Some}
 use Rattle.journal_model.specs.Sought.{sought_at}
-use Rattle.journal_model.specs.Looks.{names_tag, unless_long, unless_valid, look_for, look, body_held, held_after, keep_effects}
+use Rattle.journal_model.specs.Looks.{
+  names_tag,
+  unless_long,
+  unless_valid,
+  look_for,
+  look,
+  body_held,
+  held_after,
+  keep_effects,
+}
 use Rattle.journal_model.specs.Rows.{effects, row_moment, row}
-use Rattle.journal_model.specs.Machine.{Job, job_of, MayBegin, hears, goes, ticks, is_look_datagram, is_look_reading, IsJournal}
+use Rattle.journal_model.specs.Machine.{
+  Job,
+  job_of,
+  MayBegin,
+  hears,
+  goes,
+  ticks,
+  is_look_datagram,
+  is_look_reading,
+  IsJournal,
+}
 use Rattle.journal_model.specs.PlacedRows.{Placed}
 use Rattle.journal_model.specs.BodyFormers.{look_of, former_of_body, former_at, is_keep}
 use Rattle.journal_model.specs.BodyFormers.{is_formed_in_rows}
@@ -37,7 +62,14 @@ use Rattle.journal_model.proofs.notes.SilentSteps.{looked_notes}
 use Rattle.journal_model.proofs.entries.JournalLaws.{Made, each_row, entries-none_noted}
 use Rattle.journal_model.proofs.Jobs.{KeepsOf, keeps_of}
 use Rattle.message_model.proofs.ReadingLaws.{header_read}
-use Rattle.journal_model.proofs.sends.BodyAnswers.{wanted_by, asking, Bears, tag-length, same_message, bears_carries}
+use Rattle.journal_model.proofs.sends.BodyAnswers.{
+  wanted_by,
+  asking,
+  Bears,
+  tag-length,
+  same_message,
+  bears_carries,
+}
 use Rattle.headline_law.proofs.sends.LookupSends.{IsAnswerOf, keep_bears}
 use Rattle.journal_model.proofs.notes.LookupNotes.{look_fits, IsAsking, KeptAt, OfWatched}
 use Rattle.headline_law.proofs.sends.ValidLaw.{LooksAt, a_look_reads, looked_a_look}
@@ -48,25 +80,36 @@ use Rattle.rd_base.proofs.lemmas.Each.{each_weaker}
 -- ---- a row of a keep
 
 -- what a look holds is the listing of its request, under its tag
-held_listing : (history : List Entry) (moment : ℕ) (m : Message) (found : Answer) → body_held (look history moment m) ≡ Some found → (found.body ≡ listing (query_of m) history moment) × (found.tag ≡ tag history moment)
+held_listing : (history : List Entry) (moment : ℕ) (m : Message) (found : Answer)
+    → body_held (look history moment m) ≡ Some found
+    → (found.body ≡ listing (query_of m) history moment) × (found.tag ≡ tag history moment)
 unfolding look
 held_listing history moment m found e = by (path_in m) e
   where
     now : Answer
     now = record { body = listing (query_of m) history moment; tag = tag history moment }
 
-    none : None ≡ Some found → (found.body ≡ listing (query_of m) history moment) × (found.tag ≡ tag history moment)
+    none : None ≡ Some found
+        → (found.body ≡ listing (query_of m) history moment) × (found.tag ≡ tag history moment)
     none h = absurd cc
 
-    long : (b : Bool) → body_held (Some (unless_long b m now)) ≡ Some found → (found.body ≡ listing (query_of m) history moment) × (found.tag ≡ tag history moment)
-    long true h = let same : found ≡ now = sym (same_Some now found h) in (ap (λ (a : Answer). a.body) same, ap (λ (a : Answer). a.tag) same)
+    long : (b : Bool)
+        → body_held (Some (unless_long b m now)) ≡ Some found
+        → (found.body ≡ listing (query_of m) history moment) × (found.tag ≡ tag history moment)
+    long true h =
+        let same : found ≡ now = sym (same_Some now found h) in
+        (ap (λ (a : Answer). a.body) same, ap (λ (a : Answer). a.tag) same)
     long false h = none h
 
-    valid : (b : Bool) → body_held (Some (unless_valid b m now)) ≡ Some found → (found.body ≡ listing (query_of m) history moment) × (found.tag ≡ tag history moment)
+    valid : (b : Bool)
+        → body_held (Some (unless_valid b m now)) ≡ Some found
+        → (found.body ≡ listing (query_of m) history moment) × (found.tag ≡ tag history moment)
     valid true h = none h
     valid false h = long (is_long (asked_block m) (listing (query_of m) history moment)) h
 
-    by : (p : Path) → body_held (option_map (look_for history moment m) (sought_at p (query_of m))) ≡ Some found → (found.body ≡ listing (query_of m) history moment) × (found.tag ≡ tag history moment)
+    by : (p : Path)
+        → body_held (option_map (look_for history moment m) (sought_at p (query_of m))) ≡ Some found
+        → (found.body ≡ listing (query_of m) history moment) × (found.tag ≡ tag history moment)
     by path.Core h = none h
     by path.SimpleRd h = none h
     by path.Rd h = none h
@@ -76,12 +119,16 @@ held_listing history moment m found e = by (path_in m) e
     by path.Other h = none h
 
 -- so it is of what a look at its datagram leaves
-left_listing : (starved : Bool) (history : List Entry) (moment : ℕ) (m : Message) (found : Answer) → held_after starved history moment (Ok m) ≡ Some found → (found.body ≡ listing (query_of m) history moment) × (found.tag ≡ tag history moment)
+left_listing : (starved : Bool) (history : List Entry) (moment : ℕ) (m : Message) (found : Answer)
+    → held_after starved history moment (Ok m) ≡ Some found
+    → (found.body ≡ listing (query_of m) history moment) × (found.tag ≡ tag history moment)
 left_listing true history moment m found e = absurd (let h : None ≡ Some found = e in cc)
 left_listing false history moment m found e = held_listing history moment m found e
 
 -- two keeps of one body are equal in both parts
-same_keep : (body current others other : List ℕ) → step.Keep body current ≡ step.Keep others other → (body ≡ others) × (current ≡ other)
+same_keep : (body current others other : List ℕ)
+    → step.Keep body current ≡ step.Keep others other
+    → (body ≡ others) × (current ≡ other)
 same_keep body current others other e = (ap body_of e, ap tag_of e)
   where
     body_of : StepKind → List ℕ
@@ -98,12 +145,13 @@ unfolding is_look_request
 look_only m h = (and_parts (is_none (refusal_of_request m)) (only_looks m) h).1
 
 -- the look whose job a keep ends
-pub record KeepOf (rows : List Row) (worker : ℕ) (m : Message) (body current : List ℕ) : Type 0 where
-  pub look : Placed
-  pub found : look_of worker rows ≡ Some look
-  pub is_kept : KeptAt (entries (look.row ∷ look.before)) look.row.moment.0 (key_in m) body current
-  pub query_is : is_kept.query ≡ query_of m
-  pub asks : role_of m.kind m.code ≡ role.Request
+pub record KeepOf (rows : List Row) (worker : ℕ) (m : Message) (body current : List ℕ) : Type 0
+  where
+    pub look : Placed
+    pub found : look_of worker rows ≡ Some look
+    pub is_kept : KeptAt (entries (look.row ∷ look.before)) look.row.moment.0 (key_in m) body current
+    pub query_is : is_kept.query ≡ query_of m
+    pub asks : role_of m.kind m.code ≡ role.Request
 
 -- a row of a look notes nothing, and its datagram is that of a look
 record LookRow (before : List Row) (r : Row) : Type 0 where
@@ -111,38 +159,59 @@ record LookRow (before : List Row) (r : Row) : Type 0 where
   looks : is_look_reading (reading r.step.datagram) ≡ true
 
 -- so it is of each row of a look
-row_of_look : (before : List Row) (r : Row) → Made before r → r.step.kind ≡ step.Look → LookRow before r
+row_of_look : (before : List Row) (r : Row)
+    → Made before r
+    → r.step.kind ≡ step.Look
+    → LookRow before r
 unfolding row effects
 row_of_look before r it is =
     let kind : it.step.kind ≡ step.Look = sym (ap (λ (x : Row). x.step.kind) it.is) ∙ is in
     subst (λ (x : Row). LookRow before x) (sym it.is) (record {
-      silent = ap (λ k. (effects k it.starved before (row_moment before it.step) it.step).notes) kind ∙ looked_notes it.starved (entries before) (row_moment before it.step) it.step (reading it.step.datagram);
+      silent =
+          ap (λ k. (effects k it.starved before (row_moment before it.step) it.step).notes) kind
+          ∙ looked_notes it.starved (entries before) (row_moment before it.step) it.step
+          (reading it.step.datagram);
       looks = looked_a_look before it.step it.may kind;
     })
 
 -- the job that a keep ends
-keep_job_of : (rows : List Row) (s : Step) (body current : List ℕ) → MayBegin rows s → s.kind ≡ step.Keep body current → job_of s.worker rows ≡ Some (record { kind = s.kind; peer = s.peer; datagram = s.datagram })
-keep_job_of rows s body current (hears none heard) kind = absurd (by (is_look_datagram s.datagram) (sym heard ∙ kind))
+keep_job_of : (rows : List Row) (s : Step) (body current : List ℕ)
+    → MayBegin rows s
+    → s.kind ≡ step.Keep body current
+    → job_of s.worker rows ≡ Some (record { kind = s.kind; peer = s.peer; datagram = s.datagram })
+keep_job_of rows s body current (hears none heard) kind =
+    absurd (by (is_look_datagram s.datagram) (sym heard ∙ kind))
   where
     by : (b : Bool) → cond b step.Look step.Admit ≡ step.Keep body current → ⊥
     by true e = let h : step.Look ≡ step.Keep body current = e in cc
     by false e = let h : step.Admit ≡ step.Keep body current = e in cc
 keep_job_of rows s body current (goes holds) kind = holds
-keep_job_of rows s body current (ticks tick) kind = absurd (let h : step.Tick ≡ step.Keep body current = sym tick ∙ kind in cc)
+keep_job_of rows s body current (ticks tick) kind =
+    absurd (let h : step.Tick ≡ step.Keep body current = sym tick ∙ kind in cc)
 
 -- so it is of each keep
-pub keep_of : (rows : List Row) (s : Step) (m : Message) (body current : List ℕ) → IsJournal rows → MayBegin rows s → s.kind ≡ step.Keep body current → reading s.datagram ≡ Ok m → KeepOf rows s.worker m body current
+pub keep_of : (rows : List Row) (s : Step) (m : Message) (body current : List ℕ)
+    → IsJournal rows
+    → MayBegin rows s
+    → s.kind ≡ step.Keep body current
+    → reading s.datagram ≡ Ok m
+    → KeepOf rows s.worker m body current
 keep_of rows s m body current journal may kind read = record {
   look = held.look;
   found = held.found;
   is_kept = record {
     query = query_of m;
     asks = record { request = m; fits = look_fits m only; key_is = refl; query_is = refl };
-    body_is = parts.0 ∙ ap (λ history. listing (query_of m) history held.look.row.moment.0) (sym same_entries);
+    body_is =
+        parts.0
+        ∙ ap (λ history. listing (query_of m) history held.look.row.moment.0) (sym same_entries);
     tag_is = parts.1 ∙ ap (λ history. tag history held.look.row.moment.0) (sym same_entries);
   };
   query_is = refl;
-  asks = subst (λ (x : Message). role_of x.kind x.code ≡ role.Request) (same_message looks_at.message m held.look.row.step.datagram looks_at.read_is same_read) looks_at.asks;
+  asks =
+      subst (λ (x : Message). role_of x.kind x.code ≡ role.Request)
+      (same_message looks_at.message m held.look.row.step.datagram looks_at.read_is same_read)
+      looks_at.asks;
 }
   where
     job : Job
@@ -152,7 +221,9 @@ keep_of rows s m body current journal may kind read = record {
     held = keeps_of s.worker rows job body current (keep_job_of rows s body current may kind) kind
 
     its : LookRow held.look.before held.look.row
-    its = row_of_look held.look.before held.look.row (each_row rows held.look.before held.look.row journal held.within) held.is_one
+    its =
+        row_of_look held.look.before held.look.row
+        (each_row rows held.look.before held.look.row journal held.within) held.is_one
 
     same_read : reading held.look.row.step.datagram ≡ Ok m
     same_read = ap reading (sym held.keeps.datagram) ∙ read
@@ -160,18 +231,28 @@ keep_of rows s m body current journal may kind read = record {
     same_entries : entries (held.look.row ∷ held.look.before) ≡ entries held.look.before
     same_entries = entries-none_noted held.look.before held.look.row (ap entries_in its.silent)
 
-    parts : (body ≡ listing (query_of m) (entries held.look.before) held.look.row.moment.0) × (current ≡ tag (entries held.look.before) held.look.row.moment.0)
+    parts :
+        (body ≡ listing (query_of m) (entries held.look.before) held.look.row.moment.0)
+        × (current ≡ tag (entries held.look.before) held.look.row.moment.0)
     parts =
-        let kept = same_keep body current held.keeps.found.body held.keeps.found.tag (sym kind ∙ held.keeps.kind) in
-        let left = left_listing held.look.row.starved (entries held.look.before) held.look.row.moment.0 m held.keeps.found
-        (ap (held_after held.look.row.starved (entries held.look.before) held.look.row.moment.0) (sym same_read) ∙ held.keeps.held) in
+        let kept =
+        same_keep body current held.keeps.found.body held.keeps.found.tag
+        (sym kind ∙ held.keeps.kind) in
+        let left =
+        left_listing held.look.row.starved (entries held.look.before) held.look.row.moment.0 m
+        held.keeps.found
+        (ap (held_after held.look.row.starved (entries held.look.before) held.look.row.moment.0)
+        (sym same_read) ∙ held.keeps.held) in
         (kept.0 ∙ left.0, kept.1 ∙ left.1)
 
     looks_at : LooksAt (reading held.look.row.step.datagram)
     looks_at = a_look_reads (reading held.look.row.step.datagram) its.looks
 
     only : only_looks m ≡ true
-    only = let same : looks_at.message ≡ m = same_message looks_at.message m held.look.row.step.datagram looks_at.read_is same_read in
+    only =
+        let same : looks_at.message ≡ m =
+        same_message looks_at.message m held.look.row.step.datagram looks_at.read_is
+        same_read in
         subst (λ x. only_looks x ≡ true) same (look_only looks_at.message looks_at.looks)
 
 -- any row of a keep
@@ -209,7 +290,9 @@ keep_row true rows r m body current ends kind read sent notes = record {
     small = (header_read r.step.datagram m read).token
 
     short : length current ≡ 8
-    short = ap length it.is_kept.tag_is ∙ tag-length (entries (it.look.row ∷ it.look.before)) it.look.row.moment.0
+    short =
+        ap length it.is_kept.tag_is
+        ∙ tag-length (entries (it.look.row ∷ it.look.before)) it.look.row.moment.0
 
     formed : (peer : Peer) (mid : ℕ) → former_at r.step.kind peer mid here ≡ Some it.look
     formed peer mid = ap (λ k. former_at k peer mid here) kind ∙ it.found
@@ -219,11 +302,21 @@ keep_row true rows r m body current ends kind read sent notes = record {
       former = it.look;
       formed = formed d.0 n.mid;
       asked = asking (wanted_by m) (query_of m);
-      asks = ap (λ k. asked_at k (d.0, n.token) here) kind ∙ asked_in-own r.step.peer m (d.0, n.token) (reading r.step.datagram) read bears.0 (bears.1 n e listed).token_is;
+      asks =
+          ap (λ k. asked_at k (d.0, n.token) here) kind
+          ∙ asked_in-own r.step.peer m (d.0, n.token) (reading r.step.datagram) read bears.0
+          (bears.1 n e listed).token_is;
       holds_seen = former_holds_seen r.step.kind d.0 n.mid here it.look (formed d.0 n.mid);
-      carries = subst (λ q. Carries n (asking (wanted_by m) q) (entries (it.look.row ∷ it.look.before)) it.look.row.moment.0) it.query_is
-          (bears_carries (wanted_by m) it.is_kept.query (entries (it.look.row ∷ it.look.before)) it.look.row.moment.0 n
-          (subst (λ t. Bears (wanted_by m) (listing it.is_kept.query (entries (it.look.row ∷ it.look.before)) it.look.row.moment.0) t n) it.is_kept.tag_is
+      carries =
+          subst (λ q.
+          Carries n (asking (wanted_by m) q) (entries (it.look.row ∷ it.look.before))
+          it.look.row.moment.0) it.query_is
+          (bears_carries (wanted_by m) it.is_kept.query (entries (it.look.row ∷ it.look.before))
+          it.look.row.moment.0 n
+          (subst (λ t.
+          Bears (wanted_by m)
+          (listing it.is_kept.query (entries (it.look.row ∷ it.look.before))
+          it.look.row.moment.0) t n) it.is_kept.tag_is
           (subst (λ b. Bears (wanted_by m) b current n) it.is_kept.body_is (bears.1 n e listed))));
     }
 keep_row false rows r m body current ends kind read sent notes = record {

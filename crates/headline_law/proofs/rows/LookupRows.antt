@@ -1,4 +1,5 @@
--- Rows of lookups: what they send was formed as the headline says, also where it is read from a kept answer.
+-- Rows of lookups: what they send was formed as the headline says, also where it is read from a
+-- kept answer.
 use Rattle.std.proofs.Common.{◌≡◌, ℕ, ◌≤◌, ◌||◌, Bool, true, false, not, cond, List, [], ◌∷◌}
 use Rattle.std.proofs.Common.{length, Option, Some, None, option_and_then, Ok, refl, sym, ap, subst}
 use Rattle.std.proofs.Common.{◌∙◌}
@@ -33,11 +34,23 @@ use Rattle.journal_model.specs.AnswersAsFormed.{Carries}
 use Rattle.journal_model.proofs.EntriesNoted.{entries_in}
 use Rattle.journal_model.proofs.entries.QuietSteps.{lookup_effects-entries_in}
 use Rattle.message_model.proofs.ReadingLaws.{header_read}
-use Rattle.journal_model.proofs.sends.BodyAnswers.{wanted_by, asking, Bears, tag-length, bears_carries}
+use Rattle.journal_model.proofs.sends.BodyAnswers.{
+  wanted_by,
+  asking,
+  Bears,
+  tag-length,
+  bears_carries,
+}
 use Rattle.headline_law.proofs.sends.LookupSends.{IsAnswerOf, AreListings, AreBodiesOf, reads_kept}
 use Rattle.headline_law.proofs.sends.LookupSends.{LookupOutcome, now, kept, lookup_outcome}
 use Rattle.journal_model.proofs.EventRows.{AllRows, row_of, row_within, said_by}
-use Rattle.journal_model.proofs.notes.LookupNotes.{asks_once, lookup_fits, KeptAt, NotesAsAsked, lookup_notes_as_asked}
+use Rattle.journal_model.proofs.notes.LookupNotes.{
+  asks_once,
+  lookup_fits,
+  KeptAt,
+  NotesAsAsked,
+  lookup_notes_as_asked,
+}
 use Rattle.headline_law.proofs.flights.CarriedListings.{Carried, former_holds_seen}
 use Rattle.headline_law.proofs.rows.RowCarries.{KeptAsFormed, NoteAsFormed, RowCarries}
 use Rattle.headline_law.proofs.rows.RowCarries.{asks_as_noted, heard_former, heard_asked}
@@ -51,18 +64,29 @@ use Rattle.rd_base.proofs.lemmas.Each.{each_weaker}
 -- ---- kept answers
 
 -- the note that keeps an answer under a name
-kept_note : (here : Placed) (name : RequestName) (answer : Answer) (n : Note) → NoteAsFormed here n → answer_kept name n ≡ Some answer → KeptAsFormed here name.1 answer.body answer.tag
-kept_note here name answer (note.Kept peer key body current) k said = by (is_same_request (peer, key) name) refl said
+kept_note : (here : Placed) (name : RequestName) (answer : Answer) (n : Note)
+    → NoteAsFormed here n
+    → answer_kept name n ≡ Some answer
+    → KeptAsFormed here name.1 answer.body answer.tag
+kept_note here name answer (note.Kept peer key body current) k said =
+    by (is_same_request (peer, key) name) refl said
   where
-    by : (b : Bool) → is_same_request (peer, key) name ≡ b → cond b (Some (record { body = body; tag = current })) None ≡ Some answer → KeptAsFormed here name.1 answer.body answer.tag
+    by : (b : Bool)
+        → is_same_request (peer, key) name ≡ b
+        → cond b (Some (record { body = body; tag = current })) None ≡ Some answer
+        → KeptAsFormed here name.1 answer.body answer.tag
     by true same e =
-        subst (λ (a : Answer). KeptAsFormed here name.1 a.body a.tag) (same_Some (record { body = body; tag = current }) answer e)
-        (subst (λ other. KeptAsFormed here other body current) (ap (λ (x : RequestName). x.1) ((is_same_request-Decides (peer, key) name).0 same)) k)
+        subst (λ (a : Answer). KeptAsFormed here name.1 a.body a.tag)
+        (same_Some (record { body = body; tag = current }) answer e)
+        (subst (λ other. KeptAsFormed here other body current)
+        (ap (λ (x : RequestName). x.1) ((is_same_request-Decides (peer, key) name).0 same)) k)
     by false other e = absurd (let no_one : None ≡ Some answer = e in cc)
 kept_note here name answer _ k said = absurd (let no_one : None ≡ Some answer = said in cc)
 
 -- a kept answer that lives was kept
-was_kept : (moment : ℕ) (name : RequestName) (past : List Event) (answer : Answer) → kept_answer moment name past ≡ Some answer → last_said (answer_kept name) past ≡ Some answer
+was_kept : (moment : ℕ) (name : RequestName) (past : List Event) (answer : Answer)
+    → kept_answer moment name past ≡ Some answer
+    → last_said (answer_kept name) past ≡ Some answer
 unfolding kept_answer
 was_kept moment name past answer e = by (last_said (answer_kept name) past) e
   where
@@ -70,7 +94,10 @@ was_kept moment name past answer e = by (last_said (answer_kept name) past) e
     live true a h = h
     live false a h = absurd (let no_one : None ≡ Some answer = h in cc)
 
-    by : (o : Option Answer) → option_and_then (λ a. cond (is_live_answer moment name past) (Some a) None) o ≡ Some answer → o ≡ Some answer
+    by : (o : Option Answer)
+        → option_and_then (λ a. cond (is_live_answer moment name past) (Some a) None) o
+        ≡ Some answer
+        → o ≡ Some answer
     by None h = absurd (let no_one : None ≡ Some answer = h in cc)
     by (Some a) h = live (is_live_answer moment name past) a h
 
@@ -78,7 +105,8 @@ was_kept moment name past answer e = by (last_said (answer_kept name) past) e
 pub record KeptFrom (rows : List Row) (name : RequestName) (answer : Answer) : Type 0 where
   pub former : Placed
   pub formed : former_of_kept name rows ≡ Some former
-  pub is_kept : KeptAt (entries (former.row ∷ former.before)) former.row.moment.0 name.1 answer.body answer.tag
+  pub is_kept : KeptAt (entries (former.row ∷ former.before)) former.row.moment.0 name.1 answer.body
+      answer.tag
 
 -- so it is of each kept answer that lives
 -- where the keeps are known, or none kept it
@@ -86,7 +114,9 @@ pub kept_from : (keeps : Bool) (rows : List Row) (moment : ℕ) (name : RequestN
     → AllRows (RowCarries keeps) rows → (keeps || not (is_of_keep (last_kept name rows))) ≡ true
     → kept_answer moment name (events rows) ≡ Some answer → KeptFrom rows name answer
 kept_from keeps rows moment name answer all known e =
-    let found = said_by (answer_kept name) (events rows) answer (was_kept moment name (events rows) answer e) in
+    let found =
+    said_by (answer_kept name) (events rows) answer
+    (was_kept moment name (events rows) answer e) in
     let it = row_of (λ n. is_some (answer_kept name n)) rows found.0 found.1 in
     let formed_so : (keeps || not (is_keep it.placed.row.step.kind)) ≡ true =
     subst (λ (o : Option Placed). (keeps || not (is_of_keep o)) ≡ true) it.last known in
@@ -96,7 +126,10 @@ kept_from keeps rows moment name answer all known e =
     let by = kept_note it.placed name answer found.0.note noted found.2 in
     record {
       former = by.former;
-      formed = ap (λ (o : Option Placed). option_and_then (λ (p : Placed). former_of_body p.row.step.kind p) o) it.last ∙ by.formed;
+      formed =
+          ap (λ (o : Option Placed).
+          option_and_then (λ (p : Placed). former_of_body p.row.step.kind p) o) it.last
+          ∙ by.formed;
       is_kept = by.is_kept;
     }
 
@@ -105,12 +138,18 @@ kept_from keeps rows moment name answer all known e =
 -- one that reads a kept answer
 used_carried : (rows : List Row) (r : Row) (m : Message) (answer : Answer) → is_later_block m ≡ true
     → is_heard r.step.kind ≡ true → reading r.step.datagram ≡ Ok m → is_lookup (path_in m) ≡ true
-    → r.notes ≡ note.Used r.step.peer (key_in m) ∷ [] → KeptFrom rows (r.step.peer, key_in m) answer → AreBodiesOf r.step.peer (wanted_by m) answer.body answer.tag r.sent → AllByRecursion (Carried (record { row = r; before = rows })) r.sent
+    → r.notes ≡ note.Used r.step.peer (key_in m) ∷ []
+    → KeptFrom rows (r.step.peer, key_in m) answer
+    → AreBodiesOf r.step.peer (wanted_by m) answer.body answer.tag r.sent
+    → AllByRecursion (Carried (record { row = r; before = rows })) r.sent
 used_carried rows r m answer further heard read lookup notes from all =
-    each_weaker (IsAnswerOf r.step.peer (wanted_by m) answer.body answer.tag) (Carried (record { row = r; before = rows })) one r.sent all
+    each_weaker (IsAnswerOf r.step.peer (wanted_by m) answer.body answer.tag)
+    (Carried (record { row = r; before = rows })) one r.sent all
   where
     same_query : from.is_kept.query ≡ query_of m
-    same_query = asks_once (key_in m) from.is_kept.query m from.is_kept.asks (lookup_fits (path_in m) lookup) refl
+    same_query =
+        asks_once (key_in m) from.is_kept.query m from.is_kept.asks (lookup_fits (path_in m) lookup)
+        refl
 
     here : Placed
     here = record { row = r; before = rows }
@@ -127,17 +166,31 @@ used_carried rows r m answer further heard read lookup notes from all =
     formed peer mid = heard_former r.step.kind peer mid here heard
         ∙ rw reads (ap (λ read_as. former_of_further read_as here) read ∙ from.formed)
 
-    one : (d : Peer × List ℕ) → IsAnswerOf r.step.peer (wanted_by m) answer.body answer.tag d → Carried (record { row = r; before = rows }) d
+    one : (d : Peer × List ℕ)
+        → IsAnswerOf r.step.peer (wanted_by m) answer.body answer.tag d
+        → Carried (record { row = r; before = rows }) d
     one d body n e listed _ = record {
       former = from.former;
       formed = formed d.0 n.mid;
       asked = asking (wanted_by m) (query_of m);
-      asks = heard_asked r.step.kind (d.0, n.token) (record { row = r; before = rows }) heard ∙ asked_in-own r.step.peer m (d.0, n.token) (reading r.step.datagram) read body.0 (body.1 n e listed).token_is;
+      asks =
+          heard_asked r.step.kind (d.0, n.token) (record { row = r; before = rows }) heard
+          ∙ asked_in-own r.step.peer m (d.0, n.token) (reading r.step.datagram) read body.0
+          (body.1 n e listed).token_is;
       holds_seen = former_holds_seen r.step.kind d.0 n.mid here from.former (formed d.0 n.mid);
-      carries = subst (λ q. Carries n (asking (wanted_by m) q) (entries (from.former.row ∷ from.former.before)) from.former.row.moment.0) same_query
-          (bears_carries (wanted_by m) from.is_kept.query (entries (from.former.row ∷ from.former.before)) from.former.row.moment.0 n
-          (subst (λ t. Bears (wanted_by m) (listing from.is_kept.query (entries (from.former.row ∷ from.former.before)) from.former.row.moment.0) t n) from.is_kept.tag_is
-          (subst (λ b. Bears (wanted_by m) b answer.tag n) from.is_kept.body_is (body.1 n e listed))));
+      carries =
+          subst (λ q.
+          Carries n (asking (wanted_by m) q)
+          (entries (from.former.row ∷ from.former.before)) from.former.row.moment.0)
+          same_query
+          (bears_carries (wanted_by m) from.is_kept.query
+          (entries (from.former.row ∷ from.former.before)) from.former.row.moment.0 n
+          (subst (λ t.
+          Bears (wanted_by m)
+          (listing from.is_kept.query (entries (from.former.row ∷ from.former.before))
+          from.former.row.moment.0) t n) from.is_kept.tag_is
+          (subst (λ b. Bears (wanted_by m) b answer.tag n) from.is_kept.body_is
+          (body.1 n e listed))));
     }
 
 -- any row of a lookup
@@ -160,7 +213,9 @@ lookup_row keeps rows r m all heard read lookup sent notes = record {
     small = (header_read r.step.datagram m read).token
 
     same_entries : entries (r ∷ rows) ≡ entries rows
-    same_entries = entries-none_noted rows r (ap entries_in notes ∙ lookup_effects-entries_in rows r.moment.0 r.step m)
+    same_entries =
+        entries-none_noted rows r
+        (ap entries_in notes ∙ lookup_effects-entries_in rows r.moment.0 r.step m)
 
     own : AllByRecursion (NoteAsFormed here) r.notes
     own = own_notes_as_formed rows r
@@ -200,4 +255,6 @@ lookup_row keeps rows r m all heard read lookup sent notes = record {
         (known_by r.step.kind heard known reads) found in
         used_carried rows r m answer further heard read lookup (notes ∙ used) from
         (subst (AreBodiesOf r.step.peer (wanted_by m) answer.body answer.tag) (sym sent)
-        (bodies (ap length from.is_kept.tag_is ∙ tag-length (entries (from.former.row ∷ from.former.before)) from.former.row.moment.0)))
+        (bodies (ap length from.is_kept.tag_is
+        ∙ tag-length (entries (from.former.row ∷ from.former.before))
+        from.former.row.moment.0)))

@@ -30,7 +30,14 @@ use Rattle.journal_model.specs.AnswersAsFormed.{asked_in, asked_at, names_lookup
 use Rattle.journal_model.proofs.EntriesNoted.{entries_in}
 use Rattle.journal_model.proofs.StepNotes.{look_effects-notes}
 use Rattle.message_model.proofs.ReadingLaws.{header_read}
-use Rattle.journal_model.proofs.sends.BodyAnswers.{wanted_by, asking, Bears, IsUntagged, other_code, bears_carries}
+use Rattle.journal_model.proofs.sends.BodyAnswers.{
+  wanted_by,
+  asking,
+  Bears,
+  IsUntagged,
+  other_code,
+  bears_carries,
+}
 use Rattle.journal_model.proofs.sends.PlainSteps.{ArePlain, IsPlain}
 use Rattle.headline_law.proofs.sends.LookupSends.{IsAnswerOf, AreListings, look_lists}
 use Rattle.headline_law.proofs.sends.LookupSends.{look_discovers, reads_kept}
@@ -47,7 +54,8 @@ pub record KeptAsFormed (here : Placed) (key body current : List ℕ) : Type 0 w
   pub formed : former_of_body here.row.step.kind here ≡ Some former
   pub is_kept : KeptAt (entries (former.row ∷ former.before)) former.row.moment.0 key body current
 
--- a note of a row is as it was formed: what is kept is the listing at the row that formed it, and an observer asks for its query
+-- a note of a row is as it was formed: what is kept is the listing at the row that formed it, and
+-- an observer asks for its query
 abbrev pub NoteAsFormed : Placed → Note → Type 0
 NoteAsFormed here (note.Kept peer key body current) = KeptAsFormed here key body current
 NoteAsFormed here (note.Watched o) = IsAsking o
@@ -75,7 +83,9 @@ asks_as_noted here notes all = each_weaker (NoteAsFormed here) (OfWatched IsAski
 -- ---- plain rows
 
 -- what keeps nothing
-keeps_nothing : (here : Placed) (notes : List Note) → list_any is_keeping notes ≡ false → AllByRecursion (NoteAsFormed here) notes
+keeps_nothing : (here : Placed) (notes : List Note)
+    → list_any is_keeping notes ≡ false
+    → AllByRecursion (NoteAsFormed here) notes
 keeps_nothing here notes none = each_failing is_keeping (NoteAsFormed here) by notes none
   where
     by : (x : Note) → is_keeping x ≡ false → NoteAsFormed here x
@@ -110,7 +120,9 @@ heard_former (step.Keep body current) peer mid here h = absurd (false≢true h)
 heard_former step.Tick peer mid here h = absurd (false≢true h)
 
 -- what is asked for is what the request asks for
-pub heard_asked : (k : StepKind) (name : RequestName) (here : Placed) → is_heard k ≡ true → asked_at k name here ≡ asked_in name here.row.step.peer (reading here.row.step.datagram)
+pub heard_asked : (k : StepKind) (name : RequestName) (here : Placed)
+    → is_heard k ≡ true
+    → asked_at k name here ≡ asked_in name here.row.step.peer (reading here.row.step.datagram)
 heard_asked step.Admit name here h = refl
 heard_asked step.Look name here h = refl
 heard_asked (step.Commit place) name here h = absurd (false≢true h)
@@ -118,13 +130,21 @@ heard_asked (step.Keep body current) name here h = absurd (false≢true h)
 heard_asked step.Tick name here h = absurd (false≢true h)
 
 -- where the answer has its peer and its token
-pub asked_in-own : (peer : Peer) (m : Message) (name : RequestName) (read : Result Message Unread) → read ≡ Ok m → name.0 ≡ peer → name.1 ≡ m.token → asked_in name peer read ≡ Some (asking (wanted_by m) (query_of m))
+pub asked_in-own : (peer : Peer) (m : Message) (name : RequestName) (read : Result Message Unread)
+    → read ≡ Ok m
+    → name.0 ≡ peer
+    → name.1 ≡ m.token
+    → asked_in name peer read ≡ Some (asking (wanted_by m) (query_of m))
 asked_in-own peer m name read is same_peer same_token =
     ap (asked_in name peer) is
-    ∙ subst (λ (x : RequestName). asked_in x peer (Ok m) ≡ Some (asking (wanted_by m) (query_of m))) (ap₂ (λ p t. (p, t)) (sym same_peer) (sym same_token)) (rw (is_same_request-refl (peer, m.token)) refl)
+    ∙ subst (λ (x : RequestName). asked_in x peer (Ok m) ≡ Some (asking (wanted_by m) (query_of m)))
+    (ap₂ (λ p t. (p, t)) (sym same_peer) (sym same_token))
+    (rw (is_same_request-refl (peer, m.token)) refl)
 
 -- and what such a row keeps, it formed itself
-pub heard_forms_itself : (k : StepKind) (here : Placed) → is_heard k ≡ true → former_of_body k here ≡ Some here
+pub heard_forms_itself : (k : StepKind) (here : Placed)
+    → is_heard k ≡ true
+    → former_of_body k here ≡ Some here
 heard_forms_itself step.Admit here h = refl
 heard_forms_itself step.Look here h = refl
 heard_forms_itself (step.Commit place) here h = absurd (false≢true h)
@@ -160,29 +180,50 @@ formed_now here k peer mid hears none =
 pub now_carried : (rows : List Row) (r : Row) (m : Message) → is_heard r.step.kind ≡ true
     → reading r.step.datagram ≡ Ok m → entries (r ∷ rows) ≡ entries rows
     → list_any reads_kept r.notes ≡ false
-    → AreListings r.step.peer m (entries rows) r.moment.0 r.sent → AllByRecursion (Carried (record { row = r; before = rows })) r.sent
+    → AreListings r.step.peer m (entries rows) r.moment.0 r.sent
+    → AllByRecursion (Carried (record { row = r; before = rows })) r.sent
 now_carried rows r m hears read same_entries none all =
-    each_weaker (IsAnswerOf r.step.peer (wanted_by m) (listing (query_of m) (entries rows) r.moment.0) (tag (entries rows) r.moment.0)) (Carried (record { row = r; before = rows })) one r.sent all
+    each_weaker
+    (IsAnswerOf r.step.peer (wanted_by m) (listing (query_of m) (entries rows) r.moment.0)
+    (tag (entries rows) r.moment.0)) (Carried (record { row = r; before = rows })) one
+    r.sent all
   where
-    one : (d : Peer × List ℕ) → IsAnswerOf r.step.peer (wanted_by m) (listing (query_of m) (entries rows) r.moment.0) (tag (entries rows) r.moment.0) d → Carried (record { row = r; before = rows }) d
+    one : (d : Peer × List ℕ)
+        → IsAnswerOf r.step.peer (wanted_by m) (listing (query_of m) (entries rows) r.moment.0)
+        (tag (entries rows) r.moment.0) d
+        → Carried (record { row = r; before = rows }) d
     one d body n e listed _ = record {
       former = record { row = r; before = rows };
       formed = formed_now (record { row = r; before = rows }) r.step.kind d.0 n.mid hears none;
       asked = asking (wanted_by m) (query_of m);
-      asks = heard_asked r.step.kind (d.0, n.token) (record { row = r; before = rows }) hears ∙ asked_in-own r.step.peer m (d.0, n.token) (reading r.step.datagram) read body.0 (body.1 n e listed).token_is;
+      asks =
+          heard_asked r.step.kind (d.0, n.token) (record { row = r; before = rows }) hears
+          ∙ asked_in-own r.step.peer m (d.0, n.token) (reading r.step.datagram) read body.0
+          (body.1 n e listed).token_is;
       carries = bears_carries (wanted_by m) (query_of m) (entries (r ∷ rows)) r.moment.0 n
-          (subst (λ history. Bears (wanted_by m) (listing (query_of m) history r.moment.0) (tag history r.moment.0) n) (sym same_entries) (body.1 n e listed));
+          (subst (λ history.
+          Bears (wanted_by m) (listing (query_of m) history r.moment.0)
+          (tag history r.moment.0) n) (sym same_entries) (body.1 n e listed));
       holds_seen = former_holds_seen r.step.kind d.0 n.mid (record { row = r; before = rows })
           (record { row = r; before = rows })
           (formed_now (record { row = r; before = rows }) r.step.kind d.0 n.mid hears none);
     }
 
 -- what a row keeps that forms its own answers
-pub own_notes_as_formed : (rows : List Row) (r : Row) → former_of_body r.step.kind (record { row = r; before = rows }) ≡ Some (record { row = r; before = rows }) → entries (r ∷ rows) ≡ entries rows → (notes : List Note) → NotesAsAsked rows r.moment.0 notes → AllByRecursion (NoteAsFormed (record { row = r; before = rows })) notes
+pub own_notes_as_formed : (rows : List Row) (r : Row)
+    → former_of_body r.step.kind (record { row = r; before = rows })
+    ≡ Some (record { row = r; before = rows })
+    → entries (r ∷ rows) ≡ entries rows
+    → (notes : List Note)
+    → NotesAsAsked rows r.moment.0 notes
+    → AllByRecursion (NoteAsFormed (record { row = r; before = rows })) notes
 own_notes_as_formed rows r formed same_entries [] h = tt
-own_notes_as_formed rows r formed same_entries (n ∷ notes) h = (by n h.0, own_notes_as_formed rows r formed same_entries notes h.1)
+own_notes_as_formed rows r formed same_entries (n ∷ notes) h =
+    (by n h.0, own_notes_as_formed rows r formed same_entries notes h.1)
   where
-    by : (x : Note) → NoteAsAsked (entries rows) r.moment.0 x → NoteAsFormed (record { row = r; before = rows }) x
+    by : (x : Note)
+        → NoteAsAsked (entries rows) r.moment.0 x
+        → NoteAsFormed (record { row = r; before = rows }) x
     by (note.Kept peer key body current) k = record {
       former = record { row = r; before = rows };
       formed = formed;
@@ -228,19 +269,32 @@ look_row keeps rows r m hears read sent notes = record {
     small = (header_read r.step.datagram m read).token
 
     -- a discovery is no lookup
-    no_lookup : (k : StepKind) → is_heard k ≡ true → is_discovery (path_in m) ≡ true → answers_lookup k (reading r.step.datagram) ≡ false
-    no_lookup step.Admit h discovers = ap names_lookup read ∙ discovery_no_lookup (path_in m) discovers
-    no_lookup step.Look h discovers = ap names_lookup read ∙ discovery_no_lookup (path_in m) discovers
+    no_lookup : (k : StepKind)
+        → is_heard k ≡ true
+        → is_discovery (path_in m) ≡ true
+        → answers_lookup k (reading r.step.datagram) ≡ false
+    no_lookup step.Admit h discovers =
+        ap names_lookup read ∙ discovery_no_lookup (path_in m) discovers
+    no_lookup step.Look h discovers =
+        ap names_lookup read ∙ discovery_no_lookup (path_in m) discovers
     no_lookup (step.Commit place) h discovers = absurd (false≢true h)
     no_lookup (step.Keep body current) h discovers = absurd (false≢true h)
     no_lookup step.Tick h discovers = absurd (false≢true h)
 
-    by : (b : Bool) → is_discovery (path_in m) ≡ b → AllByRecursion (Carried (record { row = r; before = rows })) r.sent
+    by : (b : Bool)
+        → is_discovery (path_in m) ≡ b
+        → AllByRecursion (Carried (record { row = r; before = rows })) r.sent
     by true discovers =
-        each_weaker (λ (d : Peer × List ℕ). IsUntagged d.1) (Carried (record { row = r; before = rows }))
-        (λ d none n e content listed. absurd (false≢true (sym (rw (no_lookup r.step.kind hears discovers, none n e content) refl) ∙ listed))) r.sent
-        (subst (AllByRecursion (λ (d : Peer × List ℕ). IsUntagged d.1)) (sym sent) (look_discovers (entries rows) r.moment.0 r.step m small discovers))
+        each_weaker (λ (d : Peer × List ℕ). IsUntagged d.1)
+        (Carried (record { row = r; before = rows }))
+        (λ d none n e content listed.
+        absurd
+        (false≢true (sym (rw (no_lookup r.step.kind hears discovers, none n e content) refl)
+        ∙ listed))) r.sent
+        (subst (AllByRecursion (λ (d : Peer × List ℕ). IsUntagged d.1)) (sym sent)
+        (look_discovers (entries rows) r.moment.0 r.step m small discovers))
     by false lists =
         now_carried rows r m hears read (entries-none_noted rows r (ap entries_in none))
         (ap (list_any reads_kept) none)
-        (subst (AreListings r.step.peer m (entries rows) r.moment.0) (sym sent) (look_lists (entries rows) r.moment.0 r.step m small lists))
+        (subst (AreListings r.step.peer m (entries rows) r.moment.0) (sym sent)
+        (look_lists (entries rows) r.moment.0 r.step m small lists))

@@ -29,7 +29,12 @@ use Rattle.journal_model.specs.BodyFormers.{former_of_body, former_of_kept, form
 use Rattle.journal_model.specs.BodyFormers.{reads_further_block, sends_again, former_of_further}
 use Rattle.journal_model.specs.BodyFormers.{former_at}
 use Rattle.journal_model.specs.AnswersAsFormed.{FormedAs, Asked, IsBlockOf, Sent}
-use Rattle.journal_model.specs.TagsDecideStates.{query_of_sent, AreBlocksOfOne, TagsDecideStates, FormedTagsDecideStates}
+use Rattle.journal_model.specs.TagsDecideStates.{
+  query_of_sent,
+  AreBlocksOfOne,
+  TagsDecideStates,
+  FormedTagsDecideStates,
+}
 use Rattle.journal_model.proofs.entries.JournalLaws.{journal-AreRows, desk-AreRows}
 use Rattle.headline_law.proofs.entries.TagStates.{tags_tell}
 use Rattle.headline_law.proofs.rows.AnswersAsFormed.{answer_formed}
@@ -46,40 +51,75 @@ stands_newest p = record { later = []; whole = refl }
 
 -- what stands among the rows before stands among them
 stands_more : (x : Row) (rows : List Row) (p : Placed) → Stands rows p → Stands (x ∷ rows) p
-stands_more x rows p h = record { later = x ∷ h.later; whole = ap (λ (all : List Row). x ∷ all) h.whole }
+stands_more x rows p h = record {
+  later = x ∷ h.later;
+  whole = ap (λ (all : List Row). x ∷ all) h.whole;
+}
 
 -- what stands among the rows up to one that stands among others
-stands_through : (rows : List Row) (here p : Placed) → Stands rows here → Stands (here.row ∷ here.before) p → Stands rows p
+stands_through : (rows : List Row) (here p : Placed)
+    → Stands rows here
+    → Stands (here.row ∷ here.before) p
+    → Stands rows p
 stands_through rows here p outer inner = record {
   later = outer.later ++ inner.later;
-  whole = outer.whole ∙ (ap (λ (all : List Row). outer.later ++ all) inner.whole ∙ sym (append_assoc outer.later inner.later (p.row ∷ p.before)));
+  whole =
+      outer.whole
+      ∙ (ap (λ (all : List Row). outer.later ++ all) inner.whole
+      ∙ sym (append_assoc outer.later inner.later (p.row ∷ p.before)));
 }
 
 -- the last row of a kind does
-stands_last : (test : Row → Bool) (rows : List Row) (p : Placed) → last_row test rows ≡ Some p → Stands rows p
+stands_last : (test : Row → Bool) (rows : List Row) (p : Placed)
+    → last_row test rows ≡ Some p
+    → Stands rows p
 unfolding last_row
 stands_last test [] p e = absurd (let no : None ≡ Some p = e in cc)
 stands_last test (r ∷ before) p e = by (test r) e (λ h. stands_last test before p h)
   where
-    by : (b : Bool) → cond b (Some (record { row = r; before = before })) (last_row test before) ≡ Some p → (last_row test before ≡ Some p → Stands before p) → Stands (r ∷ before) p
-    by true h more = subst (λ (x : Placed). Stands (r ∷ before) x) (same_Some (record { row = r; before = before }) p h) (record { later = []; whole = refl })
+    by : (b : Bool)
+        → cond b (Some (record { row = r; before = before })) (last_row test before) ≡ Some p
+        → (last_row test before ≡ Some p → Stands before p)
+        → Stands (r ∷ before) p
+    by true h more =
+        subst (λ (x : Placed). Stands (r ∷ before) x)
+        (same_Some (record { row = r; before = before }) p h)
+        (record { later = []; whole = refl })
     by false h more = stands_more r before p (more h)
 
 -- the row that formed what a row kept
-stands_body : (k : StepKind) (here p : Placed) → former_of_body k here ≡ Some p → Stands (here.row ∷ here.before) p
-stands_body (step.Keep body tag) here p e = stands_more here.row here.before p (stands_last _ here.before p e)
-stands_body step.Admit here p e = subst (λ (x : Placed). Stands (here.row ∷ here.before) x) (same_Some here p e) (stands_newest here)
-stands_body step.Look here p e = subst (λ (x : Placed). Stands (here.row ∷ here.before) x) (same_Some here p e) (stands_newest here)
-stands_body (step.Commit place) here p e = subst (λ (x : Placed). Stands (here.row ∷ here.before) x) (same_Some here p e) (stands_newest here)
-stands_body step.Tick here p e = subst (λ (x : Placed). Stands (here.row ∷ here.before) x) (same_Some here p e) (stands_newest here)
+stands_body : (k : StepKind) (here p : Placed)
+    → former_of_body k here ≡ Some p
+    → Stands (here.row ∷ here.before) p
+stands_body (step.Keep body tag) here p e =
+    stands_more here.row here.before p (stands_last _ here.before p e)
+stands_body step.Admit here p e =
+    subst (λ (x : Placed). Stands (here.row ∷ here.before) x) (same_Some here p e)
+    (stands_newest here)
+stands_body step.Look here p e =
+    subst (λ (x : Placed). Stands (here.row ∷ here.before) x) (same_Some here p e)
+    (stands_newest here)
+stands_body (step.Commit place) here p e =
+    subst (λ (x : Placed). Stands (here.row ∷ here.before) x) (same_Some here p e)
+    (stands_newest here)
+stands_body step.Tick here p e =
+    subst (λ (x : Placed). Stands (here.row ∷ here.before) x) (same_Some here p e)
+    (stands_newest here)
 
 -- the row that formed a kept answer
-stands_kept : (name : RequestName) (rows : List Row) (p : Placed) → former_of_kept name rows ≡ Some p → Stands rows p
-stands_kept name rows p e = by (last_row (λ r. list_any (λ n. is_some (answer_kept name n)) r.notes) rows) refl e
+stands_kept : (name : RequestName) (rows : List Row) (p : Placed)
+    → former_of_kept name rows ≡ Some p
+    → Stands rows p
+stands_kept name rows p e =
+    by (last_row (λ r. list_any (λ n. is_some (answer_kept name n)) r.notes) rows) refl e
   where
-    by : (o : Option Placed) → last_row (λ r. list_any (λ n. is_some (answer_kept name n)) r.notes) rows ≡ o → option_and_then (λ (q : Placed). former_of_body q.row.step.kind q) o ≡ Some p → Stands rows p
+    by : (o : Option Placed)
+        → last_row (λ r. list_any (λ n. is_some (answer_kept name n)) r.notes) rows ≡ o
+        → option_and_then (λ (q : Placed). former_of_body q.row.step.kind q) o ≡ Some p
+        → Stands rows p
     by None found h = absurd (let no : None ≡ Some p = h in cc)
-    by (Some q) found h = stands_through rows q p (stands_last _ rows q found) (stands_body q.row.step.kind q p h)
+    by (Some q) found h =
+        stands_through rows q p (stands_last _ rows q found) (stands_body q.row.step.kind q p h)
 
 -- the row that formed what a row sends
 stands_former : (k : StepKind) (peer : Peer) (mid : ℕ) (here p : Placed)
@@ -133,20 +173,30 @@ formed_share rows all one other query f g same_tags asks_one asks_other = record
   first = subst (λ q. IsBlockOf (asked_block one.message)
       (listing q (entries (f.former.row ∷ f.former.before)) f.former.row.moment.0)
       one.message.payload) first_query f.carries.block.block;
-  second = subst (λ body. IsBlockOf (asked_block other.message) body other.message.payload) (sym same_listings) g.carries.block.block;
+  second =
+      subst (λ body. IsBlockOf (asked_block other.message) body other.message.payload)
+      (sym same_listings) g.carries.block.block;
 }
   where
     here : Stands rows f.former
-    here = stands_through rows one.here f.former one.within (stands_former one.here.row.step.kind one.peer one.message.mid one.here f.former f.formed)
+    here =
+        stands_through rows one.here f.former one.within
+        (stands_former one.here.row.step.kind one.peer one.message.mid one.here f.former
+        f.formed)
 
     there : Stands rows g.former
-    there = stands_through rows other.here g.former other.within (stands_former other.here.row.step.kind other.peer other.message.mid other.here g.former g.formed)
+    there =
+        stands_through rows other.here g.former other.within
+        (stands_former other.here.row.step.kind other.peer other.message.mid other.here g.former
+        g.formed)
 
     first_of : List (List ℕ) → List ℕ
     first_of [] = []
     first_of (t ∷ tags) = t
 
-    same_tag : tag (entries (f.former.row ∷ f.former.before)) f.former.row.moment.0 ≡ tag (entries (g.former.row ∷ g.former.before)) g.former.row.moment.0
+    same_tag :
+        tag (entries (f.former.row ∷ f.former.before)) f.former.row.moment.0
+        ≡ tag (entries (g.former.row ∷ g.former.before)) g.former.row.moment.0
     same_tag = ap first_of (sym f.carries.tag ∙ (same_tags ∙ g.carries.tag))
 
     first_query : f.asked.query ≡ query
@@ -163,15 +213,22 @@ formed_share rows all one other query f g same_tags asks_one asks_other = record
     same_listings =
         listing-live query (entries (f.former.row ∷ f.former.before))
         (entries (g.former.row ∷ g.former.before)) f.former.row.moment.0 g.former.row.moment.0
-        (tags_tell rows f.former.before g.former.before f.former.row g.former.row all here there same_tag).1
+        (tags_tell rows f.former.before g.former.before f.former.row g.former.row all here there
+        same_tag).1
         ∙ ap (λ (q : Query). listing q
         (entries (g.former.row ∷ g.former.before)) g.former.row.moment.0) (sym second_query)
 
 -- equally tagged answers come from one state, and carry blocks of one listing
 pub journal-TagsDecideStates : (rows : List Row) → IsJournal rows → TagsDecideStates rows
 journal-TagsDecideStates rows journal = record {
-  histories = λ before other_before r other here there same. (tags_tell rows before other_before r other (journal-AreRows rows journal) here there same).0;
-  records = λ before other_before r other here there same. (tags_tell rows before other_before r other (journal-AreRows rows journal) here there same).1;
+  histories =
+      λ before other_before r other here there same.
+      (tags_tell rows before other_before r other (journal-AreRows rows journal) here there
+      same).0;
+  records =
+      λ before other_before r other here there same.
+      (tags_tell rows before other_before r other (journal-AreRows rows journal) here there
+      same).1;
   answers = λ one other query listed also same_tags asks_one asks_other.
       formed_share rows (journal-AreRows rows journal) one other query
       (answer_formed rows journal one listed)
@@ -179,10 +236,18 @@ journal-TagsDecideStates rows journal = record {
 }
 
 -- of a journal of a desk, so do answers that were formed in rows
-pub desk-FormedTagsDecideStates : (rows : List Row) → IsDeskJournal rows → FormedTagsDecideStates rows
+pub desk-FormedTagsDecideStates : (rows : List Row)
+    → IsDeskJournal rows
+    → FormedTagsDecideStates rows
 desk-FormedTagsDecideStates rows journal = record {
-  histories = λ before other_before r other here there same. (tags_tell rows before other_before r other (desk-AreRows rows journal) here there same).0;
-  records = λ before other_before r other here there same. (tags_tell rows before other_before r other (desk-AreRows rows journal) here there same).1;
+  histories =
+      λ before other_before r other here there same.
+      (tags_tell rows before other_before r other (desk-AreRows rows journal) here there
+      same).0;
+  records =
+      λ before other_before r other here there same.
+      (tags_tell rows before other_before r other (desk-AreRows rows journal) here there
+      same).1;
   answers = λ one other query formed also same_tags asks_one asks_other.
       formed_share rows (desk-AreRows rows journal) one other query formed also same_tags asks_one
       asks_other;

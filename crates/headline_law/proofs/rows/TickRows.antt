@@ -1,5 +1,28 @@
--- A row of a tick: what it sends was formed as the headline says, and the notices in flight after it are known.
-use Rattle.std.proofs.Common.{◌≡◌, ◌⊎◌, inl, inr, ℕ, ◌&&◌, ◌==◌, Bool, true, false, List, [], ◌∷◌, ◌++◌, Some, option_map, refl, sym, ap, subst, ◌∙◌}
+-- A row of a tick: what it sends was formed as the headline says, and the notices in flight after
+-- it are known.
+use Rattle.std.proofs.Common.{
+  ◌≡◌,
+  ◌⊎◌,
+  inl,
+  inr,
+  ℕ,
+  ◌&&◌,
+  ◌==◌,
+  Bool,
+  true,
+  false,
+  List,
+  [],
+  ◌∷◌,
+  ◌++◌,
+  Some,
+  option_map,
+  refl,
+  sym,
+  ap,
+  subst,
+  ◌∙◌,
+}
 use Rattle.std.specs.List.{list_any, AllByRecursion}
 use Rattle.std.proofs.lemmas.Bool.{false≢true}
 use Rattle.std.proofs.lemmas.List.Folds.{list_any-append}
@@ -25,7 +48,13 @@ use Rattle.journal_model.proofs.sends.TickSends.{FoundSent, sent_by-FoundSent, m
 use Rattle.rd_base.proofs.lemmas.Among.{all_among}
 use Rattle.journal_model.proofs.FlightKeys.{key_of}
 use Rattle.journal_model.proofs.flights.WaitedPeers.{Waits}
-use Rattle.journal_model.proofs.flights.NoticesAgain.{again_peer, AgainSent, AgainNoted, events_after_again, again_waits}
+use Rattle.journal_model.proofs.flights.NoticesAgain.{
+  again_peer,
+  AgainSent,
+  AgainNoted,
+  events_after_again,
+  again_waits,
+}
 use Rattle.headline_law.proofs.flights.TickNotices.{IsNoticeOf, FreshSent, TickSoFar}
 use Rattle.headline_law.proofs.flights.KnownFlights.{NoticeOf, FlightKnown, FlightsKnown}
 use Rattle.headline_law.proofs.flights.CarriedListings.{Carried, stood_before, observer_formed}
@@ -46,7 +75,12 @@ pub record TickRow (rows : List Row) (r : Row) : Type 0 where
   pub known : FlightsKnown rows
 
 -- requests do nothing for observers
-pub requests_none : (test : Note → Bool) → ((peer : Peer) → test (note.Resent peer) ≡ false) → ((peer : Peer) → test (note.Ceased peer) ≡ false) → (notes : List Note) → are of_resent notes ≡ true → list_any test notes ≡ false
+pub requests_none : (test : Note → Bool)
+    → ((peer : Peer) → test (note.Resent peer) ≡ false)
+    → ((peer : Peer) → test (note.Ceased peer) ≡ false)
+    → (notes : List Note)
+    → are of_resent notes ≡ true
+    → list_any test notes ≡ false
 requests_none test resent ceased notes h = none_of of_resent test never notes h
   where
     never : (n : Note) → of_resent n ≡ true → test n ≡ false
@@ -55,9 +89,14 @@ requests_none test resent ceased notes h = none_of of_resent test never notes h
     never _ e = absurd (false≢true e)
 
 -- a notice that is sent again
-again_carried : (rows : List Row) (r : Row) → (t : TickRow rows r) → (d : Peer × List ℕ) → AgainSent rows r.moment.0 d → Carried (record { row = r; before = rows }) d
+again_carried : (rows : List Row) (r : Row)
+    → (t : TickRow rows r)
+    → (d : Peer × List ℕ)
+    → AgainSent rows r.moment.0 d
+    → Carried (record { row = r; before = rows }) d
 again_carried rows r t d a m e listed _ =
-    observer_formed (record { row = r; before = rows }) notice.placed a.observer d m t.tick a.again.stands (again_peer rows r.moment.0 d a) (found.holds found.to_peer m e listed)
+    observer_formed (record { row = r; before = rows }) notice.placed a.observer d m t.tick
+    a.again.stands (again_peer rows r.moment.0 d a) (found.holds found.to_peer m e listed)
     (subst (λ p. former_at step.Tick p m.mid
     (record { row = r; before = rows }) ≡ Some notice.placed)
     (sym (again_peer rows r.moment.0 d a))
@@ -67,31 +106,56 @@ again_carried rows r t d a m e listed _ =
     (rw again notice.last)))
   where
     notice : NoticeOf rows a.observer a.flight_is.mid a.flight_is.formed.place
-    notice = all_among (FlightKnown rows) a.observer (observers (events rows)) t.known a.again.stands a.flight_is.mid a.flight_is.formed.place (ap (λ f. option_map key_of f) a.again.flies)
+    notice =
+        all_among (FlightKnown rows) a.observer (observers (events rows)) t.known a.again.stands
+        a.flight_is.mid a.flight_is.formed.place (ap (λ f. option_map key_of f) a.again.flies)
 
     To : Peer × List ℕ → Type 0
     To x = is_same_peer x.0 a.observer.peer ≡ true
-        → IsBodyOf (wanted_by_observer a.observer) (listing a.observer.query (entries (notice.placed.row ∷ notice.placed.before)) notice.placed.row.moment.0) (tag (entries (notice.placed.row ∷ notice.placed.before)) notice.placed.row.moment.0) x.1
+        → IsBodyOf (wanted_by_observer a.observer)
+        (listing a.observer.query (entries (notice.placed.row ∷ notice.placed.before))
+        notice.placed.row.moment.0)
+        (tag (entries (notice.placed.row ∷ notice.placed.before)) notice.placed.row.moment.0)
+        x.1
 
     found : FoundSent To a.observer.peer a.flight_is.mid d
-    found = sent_by-FoundSent To (row_at a.flight_is.formed.place rows) a.observer.peer a.flight_is.mid d
-        (λ x at. subst (λ (y : Row). AllByRecursion To y.sent) (same_Some notice.placed.row x (sym notice.at_place ∙ at)) notice.sent) a.found
+    found =
+        sent_by-FoundSent To (row_at a.flight_is.formed.place rows) a.observer.peer a.flight_is.mid
+        d
+        (λ x at.
+        subst (λ (y : Row). AllByRecursion To y.sent)
+        (same_Some notice.placed.row x (sym notice.at_place ∙ at)) notice.sent) a.found
 
     again : list_any (is_again_of a.observer.peer a.flight_is.mid) r.notes ≡ true
-    again = subst (λ ns. list_any (is_again_of a.observer.peer a.flight_is.mid) ns ≡ true) (sym t.notes)
-        (list_any-append (is_again_of a.observer.peer a.flight_is.mid) t.notified.notes t.requests.notes
-        ∙ or_left (list_any (is_again_of a.observer.peer a.flight_is.mid) t.notified.notes) (list_any (is_again_of a.observer.peer a.flight_is.mid) t.requests.notes)
+    again =
+        subst (λ ns. list_any (is_again_of a.observer.peer a.flight_is.mid) ns ≡ true) (sym t.notes)
+        (list_any-append (is_again_of a.observer.peer a.flight_is.mid) t.notified.notes
+        t.requests.notes
+        ∙ or_left (list_any (is_again_of a.observer.peer a.flight_is.mid) t.notified.notes)
+        (list_any (is_again_of a.observer.peer a.flight_is.mid) t.requests.notes)
         (t.so_far.keeps (is_again_of a.observer.peer a.flight_is.mid) a.noted))
 
 -- the listing of a row that notes no entry
-pub as_row : (rows : List Row) (r : Row) (o : Observer) (octets : List ℕ) → entries (r ∷ rows) ≡ entries rows → IsNoticeOf rows r.moment.0 o octets
-    → IsBodyOf (wanted_by_observer o) (listing o.query (entries (r ∷ rows)) r.moment.0) (tag (entries (r ∷ rows)) r.moment.0) octets
-as_row rows r o octets same_entries h = subst (λ history. IsBodyOf (wanted_by_observer o) (listing o.query history r.moment.0) (tag history r.moment.0) octets) (sym same_entries) h
+pub as_row : (rows : List Row) (r : Row) (o : Observer) (octets : List ℕ)
+    → entries (r ∷ rows) ≡ entries rows
+    → IsNoticeOf rows r.moment.0 o octets
+    → IsBodyOf (wanted_by_observer o) (listing o.query (entries (r ∷ rows)) r.moment.0)
+    (tag (entries (r ∷ rows)) r.moment.0) octets
+as_row rows r o octets same_entries h =
+    subst (λ history.
+    IsBodyOf (wanted_by_observer o) (listing o.query history r.moment.0)
+    (tag history r.moment.0) octets) (sym same_entries) h
 
 -- a new notice
-fresh_carried : (rows : List Row) (r : Row) → (t : TickRow rows r) → (d : Peer × List ℕ) → FreshSent rows r.moment.0 r.step.word d → Carried (record { row = r; before = rows }) d
+fresh_carried : (rows : List Row) (r : Row)
+    → (t : TickRow rows r)
+    → (d : Peer × List ℕ)
+    → FreshSent rows r.moment.0 r.step.word d
+    → Carried (record { row = r; before = rows }) d
 fresh_carried rows r t d f m e listed _ =
-    observer_formed (record { row = r; before = rows }) (record { row = r; before = rows }) f.observer d m t.tick (stood_before rows r.moment.0 r.step.word f.observer f.stands) f.of_peer
+    observer_formed (record { row = r; before = rows }) (record { row = r; before = rows })
+    f.observer d m t.tick (stood_before rows r.moment.0 r.step.word f.observer f.stands)
+    f.of_peer
     (as_row rows r f.observer d.1 t.same_entries f.body m e listed)
     (rw none refl)
   where
@@ -99,26 +163,45 @@ fresh_carried rows r t d f m e listed _ =
     one (note.Again p mid) a = by (is_same_peer p d.0) refl
       where
         by : (b : Bool) → is_same_peer p d.0 ≡ b → (is_same_peer p d.0 && mid == m.mid) ≡ false
-        by true same = absurd (f.free (subst (λ q. Waits q (events_after_again rows r.moment.0 r.step.word)) (a.of_peer ∙ ((is_same_peer-Decides p d.0).0 same ∙ f.of_peer)) (again_waits rows r.moment.0 r.step.word a.observer a.flight_is a.again)))
+        by true same =
+            absurd (f.free (subst (λ q. Waits q (events_after_again rows r.moment.0 r.step.word))
+            (a.of_peer ∙ ((is_same_peer-Decides p d.0).0 same ∙ f.of_peer))
+            (again_waits rows r.moment.0 r.step.word a.observer a.flight_is a.again)))
         by false other = rw other refl
     one _ a = refl
 
-    each : (notes : List Note) → AllByRecursion (AgainNoted rows r.moment.0) notes → list_any (is_again_of d.0 m.mid) notes ≡ false
+    each : (notes : List Note)
+        → AllByRecursion (AgainNoted rows r.moment.0) notes
+        → list_any (is_again_of d.0 m.mid) notes ≡ false
     each [] all = refl
     each (n ∷ notes) all = rw (one n all.0, each notes all.1) refl
 
     none : list_any (is_again_of d.0 m.mid) r.notes ≡ false
     none = subst (λ ns. list_any (is_again_of d.0 m.mid) ns ≡ false) (sym t.notes)
         (list_any-append (is_again_of d.0 m.mid) t.notified.notes t.requests.notes
-        ∙ rw (each t.notified.notes t.so_far.agains, requests_none (is_again_of d.0 m.mid) (λ p. refl) (λ p. refl) t.requests.notes t.resent) refl)
+        ∙ rw (
+          each t.notified.notes t.so_far.agains,
+          requests_none (is_again_of d.0 m.mid)
+              (λ p. refl) (λ p. refl) t.requests.notes t.resent,
+        ) refl)
 
 -- whatever a tick sends
-pub tick_carried : (rows : List Row) (r : Row) → TickRow rows r → AllByRecursion (Carried (record { row = r; before = rows })) r.sent
+pub tick_carried : (rows : List Row) (r : Row)
+    → TickRow rows r
+    → AllByRecursion (Carried (record { row = r; before = rows })) r.sent
 tick_carried rows r t =
     subst (AllByRecursion (Carried (record { row = r; before = rows }))) (sym t.sent)
-    (each_append (Carried (record { row = r; before = rows })) t.notified.sent t.requests.sent (each_weaker (λ (d : Peer × List ℕ). AgainSent rows r.moment.0 d ⊎ FreshSent rows r.moment.0 r.step.word d) (Carried (record { row = r; before = rows })) one t.notified.sent t.so_far.origins)
-    (each_weaker (λ (d : Peer × List ℕ). IsPlain d.1) (Carried (record { row = r; before = rows })) (λ d plain m e listed _. absurd (false≢true (sym (other_code d.1 plain.no_content m e) ∙ listed))) t.requests.sent t.plain))
+    (each_append (Carried (record { row = r; before = rows })) t.notified.sent t.requests.sent
+    (each_weaker (λ (d : Peer × List ℕ).
+    AgainSent rows r.moment.0 d ⊎ FreshSent rows r.moment.0 r.step.word d)
+    (Carried (record { row = r; before = rows })) one t.notified.sent t.so_far.origins)
+    (each_weaker (λ (d : Peer × List ℕ). IsPlain d.1) (Carried (record { row = r; before = rows }))
+    (λ d plain m e listed _.
+    absurd (false≢true (sym (other_code d.1 plain.no_content m e) ∙ listed)))
+    t.requests.sent t.plain))
   where
-    one : (d : Peer × List ℕ) → AgainSent rows r.moment.0 d ⊎ FreshSent rows r.moment.0 r.step.word d → Carried (record { row = r; before = rows }) d
+    one : (d : Peer × List ℕ)
+        → AgainSent rows r.moment.0 d ⊎ FreshSent rows r.moment.0 r.step.word d
+        → Carried (record { row = r; before = rows }) d
     one d (inl a) = again_carried rows r t d a
     one d (inr f) = fresh_carried rows r t d f

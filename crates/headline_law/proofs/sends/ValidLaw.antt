@@ -1,5 +1,28 @@
 -- 2.03 is sent exactly where a look names the tag at its own row.
-use Rattle.std.proofs.Common.{◌≡◌, ℕ, ◌==◌, ◌&&◌, Bool, true, false, cond, List, [], ◌∷◌, length, Some, None, Result, Ok, Err, refl, sym, ap, subst, ◌∙◌}
+use Rattle.std.proofs.Common.{
+  ◌≡◌,
+  ℕ,
+  ◌==◌,
+  ◌&&◌,
+  Bool,
+  true,
+  false,
+  cond,
+  List,
+  [],
+  ◌∷◌,
+  length,
+  Some,
+  None,
+  Result,
+  Ok,
+  Err,
+  refl,
+  sym,
+  ap,
+  subst,
+  ◌∙◌,
+}
 use Rattle.std.specs.Prelude.{is_some}
 use Rattle.std.specs.List.{AllByRecursion}
 use Rattle.std.proofs.lemmas.Bool.{false≢true}
@@ -25,7 +48,15 @@ use Rattle.journal_model.specs.Journal.{is_look, events, entries, row_at}
 use Rattle.journal_model.specs.Requests.{is_look_request}
 use Rattle.journal_model.specs.Looks.{looked}
 use Rattle.journal_model.specs.Rows.{effects, row_moment, row, AreRows, empty, added}
-use Rattle.journal_model.specs.Machine.{is_look_message, is_look_reading, is_look_datagram, MayMake, IsJournal, begun, made}
+use Rattle.journal_model.specs.Machine.{
+  is_look_message,
+  is_look_reading,
+  is_look_datagram,
+  MayMake,
+  IsJournal,
+  begun,
+  made,
+}
 use Rattle.journal_model.specs.PlacedRows.{Within, code_sent}
 use Rattle.journal_model.specs.AnswersAsFormed.{looks_with_tag}
 use Rattle.journal_model.proofs.entries.JournalLaws.{Made, each_row, journal-AreRows}
@@ -45,13 +76,21 @@ abbrev pub RowSends : List Row → Row → Type 0
 RowSends before r = StepSends r.step.kind r.sent r.notes
 
 -- no row at a place sends a confirmable 2.03
-no_confirmable_valid_in : (rows : List Row) (place : ℕ) (r : Row) → AllRows RowSends rows → row_at place rows ≡ Some r → NoConfirmableValid r.sent
+no_confirmable_valid_in : (rows : List Row) (place : ℕ) (r : Row)
+    → AllRows RowSends rows
+    → row_at place rows ≡ Some r
+    → NoConfirmableValid r.sent
 unfolding row_at
 no_confirmable_valid_in [] place r all at = absurd (let no : None ≡ Some r = at in cc)
-no_confirmable_valid_in (x ∷ before) place r all at = by (place == length before) at (λ h. no_confirmable_valid_in before place r all.1 h)
+no_confirmable_valid_in (x ∷ before) place r all at =
+    by (place == length before) at (λ h. no_confirmable_valid_in before place r all.1 h)
   where
-    by : (b : Bool) → cond b (Some x) (row_at place before) ≡ Some r → (row_at place before ≡ Some r → NoConfirmableValid r.sent) → NoConfirmableValid r.sent
-    by true h more = subst (λ (y : Row). NoConfirmableValid y.sent) (same_Some x r h) all.0.confirmables
+    by : (b : Bool)
+        → cond b (Some x) (row_at place before) ≡ Some r
+        → (row_at place before ≡ Some r → NoConfirmableValid r.sent)
+        → NoConfirmableValid r.sent
+    by true h more =
+        subst (λ (y : Row). NoConfirmableValid y.sent) (same_Some x r h) all.0.confirmables
     by false h more = more h
 
 -- what the notes of each row say of what it sends
@@ -114,14 +153,22 @@ before_all rows journal all =
     }
 
 -- a datagram that is admitted is no look
-admitted_no_look : (rows : List Row) (s : Step) → MayMake rows s → s.kind ≡ step.Admit → is_look_reading (reading s.datagram) ≡ false
+admitted_no_look : (rows : List Row) (s : Step)
+    → MayMake rows s
+    → s.kind ≡ step.Admit
+    → is_look_reading (reading s.datagram) ≡ false
 unfolding is_look_datagram
-admitted_no_look rows s may admits = heard_no_look s.datagram (sym admits ∙ heard_as_hearing rows s may.begin (rw admits refl))
+admitted_no_look rows s may admits =
+    heard_no_look s.datagram (sym admits ∙ heard_as_hearing rows s may.begin (rw admits refl))
 
 -- and one that is looked at is one
-pub looked_a_look : (rows : List Row) (s : Step) → MayMake rows s → s.kind ≡ step.Look → is_look_reading (reading s.datagram) ≡ true
+pub looked_a_look : (rows : List Row) (s : Step)
+    → MayMake rows s
+    → s.kind ≡ step.Look
+    → is_look_reading (reading s.datagram) ≡ true
 unfolding is_look_datagram
-looked_a_look rows s may looks = heard_a_look s.datagram (sym looks ∙ heard_as_hearing rows s may.begin (rw looks refl))
+looked_a_look rows s may looks =
+    heard_a_look s.datagram (sym looks ∙ heard_as_hearing rows s may.begin (rw looks refl))
 
 -- so it is of all rows of a journal
 pub journal_sends : (rows : List Row) → IsJournal rows → AllRows RowSends rows
@@ -157,25 +204,35 @@ a_look_reads (Ok m) h = by (role_of m.kind m.code) refl h
     by role.Ignored is e = absurd (false≢true e)
 
 -- what a look sends first is 2.03 exactly where it names the tag
-look_is_valid : (rows : List Row) (moment : ℕ) (s : Step) → is_look_reading (reading s.datagram) ≡ true
-    → (code_sent (looked false (entries rows) moment s (reading s.datagram)).sent == codes_of.valid) ≡ looks_with_tag (tag (entries rows) moment) (reading s.datagram)
+look_is_valid : (rows : List Row) (moment : ℕ) (s : Step)
+    → is_look_reading (reading s.datagram) ≡ true
+    → (code_sent (looked false (entries rows) moment s (reading s.datagram)).sent == codes_of.valid)
+    ≡ looks_with_tag (tag (entries rows) moment) (reading s.datagram)
 look_is_valid rows moment s h =
     let it = a_look_reads (reading s.datagram) h in
     rw it.read_is (look_valid (entries rows) moment s it.message ∙ rw it.looks refl)
 
 -- no message is sent that is 2.03, so the first is not
-first_not_valid : (sent : List (Peer × List ℕ)) → NoneValid sent → (code_sent sent == codes_of.valid) ≡ false
+first_not_valid : (sent : List (Peer × List ℕ))
+    → NoneValid sent
+    → (code_sent sent == codes_of.valid) ≡ false
 first_not_valid [] h = refl
 first_not_valid (d ∷ sent) h = h.0
 
 -- in each row of a journal
 row_is_valid : (rows : List Row) (s : Step) → MayMake rows s → RowSends rows (row rows s false)
-    → (code_sent (row rows s false).sent == codes_of.valid) ≡ (is_look s.kind && looks_with_tag (tag (entries rows) (row rows s false).moment.0) (reading s.datagram))
+    → (code_sent (row rows s false).sent == codes_of.valid)
+    ≡ (is_look s.kind
+    && looks_with_tag (tag (entries rows) (row rows s false).moment.0) (reading s.datagram))
 unfolding row effects
 row_is_valid rows s may sends = by s.kind refl sends.others
   where
-    by : (kind : StepKind) → s.kind ≡ kind → (is_look kind ≡ false → NoneValid (effects kind false rows (row_moment rows s) s).sent)
-        → (code_sent (effects kind false rows (row_moment rows s) s).sent == codes_of.valid) ≡ (is_look kind && looks_with_tag (tag (entries rows) (row_moment rows s)) (reading s.datagram))
+    by : (kind : StepKind)
+        → s.kind ≡ kind
+        → (is_look kind ≡ false → NoneValid (effects kind false rows (row_moment rows s) s).sent)
+        → (code_sent (effects kind false rows (row_moment rows s) s).sent == codes_of.valid)
+        ≡ (is_look kind
+        && looks_with_tag (tag (entries rows) (row_moment rows s)) (reading s.datagram))
     by step.Admit is others = first_not_valid _ (others refl)
     by step.Look is others = look_is_valid rows (row_moment rows s) s (looked_a_look rows s may is)
     by (step.Commit place) is others = first_not_valid _ (others refl)
@@ -183,13 +240,23 @@ row_is_valid rows s may sends = by s.kind refl sends.others
     by step.Tick is others = first_not_valid _ (others refl)
 
 -- 2.03 is sent exactly where a look names the tag at its own row
-pub looks_are_validated : (rows before : List Row) (r : Row) → IsJournal rows → Within rows before r → r.starved ≡ false
-    → (code_sent r.sent == codes_of.valid) ≡ (is_look r.step.kind && looks_with_tag (tag (entries before) r.moment.0) (reading r.step.datagram))
+pub looks_are_validated : (rows before : List Row) (r : Row)
+    → IsJournal rows
+    → Within rows before r
+    → r.starved ≡ false
+    → (code_sent r.sent == codes_of.valid)
+    ≡ (is_look r.step.kind
+    && looks_with_tag (tag (entries before) r.moment.0) (reading r.step.datagram))
 unfolding row
 looks_are_validated rows before r journal within fed =
     let it : Made before r = each_row rows before r journal within in
-    let sends : RowSends before r = row_within RowSends rows before r (journal_sends rows journal) within in
+    let sends : RowSends before r =
+    row_within RowSends rows before r (journal_sends rows journal) within in
     let enough : it.starved ≡ false = sym (ap (λ (x : Row). x.starved) it.is) ∙ fed in
     let is : r ≡ row before it.step false = it.is ∙ ap (row before it.step) enough in
-    subst (λ (x : Row). (code_sent x.sent == codes_of.valid) ≡ (is_look x.step.kind && looks_with_tag (tag (entries before) x.moment.0) (reading x.step.datagram))) (sym is)
+    subst (λ (x : Row).
+    (code_sent x.sent == codes_of.valid)
+    ≡ (is_look x.step.kind
+    && looks_with_tag (tag (entries before) x.moment.0) (reading x.step.datagram)))
+    (sym is)
     (row_is_valid before it.step it.may (subst (RowSends before) is sends))

@@ -18,22 +18,29 @@ unfolding history_on_literals
 last_entry = refl
 
 -- and no change after it
-no_more_entries : change_refusal (2 ^ 48 - 2) (registers_two 1000 ∷ []) (registers_two 1000) ≡ Some refusal.Entries
+no_more_entries :
+    change_refusal (2 ^ 48 - 2) (registers_two 1000 ∷ []) (registers_two 1000)
+    ≡ Some refusal.Entries
 unfolding history_on_literals
 no_more_entries = refl
 
-no_more_removals : change_refusal (2 ^ 48 - 2) (registers_two 1000 ∷ []) (removes 1000 1) ≡ Some refusal.Entries
+no_more_removals :
+    change_refusal (2 ^ 48 - 2) (registers_two 1000 ∷ []) (removes 1000 1) ≡ Some refusal.Entries
 unfolding history_on_literals
 no_more_removals = refl
 
 -- what is not there is refused before
-gone_first : change_refusal (2 ^ 48 - 2) (registers_two 1000 ∷ []) (removes 1000 2) ≡ Some refusal.Registration
+gone_first :
+    change_refusal (2 ^ 48 - 2) (registers_two 1000 ∷ []) (removes 1000 2)
+    ≡ Some refusal.Registration
 unfolding history_on_literals
 gone_first = refl
 
 -- a record without links, of this number and a name with this number
 abbrev numbered : ℕ → Record
-numbered n = registered n (record { 0 = 100 }) device (registration_values (codes "lt=600" ∷ (codes "ep=n" ++ decimal n) ∷ [])) []
+numbered n =
+    registered n (record { 0 = 100 }) device
+    (registration_values (codes "lt=600" ∷ (codes "ep=n" ++ decimal n) ∷ [])) []
 
 -- so many of them
 abbrev many : ℕ → State

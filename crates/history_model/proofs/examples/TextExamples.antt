@@ -1,5 +1,19 @@
 -- What is refused for its text, computed.
-use Rattle.std.proofs.Common.{◌≡◌, ℕ, ◌+◌, List, [], ◌∷◌, ◌++◌, codes, decimal, replicate, refl, Some, None}
+use Rattle.std.proofs.Common.{
+  ◌≡◌,
+  ℕ,
+  ◌+◌,
+  List,
+  [],
+  ◌∷◌,
+  ◌++◌,
+  codes,
+  decimal,
+  replicate,
+  refl,
+  Some,
+  None,
+}
 use Rattle.std.specs.List.{concat}
 use Rattle.history_model.specs.declared.entries.Entry.{Entry}
 use Rattle.history_model.specs.declared.refusals.Refusal.TheVariants as refusal
@@ -16,10 +30,13 @@ long_base = codes "coap://" ++ replicate 193 104
 
 -- a registration of them, which weighs 203,240
 abbrev long : ℕ → Entry
-long n = registers (1000 + n) device ((codes "ep=n" ++ decimal n) ∷ (codes "base=" ++ long_base) ∷ []) thousand_links
+long n =
+    registers (1000 + n) device ((codes "ep=n" ++ decimal n) ∷ (codes "base=" ++ long_base) ∷ [])
+    thousand_links
 
 -- after five of them a sixth is refused
-sixth_text : change_refusal 0 (long 1 ∷ long 2 ∷ long 3 ∷ long 4 ∷ long 5 ∷ []) (long 6) ≡ Some refusal.Text
+sixth_text :
+    change_refusal 0 (long 1 ∷ long 2 ∷ long 3 ∷ long 4 ∷ long 5 ∷ []) (long 6) ≡ Some refusal.Text
 unfolding history_on_literals
 sixth_text = refl
 

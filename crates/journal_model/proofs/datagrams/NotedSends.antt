@@ -1,6 +1,36 @@
--- What notes say of what their row sends: the answer that settles a write is that of its commit; a body that was formed for an observer is sent to it;
--- and a kept answer has a tag of eight octets.
-use Rattle.std.proofs.Common.{◌≡◌, inl, inr, ℕ, ◌≤◌, ◌==◌, Bool, true, false, cond, List, [], ◌∷◌, ◌++◌, length, Option, Some, None, codes, nat_le, Result, Ok, Err, refl, sym, ap, subst, ◌∙◌, arith}
+-- What notes say of what their row sends: the answer that settles a write is that of its commit; a
+-- body that was formed for an observer is sent to it; and a kept answer has a tag of eight octets.
+use Rattle.std.proofs.Common.{
+  ◌≡◌,
+  inl,
+  inr,
+  ℕ,
+  ◌≤◌,
+  ◌==◌,
+  Bool,
+  true,
+  false,
+  cond,
+  List,
+  [],
+  ◌∷◌,
+  ◌++◌,
+  length,
+  Option,
+  Some,
+  None,
+  codes,
+  nat_le,
+  Result,
+  Ok,
+  Err,
+  refl,
+  sym,
+  ap,
+  subst,
+  ◌∙◌,
+  arith,
+}
 use Rattle.std.specs.List.{AllByRecursion}
 use Rattle.std.proofs.lemmas.Bool.{and_parts, false≢true, ltb-false}
 use Rattle.rd_base.specs.declared.peers.Peer.{Peer}
@@ -33,29 +63,124 @@ use Rattle.journal_model.specs.declared.steps.StepKind.{StepKind}
 use Rattle.journal_model.specs.declared.steps.StepKind.TheVariants as step
 use Rattle.journal_model.specs.declared.rows.Row.{Row}
 use Rattle.journal_model.specs.Journal.{events, entries}
-use Rattle.journal_model.specs.Effects.{Reply, bare, diagnostic, answer_kind, answer_mid, answer, answering}
-use Rattle.journal_model.specs.Requests.{refusal_of_request, Method, get, post, put, delete, other_method, method_of, is_lookup, asked_block, number_of, szx_of, query_of, is_later_block, register, deregister}
+use Rattle.journal_model.specs.Effects.{
+  Reply,
+  bare,
+  diagnostic,
+  answer_kind,
+  answer_mid,
+  answer,
+  answering,
+}
+use Rattle.journal_model.specs.Requests.{
+  refusal_of_request,
+  Method,
+  get,
+  post,
+  put,
+  delete,
+  other_method,
+  method_of,
+  is_lookup,
+  asked_block,
+  number_of,
+  szx_of,
+  query_of,
+  is_later_block,
+  register,
+  deregister,
+}
 use Rattle.journal_model.specs.Bodies.{is_long, part_reply, body_reply}
 use Rattle.journal_model.specs.Looks.{look_effects, looked, keep_effects}
-use Rattle.journal_model.specs.Lookups.{listing_now, block_now, block_of_kept, later_block, removal, without, addition, observer_of, keeping, observed_if, observed, unobserved, observation_effects, first_block_effects, block_effects, lookup_effects}
+use Rattle.journal_model.specs.Lookups.{
+  listing_now,
+  block_now,
+  block_of_kept,
+  later_block,
+  removal,
+  without,
+  addition,
+  observer_of,
+  keeping,
+  observed_if,
+  observed,
+  unobserved,
+  observation_effects,
+  first_block_effects,
+  block_effects,
+  lookup_effects,
+}
 use Rattle.journal_model.specs.Writes.{write_effects}
 use Rattle.journal_model.specs.EmptyMessages.{acknowledged, reset}
 use Rattle.journal_model.specs.Responses.{response_effects}
-use Rattle.journal_model.specs.Rows.{served, refusal_answered, unread_answered, request_answered, message_effects, heard, done, kept_body, effects}
+use Rattle.journal_model.specs.Rows.{
+  served,
+  refusal_answered,
+  unread_answered,
+  request_answered,
+  message_effects,
+  heard,
+  done,
+  kept_body,
+  effects,
+}
 use Rattle.journal_model.specs.Changes.{Outcome}
 use Rattle.journal_model.specs.Registrations.{registering}
-use Rattle.journal_model.specs.Commits.{settling, updating, removing, simple_unless, on_location, write_done, commit_effects}
-use Rattle.journal_model.specs.SentDatagrams.{IsFitting, is_response, AnswersRequest, CarriesFirst, IsForRequest}
+use Rattle.journal_model.specs.Commits.{
+  settling,
+  updating,
+  removing,
+  simple_unless,
+  on_location,
+  write_done,
+  commit_effects,
+}
+use Rattle.journal_model.specs.SentDatagrams.{
+  IsFitting,
+  is_response,
+  AnswersRequest,
+  CarriesFirst,
+  IsForRequest,
+}
 use Rattle.journal_model.specs.AnswersAsFormed.{is_content, IsAsked}
 use Rattle.journal_model.proofs.NoteKinds.{of_write, of_empty, of_response, are}
-use Rattle.journal_model.proofs.StepNotes.{look_effects-notes, write_effects-notes, acknowledged-notes, reset-notes}
-use Rattle.journal_model.proofs.notes.ChangeNotes.{change_made-notes, registering-notes, response_effects-notes}
+use Rattle.journal_model.proofs.StepNotes.{
+  look_effects-notes,
+  write_effects-notes,
+  acknowledged-notes,
+  reset-notes,
+}
+use Rattle.journal_model.proofs.notes.ChangeNotes.{
+  change_made-notes,
+  registering-notes,
+  response_effects-notes,
+}
 use Rattle.journal_model.proofs.notes.SilentSteps.{refusal_notes, unread_notes, looked_notes}
 use Rattle.journal_model.proofs.observers.ObserversKnow.{IsNoTick}
 use Rattle.journal_model.proofs.notes.LookupNotes.{IsAsking, lookup_fits}
-use Rattle.journal_model.proofs.sends.BodyAnswers.{Wanted, IsBodyOf, Bears, same_message, tag-length, IsUsable, szx-usable, request-usable, body_bears, with_reply}
+use Rattle.journal_model.proofs.sends.BodyAnswers.{
+  Wanted,
+  IsBodyOf,
+  Bears,
+  same_message,
+  tag-length,
+  IsUsable,
+  szx-usable,
+  request-usable,
+  body_bears,
+  with_reply,
+}
 use Rattle.journal_model.proofs.sends.ValidSends.{is_confirmable}
-use Rattle.journal_model.proofs.datagrams.FittingReplies.{IsGoodReply, reply_read, reply_fits, good_bare, good_unavailable, good_body_reply, good_change, good_registering}
+use Rattle.journal_model.proofs.datagrams.FittingReplies.{
+  IsGoodReply,
+  reply_read,
+  reply_fits,
+  good_bare,
+  good_unavailable,
+  good_body_reply,
+  good_change,
+  good_registering,
+}
 use Rattle.journal_model.proofs.datagrams.OwnSends.{answer_unconfirmable}
 
 -- octets that settle the write of a place: its commit answers it so
@@ -66,13 +191,14 @@ pub record SettledBy (kind : StepKind) (s : Step) (place : ℕ) (octets : List �
   pub unconfirmable : is_confirmable octets ≡ false
 
 -- the first block of a body is sent to a peer, under a token
-pub record FirstSent (sent : List (Peer × List ℕ)) (peer : Peer) (token body : List ℕ) : Type 0 where
-  pub octets : List ℕ
-  pub among : Among (peer, octets) sent
-  pub message : Message
-  pub read : reading octets ≡ Ok message
-  pub token_is : message.token ≡ token
-  pub carries : CarriesFirst message body
+pub record FirstSent (sent : List (Peer × List ℕ)) (peer : Peer) (token body : List ℕ) : Type 0
+  where
+    pub octets : List ℕ
+    pub among : Among (peer, octets) sent
+    pub message : Message
+    pub read : reading octets ≡ Ok message
+    pub token_is : message.token ≡ token
+    pub carries : CarriesFirst message body
 
 -- what a note says of what a step sends
 abbrev pub NoteFact : StepKind → Step → List (Peer × List ℕ) → Note → Type 0
@@ -88,19 +214,41 @@ NoteFacts kind s sent notes = AllByRecursion (NoteFact kind s sent) notes
 
 -- ---- more is sent
 
-pub first_before : (sent more : List (Peer × List ℕ)) (peer : Peer) (token body : List ℕ) → FirstSent sent peer token body → FirstSent (sent ++ more) peer token body
-first_before sent more peer token body f = record { octets = f.octets; among = among_front (peer, f.octets) sent more f.among; message = f.message; read = f.read; token_is = f.token_is; carries = f.carries }
+pub first_before : (sent more : List (Peer × List ℕ)) (peer : Peer) (token body : List ℕ)
+    → FirstSent sent peer token body
+    → FirstSent (sent ++ more) peer token body
+first_before sent more peer token body f = record {
+  octets = f.octets;
+  among = among_front (peer, f.octets) sent more f.among;
+  message = f.message;
+  read = f.read;
+  token_is = f.token_is;
+  carries = f.carries;
+}
 
 among_back : {A : Type 0} (x : A) (xs ys : List A) → Among x ys → Among x (xs ++ ys)
 among_back x [] ys h = h
 among_back x (y ∷ xs) ys h = inr (among_back x xs ys h)
 
-pub first_after : (sent more : List (Peer × List ℕ)) (peer : Peer) (token body : List ℕ) → FirstSent more peer token body → FirstSent (sent ++ more) peer token body
-first_after sent more peer token body f = record { octets = f.octets; among = among_back (peer, f.octets) sent more f.among; message = f.message; read = f.read; token_is = f.token_is; carries = f.carries }
+pub first_after : (sent more : List (Peer × List ℕ)) (peer : Peer) (token body : List ℕ)
+    → FirstSent more peer token body
+    → FirstSent (sent ++ more) peer token body
+first_after sent more peer token body f = record {
+  octets = f.octets;
+  among = among_back (peer, f.octets) sent more f.among;
+  message = f.message;
+  read = f.read;
+  token_is = f.token_is;
+  carries = f.carries;
+}
 
 -- facts stay facts
-pub facts_before : (kind : StepKind) (s : Step) (sent more : List (Peer × List ℕ)) (notes : List Note) → NoteFacts kind s sent notes → NoteFacts kind s (sent ++ more) notes
-facts_before kind s sent more notes all = each_weaker (NoteFact kind s sent) (NoteFact kind s (sent ++ more)) by notes all
+pub facts_before : (kind : StepKind) (s : Step) (sent more : List (Peer × List ℕ))
+    (notes : List Note)
+    → NoteFacts kind s sent notes
+    → NoteFacts kind s (sent ++ more) notes
+facts_before kind s sent more notes all =
+    each_weaker (NoteFact kind s sent) (NoteFact kind s (sent ++ more)) by notes all
   where
     by : (n : Note) → NoteFact kind s sent n → NoteFact kind s (sent ++ more) n
     by (note.Settled place octets) h = h
@@ -109,8 +257,12 @@ facts_before kind s sent more notes all = each_weaker (NoteFact kind s sent) (No
     by (note.Formed peer token body mid) h = first_before sent more peer token body h
     by _ h = tt
 
-pub facts_after : (kind : StepKind) (s : Step) (sent more : List (Peer × List ℕ)) (notes : List Note) → NoteFacts kind s more notes → NoteFacts kind s (sent ++ more) notes
-facts_after kind s sent more notes all = each_weaker (NoteFact kind s more) (NoteFact kind s (sent ++ more)) by notes all
+pub facts_after : (kind : StepKind) (s : Step) (sent more : List (Peer × List ℕ))
+    (notes : List Note)
+    → NoteFacts kind s more notes
+    → NoteFacts kind s (sent ++ more) notes
+facts_after kind s sent more notes all =
+    each_weaker (NoteFact kind s more) (NoteFact kind s (sent ++ more)) by notes all
   where
     by : (n : Note) → NoteFact kind s more n → NoteFact kind s (sent ++ more) n
     by (note.Settled place octets) h = h
@@ -130,9 +282,15 @@ is_telling (note.Formed peer token body mid) = true
 is_telling _ = false
 
 -- notes of a kind that says nothing
-pub quiet_facts : (of_kind : Note → Bool) → ((n : Note) → of_kind n ≡ true → is_telling n ≡ false) → (kind : StepKind) (s : Step) (sent : List (Peer × List ℕ)) (notes : List Note) → are of_kind notes ≡ true → NoteFacts kind s sent notes
+pub quiet_facts : (of_kind : Note → Bool)
+    → ((n : Note) → of_kind n ≡ true → is_telling n ≡ false)
+    → (kind : StepKind) (s : Step) (sent : List (Peer × List ℕ)) (notes : List Note)
+    → are of_kind notes ≡ true
+    → NoteFacts kind s sent notes
 quiet_facts of_kind never kind s sent [] h = tt
-quiet_facts of_kind never kind s sent (n ∷ notes) h = let both = and_parts (of_kind n) (are of_kind notes) h in (by n (never n both.0), quiet_facts of_kind never kind s sent notes both.1)
+quiet_facts of_kind never kind s sent (n ∷ notes) h =
+    let both = and_parts (of_kind n) (are of_kind notes) h in
+    (by n (never n both.0), quiet_facts of_kind never kind s sent notes both.1)
   where
     by : (x : Note) → is_telling x ≡ false → NoteFact kind s sent x
     by (note.Settled place octets) e = absurd (false≢true (sym e))
@@ -142,13 +300,19 @@ quiet_facts of_kind never kind s sent (n ∷ notes) h = let both = and_parts (of
     by _ e = tt
 
 -- no notes
-pub no_facts : (kind : StepKind) (s : Step) (sent : List (Peer × List ℕ)) (notes : List Note) → notes ≡ [] → NoteFacts kind s sent notes
+pub no_facts : (kind : StepKind) (s : Step) (sent : List (Peer × List ℕ)) (notes : List Note)
+    → notes ≡ []
+    → NoteFacts kind s sent notes
 no_facts kind s sent notes none = subst (NoteFacts kind s sent) (sym none) tt
 
 -- ---- the first block of a body
 
 -- a 2.05 with the first block that is wanted of a body carries its first block
-pub first_from : (peer : Peer) (wanted : Wanted) (body current : List ℕ) (m : Message) → reading (spelling m) ≡ Ok m → is_content m ≡ true → wanted.number ≡ 0 → IsBodyOf wanted body current (spelling m)
+pub first_from : (peer : Peer) (wanted : Wanted) (body current : List ℕ) (m : Message)
+    → reading (spelling m) ≡ Ok m
+    → is_content m ≡ true
+    → wanted.number ≡ 0
+    → IsBodyOf wanted body current (spelling m)
     → FirstSent ((peer, spelling m) ∷ []) peer wanted.token body
 first_from peer wanted body current m read content first bears =
     let it : Bears wanted body current m = bears m read content in
@@ -158,7 +322,11 @@ first_from peer wanted body current m read content first bears =
       message = m;
       read = read;
       token_is = it.token_is;
-      carries = record { content = content; number = number (asked_block m) it.block.asked; block = it.block.block };
+      carries = record {
+        content = content;
+        number = number (asked_block m) it.block.asked;
+        block = it.block.block;
+      };
     }
   where
     number : (b : Option Block) → IsAsked wanted.number wanted.szx b body → number_of b ≡ 0
@@ -166,21 +334,41 @@ first_from peer wanted body current m read content first bears =
     number (Some b) h = h.0 ∙ first
 
 -- an answer with the first block of a body is a 2.05
-content_of : (current : List ℕ) (observe : Option ℕ) (asked : Option Block) (body : List ℕ) → number_of asked ≡ 0 → ((body_reply (Some current) observe asked body).code == codes_of.content) ≡ true
+content_of : (current : List ℕ) (observe : Option ℕ) (asked : Option Block) (body : List ℕ)
+    → number_of asked ≡ 0
+    → ((body_reply (Some current) observe asked body).code == codes_of.content) ≡ true
 unfolding body_reply block_of
-content_of current observe asked body first = subst (λ n. ((part_reply (Some current) observe asked (block_of body n (szx_of asked))).code == codes_of.content) ≡ true) (sym first) refl
+content_of current observe asked body first =
+    subst (λ n.
+    ((part_reply (Some current) observe asked (block_of body n (szx_of asked))).code
+    == codes_of.content)
+    ≡ true) (sym first) refl
 
 -- and carries it
-pub first_answer : (peer : Peer) (kind : Kind4) (mid : ℕ) (token current : List ℕ) (observe : Option ℕ) (asked : Option Block) (body : List ℕ) → length token ≤ longest_token → length current ≡ 8 → IsUsable asked → number_of asked ≡ 0
-    → FirstSent ((peer, spelling (with_reply kind mid token (body_reply (Some current) observe asked body))) ∷ []) peer token body
+pub first_answer : (peer : Peer) (kind : Kind4) (mid : ℕ) (token current : List ℕ)
+    (observe : Option ℕ) (asked : Option Block) (body : List ℕ)
+    → length token ≤ longest_token
+    → length current ≡ 8
+    → IsUsable asked
+    → number_of asked ≡ 0
+    → FirstSent
+    ((peer, spelling (with_reply kind mid token (body_reply (Some current) observe asked body)))
+    ∷ []) peer token body
 first_answer peer kind mid token current observe asked body small short usable first =
-    first_from peer (record { token = token; number = number_of asked; szx = szx_of asked }) body current (with_reply kind mid token (body_reply (Some current) observe asked body))
-    (reply_read kind mid token (body_reply (Some current) observe asked body) small (good_body_reply (Some current) observe asked body short (szx-usable asked usable)))
-    (content_of current observe asked body first) first (body_bears kind mid token current observe asked body small short usable)
+    first_from peer (record { token = token; number = number_of asked; szx = szx_of asked }) body
+    current (with_reply kind mid token (body_reply (Some current) observe asked body))
+    (reply_read kind mid token (body_reply (Some current) observe asked body) small
+    (good_body_reply (Some current) observe asked body short (szx-usable asked usable)))
+    (content_of current observe asked body first) first
+    (body_bears kind mid token current observe asked body small short usable)
 
 -- ---- lookups
 
-pub lookup_facts : (rows : List Row) (moment : ℕ) (s : Step) (m : Message) → reading s.datagram ≡ Ok m → is_lookup (path_in m) ≡ true → NoteFacts step.Admit s (lookup_effects rows moment s m).sent (lookup_effects rows moment s m).notes
+pub lookup_facts : (rows : List Row) (moment : ℕ) (s : Step) (m : Message)
+    → reading s.datagram ≡ Ok m
+    → is_lookup (path_in m) ≡ true
+    → NoteFacts step.Admit s (lookup_effects rows moment s m).sent
+    (lookup_effects rows moment s m).notes
 unfolding lookup_effects later_block observed unobserved answering
 lookup_facts rows moment s m read lookup = by (is_later_block m) refl
   where
@@ -190,53 +378,105 @@ lookup_facts rows moment s m read lookup = by (is_later_block m) refl
     short : length (tag (entries rows) moment) ≡ 8
     short = tag-length (entries rows) moment
 
-    now_block : (part : Option (List ℕ × Bool)) → NoteFacts step.Admit s (block_now s m (listing_now rows moment m) part).sent (block_now s m (listing_now rows moment m) part).notes
+    now_block : (part : Option (List ℕ × Bool))
+        → NoteFacts step.Admit s (block_now s m (listing_now rows moment m) part).sent
+        (block_now s m (listing_now rows moment m) part).notes
     now_block None = tt
     now_block (Some part) = (short, tt)
 
-    later : (found : Option Answer) → NoteFacts step.Admit s (block_of_kept s m (listing_now rows moment m) found).sent (block_of_kept s m (listing_now rows moment m) found).notes
+    later : (found : Option Answer)
+        → NoteFacts step.Admit s (block_of_kept s m (listing_now rows moment m) found).sent
+        (block_of_kept s m (listing_now rows moment m) found).notes
     later (Some found) = (tt, tt)
-    later None = now_block (block_of (listing_now rows moment m).body (number_of (asked_block m)) (szx_of (asked_block m)))
+    later None =
+        now_block (block_of (listing_now rows moment m).body (number_of (asked_block m))
+        (szx_of (asked_block m)))
 
-    removed : (sent : List (Peer × List ℕ)) (b : Bool) (peer : Peer) (token : List ℕ) → NoteFacts step.Admit s sent (cond b (note.Unwatched peer token ∷ []) [])
+    removed : (sent : List (Peer × List ℕ)) (b : Bool) (peer : Peer) (token : List ℕ)
+        → NoteFacts step.Admit s sent (cond b (note.Unwatched peer token ∷ []) [])
     removed sent true peer token = (tt, tt)
     removed sent false peer token = tt
 
-    keeps : (sent : List (Peer × List ℕ)) (b : Bool) → NoteFacts step.Admit s sent (cond b (note.Kept s.peer (key_in m) (listing_now rows moment m).body (listing_now rows moment m).tag ∷ []) [])
+    keeps : (sent : List (Peer × List ℕ)) (b : Bool)
+        → NoteFacts step.Admit s sent
+        (cond b (note.Kept s.peer (key_in m) (listing_now rows moment m).body
+        (listing_now rows moment m).tag
+        ∷ []) [])
     keeps sent true = (short, tt)
     keeps sent false = tt
 
-    with_value : (b : Bool) → number_of (asked_block m) ≡ 0 → NoteFacts step.Admit s (observed_if b rows s m (listing_now rows moment m)).sent (observed_if b rows s m (listing_now rows moment m)).notes
+    with_value : (b : Bool)
+        → number_of (asked_block m) ≡ 0
+        → NoteFacts step.Admit s (observed_if b rows s m (listing_now rows moment m)).sent
+        (observed_if b rows s m (listing_now rows moment m)).notes
     with_value true first =
-        let sent : List (Peer × List ℕ) = (observed_if true rows s m (listing_now rows moment m)).sent in
-        each_append (NoteFact step.Admit s sent) (removal (s.peer, m.token) (observers (events rows))) (addition (observer_of s m) (listing_now rows moment m).body ++ keeping s m (listing_now rows moment m))
+        let sent : List (Peer × List ℕ) =
+        (observed_if true rows s m (listing_now rows moment m)).sent in
+        each_append (NoteFact step.Admit s sent)
+        (removal (s.peer, m.token) (observers (events rows)))
+        (addition (observer_of s m) (listing_now rows moment m).body
+        ++ keeping s m (listing_now rows moment m))
         (removed sent (is_observer (s.peer, m.token) (observers (events rows))) s.peer m.token) (
-          record { asks = record { request = m; fits = lookup_fits (path_in m) lookup; key_is = refl; query_is = refl }; token = small; szx = szx-usable (asked_block m) (request-usable m) },
+          record {
+            asks =
+                record {
+                  request =
+                      m;
+                  fits = lookup_fits (path_in m) lookup;
+                  key_is = refl;
+                  query_is = refl;
+                };
+            token = small;
+            szx = szx-usable (asked_block m) (request-usable m);
+          },
           (
-            first_answer s.peer (answer_kind m.kind) (answer_mid s m m.kind) m.token (tag (entries rows) moment) (Some (observe_value (events rows))) (asked_block m) (listing_now rows moment m).body small short (request-usable m) first,
+            first_answer s.peer (answer_kind m.kind) (answer_mid s m m.kind) m.token
+                (tag (entries rows) moment) (Some (observe_value (events rows))) (asked_block m)
+                (listing_now rows moment m).body small short (request-usable m) first,
             keeps sent (is_long (asked_block m) (listing_now rows moment m).body),
           ),
         )
     with_value false first =
-        let sent : List (Peer × List ℕ) = (observed_if false rows s m (listing_now rows moment m)).sent in
-        each_append (NoteFact step.Admit s sent) (removal (s.peer, m.token) (observers (events rows))) (keeping s m (listing_now rows moment m))
-        (removed sent (is_observer (s.peer, m.token) (observers (events rows))) s.peer m.token) (keeps sent (is_long (asked_block m) (listing_now rows moment m).body))
+        let sent : List (Peer × List ℕ) =
+        (observed_if false rows s m (listing_now rows moment m)).sent in
+        each_append (NoteFact step.Admit s sent)
+        (removal (s.peer, m.token) (observers (events rows)))
+        (keeping s m (listing_now rows moment m))
+        (removed sent (is_observer (s.peer, m.token) (observers (events rows))) s.peer m.token)
+        (keeps sent (is_long (asked_block m) (listing_now rows moment m).body))
 
-    only_looked : NoteFacts step.Admit s (look_effects (entries rows) moment s m).sent (look_effects (entries rows) moment s m).notes
-    only_looked = no_facts step.Admit s (look_effects (entries rows) moment s m).sent (look_effects (entries rows) moment s m).notes (look_effects-notes (entries rows) moment s m)
+    only_looked : NoteFacts step.Admit s (look_effects (entries rows) moment s m).sent
+        (look_effects (entries rows) moment s m).notes
+    only_looked =
+        no_facts step.Admit s (look_effects (entries rows) moment s m).sent
+        (look_effects (entries rows) moment s m).notes
+        (look_effects-notes (entries rows) moment s m)
 
-    valued : (b c : Bool) → number_of (asked_block m) ≡ 0 → NoteFacts step.Admit s (observation_effects b c rows moment s m).sent (observation_effects b c rows moment s m).notes
-    valued true c first = with_value (has_room_for (query_of m) (without (s.peer, m.token) (observers (events rows)))) first
+    valued : (b c : Bool)
+        → number_of (asked_block m) ≡ 0
+        → NoteFacts step.Admit s (observation_effects b c rows moment s m).sent
+        (observation_effects b c rows moment s m).notes
+    valued true c first =
+        with_value (has_room_for (query_of m) (without (s.peer, m.token) (observers (events rows))))
+        first
     valued false true first = with_value false first
     valued false false first = only_looked
 
-    observe : (o : Option ℕ) → number_of (asked_block m) ≡ 0 → NoteFacts step.Admit s (first_block_effects o rows moment s m).sent (first_block_effects o rows moment s m).notes
+    observe : (o : Option ℕ)
+        → number_of (asked_block m) ≡ 0
+        → NoteFacts step.Admit s (first_block_effects o rows moment s m).sent
+        (first_block_effects o rows moment s m).notes
     observe None first = only_looked
     observe (Some value) first = valued (value == register) (value == deregister) first
 
-    by : (b : Bool) → is_later_block m ≡ b → NoteFacts step.Admit s (block_effects b rows moment s m).sent (block_effects b rows moment s m).notes
+    by : (b : Bool)
+        → is_later_block m ≡ b
+        → NoteFacts step.Admit s (block_effects b rows moment s m).sent
+        (block_effects b rows moment s m).notes
     by true e = later (kept_answer moment (s.peer, key_in m) (events rows))
-    by false e = observe (observe_in m) (let low = ltb-false 0 (number_of (asked_block m)) e in omega (arith, low))
+    by false e =
+        observe (observe_in m)
+        (let low = ltb-false 0 (number_of (asked_block m)) e in omega (arith, low))
 
 -- ---- commits
 
@@ -255,7 +495,11 @@ never_tells (note.Formed peer token body mid) h = absurd (false≢true h)
 never_tells _ h = refl
 
 -- an answer settles its write
-settled_by : (place : ℕ) (s : Step) (m : Message) (reply : Reply) → reading s.datagram ≡ Ok m → role_of m.kind m.code ≡ role.Request → IsGoodReply reply → SettledBy (step.Commit place) s place (spelling (answer s m reply))
+settled_by : (place : ℕ) (s : Step) (m : Message) (reply : Reply)
+    → reading s.datagram ≡ Ok m
+    → role_of m.kind m.code ≡ role.Request
+    → IsGoodReply reply
+    → SettledBy (step.Commit place) s place (spelling (answer s m reply))
 settled_by place s m reply read asks good = record {
   commits = refl;
   fits = reply_fits (answer_kind m.kind) (answer_mid s m m.kind) m.token reply small good;
@@ -263,7 +507,11 @@ settled_by place s m reply read asks good = record {
     request = m;
     read = read;
     asks = asks;
-    token = ap (λ (x : Message). x.token) (sym (same_message (answer s m reply) n (spelling (answer s m reply)) (reply_read (answer_kind m.kind) (answer_mid s m m.kind) m.token reply small good) e));
+    token =
+        ap (λ (x : Message). x.token)
+        (sym (same_message (answer s m reply) n (spelling (answer s m reply))
+        (reply_read (answer_kind m.kind) (answer_mid s m m.kind) m.token reply small
+        good) e));
   };
   unconfirmable = answer_unconfirmable s m reply;
 }
@@ -271,15 +519,23 @@ settled_by place s m reply read asks good = record {
     small : length m.token ≤ longest_token
     small = (header_read s.datagram m read).token
 
-pub commit_facts : (rows : List Row) (moment place : ℕ) (s : Step) (m : Message) → reading s.datagram ≡ Ok m → role_of m.kind m.code ≡ role.Request
-    → NoteFacts (step.Commit place) s (commit_effects rows moment place s m).sent (commit_effects rows moment place s m).notes
+pub commit_facts : (rows : List Row) (moment place : ℕ) (s : Step) (m : Message)
+    → reading s.datagram ≡ Ok m
+    → role_of m.kind m.code ≡ role.Request
+    → NoteFacts (step.Commit place) s (commit_effects rows moment place s m).sent
+    (commit_effects rows moment place s m).notes
 unfolding commit_effects answering
 commit_facts rows moment place s m read asks = by (path_in m)
   where
-    outcome : (o : Outcome) → IsGoodReply o.reply → are of_change o.notes ≡ true → NoteFacts (step.Commit place) s (settling place s m o).sent (settling place s m o).notes
+    outcome : (o : Outcome)
+        → IsGoodReply o.reply
+        → are of_change o.notes ≡ true
+        → NoteFacts (step.Commit place) s (settling place s m o).sent (settling place s m o).notes
     outcome o good notes =
-        each_append (NoteFact (step.Commit place) s (settling place s m o).sent) o.notes (note.Settled place (spelling (answer s m o.reply)) ∷ [])
-        (quiet_facts of_change never_tells (step.Commit place) s (settling place s m o).sent o.notes notes) (settled_by place s m o.reply read asks good, tt)
+        each_append (NoteFact (step.Commit place) s (settling place s m o).sent) o.notes
+        (note.Settled place (spelling (answer s m o.reply)) ∷ [])
+        (quiet_facts of_change never_tells (step.Commit place) s (settling place s m o).sent o.notes
+        notes) (settled_by place s m o.reply read asks good, tt)
 
     changed_reply : IsGoodReply (bare codes_of.changed)
     changed_reply = good_bare codes_of.changed refl (λ e. absurd (omega (arith, e)))
@@ -287,25 +543,54 @@ commit_facts rows moment place s m read asks = by (path_in m)
     deleted_reply : IsGoodReply (bare codes_of.deleted)
     deleted_reply = good_bare codes_of.deleted refl (λ e. absurd (omega (arith, e)))
 
-    simple : (running too_many : Bool) → NoteFacts (step.Commit place) s (simple_unless running too_many (events rows) place s m).sent (simple_unless running too_many (events rows) place s m).notes
-    simple true too_many = (settled_by place s m (diagnostic codes_of.service_unavailable (codes "fetching")) read asks (good_unavailable (codes "fetching") (omega arith)), tt)
-    simple false true = (settled_by place s m (diagnostic codes_of.service_unavailable (codes "fetches")) read asks (good_unavailable (codes "fetches") (omega arith)), tt)
-    simple false false = (settled_by place s m (bare codes_of.changed) read asks changed_reply, (tt, tt))
+    simple : (running too_many : Bool)
+        → NoteFacts (step.Commit place) s
+        (simple_unless running too_many (events rows) place s m).sent
+        (simple_unless running too_many (events rows) place s m).notes
+    simple true too_many = (
+      settled_by place s m (diagnostic codes_of.service_unavailable (codes "fetching")) read asks
+          (good_unavailable (codes "fetching") (omega arith)),
+      tt,
+    )
+    simple false true = (
+      settled_by place s m (diagnostic codes_of.service_unavailable (codes "fetches")) read asks
+          (good_unavailable (codes "fetches") (omega arith)),
+      tt,
+    )
+    simple false false =
+        (settled_by place s m (bare codes_of.changed) read asks changed_reply, (tt, tt))
 
-    removes : (number : ℕ) → NoteFacts (step.Commit place) s (settling place s m (removing rows moment s number)).sent (settling place s m (removing rows moment s number)).notes
-    removes number = outcome (removing rows moment s number) (good_change (entries rows) _ _ (λ e. deleted_reply)) (change_made-notes of_change (λ entry. refl) (entries rows) _ _ refl)
+    removes : (number : ℕ)
+        → NoteFacts (step.Commit place) s (settling place s m (removing rows moment s number)).sent
+        (settling place s m (removing rows moment s number)).notes
+    removes number =
+        outcome (removing rows moment s number)
+        (good_change (entries rows) _ _ (λ e. deleted_reply))
+        (change_made-notes of_change (λ entry. refl) (entries rows) _ _ refl)
 
-    location : (w : Method) (number : ℕ) → NoteFacts (step.Commit place) s (on_location w rows moment place s m number).sent (on_location w rows moment place s m number).notes
+    location : (w : Method) (number : ℕ)
+        → NoteFacts (step.Commit place) s (on_location w rows moment place s m number).sent
+        (on_location w rows moment place s m number).notes
     location get number = removes number
-    location post number = outcome (updating rows moment s m number) (good_change (entries rows) _ _ (λ e. changed_reply)) (change_made-notes of_change (λ entry. refl) (entries rows) _ _ refl)
+    location post number =
+        outcome (updating rows moment s m number)
+        (good_change (entries rows) _ _ (λ e. changed_reply))
+        (change_made-notes of_change (λ entry. refl) (entries rows) _ _ refl)
     location put number = removes number
     location delete number = removes number
     location other_method number = removes number
 
-    by : (p : Path) → NoteFacts (step.Commit place) s (write_done p rows moment place s m).sent (write_done p rows moment place s m).notes
+    by : (p : Path)
+        → NoteFacts (step.Commit place) s (write_done p rows moment place s m).sent
+        (write_done p rows moment place s m).notes
     by path.Core = tt
-    by path.SimpleRd = simple (is_fetching s.peer (events rows)) (nat_le max_fetches (length (fetches (events rows))))
-    by path.Rd = outcome (registering rows moment s m) (good_registering rows moment s m) (registering-notes of_change (λ entry. refl) (λ peer key number octets. refl) (λ peer key. refl) rows moment s m)
+    by path.SimpleRd =
+        simple (is_fetching s.peer (events rows))
+        (nat_le max_fetches (length (fetches (events rows))))
+    by path.Rd =
+        outcome (registering rows moment s m) (good_registering rows moment s m)
+        (registering-notes of_change (λ entry. refl) (λ peer key number octets. refl)
+        (λ peer key. refl) rows moment s m)
     by (path.Location number) = location (method_of m.code) number
     by path.Res = tt
     by path.Ep = tt
@@ -337,15 +622,25 @@ response_tells _ h = refl
 
 -- a request that is heard
 request_facts : (rows : List Row) (moment : ℕ) (s : Step) (m : Message) → reading s.datagram ≡ Ok m
-    → NoteFacts step.Admit s (request_answered (refusal_of_request m) rows moment s m).sent (request_answered (refusal_of_request m) rows moment s m).notes
+    → NoteFacts step.Admit s (request_answered (refusal_of_request m) rows moment s m).sent
+    (request_answered (refusal_of_request m) rows moment s m).notes
 unfolding served
 request_facts rows moment s m read = by (refusal_of_request m)
   where
-    written : NoteFacts step.Admit s (write_effects (events rows) moment s m).sent (write_effects (events rows) moment s m).notes
-    written = quiet_facts of_write write_tells step.Admit s (write_effects (events rows) moment s m).sent (write_effects (events rows) moment s m).notes (write_effects-notes (events rows) moment s m)
+    written : NoteFacts step.Admit s (write_effects (events rows) moment s m).sent
+        (write_effects (events rows) moment s m).notes
+    written =
+        quiet_facts of_write write_tells step.Admit s (write_effects (events rows) moment s m).sent
+        (write_effects (events rows) moment s m).notes
+        (write_effects-notes (events rows) moment s m)
 
-    on : (p : Path) → path_in m ≡ p → NoteFacts step.Admit s (served p rows moment s m).sent (served p rows moment s m).notes
-    on path.Core at = no_facts step.Admit s (look_effects (entries rows) moment s m).sent (look_effects (entries rows) moment s m).notes (look_effects-notes (entries rows) moment s m)
+    on : (p : Path)
+        → path_in m ≡ p
+        → NoteFacts step.Admit s (served p rows moment s m).sent (served p rows moment s m).notes
+    on path.Core at =
+        no_facts step.Admit s (look_effects (entries rows) moment s m).sent
+        (look_effects (entries rows) moment s m).notes
+        (look_effects-notes (entries rows) moment s m)
     on path.Res at = lookup_facts rows moment s m read (ap is_lookup at)
     on path.Ep at = lookup_facts rows moment s m read (ap is_lookup at)
     on path.SimpleRd at = written
@@ -353,49 +648,76 @@ request_facts rows moment s m read = by (refusal_of_request m)
     on (path.Location number) at = written
     on path.Other at = tt
 
-    by : (refusal : Option Reply) → NoteFacts step.Admit s (request_answered refusal rows moment s m).sent (request_answered refusal rows moment s m).notes
+    by : (refusal : Option Reply)
+        → NoteFacts step.Admit s (request_answered refusal rows moment s m).sent
+        (request_answered refusal rows moment s m).notes
     by (Some refusal) =
-        no_facts step.Admit s (refusal_answered m.kind (first_bad_option m.options) s m refusal).sent (refusal_answered m.kind (first_bad_option m.options) s m refusal).notes
+        no_facts step.Admit s
+        (refusal_answered m.kind (first_bad_option m.options) s m refusal).sent
+        (refusal_answered m.kind (first_bad_option m.options) s m refusal).notes
         (refusal_notes m.kind (first_bad_option m.options) s m refusal)
     by None = on (path_in m) refl
 
 -- a message that is heard
-role_facts : (r : Role) (starved : Bool) (rows : List Row) (moment : ℕ) (s : Step) (m : Message) → reading s.datagram ≡ Ok m
-    → NoteFacts step.Admit s (message_effects r starved rows moment s m).sent (message_effects r starved rows moment s m).notes
+role_facts : (r : Role) (starved : Bool) (rows : List Row) (moment : ℕ) (s : Step) (m : Message)
+    → reading s.datagram ≡ Ok m
+    → NoteFacts step.Admit s (message_effects r starved rows moment s m).sent
+    (message_effects r starved rows moment s m).notes
 unfolding answering
 role_facts role.Ping starved rows moment s m read = tt
 role_facts role.Acknowledgement starved rows moment s m read =
-    quiet_facts of_empty empty_tells step.Admit s (acknowledged s.peer m.mid (events rows)).sent (acknowledged s.peer m.mid (events rows)).notes (acknowledged-notes s.peer m.mid (events rows))
+    quiet_facts of_empty empty_tells step.Admit s (acknowledged s.peer m.mid (events rows)).sent
+    (acknowledged s.peer m.mid (events rows)).notes
+    (acknowledged-notes s.peer m.mid (events rows))
 role_facts role.Reset starved rows moment s m read =
-    quiet_facts of_empty empty_tells step.Admit s (reset s.peer m.mid (events rows)).sent (reset s.peer m.mid (events rows)).notes (reset-notes s.peer m.mid (events rows))
+    quiet_facts of_empty empty_tells step.Admit s (reset s.peer m.mid (events rows)).sent
+    (reset s.peer m.mid (events rows)).notes (reset-notes s.peer m.mid (events rows))
 role_facts role.Request true rows moment s m read = tt
 role_facts role.Request false rows moment s m read = request_facts rows moment s m read
 role_facts role.Response true rows moment s m read = tt
 role_facts role.Response false rows moment s m read =
-    quiet_facts of_response response_tells step.Admit s (response_effects rows moment s m).sent (response_effects rows moment s m).notes (response_effects-notes rows moment s m)
+    quiet_facts of_response response_tells step.Admit s (response_effects rows moment s m).sent
+    (response_effects rows moment s m).notes (response_effects-notes rows moment s m)
 role_facts role.Ignored starved rows moment s m read = tt
 
 -- any step but a tick
-pub effects_facts : (kind : StepKind) (starved : Bool) (rows : List Row) (moment : ℕ) (s : Step) → IsNoTick kind → ((m : Message) → reading s.datagram ≡ Ok m → IsForRequest kind m)
-    → NoteFacts kind s (effects kind starved rows moment s).sent (effects kind starved rows moment s).notes
+pub effects_facts : (kind : StepKind) (starved : Bool) (rows : List Row) (moment : ℕ) (s : Step)
+    → IsNoTick kind
+    → ((m : Message) → reading s.datagram ≡ Ok m → IsForRequest kind m)
+    → NoteFacts kind s (effects kind starved rows moment s).sent
+    (effects kind starved rows moment s).notes
 unfolding effects keep_effects answering
 effects_facts step.Admit starved rows moment s no_tick fair = by (reading s.datagram) refl
   where
-    by : (read : Result Message Unread) → reading s.datagram ≡ read → NoteFacts step.Admit s (heard starved rows moment s read).sent (heard starved rows moment s read).notes
-    by (Err fault) e = no_facts step.Admit s (unread_answered s fault).sent (unread_answered s fault).notes (unread_notes s fault)
+    by : (read : Result Message Unread)
+        → reading s.datagram ≡ read
+        → NoteFacts step.Admit s (heard starved rows moment s read).sent
+        (heard starved rows moment s read).notes
+    by (Err fault) e =
+        no_facts step.Admit s (unread_answered s fault).sent (unread_answered s fault).notes
+        (unread_notes s fault)
     by (Ok m) e = role_facts (role_of m.kind m.code) starved rows moment s m e
 effects_facts step.Look starved rows moment s no_tick fair =
-    no_facts step.Look s (looked starved (entries rows) moment s (reading s.datagram)).sent (looked starved (entries rows) moment s (reading s.datagram)).notes
+    no_facts step.Look s (looked starved (entries rows) moment s (reading s.datagram)).sent
+    (looked starved (entries rows) moment s (reading s.datagram)).notes
     (looked_notes starved (entries rows) moment s (reading s.datagram))
-effects_facts (step.Commit place) starved rows moment s no_tick fair = by starved (reading s.datagram) refl
+effects_facts (step.Commit place) starved rows moment s no_tick fair =
+    by starved (reading s.datagram) refl
   where
-    by : (b : Bool) (read : Result Message Unread) → reading s.datagram ≡ read → NoteFacts (step.Commit place) s (done b rows moment place s read).sent (done b rows moment place s read).notes
+    by : (b : Bool) (read : Result Message Unread)
+        → reading s.datagram ≡ read
+        → NoteFacts (step.Commit place) s (done b rows moment place s read).sent
+        (done b rows moment place s read).notes
     by b (Err fault) e = tt
     by true (Ok m) e = (tt, tt)
     by false (Ok m) e = commit_facts rows moment place s m e (fair m e)
-effects_facts (step.Keep body current) starved rows moment s no_tick fair = by starved (reading s.datagram) refl
+effects_facts (step.Keep body current) starved rows moment s no_tick fair =
+    by starved (reading s.datagram) refl
   where
-    by : (b : Bool) (read : Result Message Unread) → reading s.datagram ≡ read → NoteFacts (step.Keep body current) s (kept_body b s read body current).sent (kept_body b s read body current).notes
+    by : (b : Bool) (read : Result Message Unread)
+        → reading s.datagram ≡ read
+        → NoteFacts (step.Keep body current) s (kept_body b s read body current).sent
+        (kept_body b s read body current).notes
     by b (Err fault) e = tt
     by true (Ok m) e = tt
     by false (Ok m) e = ((fair m e).1, tt)

@@ -1,6 +1,42 @@
--- What each step but a tick sends: datagrams that can be read and fit, to the peer of the step; a response among them has the token of the step's request,
--- or of the write that it repeats, and is not confirmable.
-use Rattle.std.proofs.Common.{◌≡◌, ◌⊎◌, inl, ℕ, ◌+◌, ◌<◌, ◌≤◌, ◌==◌, ◌&&◌, Bool, true, false, cond, List, [], ◌∷◌, length, Option, Some, None, option_map, codes, nat_le, bytes_eq, is_none, Result, Ok, Err, refl, sym, ap, subst, ◌∙◌, arith}
+-- What each step but a tick sends: datagrams that can be read and fit, to the peer of the step; a
+-- response among them has the token of the step's request, or of the write that it repeats, and is
+-- not confirmable.
+use Rattle.std.proofs.Common.{
+  ◌≡◌,
+  ◌⊎◌,
+  inl,
+  ℕ,
+  ◌+◌,
+  ◌<◌,
+  ◌≤◌,
+  ◌==◌,
+  ◌&&◌,
+  Bool,
+  true,
+  false,
+  cond,
+  List,
+  [],
+  ◌∷◌,
+  length,
+  Option,
+  Some,
+  None,
+  option_map,
+  codes,
+  nat_le,
+  bytes_eq,
+  is_none,
+  Result,
+  Ok,
+  Err,
+  refl,
+  sym,
+  ap,
+  subst,
+  ◌∙◌,
+  arith,
+}
 use Rattle.std.specs.List.{AllByRecursion}
 use Rattle.std.proofs.lemmas.Bool.{and_parts, false≢true}
 use Rattle.std.proofs.lemmas.Slice.Eq.{bytes_eq-Decides}
@@ -35,38 +71,164 @@ use Rattle.event_model.specs.Events.{Event}
 use Rattle.event_model.specs.Repeats.{repeated, settled, is_full_of_exchanges}
 use Rattle.event_model.specs.KeptAnswers.{Answer, kept_answer}
 use Rattle.event_model.specs.Observers.{observers, has_room_for, observe_value}
-use Rattle.event_model.specs.Fetches.{Request, max_fetches, fetches, is_fetching, next_token, last_request, gathered, collected}
+use Rattle.event_model.specs.Fetches.{
+  Request,
+  max_fetches,
+  fetches,
+  is_fetching,
+  next_token,
+  last_request,
+  gathered,
+  collected,
+}
 use Rattle.journal_model.specs.declared.steps.Step.{Step}
 use Rattle.journal_model.specs.declared.steps.StepKind.{StepKind}
 use Rattle.journal_model.specs.declared.steps.StepKind.TheVariants as step
 use Rattle.journal_model.specs.declared.rows.Row.{Row}
 use Rattle.journal_model.specs.Journal.{events, entries}
-use Rattle.journal_model.specs.Effects.{Reply, bare, diagnostic, answer_kind, answer_mid, answer, answering, empty_message, mid_of, drawn_for}
-use Rattle.journal_model.specs.Requests.{refusal_of_request, asked_block, number_of, szx_of, query_of, register, deregister, is_later_block, Method, get, post, put, delete, other_method, method_of}
+use Rattle.journal_model.specs.Effects.{
+  Reply,
+  bare,
+  diagnostic,
+  answer_kind,
+  answer_mid,
+  answer,
+  answering,
+  empty_message,
+  mid_of,
+  drawn_for,
+}
+use Rattle.journal_model.specs.Requests.{
+  refusal_of_request,
+  asked_block,
+  number_of,
+  szx_of,
+  query_of,
+  register,
+  deregister,
+  is_later_block,
+  Method,
+  get,
+  post,
+  put,
+  delete,
+  other_method,
+  method_of,
+}
 use Rattle.journal_model.specs.Bodies.{is_long, body_reply}
 use Rattle.journal_model.specs.Sought.{listing_of, sought_at, body}
-use Rattle.journal_model.specs.Looks.{names_tag, unless_long, unless_valid, look_for, look, look_sent, look_effects, looked, keep_effects}
-use Rattle.journal_model.specs.Lookups.{listing_now, block_now, block_of_kept, later_block, without, observed_if, observed, unobserved, observation_effects, first_block_effects, block_effects, lookup_effects}
+use Rattle.journal_model.specs.Looks.{
+  names_tag,
+  unless_long,
+  unless_valid,
+  look_for,
+  look,
+  look_sent,
+  look_effects,
+  looked,
+  keep_effects,
+}
+use Rattle.journal_model.specs.Lookups.{
+  listing_now,
+  block_now,
+  block_of_kept,
+  later_block,
+  without,
+  observed_if,
+  observed,
+  unobserved,
+  observation_effects,
+  first_block_effects,
+  block_effects,
+  lookup_effects,
+}
 use Rattle.journal_model.specs.Writes.{again_answered, admitted_unless, write_unless, write_effects}
 use Rattle.journal_model.specs.Changes.{Outcome}
 use Rattle.journal_model.specs.Registrations.{registering}
-use Rattle.journal_model.specs.Commits.{settling, updating, removing, fetch_request, simple_unless, on_location, write_done, commit_effects}
+use Rattle.journal_model.specs.Commits.{
+  settling,
+  updating,
+  removing,
+  fetch_request,
+  simple_unless,
+  on_location,
+  write_done,
+  commit_effects,
+}
 use Rattle.journal_model.specs.EmptyMessages.{acknowledged, reset}
-use Rattle.journal_model.specs.Responses.{has_mid_of, is_response_to, answered_request, request_of, fetch_of, strange, acknowledgement, more_follow, block_in, is_elsewhere, ends_fetch, gathering, response_taken, response_to, response_to_request, response_effects}
-use Rattle.journal_model.specs.Rows.{served, refusal_answered, unread_answered, request_answered, message_effects, heard, done, kept_body, effects}
-use Rattle.journal_model.specs.SentDatagrams.{IsFitting, is_response, AnswersRequest, AnswersRepeat, IsForRequest}
+use Rattle.journal_model.specs.Responses.{
+  has_mid_of,
+  is_response_to,
+  answered_request,
+  request_of,
+  fetch_of,
+  strange,
+  acknowledgement,
+  more_follow,
+  block_in,
+  is_elsewhere,
+  ends_fetch,
+  gathering,
+  response_taken,
+  response_to,
+  response_to_request,
+  response_effects,
+}
+use Rattle.journal_model.specs.Rows.{
+  served,
+  refusal_answered,
+  unread_answered,
+  request_answered,
+  message_effects,
+  heard,
+  done,
+  kept_body,
+  effects,
+}
+use Rattle.journal_model.specs.SentDatagrams.{
+  IsFitting,
+  is_response,
+  AnswersRequest,
+  AnswersRepeat,
+  IsForRequest,
+}
 use Rattle.journal_model.proofs.MessageSizeLaws.{spelling-most}
 use Rattle.journal_model.proofs.observers.ObserversKnow.{IsNoTick}
-use Rattle.journal_model.proofs.sends.BodyAnswers.{block_value-length, same_message, tag-length, request-usable, szx-usable}
+use Rattle.journal_model.proofs.sends.BodyAnswers.{
+  block_value-length,
+  same_message,
+  tag-length,
+  request-usable,
+  szx-usable,
+}
 use Rattle.journal_model.proofs.sends.ValidSends.{is_confirmable, answer_apart}
-use Rattle.journal_model.proofs.datagrams.FittingReplies.{IsGoodReply, reply_read, reply_fits, good_bare, good_starved, good_unavailable, good_refusal, good_part_reply, good_body_reply, good_valid, good_change, good_registering}
+use Rattle.journal_model.proofs.datagrams.FittingReplies.{
+  IsGoodReply,
+  reply_read,
+  reply_fits,
+  good_bare,
+  good_starved,
+  good_unavailable,
+  good_refusal,
+  good_part_reply,
+  good_body_reply,
+  good_valid,
+  good_change,
+  good_registering,
+}
 
 -- a datagram of a step that is no tick, after rows
 pub record IsOwn (rows : List Row) (s : Step) (d : Peer × List ℕ) : Type 0 where
   pub fits : IsFitting d.1
   pub to : d.0 ≡ s.peer
-  pub answers : (m : Message) → reading d.1 ≡ Ok m → is_response m ≡ true → AnswersRequest s m ⊎ AnswersRepeat rows s m
-  pub confirmable : (m : Message) → reading d.1 ≡ Ok m → is_confirmable d.1 ≡ true → is_response m ≡ false
+  pub answers : (m : Message)
+      → reading d.1 ≡ Ok m
+      → is_response m ≡ true
+      → AnswersRequest s m ⊎ AnswersRepeat rows s m
+  pub confirmable : (m : Message)
+      → reading d.1 ≡ Ok m
+      → is_confirmable d.1 ≡ true
+      → is_response m ≡ false
 
 -- all that is sent is so
 abbrev pub AreOwn : List Row → Step → List (Peer × List ℕ) → Type 0
@@ -75,12 +237,17 @@ AreOwn rows s sent = AllByRecursion (IsOwn rows s) sent
 -- ---- one datagram
 
 -- no answer is confirmable
-pub answer_unconfirmable : (s : Step) (m : Message) (reply : Reply) → is_confirmable (spelling (answer s m reply)) ≡ false
+pub answer_unconfirmable : (s : Step) (m : Message) (reply : Reply)
+    → is_confirmable (spelling (answer s m reply)) ≡ false
 unfolding spelling header_spelling
 answer_unconfirmable s m reply = answer_apart m.kind (length m.token)
 
 -- an answer
-pub own_answer : (rows : List Row) (s : Step) (m : Message) (reply : Reply) → reading s.datagram ≡ Ok m → role_of m.kind m.code ≡ role.Request → IsGoodReply reply → IsOwn rows s (s.peer, spelling (answer s m reply))
+pub own_answer : (rows : List Row) (s : Step) (m : Message) (reply : Reply)
+    → reading s.datagram ≡ Ok m
+    → role_of m.kind m.code ≡ role.Request
+    → IsGoodReply reply
+    → IsOwn rows s (s.peer, spelling (answer s m reply))
 own_answer rows s m reply read asks good = record {
   fits = reply_fits (answer_kind m.kind) (answer_mid s m m.kind) m.token reply small good;
   to = refl;
@@ -88,7 +255,11 @@ own_answer rows s m reply read asks good = record {
     request = m;
     read = read;
     asks = asks;
-    token = ap (λ (x : Message). x.token) (sym (same_message (answer s m reply) n (spelling (answer s m reply)) (reply_read (answer_kind m.kind) (answer_mid s m m.kind) m.token reply small good) e));
+    token =
+        ap (λ (x : Message). x.token)
+        (sym (same_message (answer s m reply) n (spelling (answer s m reply))
+        (reply_read (answer_kind m.kind) (answer_mid s m m.kind) m.token reply small
+        good) e));
   });
   confirmable = λ n e con. absurd (false≢true (sym (answer_unconfirmable s m reply) ∙ con));
 }
@@ -97,12 +268,20 @@ own_answer rows s m reply read asks good = record {
     small = (header_read s.datagram m read).token
 
 -- alone
-pub own_answering : (rows : List Row) (s : Step) (m : Message) (reply : Reply) (notes : List Note) → reading s.datagram ≡ Ok m → role_of m.kind m.code ≡ role.Request → IsGoodReply reply → AreOwn rows s (answering s m reply notes).sent
+pub own_answering : (rows : List Row) (s : Step) (m : Message) (reply : Reply) (notes : List Note)
+    → reading s.datagram ≡ Ok m
+    → role_of m.kind m.code ≡ role.Request
+    → IsGoodReply reply
+    → AreOwn rows s (answering s m reply notes).sent
 unfolding answering
 own_answering rows s m reply notes read asks good = (own_answer rows s m reply read asks good, tt)
 
 -- a message that is no response
-own_other : (rows : List Row) (s : Step) (m : Message) → reading (spelling m) ≡ Ok m → length (spelling m) ≤ 1_280 → is_response m ≡ false → IsOwn rows s (s.peer, spelling m)
+own_other : (rows : List Row) (s : Step) (m : Message)
+    → reading (spelling m) ≡ Ok m
+    → length (spelling m) ≤ 1_280
+    → is_response m ≡ false
+    → IsOwn rows s (s.peer, spelling m)
 own_other rows s m read short other = record {
   fits = record { message = m; read = read; short = short };
   to = refl;
@@ -111,58 +290,124 @@ own_other rows s m read short other = record {
 }
   where
     no_response : (n : Message) → reading (spelling m) ≡ Ok n → is_response n ≡ false
-    no_response n e = subst (λ (x : Message). is_response x ≡ false) (same_message m n (spelling m) read e) other
+    no_response n e =
+        subst (λ (x : Message). is_response x ≡ false) (same_message m n (spelling m) read e) other
 
 -- an empty message, a Reset or an acknowledgement
-own_empty : (rows : List Row) (s : Step) (kind : Kind4) (mid : ℕ) → is_response (empty_message kind mid) ≡ false → IsOwn rows s (s.peer, spelling (empty_message kind mid))
+own_empty : (rows : List Row) (s : Step) (kind : Kind4) (mid : ℕ)
+    → is_response (empty_message kind mid) ≡ false
+    → IsOwn rows s (s.peer, spelling (empty_message kind mid))
 own_empty rows s kind mid other =
     own_other rows s (empty_message kind mid)
-    (reading_in_order (empty_message kind mid) (record { class = refl; token = omega arith; options = tt; empty = λ e. record { token = refl; options = refl; payload = refl } }))
+    (reading_in_order (empty_message kind mid)
+    (record {
+      class = refl;
+      token = omega arith;
+      options = tt;
+      empty =
+          λ e. record { token = refl; options = refl; payload = refl };
+    }))
     (let most = spelling-most (empty_message kind mid) in omega (arith, most)) other
 
-own_reset : (rows : List Row) (s : Step) (mid : ℕ) → IsOwn rows s (s.peer, spelling (empty_message Rst mid))
+own_reset : (rows : List Row) (s : Step) (mid : ℕ)
+    → IsOwn rows s (s.peer, spelling (empty_message Rst mid))
 own_reset rows s mid = own_empty rows s Rst mid refl
 
-own_acknowledgement : (rows : List Row) (s : Step) (mid : ℕ) → IsOwn rows s (s.peer, spelling (empty_message Ack mid))
+own_acknowledgement : (rows : List Row) (s : Step) (mid : ℕ)
+    → IsOwn rows s (s.peer, spelling (empty_message Ack mid))
 own_acknowledgement rows s mid = own_empty rows s Ack mid refl
 
 -- a request of a fetch
-own_request : (rows : List Row) (s : Step) (mid : ℕ) (token : List ℕ) (b : Option Block) → length token ≤ longest_token → IsOwn rows s (s.peer, spelling (fetch_request mid token b))
+own_request : (rows : List Row) (s : Step) (mid : ℕ) (token : List ℕ) (b : Option Block)
+    → length token ≤ longest_token
+    → IsOwn rows s (s.peer, spelling (fetch_request mid token b))
 own_request rows s mid token b small = by b
   where
     by : (x : Option Block) → IsOwn rows s (s.peer, spelling (fetch_request mid token x))
     by None = own_other rows s (fetch_request mid token None)
-        (reading_in_order (fetch_request mid token None) (record { class = refl; token = small; options = (omega arith, omega arith, omega arith, (omega arith, omega arith, omega arith, tt)); empty = λ e. absurd (omega (arith, e)) }))
+        (reading_in_order (fetch_request mid token None)
+        (record {
+          class = refl;
+          token = small;
+          options = (
+            omega arith,
+            omega arith,
+            omega arith,
+            (omega arith, omega arith, omega arith, tt),
+          );
+          empty =
+              λ e. absurd (omega (arith, e));
+        }))
         (let most = spelling-most (fetch_request mid token None) in omega (arith, most, small)) refl
     by (Some x) = own_other rows s (fetch_request mid token (Some x))
         (reading_in_order (fetch_request mid token (Some x))
-        (record { class = refl; token = small; options = (omega arith, omega arith, omega arith, (omega arith, omega arith, omega arith, (omega arith, omega arith, (let h = block_value-length x in omega (arith, h)), tt))); empty = λ e. absurd (omega (arith, e)) }))
-        (let most = spelling-most (fetch_request mid token (Some x)) in let h = block_value-length x in omega (arith, most, small, h)) refl
+        (record {
+          class = refl;
+          token = small;
+          options = (
+            omega arith,
+            omega arith,
+            omega arith,
+            (
+              omega arith,
+              omega arith,
+              omega arith,
+              (
+                omega arith,
+                omega arith,
+                (let h = block_value-length x in omega (arith, h)),
+                tt,
+              ),
+            ),
+          );
+          empty =
+              λ e. absurd (omega (arith, e));
+        }))
+        (let most = spelling-most (fetch_request mid token (Some x)) in
+        let h = block_value-length x in omega (arith, most, small, h)) refl
 
 -- ---- what is known of the rows before
 
 -- the answer that a repeat gets is one of its step, and a kept answer has a tag of eight octets
 pub record KnownBefore (rows : List Row) : Type 0 where
-  pub repeats : (s : Step) (m : Message) (moment : ℕ) (first : Event) (octets : List ℕ) → reading s.datagram ≡ Ok m → role_of m.kind m.code ≡ role.Request → repeated moment s.peer m.mid (events rows) ≡ Some first → settled first.place (events rows) ≡ Some octets
+  pub repeats : (s : Step) (m : Message) (moment : ℕ) (first : Event) (octets : List ℕ)
+      → reading s.datagram ≡ Ok m
+      → role_of m.kind m.code ≡ role.Request
+      → repeated moment s.peer m.mid (events rows) ≡ Some first
+      → settled first.place (events rows) ≡ Some octets
       → IsOwn rows s (s.peer, octets)
-  pub kept : (moment : ℕ) (name : RequestName) (found : Answer) → kept_answer moment name (events rows) ≡ Some found → length found.tag ≡ 8
+  pub kept : (moment : ℕ) (name : RequestName) (found : Answer)
+      → kept_answer moment name (events rows) ≡ Some found
+      → length found.tag ≡ 8
 
 -- ---- steps
 
 -- a write as it is heard
-write_own : (rows : List Row) (moment : ℕ) (s : Step) (m : Message) → KnownBefore rows → reading s.datagram ≡ Ok m → role_of m.kind m.code ≡ role.Request → AreOwn rows s (write_effects (events rows) moment s m).sent
+write_own : (rows : List Row) (moment : ℕ) (s : Step) (m : Message)
+    → KnownBefore rows
+    → reading s.datagram ≡ Ok m
+    → role_of m.kind m.code ≡ role.Request
+    → AreOwn rows s (write_effects (events rows) moment s m).sent
 unfolding write_effects
 write_own rows moment s m past read asks = by (repeated moment s.peer m.mid (events rows)) refl
   where
-    again : (first : Event) → repeated moment s.peer m.mid (events rows) ≡ Some first → (octets : Option (List ℕ)) → settled first.place (events rows) ≡ octets → AreOwn rows s (again_answered s octets).sent
+    again : (first : Event)
+        → repeated moment s.peer m.mid (events rows) ≡ Some first
+        → (octets : Option (List ℕ))
+        → settled first.place (events rows) ≡ octets
+        → AreOwn rows s (again_answered s octets).sent
     again first found None e = tt
     again first found (Some octets) e = (past.repeats s m moment first octets read asks found e, tt)
 
     full : (b : Bool) → AreOwn rows s (admitted_unless b s m).sent
-    full true = own_answering rows s m (diagnostic codes_of.service_unavailable (codes "exchanges")) [] read asks (good_unavailable (codes "exchanges") (omega arith))
+    full true =
+        own_answering rows s m (diagnostic codes_of.service_unavailable (codes "exchanges")) [] read
+        asks (good_unavailable (codes "exchanges") (omega arith))
     full false = tt
 
-    by : (first : Option Event) → repeated moment s.peer m.mid (events rows) ≡ first → AreOwn rows s (write_unless first (events rows) moment s m).sent
+    by : (first : Option Event)
+        → repeated moment s.peer m.mid (events rows) ≡ first
+        → AreOwn rows s (write_unless first (events rows) moment s m).sent
     by (Some first) found = again first found (settled first.place (events rows)) refl
     by None found = full (is_full_of_exchanges moment (events rows))
 
@@ -171,23 +416,41 @@ usable : (m : Message) → szx_of (asked_block m) < 7
 usable m = szx-usable (asked_block m) (request-usable m)
 
 -- a look
-look_own : (rows : List Row) (history : List Entry) (moment : ℕ) (s : Step) (m : Message) → reading s.datagram ≡ Ok m → role_of m.kind m.code ≡ role.Request → AreOwn rows s (look_effects history moment s m).sent
+look_own : (rows : List Row) (history : List Entry) (moment : ℕ) (s : Step) (m : Message)
+    → reading s.datagram ≡ Ok m
+    → role_of m.kind m.code ≡ role.Request
+    → AreOwn rows s (look_effects history moment s m).sent
 unfolding look_effects look
 look_own rows history moment s m read asks = by (path_in m)
   where
-    long : (b : Bool) (found : Answer) → length found.tag ≡ 8 → AreOwn rows s (look_sent s m (Some (unless_long b m found))).sent
+    long : (b : Bool) (found : Answer)
+        → length found.tag ≡ 8
+        → AreOwn rows s (look_sent s m (Some (unless_long b m found))).sent
     long true found short = tt
-    long false found short = own_answering rows s m (body_reply (Some found.tag) None (asked_block m) found.body) [] read asks (good_body_reply (Some found.tag) None (asked_block m) found.body short (usable m))
+    long false found short =
+        own_answering rows s m (body_reply (Some found.tag) None (asked_block m) found.body) [] read
+        asks (good_body_reply (Some found.tag) None (asked_block m) found.body short (usable m))
 
-    valid : (b : Bool) (found : Answer) → length found.tag ≡ 8 → AreOwn rows s (look_sent s m (Some (unless_valid b m found))).sent
+    valid : (b : Bool) (found : Answer)
+        → length found.tag ≡ 8
+        → AreOwn rows s (look_sent s m (Some (unless_valid b m found))).sent
     valid true found short = own_answering rows s m _ [] read asks (good_valid found.tag short)
     valid false found short = long (is_long (asked_block m) found.body) found short
 
-    lists : AreOwn rows s (look_sent s m (Some (look_for history moment m (listing_of (query_of m))))).sent
-    lists = valid (names_tag (tag history moment) m) (record { body = listing (query_of m) history moment; tag = tag history moment }) (tag-length history moment)
+    lists : AreOwn rows s
+        (look_sent s m (Some (look_for history moment m (listing_of (query_of m))))).sent
+    lists =
+        valid (names_tag (tag history moment) m)
+        (record { body = listing (query_of m) history moment; tag = tag history moment })
+        (tag-length history moment)
 
-    by : (p : Path) → AreOwn rows s (look_sent s m (option_map (look_for history moment m) (sought_at p (query_of m)))).sent
-    by path.Core = own_answering rows s m (body_reply None None (asked_block m) (discovery (query_of m))) [] read asks (good_body_reply None None (asked_block m) (discovery (query_of m)) tt (usable m))
+    by : (p : Path)
+        → AreOwn rows s
+        (look_sent s m (option_map (look_for history moment m) (sought_at p (query_of m)))).sent
+    by path.Core =
+        own_answering rows s m (body_reply None None (asked_block m) (discovery (query_of m))) []
+        read asks
+        (good_body_reply None None (asked_block m) (discovery (query_of m)) tt (usable m))
     by path.SimpleRd = tt
     by path.Rd = tt
     by (path.Location number) = tt
@@ -196,7 +459,11 @@ look_own rows history moment s m read asks = by (path_in m)
     by path.Other = tt
 
 -- a lookup that the journal takes part in
-lookup_own : (rows : List Row) (moment : ℕ) (s : Step) (m : Message) → KnownBefore rows → reading s.datagram ≡ Ok m → role_of m.kind m.code ≡ role.Request → AreOwn rows s (lookup_effects rows moment s m).sent
+lookup_own : (rows : List Row) (moment : ℕ) (s : Step) (m : Message)
+    → KnownBefore rows
+    → reading s.datagram ≡ Ok m
+    → role_of m.kind m.code ≡ role.Request
+    → AreOwn rows s (lookup_effects rows moment s m).sent
 unfolding lookup_effects later_block observed unobserved
 lookup_own rows moment s m past read asks = by (is_later_block m)
   where
@@ -206,22 +473,48 @@ lookup_own rows moment s m past read asks = by (is_later_block m)
     short : length (tag (entries rows) moment) ≡ 8
     short = tag-length (entries rows) moment
 
-    now_block : (part : Option (List ℕ × Bool)) → block_of (listing_now rows moment m).body (number_of (asked_block m)) (szx_of (asked_block m)) ≡ part → AreOwn rows s (block_now s m (listing_now rows moment m) part).sent
-    now_block None cut = own_answering rows s m _ [] read asks (good_part_reply (Some (tag (entries rows) moment)) None (asked_block m) (listing_now rows moment m).body None short (usable m) cut)
-    now_block (Some part) cut = own_answering rows s m _ _ read asks (good_part_reply (Some (tag (entries rows) moment)) None (asked_block m) (listing_now rows moment m).body (Some part) short (usable m) cut)
+    now_block : (part : Option (List ℕ × Bool))
+        → block_of (listing_now rows moment m).body (number_of (asked_block m))
+        (szx_of (asked_block m))
+        ≡ part
+        → AreOwn rows s (block_now s m (listing_now rows moment m) part).sent
+    now_block None cut =
+        own_answering rows s m _ [] read asks
+        (good_part_reply (Some (tag (entries rows) moment)) None (asked_block m)
+        (listing_now rows moment m).body None short (usable m) cut)
+    now_block (Some part) cut =
+        own_answering rows s m _ _ read asks
+        (good_part_reply (Some (tag (entries rows) moment)) None (asked_block m)
+        (listing_now rows moment m).body (Some part) short (usable m) cut)
 
-    later : (found : Option Answer) → kept_answer moment (s.peer, key_in m) (events rows) ≡ found → AreOwn rows s (block_of_kept s m (listing_now rows moment m) found).sent
-    later (Some found) e = own_answering rows s m (body_reply (Some found.tag) None (asked_block m) found.body) _ read asks (good_body_reply (Some found.tag) None (asked_block m) found.body (past.kept moment (s.peer, key_in m) found e) (usable m))
-    later None e = now_block (block_of (listing_now rows moment m).body (number_of (asked_block m)) (szx_of (asked_block m))) refl
+    later : (found : Option Answer)
+        → kept_answer moment (s.peer, key_in m) (events rows) ≡ found
+        → AreOwn rows s (block_of_kept s m (listing_now rows moment m) found).sent
+    later (Some found) e =
+        own_answering rows s m (body_reply (Some found.tag) None (asked_block m) found.body) _ read
+        asks (good_body_reply (Some found.tag) None (asked_block m) found.body
+        (past.kept moment (s.peer, key_in m) found e) (usable m))
+    later None e =
+        now_block (block_of (listing_now rows moment m).body (number_of (asked_block m))
+        (szx_of (asked_block m))) refl
 
-    with_value : (b : Bool) → AreOwn rows s (observed_if b rows s m (listing_now rows moment m)).sent
-    with_value true = own_answering rows s m (body_reply (Some (tag (entries rows) moment)) (Some (observe_value (events rows))) (asked_block m) (listing_now rows moment m).body) _ read asks
-        (good_body_reply (Some (tag (entries rows) moment)) (Some (observe_value (events rows))) (asked_block m) (listing_now rows moment m).body short (usable m))
-    with_value false = own_answering rows s m (body_reply (Some (tag (entries rows) moment)) None (asked_block m) (listing_now rows moment m).body) _ read asks
-        (good_body_reply (Some (tag (entries rows) moment)) None (asked_block m) (listing_now rows moment m).body short (usable m))
+    with_value : (b : Bool)
+        → AreOwn rows s (observed_if b rows s m (listing_now rows moment m)).sent
+    with_value true =
+        own_answering rows s m
+        (body_reply (Some (tag (entries rows) moment)) (Some (observe_value (events rows)))
+        (asked_block m) (listing_now rows moment m).body) _ read asks
+        (good_body_reply (Some (tag (entries rows) moment)) (Some (observe_value (events rows)))
+        (asked_block m) (listing_now rows moment m).body short (usable m))
+    with_value false =
+        own_answering rows s m (body_reply (Some (tag (entries rows) moment)) None (asked_block m)
+        (listing_now rows moment m).body) _ read asks
+        (good_body_reply (Some (tag (entries rows) moment)) None (asked_block m)
+        (listing_now rows moment m).body short (usable m))
 
     valued : (b c : Bool) → AreOwn rows s (observation_effects b c rows moment s m).sent
-    valued true c = with_value (has_room_for (query_of m) (without (s.peer, m.token) (observers (events rows))))
+    valued true c =
+        with_value (has_room_for (query_of m) (without (s.peer, m.token) (observers (events rows))))
     valued false true = with_value false
     valued false false = look_own rows (entries rows) moment s m read asks
 
@@ -234,11 +527,17 @@ lookup_own rows moment s m past read asks = by (is_later_block m)
     by false = observe (observe_in m)
 
 -- a request that is heard
-request_own : (rows : List Row) (moment : ℕ) (s : Step) (m : Message) → KnownBefore rows → reading s.datagram ≡ Ok m → role_of m.kind m.code ≡ role.Request → AreOwn rows s (request_answered (refusal_of_request m) rows moment s m).sent
+request_own : (rows : List Row) (moment : ℕ) (s : Step) (m : Message)
+    → KnownBefore rows
+    → reading s.datagram ≡ Ok m
+    → role_of m.kind m.code ≡ role.Request
+    → AreOwn rows s (request_answered (refusal_of_request m) rows moment s m).sent
 unfolding served
 request_own rows moment s m past read asks = by (refusal_of_request m) refl
   where
-    refused : (kind : Kind4) (bad : Option ℕ) (reply : Reply) → IsGoodReply reply → AreOwn rows s (refusal_answered kind bad s m reply).sent
+    refused : (kind : Kind4) (bad : Option ℕ) (reply : Reply)
+        → IsGoodReply reply
+        → AreOwn rows s (refusal_answered kind bad s m reply).sent
     refused Non (Some number) reply good = tt
     refused Non None reply good = own_answering rows s m reply [] read asks good
     refused Con bad reply good = own_answering rows s m reply [] read asks good
@@ -254,8 +553,11 @@ request_own rows moment s m past read asks = by (refusal_of_request m) refl
     on (path.Location number) = write_own rows moment s m past read asks
     on path.Other = tt
 
-    by : (refusal : Option Reply) → refusal_of_request m ≡ refusal → AreOwn rows s (request_answered refusal rows moment s m).sent
-    by (Some refusal) e = refused m.kind (first_bad_option m.options) refusal (good_refusal m refusal e)
+    by : (refusal : Option Reply)
+        → refusal_of_request m ≡ refusal
+        → AreOwn rows s (request_answered refusal rows moment s m).sent
+    by (Some refusal) e =
+        refused m.kind (first_bad_option m.options) refusal (good_refusal m refusal e)
     by None e = on (path_in m)
 
 -- a new token has eight octets
@@ -264,7 +566,10 @@ unfolding next_token
 next_short past = omega arith
 
 -- a commit of a write
-commit_own : (rows : List Row) (moment place : ℕ) (s : Step) (m : Message) → reading s.datagram ≡ Ok m → role_of m.kind m.code ≡ role.Request → AreOwn rows s (commit_effects rows moment place s m).sent
+commit_own : (rows : List Row) (moment place : ℕ) (s : Step) (m : Message)
+    → reading s.datagram ≡ Ok m
+    → role_of m.kind m.code ≡ role.Request
+    → AreOwn rows s (commit_effects rows moment place s m).sent
 unfolding commit_effects answering
 commit_own rows moment place s m read asks = by (path_in m)
   where
@@ -277,24 +582,47 @@ commit_own rows moment place s m read asks = by (path_in m)
     outcome : (o : Outcome) → IsGoodReply o.reply → AreOwn rows s (settling place s m o).sent
     outcome o good = (own_answer rows s m o.reply read asks good, tt)
 
-    simple : (running too_many : Bool) → AreOwn rows s (simple_unless running too_many (events rows) place s m).sent
-    simple true too_many = (own_answer rows s m (diagnostic codes_of.service_unavailable (codes "fetching")) read asks (good_unavailable (codes "fetching") (omega arith)), tt)
-    simple false true = (own_answer rows s m (diagnostic codes_of.service_unavailable (codes "fetches")) read asks (good_unavailable (codes "fetches") (omega arith)), tt)
-    simple false false = (own_answer rows s m (bare codes_of.changed) read asks changed_reply, (own_request rows s (mid_of s.worker (s.drawn + drawn_for m.kind)) (next_token (events rows)) None (next_short (events rows)), tt))
+    simple : (running too_many : Bool)
+        → AreOwn rows s (simple_unless running too_many (events rows) place s m).sent
+    simple true too_many = (
+      own_answer rows s m (diagnostic codes_of.service_unavailable (codes "fetching")) read asks
+          (good_unavailable (codes "fetching") (omega arith)),
+      tt,
+    )
+    simple false true = (
+      own_answer rows s m (diagnostic codes_of.service_unavailable (codes "fetches")) read asks
+          (good_unavailable (codes "fetches") (omega arith)),
+      tt,
+    )
+    simple false false = (
+      own_answer rows s m (bare codes_of.changed) read asks changed_reply,
+      (
+        own_request rows s (mid_of s.worker (s.drawn + drawn_for m.kind))
+            (next_token (events rows)) None (next_short (events rows)),
+        tt,
+      ),
+    )
 
     removes : (number : ℕ) → AreOwn rows s (settling place s m (removing rows moment s number)).sent
-    removes number = outcome (removing rows moment s number) (good_change (entries rows) _ _ (λ e. deleted_reply))
+    removes number =
+        outcome (removing rows moment s number)
+        (good_change (entries rows) _ _ (λ e. deleted_reply))
 
-    location : (w : Method) (number : ℕ) → AreOwn rows s (on_location w rows moment place s m number).sent
+    location : (w : Method) (number : ℕ)
+        → AreOwn rows s (on_location w rows moment place s m number).sent
     location get number = removes number
-    location post number = outcome (updating rows moment s m number) (good_change (entries rows) _ _ (λ e. changed_reply))
+    location post number =
+        outcome (updating rows moment s m number)
+        (good_change (entries rows) _ _ (λ e. changed_reply))
     location put number = removes number
     location delete number = removes number
     location other_method number = removes number
 
     by : (p : Path) → AreOwn rows s (write_done p rows moment place s m).sent
     by path.Core = tt
-    by path.SimpleRd = simple (is_fetching s.peer (events rows)) (nat_le max_fetches (length (fetches (events rows))))
+    by path.SimpleRd =
+        simple (is_fetching s.peer (events rows))
+        (nat_le max_fetches (length (fetches (events rows))))
     by path.Rd = outcome (registering rows moment s m) (good_registering rows moment s m)
     by (path.Location number) = location (method_of m.code) number
     by path.Res = tt
@@ -302,14 +630,22 @@ commit_own rows moment place s m read asks = by (path_in m)
     by path.Other = tt
 
 -- the token of a request that a response is to is the response's
-fetch_token : (s : Step) (m : Message) (past : List Event) (request : Request) → fetch_of s m past ≡ Some request → m.token ≡ request.token
+fetch_token : (s : Step) (m : Message) (past : List Event) (request : Request)
+    → fetch_of s m past ≡ Some request
+    → m.token ≡ request.token
 fetch_token s m past request found = running (is_fetching s.peer past) found
   where
-    same : (b : Bool) (other : Request) → is_response_to m other ≡ b → cond b (Some other) None ≡ Some request → m.token ≡ request.token
+    same : (b : Bool) (other : Request)
+        → is_response_to m other ≡ b
+        → cond b (Some other) None ≡ Some request
+        → m.token ≡ request.token
     same true other e h =
         let it : other ≡ request = cc in
-        let parts = and_parts (bytes_eq m.token other.token && has_mid_of m.kind m.mid other.mid) (is_none (first_bad_option m.options)) e in
-        let token = and_parts (bytes_eq m.token other.token) (has_mid_of m.kind m.mid other.mid) parts.0 in
+        let parts =
+        and_parts (bytes_eq m.token other.token && has_mid_of m.kind m.mid other.mid)
+        (is_none (first_bad_option m.options)) e in
+        let token =
+        and_parts (bytes_eq m.token other.token) (has_mid_of m.kind m.mid other.mid) parts.0 in
         (bytes_eq-Decides m.token other.token).0 token.0 ∙ ap (λ (r : Request). r.token) it
     same false other e h = absurd (let no : None ≡ Some request = h in cc)
 
@@ -317,12 +653,16 @@ fetch_token s m past request found = running (is_fetching s.peer past) found
     of None h = absurd (let no : None ≡ Some request = h in cc)
     of (Some other) h = same (is_response_to m other) other refl h
 
-    running : (b : Bool) → cond b (answered_request m (request_of (last_request s.peer past))) None ≡ Some request → m.token ≡ request.token
+    running : (b : Bool)
+        → cond b (answered_request m (request_of (last_request s.peer past))) None ≡ Some request
+        → m.token ≡ request.token
     running true h = of (request_of (last_request s.peer past)) h
     running false h = absurd (let no : None ≡ Some request = h in cc)
 
 -- a response
-response_own : (rows : List Row) (moment : ℕ) (s : Step) (m : Message) → reading s.datagram ≡ Ok m → AreOwn rows s (response_effects rows moment s m).sent
+response_own : (rows : List Row) (moment : ℕ) (s : Step) (m : Message)
+    → reading s.datagram ≡ Ok m
+    → AreOwn rows s (response_effects rows moment s m).sent
 unfolding response_effects
 response_own rows moment s m read = by (fetch_of s m (events rows)) refl
   where
@@ -338,39 +678,57 @@ response_own rows moment s m read = by (fetch_of s m (events rows)) refl
     acknowledges Ack = tt
     acknowledges Rst = tt
 
-    gathers : (more : Bool) (b : Option Block) (request : Request) → length request.token ≤ 8 → AreOwn rows s (gathering more b rows moment s m request).sent
+    gathers : (more : Bool) (b : Option Block) (request : Request)
+        → length request.token ≤ 8
+        → AreOwn rows s (gathering more b rows moment s m request).sent
     gathers more None request small = tt
     gathers false (Some b) request small = tt
-    gathers true (Some b) request small = (own_request rows s (mid_of s.worker s.drawn) request.token (Some (record { num = b.num + 1; more = false; szx = b.szx })) small, tt)
+    gathers true (Some b) request small = (
+      own_request rows s (mid_of s.worker s.drawn) request.token
+          (Some (record { num = b.num + 1; more = false; szx = b.szx })) small,
+      tt,
+    )
 
-    taken : (elsewhere over : Bool) (request : Request) → length request.token ≤ 8 → AreOwn rows s (response_taken elsewhere over rows moment s m request).sent
+    taken : (elsewhere over : Bool) (request : Request)
+        → length request.token ≤ 8
+        → AreOwn rows s (response_taken elsewhere over rows moment s m request).sent
     taken true over request small = tt
     taken false true request small = tt
     taken false false request small = gathers (more_follow (block_in m)) (block_in m) request small
 
-    by : (o : Option Request) → fetch_of s m (events rows) ≡ o → AreOwn rows s (response_to_request o rows moment s m).sent
+    by : (o : Option Request)
+        → fetch_of s m (events rows) ≡ o
+        → AreOwn rows s (response_to_request o rows moment s m).sent
     by None e = foreign m.kind
     by (Some request) e =
         let token = (header_read s.datagram m read).token in
         let same = fetch_token s m (events rows) request e in
-        each_append (IsOwn rows s) (acknowledgement s m m.kind).sent (response_to rows moment s m request).sent (acknowledges m.kind)
+        each_append (IsOwn rows s) (acknowledgement s m m.kind).sent
+        (response_to rows moment s m request).sent (acknowledges m.kind)
         (taken (is_elsewhere (block_in m) (length (collected s.peer (events rows))))
-        (ends_fetch m (gathered s.peer (events rows)) (length (collected s.peer (events rows)))) request (subst (λ (t : List ℕ). length t ≤ 8) same token))
+        (ends_fetch m (gathered s.peer (events rows)) (length (collected s.peer (events rows))))
+        request (subst (λ (t : List ℕ). length t ≤ 8) same token))
 
 -- a message that is heard
-role_own : (r : Role) (starved : Bool) (rows : List Row) (moment : ℕ) (s : Step) (m : Message) → KnownBefore rows → reading s.datagram ≡ Ok m → role_of m.kind m.code ≡ r → AreOwn rows s (message_effects r starved rows moment s m).sent
+role_own : (r : Role) (starved : Bool) (rows : List Row) (moment : ℕ) (s : Step) (m : Message)
+    → KnownBefore rows
+    → reading s.datagram ≡ Ok m
+    → role_of m.kind m.code ≡ r
+    → AreOwn rows s (message_effects r starved rows moment s m).sent
 unfolding acknowledged reset
 role_own role.Ping starved rows moment s m past read is = (own_reset rows s m.mid, tt)
 role_own role.Acknowledgement starved rows moment s m past read is = tt
 role_own role.Reset starved rows moment s m past read is = tt
-role_own role.Request true rows moment s m past read is = own_answering rows s m (bare codes_of.internal_server_error) [] read is good_starved
+role_own role.Request true rows moment s m past read is =
+    own_answering rows s m (bare codes_of.internal_server_error) [] read is good_starved
 role_own role.Request false rows moment s m past read is = request_own rows moment s m past read is
 role_own role.Response true rows moment s m past read is = tt
 role_own role.Response false rows moment s m past read is = response_own rows moment s m read
 role_own role.Ignored starved rows moment s m past read is = tt
 
 -- what is no message
-unread_own : (rows : List Row) (s : Step) (fault : Unread) → AreOwn rows s (unread_answered s fault).sent
+unread_own : (rows : List Row) (s : Step) (fault : Unread)
+    → AreOwn rows s (unread_answered s fault).sent
 unread_own rows s unread.Short = tt
 unread_own rows s unread.Version = tt
 unread_own rows s (unread.Format Con mid) = (own_reset rows s mid, tt)
@@ -379,29 +737,50 @@ unread_own rows s (unread.Format Ack mid) = tt
 unread_own rows s (unread.Format Rst mid) = tt
 
 -- any step but a tick
-pub effects_own : (kind : StepKind) (starved : Bool) (rows : List Row) (moment : ℕ) (s : Step) → IsNoTick kind → ((m : Message) → reading s.datagram ≡ Ok m → IsForRequest kind m) → KnownBefore rows → AreOwn rows s (effects kind starved rows moment s).sent
+pub effects_own : (kind : StepKind) (starved : Bool) (rows : List Row) (moment : ℕ) (s : Step)
+    → IsNoTick kind
+    → ((m : Message) → reading s.datagram ≡ Ok m → IsForRequest kind m)
+    → KnownBefore rows
+    → AreOwn rows s (effects kind starved rows moment s).sent
 unfolding effects keep_effects
 effects_own step.Admit starved rows moment s no_tick fair past = by (reading s.datagram) refl
   where
-    by : (read : Result Message Unread) → reading s.datagram ≡ read → AreOwn rows s (heard starved rows moment s read).sent
+    by : (read : Result Message Unread)
+        → reading s.datagram ≡ read
+        → AreOwn rows s (heard starved rows moment s read).sent
     by (Err fault) e = unread_own rows s fault
     by (Ok m) e = role_own (role_of m.kind m.code) starved rows moment s m past e refl
 effects_own step.Look starved rows moment s no_tick fair past = by starved (reading s.datagram) refl
   where
-    by : (b : Bool) (read : Result Message Unread) → reading s.datagram ≡ read → AreOwn rows s (looked b (entries rows) moment s read).sent
+    by : (b : Bool) (read : Result Message Unread)
+        → reading s.datagram ≡ read
+        → AreOwn rows s (looked b (entries rows) moment s read).sent
     by b (Err fault) e = tt
-    by true (Ok m) e = own_answering rows s m (bare codes_of.internal_server_error) [] e (fair m e) good_starved
+    by true (Ok m) e =
+        own_answering rows s m (bare codes_of.internal_server_error) [] e (fair m e) good_starved
     by false (Ok m) e = look_own rows (entries rows) moment s m e (fair m e)
-effects_own (step.Commit place) starved rows moment s no_tick fair past = by starved (reading s.datagram) refl
+effects_own (step.Commit place) starved rows moment s no_tick fair past =
+    by starved (reading s.datagram) refl
   where
-    by : (b : Bool) (read : Result Message Unread) → reading s.datagram ≡ read → AreOwn rows s (done b rows moment place s read).sent
+    by : (b : Bool) (read : Result Message Unread)
+        → reading s.datagram ≡ read
+        → AreOwn rows s (done b rows moment place s read).sent
     by b (Err fault) e = tt
-    by true (Ok m) e = own_answering rows s m (bare codes_of.internal_server_error) (note.Failed place ∷ []) e (fair m e) good_starved
+    by true (Ok m) e =
+        own_answering rows s m (bare codes_of.internal_server_error) (note.Failed place ∷ []) e
+        (fair m e) good_starved
     by false (Ok m) e = commit_own rows moment place s m e (fair m e)
-effects_own (step.Keep body current) starved rows moment s no_tick fair past = by starved (reading s.datagram) refl
+effects_own (step.Keep body current) starved rows moment s no_tick fair past =
+    by starved (reading s.datagram) refl
   where
-    by : (b : Bool) (read : Result Message Unread) → reading s.datagram ≡ read → AreOwn rows s (kept_body b s read body current).sent
+    by : (b : Bool) (read : Result Message Unread)
+        → reading s.datagram ≡ read
+        → AreOwn rows s (kept_body b s read body current).sent
     by b (Err fault) e = tt
-    by true (Ok m) e = own_answering rows s m (bare codes_of.internal_server_error) [] e (fair m e).0 good_starved
-    by false (Ok m) e = own_answering rows s m (body_reply (Some current) None (asked_block m) body) _ e (fair m e).0 (good_body_reply (Some current) None (asked_block m) body (fair m e).1 (usable m))
+    by true (Ok m) e =
+        own_answering rows s m (bare codes_of.internal_server_error) [] e (fair m e).0 good_starved
+    by false (Ok m) e =
+        own_answering rows s m (body_reply (Some current) None (asked_block m) body) _ e
+        (fair m e).0
+        (good_body_reply (Some current) None (asked_block m) body (fair m e).1 (usable m))
 effects_own step.Tick starved rows moment s no_tick fair past = absurd no_tick

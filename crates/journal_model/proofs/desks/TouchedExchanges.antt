@@ -1,5 +1,25 @@
 -- What a row notes of exchanges: nothing, one new admission, or the end of the one that it commits.
-use Rattle.std.proofs.Common.{◌≡◌, ℕ, ◌==◌, Bool, true, false, List, [], ◌∷◌, length, Option, Some, None, Ok, refl, sym, ap, subst, ◌∙◌}
+use Rattle.std.proofs.Common.{
+  ◌≡◌,
+  ℕ,
+  ◌==◌,
+  Bool,
+  true,
+  false,
+  List,
+  [],
+  ◌∷◌,
+  length,
+  Option,
+  Some,
+  None,
+  Ok,
+  refl,
+  sym,
+  ap,
+  subst,
+  ◌∙◌,
+}
 use Rattle.std.specs.Prelude.{nat_le}
 use Rattle.std.proofs.lemmas.Bool.{false≢true}
 use Rattle.rd_base.proofs.lemmas.Numbers.{eqb-refl}
@@ -24,12 +44,36 @@ use Rattle.journal_model.specs.Journal.{events, entries}
 use Rattle.journal_model.specs.Effects.{answer, answering}
 use Rattle.journal_model.specs.Changes.{Outcome}
 use Rattle.journal_model.specs.Registrations.{registering}
-use Rattle.journal_model.specs.Commits.{settling, simple_unless, on_location, write_done, commit_effects, updating, removing}
+use Rattle.journal_model.specs.Commits.{
+  settling,
+  simple_unless,
+  on_location,
+  write_done,
+  commit_effects,
+  updating,
+  removing,
+}
 use Rattle.journal_model.specs.Writes.{again_answered, admitted_unless, write_unless, write_effects}
 use Rattle.journal_model.specs.Rows.{effects, row_moment, row}
-use Rattle.journal_model.proofs.NoteKinds.{of_lookup, of_empty, of_tick, of_response, are, are-append, are-weaker}
-use Rattle.journal_model.proofs.StepNotes.{keep_effects-notes, lookup_effects-notes, tick_effects-notes}
-use Rattle.journal_model.proofs.notes.ChangeNotes.{change_made-notes, registering-notes, response_effects-notes}
+use Rattle.journal_model.proofs.NoteKinds.{
+  of_lookup,
+  of_empty,
+  of_tick,
+  of_response,
+  are,
+  are-append,
+  are-weaker,
+}
+use Rattle.journal_model.proofs.StepNotes.{
+  keep_effects-notes,
+  lookup_effects-notes,
+  tick_effects-notes,
+}
+use Rattle.journal_model.proofs.notes.ChangeNotes.{
+  change_made-notes,
+  registering-notes,
+  response_effects-notes,
+}
 use Rattle.journal_model.proofs.notes.StepTable.{StepNoted, effects-StepNoted}
 use Rattle.journal_model.proofs.notes.StepTable as noted
 use Rattle.journal_model.specs.Requests.{Method, get, post, put, delete, other_method, method_of}
@@ -42,10 +86,20 @@ ends_at place (note.Failed p) = p == place
 ends_at place _ = true
 
 -- nothing; or one new admission; or the end of the one that is committed
-pub data Touches (kind : StepKind) (rows : List Row) (moment : ℕ) (s : Step) (notes : List Note) : Type 0 where
+pub data Touches (kind : StepKind) (rows : List Row) (moment : ℕ) (s : Step) (notes : List Note) :
+    Type 0 where
   aside : are is_aside notes ≡ true → Touches kind rows moment s notes
-  admits : (m : Message) → kind ≡ step.Admit → reading s.datagram ≡ Ok m → role_of m.kind m.code ≡ role.Request → notes ≡ note.Admitted s.peer m.mid ∷ [] → repeated moment s.peer m.mid (events rows) ≡ None → Touches kind rows moment s notes
-  ends : (place : ℕ) → kind ≡ step.Commit place → are (ends_at place) notes ≡ true → Touches kind rows moment s notes
+  admits : (m : Message)
+      → kind ≡ step.Admit
+      → reading s.datagram ≡ Ok m
+      → role_of m.kind m.code ≡ role.Request
+      → notes ≡ note.Admitted s.peer m.mid ∷ []
+      → repeated moment s.peer m.mid (events rows) ≡ None
+      → Touches kind rows moment s notes
+  ends : (place : ℕ)
+      → kind ≡ step.Commit place
+      → are (ends_at place) notes ≡ true
+      → Touches kind rows moment s notes
 
 -- notes of kinds that have nothing to do with exchanges
 lookup_aside : (n : Note) → of_lookup n ≡ true → is_aside n ≡ true
@@ -73,7 +127,10 @@ response_aside (note.Failed place) h = absurd (false≢true h)
 response_aside _ h = refl
 
 -- a write as it is heard
-write_touches : (rows : List Row) (moment : ℕ) (s : Step) (m : Message) → reading s.datagram ≡ Ok m → role_of m.kind m.code ≡ role.Request → Touches step.Admit rows moment s (write_effects (events rows) moment s m).notes
+write_touches : (rows : List Row) (moment : ℕ) (s : Step) (m : Message)
+    → reading s.datagram ≡ Ok m
+    → role_of m.kind m.code ≡ role.Request
+    → Touches step.Admit rows moment s (write_effects (events rows) moment s m).notes
 unfolding write_effects answering
 write_touches rows moment s m read asks = by (repeated moment s.peer m.mid (events rows)) refl
   where
@@ -81,62 +138,104 @@ write_touches rows moment s m read asks = by (repeated moment s.peer m.mid (even
     again None = refl
     again (Some octets) = refl
 
-    full : (b : Bool) → repeated moment s.peer m.mid (events rows) ≡ None → Touches step.Admit rows moment s (admitted_unless b s m).notes
+    full : (b : Bool)
+        → repeated moment s.peer m.mid (events rows) ≡ None
+        → Touches step.Admit rows moment s (admitted_unless b s m).notes
     full true none = aside refl
     full false none = admits m refl read asks refl none
 
-    by : (first : Option Event) → repeated moment s.peer m.mid (events rows) ≡ first → Touches step.Admit rows moment s (write_unless first (events rows) moment s m).notes
+    by : (first : Option Event)
+        → repeated moment s.peer m.mid (events rows) ≡ first
+        → Touches step.Admit rows moment s (write_unless first (events rows) moment s m).notes
     by (Some first) found = aside (ap (are is_aside) (again (settled first.place (events rows))))
     by None none = full (is_full_of_exchanges moment (events rows)) none
 
 -- a commit ends its own admission at most
-commit_ends : (rows : List Row) (moment place : ℕ) (s : Step) (m : Message) → are (ends_at place) (commit_effects rows moment place s m).notes ≡ true
+commit_ends : (rows : List Row) (moment place : ℕ) (s : Step) (m : Message)
+    → are (ends_at place) (commit_effects rows moment place s m).notes ≡ true
 unfolding commit_effects answering
 commit_ends rows moment place s m = by (path_in m)
   where
     its : (octets : List ℕ) → are (ends_at place) (note.Settled place octets ∷ []) ≡ true
     its octets = rw (eqb-refl place) refl
 
-    settled_at : (outcome : Outcome) → are (ends_at place) outcome.notes ≡ true → are (ends_at place) (settling place s m outcome).notes ≡ true
-    settled_at outcome h = are-append (ends_at place) outcome.notes (note.Settled place (spelling (answer s m outcome.reply)) ∷ []) h (its (spelling (answer s m outcome.reply)))
+    settled_at : (outcome : Outcome)
+        → are (ends_at place) outcome.notes ≡ true
+        → are (ends_at place) (settling place s m outcome).notes ≡ true
+    settled_at outcome h =
+        are-append (ends_at place) outcome.notes
+        (note.Settled place (spelling (answer s m outcome.reply)) ∷ []) h
+        (its (spelling (answer s m outcome.reply)))
 
-    simple : (running too_many : Bool) → are (ends_at place) (simple_unless running too_many (events rows) place s m).notes ≡ true
+    simple : (running too_many : Bool)
+        → are (ends_at place) (simple_unless running too_many (events rows) place s m).notes ≡ true
     simple true too_many = rw (eqb-refl place) refl
     simple false true = rw (eqb-refl place) refl
     simple false false = rw (eqb-refl place) refl
 
-    location : (w : Method) (number : ℕ) → are (ends_at place) (on_location w rows moment place s m number).notes ≡ true
-    location get number = settled_at (removing rows moment s number) (change_made-notes (ends_at place) (λ entry. refl) (entries rows) _ _ refl)
-    location post number = settled_at (updating rows moment s m number) (change_made-notes (ends_at place) (λ entry. refl) (entries rows) _ _ refl)
-    location put number = settled_at (removing rows moment s number) (change_made-notes (ends_at place) (λ entry. refl) (entries rows) _ _ refl)
-    location delete number = settled_at (removing rows moment s number) (change_made-notes (ends_at place) (λ entry. refl) (entries rows) _ _ refl)
-    location other_method number = settled_at (removing rows moment s number) (change_made-notes (ends_at place) (λ entry. refl) (entries rows) _ _ refl)
+    location : (w : Method) (number : ℕ)
+        → are (ends_at place) (on_location w rows moment place s m number).notes ≡ true
+    location get number =
+        settled_at (removing rows moment s number)
+        (change_made-notes (ends_at place) (λ entry. refl) (entries rows) _ _ refl)
+    location post number =
+        settled_at (updating rows moment s m number)
+        (change_made-notes (ends_at place) (λ entry. refl) (entries rows) _ _ refl)
+    location put number =
+        settled_at (removing rows moment s number)
+        (change_made-notes (ends_at place) (λ entry. refl) (entries rows) _ _ refl)
+    location delete number =
+        settled_at (removing rows moment s number)
+        (change_made-notes (ends_at place) (λ entry. refl) (entries rows) _ _ refl)
+    location other_method number =
+        settled_at (removing rows moment s number)
+        (change_made-notes (ends_at place) (λ entry. refl) (entries rows) _ _ refl)
 
     by : (p : Path) → are (ends_at place) (write_done p rows moment place s m).notes ≡ true
     by path.Core = refl
-    by path.SimpleRd = simple (is_fetching s.peer (events rows)) (nat_le max_fetches (length (fetches (events rows))))
-    by path.Rd = settled_at (registering rows moment s m) (registering-notes (ends_at place) (λ entry. refl) (λ peer key number octets. refl) (λ peer key. refl) rows moment s m)
+    by path.SimpleRd =
+        simple (is_fetching s.peer (events rows))
+        (nat_le max_fetches (length (fetches (events rows))))
+    by path.Rd =
+        settled_at (registering rows moment s m)
+        (registering-notes (ends_at place) (λ entry. refl) (λ peer key number octets. refl)
+        (λ peer key. refl) rows moment s m)
     by (path.Location number) = location (method_of m.code) number
     by path.Res = refl
     by path.Ep = refl
     by path.Other = refl
 
 -- any step
-effects-Touches : (kind : StepKind) (starved : Bool) (rows : List Row) (moment : ℕ) (s : Step) → Touches kind rows moment s (effects kind starved rows moment s).notes
-effects-Touches kind starved rows moment s = by (effects kind starved rows moment s).notes (effects-StepNoted kind starved rows moment s)
+effects-Touches : (kind : StepKind) (starved : Bool) (rows : List Row) (moment : ℕ) (s : Step)
+    → Touches kind rows moment s (effects kind starved rows moment s).notes
+effects-Touches kind starved rows moment s =
+    by (effects kind starved rows moment s).notes (effects-StepNoted kind starved rows moment s)
   where
     by : (ns : List Note) → StepNoted kind starved rows moment s ns → Touches kind rows moment s ns
     by ns (noted.nothing blank) = aside (ap (are is_aside) blank)
-    by ns (noted.write m here read asks is) = subst (λ (k : StepKind). Touches k rows moment s ns) (sym here) (subst (Touches step.Admit rows moment s) (sym is) (write_touches rows moment s m read asks))
-    by ns (noted.lookup m here read at is) = aside (are-weaker of_lookup is_aside lookup_aside ns (ap (are of_lookup) is ∙ lookup_effects-notes rows moment s m))
+    by ns (noted.write m here read asks is) =
+        subst (λ (k : StepKind). Touches k rows moment s ns) (sym here)
+        (subst (Touches step.Admit rows moment s) (sym is)
+        (write_touches rows moment s m read asks))
+    by ns (noted.lookup m here read at is) =
+        aside (are-weaker of_lookup is_aside lookup_aside ns
+        (ap (are of_lookup) is ∙ lookup_effects-notes rows moment s m))
     by ns (noted.empty here all) = aside (are-weaker of_empty is_aside empty_aside ns all)
-    by ns (noted.response m here read responds is) = aside (are-weaker of_response is_aside response_aside ns (ap (are of_response) is ∙ response_effects-notes rows moment s m))
-    by ns (noted.commit m place commits read is) = ends place commits (ap (are (ends_at place)) is ∙ commit_ends rows moment place s m)
-    by ns (noted.failed place commits is) = ends place commits (ap (are (ends_at place)) is ∙ rw (eqb-refl place) refl)
-    by ns (noted.keep m body tag keeps is) = aside (ap (are is_aside) (is ∙ keep_effects-notes s m body tag))
-    by ns (noted.tick ticks is) = aside (are-weaker of_tick is_aside tick_aside ns (ap (are of_tick) is ∙ tick_effects-notes starved rows moment s))
+    by ns (noted.response m here read responds is) =
+        aside (are-weaker of_response is_aside response_aside ns
+        (ap (are of_response) is ∙ response_effects-notes rows moment s m))
+    by ns (noted.commit m place commits read is) =
+        ends place commits (ap (are (ends_at place)) is ∙ commit_ends rows moment place s m)
+    by ns (noted.failed place commits is) =
+        ends place commits (ap (are (ends_at place)) is ∙ rw (eqb-refl place) refl)
+    by ns (noted.keep m body tag keeps is) =
+        aside (ap (are is_aside) (is ∙ keep_effects-notes s m body tag))
+    by ns (noted.tick ticks is) =
+        aside (are-weaker of_tick is_aside tick_aside ns
+        (ap (are of_tick) is ∙ tick_effects-notes starved rows moment s))
 
 -- the row of a step
-pub row-Touches : (rows : List Row) (s : Step) (starved : Bool) → Touches s.kind rows (row rows s starved).moment.0 s (row rows s starved).notes
+pub row-Touches : (rows : List Row) (s : Step) (starved : Bool)
+    → Touches s.kind rows (row rows s starved).moment.0 s (row rows s starved).notes
 unfolding row
 row-Touches rows s starved = effects-Touches s.kind starved rows (row_moment rows s) s

@@ -1,5 +1,32 @@
--- Steps that change the registrations: commits. A commit has an entry exactly where its answer reports a change; the entry comes next after the history, and is the only one.
-use Rattle.std.proofs.Common.{◌≡◌, ℕ, ◌+◌, Bool, true, false, List, [], ◌∷◌, ◌++◌, length, Option, Some, None, is_some, codes, refl, ap, ◌∙◌, nat_lt, nat_le, Result, Ok, Err, sym}
+-- Steps that change the registrations: commits. A commit has an entry exactly where its answer
+-- reports a change; the entry comes next after the history, and is the only one.
+use Rattle.std.proofs.Common.{
+  ◌≡◌,
+  ℕ,
+  ◌+◌,
+  Bool,
+  true,
+  false,
+  List,
+  [],
+  ◌∷◌,
+  ◌++◌,
+  length,
+  Option,
+  Some,
+  None,
+  is_some,
+  codes,
+  refl,
+  ap,
+  ◌∙◌,
+  nat_lt,
+  nat_le,
+  Result,
+  Ok,
+  Err,
+  sym,
+}
 use Rattle.std.proofs.lemmas.Bool.{false≢true}
 use Rattle.rd_base.specs.declared.parameters.RegParams.{RegParams}
 use Rattle.rd_base.specs.declared.submitted_links.SubmittedLink.{SubmittedLink}
@@ -26,10 +53,53 @@ use Rattle.journal_model.specs.declared.steps.Step.{Step}
 use Rattle.journal_model.specs.declared.rows.Row.{Row}
 use Rattle.journal_model.specs.Journal.{events, entries}
 use Rattle.journal_model.specs.Effects.{answering}
-use Rattle.journal_model.specs.Requests.{Method, get, post, put, delete, other_method, method_of, is_location, sent_block}
-use Rattle.journal_model.specs.Changes.{Outcome, refused_as, entered_unless, change_made, BodyRead, bad_body, good_body, limited_links, links_or_bad, body_read, registered_links, registration, created_at, number_after, entry_of_step}
-use Rattle.journal_model.specs.Registrations.{collected_before, is_one_too_many, block_taken, block_unless, block_after, block_uploaded, registration_outcome, registering}
-use Rattle.journal_model.specs.Commits.{settling, updating, removing, simple_unless, on_location, write_done, commit_effects}
+use Rattle.journal_model.specs.Requests.{
+  Method,
+  get,
+  post,
+  put,
+  delete,
+  other_method,
+  method_of,
+  is_location,
+  sent_block,
+}
+use Rattle.journal_model.specs.Changes.{
+  Outcome,
+  refused_as,
+  entered_unless,
+  change_made,
+  BodyRead,
+  bad_body,
+  good_body,
+  limited_links,
+  links_or_bad,
+  body_read,
+  registered_links,
+  registration,
+  created_at,
+  number_after,
+  entry_of_step,
+}
+use Rattle.journal_model.specs.Registrations.{
+  collected_before,
+  is_one_too_many,
+  block_taken,
+  block_unless,
+  block_after,
+  block_uploaded,
+  registration_outcome,
+  registering,
+}
+use Rattle.journal_model.specs.Commits.{
+  settling,
+  updating,
+  removing,
+  simple_unless,
+  on_location,
+  write_done,
+  commit_effects,
+}
 use Rattle.journal_model.specs.PlacedRows.{code_sent}
 use Rattle.journal_model.specs.HoldsEachOnce.{names_location, is_code_of_change}
 use Rattle.journal_model.proofs.EntriesNoted.{entries_in, NotesNext, none, one, entries_in-append}
@@ -39,35 +109,59 @@ use Rattle.message_model.specs.Spelling.{spelling, header_spelling}
 use Rattle.journal_model.specs.declared.steps.StepKind.TheVariants as step
 use Rattle.journal_model.specs.Rows.{done, effects}
 
--- no entry beside an answer that reports no change, or one that comes next beside an answer that reports one
-pub data ChangeEntry (history : List Entry) (moment : ℕ) (notes : List Note) (reports : Bool) : Type 0 where
+-- no entry beside an answer that reports no change, or one that comes next beside an answer that
+-- reports one
+pub data ChangeEntry (history : List Entry) (moment : ℕ) (notes : List Note) (reports : Bool) : Type
+    0 where
   no_change : entries_in notes ≡ [] → reports ≡ false → ChangeEntry history moment notes reports
-  one_change : (entry : Entry) → entries_in notes ≡ entry ∷ [] → entry.moment.0 ≡ moment → HasGoodBody entry.change → change_refusal 0 history entry ≡ None → reports ≡ true
+  one_change : (entry : Entry)
+      → entries_in notes ≡ entry ∷ []
+      → entry.moment.0 ≡ moment
+      → HasGoodBody entry.change
+      → change_refusal 0 history entry ≡ None
+      → reports ≡ true
       → ChangeEntry history moment notes reports
 
 -- so the notes have no entry, or one that comes next
-pub ChangeEntry-NotesNext : (history : List Entry) (moment : ℕ) (notes : List Note) (reports : Bool) → ChangeEntry history moment notes reports → NotesNext history moment notes
+pub ChangeEntry-NotesNext : (history : List Entry) (moment : ℕ) (notes : List Note) (reports : Bool)
+    → ChangeEntry history moment notes reports
+    → NotesNext history moment notes
 ChangeEntry-NotesNext history moment notes reports (no_change h r) = none h
-ChangeEntry-NotesNext history moment notes reports (one_change entry h at good accepted r) = one entry h at good accepted
+ChangeEntry-NotesNext history moment notes reports (one_change entry h at good accepted r) =
+    one entry h at good accepted
 
 -- and they have one, or none, as the answer reports
-pub ChangeEntry-one : (history : List Entry) (moment : ℕ) (notes : List Note) (reports : Bool) → ChangeEntry history moment notes reports → reports ≡ true → length (entries_in notes) ≡ 1
+pub ChangeEntry-one : (history : List Entry) (moment : ℕ) (notes : List Note) (reports : Bool)
+    → ChangeEntry history moment notes reports
+    → reports ≡ true
+    → length (entries_in notes) ≡ 1
 ChangeEntry-one history moment notes reports (no_change h r) e = absurd (false≢true (sym r ∙ e))
 ChangeEntry-one history moment notes reports (one_change entry h at good accepted r) e = ap length h
 
 -- where it reports no change, they have none
-pub ChangeEntry-none : (history : List Entry) (moment : ℕ) (notes : List Note) (reports : Bool) → ChangeEntry history moment notes reports → reports ≡ false → entries_in notes ≡ []
+pub ChangeEntry-none : (history : List Entry) (moment : ℕ) (notes : List Note) (reports : Bool)
+    → ChangeEntry history moment notes reports
+    → reports ≡ false
+    → entries_in notes ≡ []
 ChangeEntry-none history moment notes reports (no_change h r) e = h
-ChangeEntry-none history moment notes reports (one_change entry h at good accepted r) e = absurd (false≢true (sym e ∙ r))
+ChangeEntry-none history moment notes reports (one_change entry h at good accepted r) e =
+    absurd (false≢true (sym e ∙ r))
 
 -- what comes of a write, for a path that is a location or is none
 abbrev pub OutcomeEntry : List Entry → ℕ → Outcome → Bool → Type 0
-OutcomeEntry history moment outcome of_location = ChangeEntry history moment outcome.notes (is_code_of_change outcome.reply.code of_location)
+OutcomeEntry history moment outcome of_location =
+    ChangeEntry history moment outcome.notes (is_code_of_change outcome.reply.code of_location)
 
 -- a change is refused, or its entry is noted
-change_made-OutcomeEntry : (history : List Entry) (moment : ℕ) (entry : Entry) (outcome : Outcome) (l : Bool) → entry.moment.0 ≡ moment → HasGoodBody entry.change → entries_in outcome.notes ≡ []
-    → is_code_of_change outcome.reply.code l ≡ true → OutcomeEntry history moment (change_made history entry outcome) l
-change_made-OutcomeEntry history moment entry outcome l at good silent reports = by (change_refusal 0 history entry) refl
+change_made-OutcomeEntry : (history : List Entry) (moment : ℕ) (entry : Entry) (outcome : Outcome)
+    (l : Bool)
+    → entry.moment.0 ≡ moment
+    → HasGoodBody entry.change
+    → entries_in outcome.notes ≡ []
+    → is_code_of_change outcome.reply.code l ≡ true
+    → OutcomeEntry history moment (change_made history entry outcome) l
+change_made-OutcomeEntry history moment entry outcome l at good silent reports =
+    by (change_refusal 0 history entry) refl
   where
     refused : (why : Refusal) → OutcomeEntry history moment (refused_as why) l
     refused refusal.Registration = no_change refl refl
@@ -75,98 +169,163 @@ change_made-OutcomeEntry history moment entry outcome l at good silent reports =
     refused refusal.Text = no_change refl refl
     refused refusal.Entries = no_change refl refl
 
-    by : (why : Option Refusal) → change_refusal 0 history entry ≡ why → OutcomeEntry history moment (entered_unless why entry outcome) l
+    by : (why : Option Refusal)
+        → change_refusal 0 history entry ≡ why
+        → OutcomeEntry history moment (entered_unless why entry outcome) l
     by (Some why) e = refused why
     by None e = one_change entry (ap (λ entries. entry ∷ entries) silent) at good e reports
 
 -- what is read of a good body
-body_read-good : (body : List ℕ) (params : RegParams) (links : List SubmittedLink) → body_read body ≡ good_body links → HasGoodBody (change.Register params links)
+body_read-good : (body : List ℕ) (params : RegParams) (links : List SubmittedLink)
+    → body_read body ≡ good_body links
+    → HasGoodBody (change.Register params links)
 unfolding body_read is_refused_as_limited
 body_read-good body params links e = by (linked_references body) refl e
   where
-    limited : (all : List SubmittedLink) (b : Bool) → linked_references body ≡ Some all → is_some (first_unlimited all) ≡ b → limited_links b all ≡ good_body links
+    limited : (all : List SubmittedLink) (b : Bool)
+        → linked_references body ≡ Some all
+        → is_some (first_unlimited all) ≡ b
+        → limited_links b all ≡ good_body links
         → HasGoodBody (change.Register params links)
-    limited all true linked tested same = absurd (let h : bad_body (codes "limited") ≡ good_body links = same in cc)
+    limited all true linked tested same =
+        absurd (let h : bad_body (codes "limited") ≡ good_body links = same in cc)
     limited all false linked tested same =
         let equal : all ≡ links = cc in
         (body, linked ∙ ap Some equal, rw linked tested)
 
-    by : (read : Option (List SubmittedLink)) → linked_references body ≡ read → links_or_bad read ≡ good_body links → HasGoodBody (change.Register params links)
+    by : (read : Option (List SubmittedLink))
+        → linked_references body ≡ read
+        → links_or_bad read ≡ good_body links
+        → HasGoodBody (change.Register params links)
     by None linked same = absurd (let h : bad_body (codes "links") ≡ good_body links = same in cc)
     by (Some all) linked same = limited all (is_some (first_unlimited all)) linked refl same
 
 -- a registration of a whole body
-pub registration-OutcomeEntry : (history : List Entry) (moment : ℕ) (s : Step) (params : RegParams) (body : List ℕ) (further : List Opt) (notes : List Note) (l : Bool) → entries_in notes ≡ []
+pub registration-OutcomeEntry : (history : List Entry) (moment : ℕ) (s : Step) (params : RegParams)
+    (body : List ℕ) (further : List Opt) (notes : List Note) (l : Bool)
+    → entries_in notes ≡ []
     → OutcomeEntry history moment (registration history moment s params body further notes) l
 unfolding registration
-registration-OutcomeEntry history moment s params body further notes l silent = by (body_read body) refl
+registration-OutcomeEntry history moment s params body further notes l silent =
+    by (body_read body) refl
   where
-    bad : (word : List ℕ) → OutcomeEntry history moment (registered_links history moment s params further notes (bad_body word)) l
+    bad : (word : List ℕ)
+        → OutcomeEntry history moment
+        (registered_links history moment s params further notes (bad_body word)) l
     bad word = no_change refl refl
 
-    by : (read : BodyRead) → body_read body ≡ read → OutcomeEntry history moment (registered_links history moment s params further notes read) l
+    by : (read : BodyRead)
+        → body_read body ≡ read
+        → OutcomeEntry history moment (registered_links history moment s params further notes read)
+        l
     by (bad_body word) e = bad word
     by (good_body links) e =
         let entry : Entry = entry_of_step moment s (change.Register params links) in
-        change_made-OutcomeEntry history moment entry (record { reply = created_at (number_after params.name moment (history ++ entry ∷ [])) further; notes = notes }) l refl
+        change_made-OutcomeEntry history moment entry
+        (record {
+          reply = created_at (number_after params.name moment (history ++ entry ∷ []))
+              further;
+          notes = notes;
+        }) l refl
         (body_read-good body params links e) silent refl
 
 -- a registration, whole or a block of one
-registering-OutcomeEntry : (rows : List Row) (moment : ℕ) (s : Step) (m : Message) (l : Bool) → OutcomeEntry (entries rows) moment (registering rows moment s m) l
+registering-OutcomeEntry : (rows : List Row) (moment : ℕ) (s : Step) (m : Message) (l : Bool)
+    → OutcomeEntry (entries rows) moment (registering rows moment s m) l
 unfolding registering block_uploaded
 registering-OutcomeEntry rows moment s m l = by (sent_block m)
   where
-    taken : (more : Bool) (b : Block) (body : List ℕ) → OutcomeEntry (entries rows) moment (block_taken more rows moment s m b body) l
+    taken : (more : Bool) (b : Block) (body : List ℕ)
+        → OutcomeEntry (entries rows) moment (block_taken more rows moment s m b body) l
     taken true b body = no_change refl refl
-    taken false b body = registration-OutcomeEntry (entries rows) moment s (registration_values (queries_in m)) body _ (note.Finished s.peer (key_in m) ∷ []) l refl
+    taken false b body =
+        registration-OutcomeEntry (entries rows) moment s (registration_values (queries_in m)) body
+        _ (note.Finished s.peer (key_in m) ∷ []) l refl
 
-    unless : (too_long too_many : Bool) (b : Block) (body : List ℕ) → OutcomeEntry (entries rows) moment (block_unless too_long too_many rows moment s m b body) l
+    unless : (too_long too_many : Bool) (b : Block) (body : List ℕ)
+        → OutcomeEntry (entries rows) moment (block_unless too_long too_many rows moment s m b body)
+        l
     unless true too_many b body = no_change refl refl
     unless false true b body = no_change refl refl
     unless false false b body = taken b.more b body
 
-    after : (front upload : Option (List ℕ)) (b : Block) → OutcomeEntry (entries rows) moment (block_after front upload rows moment s m b) l
+    after : (front upload : Option (List ℕ)) (b : Block)
+        → OutcomeEntry (entries rows) moment (block_after front upload rows moment s m b) l
     after None upload b = no_change refl refl
     after (Some front) upload b =
-        unless (nat_lt max_body (length front + length m.payload)) (is_one_too_many b upload (live_uploads moment (events rows))) b (front ++ m.payload)
+        unless (nat_lt max_body (length front + length m.payload))
+        (is_one_too_many b upload (live_uploads moment (events rows))) b (front ++ m.payload)
 
-    by : (b : Option Block) → OutcomeEntry (entries rows) moment (registration_outcome b rows moment s m) l
-    by None = registration-OutcomeEntry (entries rows) moment s (registration_values (queries_in m)) m.payload [] [] l refl
+    by : (b : Option Block)
+        → OutcomeEntry (entries rows) moment (registration_outcome b rows moment s m) l
+    by None =
+        registration-OutcomeEntry (entries rows) moment s (registration_values (queries_in m))
+        m.payload [] [] l refl
     by (Some b) =
         let upload : Option (List ℕ) = live_upload moment (s.peer, key_in m) (events rows) in
         after (collected_before b upload) upload b
 
 -- the answer has the code of what came of the write, and settling it notes no entry
-settling-ChangeEntry : (history : List Entry) (moment place : ℕ) (s : Step) (m : Message) (outcome : Outcome) (l : Bool) → OutcomeEntry history moment outcome l
-    → ChangeEntry history moment (settling place s m outcome).notes (is_code_of_change (code_sent (settling place s m outcome).sent) l)
+settling-ChangeEntry : (history : List Entry) (moment place : ℕ) (s : Step) (m : Message)
+    (outcome : Outcome) (l : Bool)
+    → OutcomeEntry history moment outcome l
+    → ChangeEntry history moment (settling place s m outcome).notes
+    (is_code_of_change (code_sent (settling place s m outcome).sent) l)
 unfolding answering spelling header_spelling
-settling-ChangeEntry history moment place s m outcome l (no_change h reports) = no_change (entries_in-append outcome.notes _ ∙ ap (λ entries. entries ++ []) h) reports
-settling-ChangeEntry history moment place s m outcome l (one_change entry h at good accepted reports) =
-    one_change entry (entries_in-append outcome.notes _ ∙ ap (λ entries. entries ++ []) h) at good accepted reports
+settling-ChangeEntry history moment place s m outcome l (no_change h reports) =
+    no_change (entries_in-append outcome.notes _ ∙ ap (λ entries. entries ++ []) h) reports
+settling-ChangeEntry history moment place s m outcome l
+    (one_change entry h at good accepted reports) =
+    one_change entry (entries_in-append outcome.notes _ ∙ ap (λ entries. entries ++ []) h) at good
+    accepted reports
 
 -- a commit of a write that was read
 pub commit_effects-ChangeEntry : (rows : List Row) (moment place : ℕ) (s : Step) (m : Message)
-    → ChangeEntry (entries rows) moment (commit_effects rows moment place s m).notes (is_code_of_change (code_sent (commit_effects rows moment place s m).sent) (is_location (path_in m)))
+    → ChangeEntry (entries rows) moment (commit_effects rows moment place s m).notes
+    (is_code_of_change (code_sent (commit_effects rows moment place s m).sent)
+    (is_location (path_in m)))
 unfolding commit_effects answering spelling header_spelling
 commit_effects-ChangeEntry rows moment place s m = by (path_in m)
   where
     simple : (running too_many : Bool)
-        → ChangeEntry (entries rows) moment (simple_unless running too_many (events rows) place s m).notes (is_code_of_change (code_sent (simple_unless running too_many (events rows) place s m).sent) false)
+        → ChangeEntry (entries rows) moment
+        (simple_unless running too_many (events rows) place s m).notes
+        (is_code_of_change
+        (code_sent (simple_unless running too_many (events rows) place s m).sent) false)
     simple true too_many = no_change refl refl
     simple false true = no_change refl refl
     simple false false = no_change refl refl
 
-    location : (w : Method) (number : ℕ) → ChangeEntry (entries rows) moment (on_location w rows moment place s m number).notes (is_code_of_change (code_sent (on_location w rows moment place s m number).sent) true)
-    location get number = settling-ChangeEntry (entries rows) moment place s m (removing rows moment s number) true (change_made-OutcomeEntry (entries rows) moment _ _ true refl tt refl refl)
-    location post number = settling-ChangeEntry (entries rows) moment place s m (updating rows moment s m number) true (change_made-OutcomeEntry (entries rows) moment _ _ true refl tt refl refl)
-    location put number = settling-ChangeEntry (entries rows) moment place s m (removing rows moment s number) true (change_made-OutcomeEntry (entries rows) moment _ _ true refl tt refl refl)
-    location delete number = settling-ChangeEntry (entries rows) moment place s m (removing rows moment s number) true (change_made-OutcomeEntry (entries rows) moment _ _ true refl tt refl refl)
-    location other_method number = settling-ChangeEntry (entries rows) moment place s m (removing rows moment s number) true (change_made-OutcomeEntry (entries rows) moment _ _ true refl tt refl refl)
+    location : (w : Method) (number : ℕ)
+        → ChangeEntry (entries rows) moment (on_location w rows moment place s m number).notes
+        (is_code_of_change (code_sent (on_location w rows moment place s m number).sent) true)
+    location get number =
+        settling-ChangeEntry (entries rows) moment place s m (removing rows moment s number) true
+        (change_made-OutcomeEntry (entries rows) moment _ _ true refl tt refl refl)
+    location post number =
+        settling-ChangeEntry (entries rows) moment place s m (updating rows moment s m number) true
+        (change_made-OutcomeEntry (entries rows) moment _ _ true refl tt refl refl)
+    location put number =
+        settling-ChangeEntry (entries rows) moment place s m (removing rows moment s number) true
+        (change_made-OutcomeEntry (entries rows) moment _ _ true refl tt refl refl)
+    location delete number =
+        settling-ChangeEntry (entries rows) moment place s m (removing rows moment s number) true
+        (change_made-OutcomeEntry (entries rows) moment _ _ true refl tt refl refl)
+    location other_method number =
+        settling-ChangeEntry (entries rows) moment place s m (removing rows moment s number) true
+        (change_made-OutcomeEntry (entries rows) moment _ _ true refl tt refl refl)
 
-    by : (p : Path) → ChangeEntry (entries rows) moment (write_done p rows moment place s m).notes (is_code_of_change (code_sent (write_done p rows moment place s m).sent) (is_location p))
+    by : (p : Path)
+        → ChangeEntry (entries rows) moment (write_done p rows moment place s m).notes
+        (is_code_of_change (code_sent (write_done p rows moment place s m).sent)
+        (is_location p))
     by path.Core = no_change refl refl
-    by path.SimpleRd = simple (is_fetching s.peer (events rows)) (nat_le max_fetches (length (fetches (events rows))))
-    by path.Rd = settling-ChangeEntry (entries rows) moment place s m (registering rows moment s m) false (registering-OutcomeEntry rows moment s m false)
+    by path.SimpleRd =
+        simple (is_fetching s.peer (events rows))
+        (nat_le max_fetches (length (fetches (events rows))))
+    by path.Rd =
+        settling-ChangeEntry (entries rows) moment place s m (registering rows moment s m) false
+        (registering-OutcomeEntry rows moment s m false)
     by (path.Location number) = location (method_of m.code) number
     by path.Res = no_change refl refl
     by path.Ep = no_change refl refl
@@ -175,12 +334,15 @@ commit_effects-ChangeEntry rows moment place s m = by (path_in m)
 -- a commit has an entry exactly where its answer reports a change
 pub commit-ChangeEntry : (place : ℕ) (starved : Bool) (rows : List Row) (moment : ℕ) (s : Step)
     → ChangeEntry (entries rows) moment (effects (step.Commit place) starved rows moment s).notes
-    (is_code_of_change (code_sent (effects (step.Commit place) starved rows moment s).sent) (names_location (reading s.datagram)))
+    (is_code_of_change (code_sent (effects (step.Commit place) starved rows moment s).sent)
+    (names_location (reading s.datagram)))
 unfolding effects answering spelling header_spelling
 commit-ChangeEntry place starved rows moment s = by starved (reading s.datagram)
   where
     by : (b : Bool) (read : Result Message Unread)
-        → ChangeEntry (entries rows) moment (done b rows moment place s read).notes (is_code_of_change (code_sent (done b rows moment place s read).sent) (names_location read))
+        → ChangeEntry (entries rows) moment (done b rows moment place s read).notes
+        (is_code_of_change (code_sent (done b rows moment place s read).sent)
+        (names_location read))
     by b (Err fault) = no_change refl refl
     by true (Ok m) = no_change refl refl
     by false (Ok m) = commit_effects-ChangeEntry rows moment place s m

@@ -1,5 +1,23 @@
 -- What commits and responses note.
-use Rattle.std.proofs.Common.{◌≡◌, ℕ, ◌+◌, Bool, true, false, List, [], ◌∷◌, ◌++◌, length, Option, Some, None, refl, nat_lt, nat_le}
+use Rattle.std.proofs.Common.{
+  ◌≡◌,
+  ℕ,
+  ◌+◌,
+  Bool,
+  true,
+  false,
+  List,
+  [],
+  ◌∷◌,
+  ◌++◌,
+  length,
+  Option,
+  Some,
+  None,
+  refl,
+  nat_lt,
+  nat_le,
+}
 use Rattle.std.proofs.lemmas.Bool.{and_from, and_parts, false≢true}
 use Rattle.rd_base.specs.declared.parameters.RegParams.{RegParams}
 use Rattle.rd_base.specs.declared.peers.Peer.{Peer}
@@ -20,20 +38,84 @@ use Rattle.history_model.specs.Refusals.{change_refusal}
 use Rattle.event_model.specs.declared.notes.Note.{Note}
 use Rattle.event_model.specs.declared.notes.Note.TheVariants as note
 use Rattle.event_model.specs.Uploads.{max_body, live_upload, live_uploads}
-use Rattle.event_model.specs.Fetches.{Request, max_fetches, fetches, is_fetching, gathered, collected}
+use Rattle.event_model.specs.Fetches.{
+  Request,
+  max_fetches,
+  fetches,
+  is_fetching,
+  gathered,
+  collected,
+}
 use Rattle.journal_model.specs.declared.steps.Step.{Step}
 use Rattle.journal_model.specs.declared.rows.Row.{Row}
 use Rattle.journal_model.specs.Journal.{events, entries}
 use Rattle.journal_model.specs.Effects.{answering}
-use Rattle.journal_model.specs.Requests.{Method, get, post, put, delete, other_method, method_of, sent_block}
-use Rattle.journal_model.specs.Changes.{Outcome, refused_as, entered_unless, change_made, BodyRead, bad_body, good_body, body_read, registered_links, registration, created_at, number_after, entry_of_step}
-use Rattle.journal_model.specs.Registrations.{collected_before, is_one_too_many, block_taken, block_unless, block_after, block_uploaded, registration_outcome, registering}
-use Rattle.journal_model.specs.Commits.{settling, updating, removing, simple_unless, on_location, write_done, commit_effects}
-use Rattle.journal_model.specs.Responses.{fetch_of, strange, acknowledgement, more_follow, block_in, is_elsewhere, ends_fetch, completed, gathering, response_taken, response_to, response_to_request, response_effects}
+use Rattle.journal_model.specs.Requests.{
+  Method,
+  get,
+  post,
+  put,
+  delete,
+  other_method,
+  method_of,
+  sent_block,
+}
+use Rattle.journal_model.specs.Changes.{
+  Outcome,
+  refused_as,
+  entered_unless,
+  change_made,
+  BodyRead,
+  bad_body,
+  good_body,
+  body_read,
+  registered_links,
+  registration,
+  created_at,
+  number_after,
+  entry_of_step,
+}
+use Rattle.journal_model.specs.Registrations.{
+  collected_before,
+  is_one_too_many,
+  block_taken,
+  block_unless,
+  block_after,
+  block_uploaded,
+  registration_outcome,
+  registering,
+}
+use Rattle.journal_model.specs.Commits.{
+  settling,
+  updating,
+  removing,
+  simple_unless,
+  on_location,
+  write_done,
+  commit_effects,
+}
+use Rattle.journal_model.specs.Responses.{
+  fetch_of,
+  strange,
+  acknowledgement,
+  more_follow,
+  block_in,
+  is_elsewhere,
+  ends_fetch,
+  completed,
+  gathering,
+  response_taken,
+  response_to,
+  response_to_request,
+  response_effects,
+}
 use Rattle.journal_model.proofs.NoteKinds.{of_commit, of_response, are, are-append}
 
 -- a change, where what is noted beside its entry is of a kind that entries are of too
-pub change_made-notes : (kind : Note → Bool) → ((entry : Entry) → kind (note.Entered entry) ≡ true) → (history : List Entry) (entry : Entry) (done : Outcome) → are kind done.notes ≡ true
+pub change_made-notes : (kind : Note → Bool)
+    → ((entry : Entry) → kind (note.Entered entry) ≡ true)
+    → (history : List Entry) (entry : Entry) (done : Outcome)
+    → are kind done.notes ≡ true
     → are kind (change_made history entry done).notes ≡ true
 change_made-notes kind entered history entry done h = by (change_refusal 0 history entry)
   where
@@ -48,41 +130,65 @@ change_made-notes kind entered history entry done h = by (change_refusal 0 histo
     by None = and_from (kind (note.Entered entry)) (are kind done.notes) (entered entry) h
 
 -- a registration of a whole body
-registration-notes : (kind : Note → Bool) → ((entry : Entry) → kind (note.Entered entry) ≡ true) → (history : List Entry) (moment : ℕ) (s : Step) (params : RegParams) (body : List ℕ)
-    (further : List Opt) (notes : List Note) → are kind notes ≡ true → are kind (registration history moment s params body further notes).notes ≡ true
+registration-notes : (kind : Note → Bool)
+    → ((entry : Entry) → kind (note.Entered entry) ≡ true)
+    → (history : List Entry) (moment : ℕ) (s : Step) (params : RegParams) (body : List ℕ)
+    (further : List Opt) (notes : List Note)
+    → are kind notes ≡ true
+    → are kind (registration history moment s params body further notes).notes ≡ true
 unfolding registration
 registration-notes kind entered history moment s params body further notes h = by (body_read body)
   where
-    by : (read : BodyRead) → are kind (registered_links history moment s params further notes read).notes ≡ true
+    by : (read : BodyRead)
+        → are kind (registered_links history moment s params further notes read).notes ≡ true
     by (bad_body word) = refl
     by (good_body links) =
         let entry : Entry = entry_of_step moment s (change.Register params links) in
-        change_made-notes kind entered history entry (record { reply = created_at (number_after params.name moment (history ++ entry ∷ [])) further; notes = notes }) h
+        change_made-notes kind entered history entry
+        (record {
+          reply = created_at (number_after params.name moment (history ++ entry ∷ []))
+              further;
+          notes = notes;
+        }) h
 
 -- a registration, whole or a block of one, where what it may note is of a kind
-pub registering-notes : (kind : Note → Bool) → ((entry : Entry) → kind (note.Entered entry) ≡ true) → ((peer : Peer) (key : List ℕ) (number : ℕ) (octets : List ℕ) → kind (note.Piece peer key number octets) ≡ true)
-    → ((peer : Peer) (key : List ℕ) → kind (note.Finished peer key) ≡ true) → (rows : List Row) (moment : ℕ) (s : Step) (m : Message) → are kind (registering rows moment s m).notes ≡ true
+pub registering-notes : (kind : Note → Bool)
+    → ((entry : Entry) → kind (note.Entered entry) ≡ true)
+    → ((peer : Peer) (key : List ℕ) (number : ℕ) (octets : List ℕ)
+    → kind (note.Piece peer key number octets) ≡ true)
+    → ((peer : Peer) (key : List ℕ) → kind (note.Finished peer key) ≡ true)
+    → (rows : List Row) (moment : ℕ) (s : Step) (m : Message)
+    → are kind (registering rows moment s m).notes ≡ true
 unfolding registering block_uploaded
 registering-notes kind entered piece finished rows moment s m = by (sent_block m)
   where
-    taken : (more : Bool) (b : Block) (body : List ℕ) → are kind (block_taken more rows moment s m b body).notes ≡ true
-    taken true b body = and_from (kind (note.Piece s.peer (key_in m) b.num m.payload)) true (piece s.peer (key_in m) b.num m.payload) refl
+    taken : (more : Bool) (b : Block) (body : List ℕ)
+        → are kind (block_taken more rows moment s m b body).notes ≡ true
+    taken true b body =
+        and_from (kind (note.Piece s.peer (key_in m) b.num m.payload)) true
+        (piece s.peer (key_in m) b.num m.payload) refl
     taken false b body =
-        registration-notes kind entered (entries rows) moment s (registration_values (queries_in m)) body _ (note.Finished s.peer (key_in m) ∷ [])
+        registration-notes kind entered (entries rows) moment s (registration_values (queries_in m))
+        body _ (note.Finished s.peer (key_in m) ∷ [])
         (and_from (kind (note.Finished s.peer (key_in m))) true (finished s.peer (key_in m)) refl)
 
-    unless : (too_long too_many : Bool) (b : Block) (body : List ℕ) → are kind (block_unless too_long too_many rows moment s m b body).notes ≡ true
+    unless : (too_long too_many : Bool) (b : Block) (body : List ℕ)
+        → are kind (block_unless too_long too_many rows moment s m b body).notes ≡ true
     unless true too_many b body = refl
     unless false true b body = refl
     unless false false b body = taken b.more b body
 
-    after : (front upload : Option (List ℕ)) (b : Block) → are kind (block_after front upload rows moment s m b).notes ≡ true
+    after : (front upload : Option (List ℕ)) (b : Block)
+        → are kind (block_after front upload rows moment s m b).notes ≡ true
     after None upload b = refl
     after (Some front) upload b =
-        unless (nat_lt max_body (length front + length m.payload)) (is_one_too_many b upload (live_uploads moment (events rows))) b (front ++ m.payload)
+        unless (nat_lt max_body (length front + length m.payload))
+        (is_one_too_many b upload (live_uploads moment (events rows))) b (front ++ m.payload)
 
     by : (b : Option Block) → are kind (registration_outcome b rows moment s m).notes ≡ true
-    by None = registration-notes kind entered (entries rows) moment s (registration_values (queries_in m)) m.payload [] [] refl
+    by None =
+        registration-notes kind entered (entries rows) moment s (registration_values (queries_in m))
+        m.payload [] [] refl
     by (Some b) =
         let upload : Option (List ℕ) = live_upload moment (s.peer, key_in m) (events rows) in
         after (collected_before b upload) upload b
@@ -97,37 +203,59 @@ of_done (note.Asked peer token mid params number) = true
 of_done _ = false
 
 -- a commit of a write that is done
-pub commit_effects-done : (rows : List Row) (moment place : ℕ) (s : Step) (m : Message) → are of_done (commit_effects rows moment place s m).notes ≡ true
+pub commit_effects-done : (rows : List Row) (moment place : ℕ) (s : Step) (m : Message)
+    → are of_done (commit_effects rows moment place s m).notes ≡ true
 unfolding commit_effects answering
 commit_effects-done rows moment place s m = by (path_in m)
   where
-    settled : (done : Outcome) → are of_done done.notes ≡ true → are of_done (settling place s m done).notes ≡ true
+    settled : (done : Outcome)
+        → are of_done done.notes ≡ true
+        → are of_done (settling place s m done).notes ≡ true
     settled done h = are-append of_done done.notes _ h refl
 
-    simple : (running too_many : Bool) → are of_done (simple_unless running too_many (events rows) place s m).notes ≡ true
+    simple : (running too_many : Bool)
+        → are of_done (simple_unless running too_many (events rows) place s m).notes ≡ true
     simple true too_many = refl
     simple false true = refl
     simple false false = refl
 
-    location : (w : Method) (number : ℕ) → are of_done (on_location w rows moment place s m number).notes ≡ true
-    location get number = settled (removing rows moment s number) (change_made-notes of_done (λ entry. refl) (entries rows) _ _ refl)
-    location post number = settled (updating rows moment s m number) (change_made-notes of_done (λ entry. refl) (entries rows) _ _ refl)
-    location put number = settled (removing rows moment s number) (change_made-notes of_done (λ entry. refl) (entries rows) _ _ refl)
-    location delete number = settled (removing rows moment s number) (change_made-notes of_done (λ entry. refl) (entries rows) _ _ refl)
-    location other_method number = settled (removing rows moment s number) (change_made-notes of_done (λ entry. refl) (entries rows) _ _ refl)
+    location : (w : Method) (number : ℕ)
+        → are of_done (on_location w rows moment place s m number).notes ≡ true
+    location get number =
+        settled (removing rows moment s number)
+        (change_made-notes of_done (λ entry. refl) (entries rows) _ _ refl)
+    location post number =
+        settled (updating rows moment s m number)
+        (change_made-notes of_done (λ entry. refl) (entries rows) _ _ refl)
+    location put number =
+        settled (removing rows moment s number)
+        (change_made-notes of_done (λ entry. refl) (entries rows) _ _ refl)
+    location delete number =
+        settled (removing rows moment s number)
+        (change_made-notes of_done (λ entry. refl) (entries rows) _ _ refl)
+    location other_method number =
+        settled (removing rows moment s number)
+        (change_made-notes of_done (λ entry. refl) (entries rows) _ _ refl)
 
     by : (p : Path) → are of_done (write_done p rows moment place s m).notes ≡ true
     by path.Core = refl
-    by path.SimpleRd = simple (is_fetching s.peer (events rows)) (nat_le max_fetches (length (fetches (events rows))))
-    by path.Rd = settled (registering rows moment s m) (registering-notes of_done (λ entry. refl) (λ peer key number octets. refl) (λ peer key. refl) rows moment s m)
+    by path.SimpleRd =
+        simple (is_fetching s.peer (events rows))
+        (nat_le max_fetches (length (fetches (events rows))))
+    by path.Rd =
+        settled (registering rows moment s m)
+        (registering-notes of_done (λ entry. refl) (λ peer key number octets. refl)
+        (λ peer key. refl) rows moment s m)
     by (path.Location number) = location (method_of m.code) number
     by path.Res = refl
     by path.Ep = refl
     by path.Other = refl
 
 -- so it notes what commits note
-pub commit_effects-notes : (rows : List Row) (moment place : ℕ) (s : Step) (m : Message) → are of_commit (commit_effects rows moment place s m).notes ≡ true
-commit_effects-notes rows moment place s m = each (commit_effects rows moment place s m).notes (commit_effects-done rows moment place s m)
+pub commit_effects-notes : (rows : List Row) (moment place : ℕ) (s : Step) (m : Message)
+    → are of_commit (commit_effects rows moment place s m).notes ≡ true
+commit_effects-notes rows moment place s m =
+    each (commit_effects rows moment place s m).notes (commit_effects-done rows moment place s m)
   where
     one : (n : Note) → of_done n ≡ true → of_commit n ≡ true
     one (note.Settled place reply) h = refl
@@ -139,10 +267,13 @@ commit_effects-notes rows moment place s m = each (commit_effects rows moment pl
 
     each : (notes : List Note) → are of_done notes ≡ true → are of_commit notes ≡ true
     each [] h = refl
-    each (n ∷ notes) h = let parts = and_parts (of_done n) (are of_done notes) h in and_from (of_commit n) (are of_commit notes) (one n parts.0) (each notes parts.1)
+    each (n ∷ notes) h =
+        let parts = and_parts (of_done n) (are of_done notes) h in
+        and_from (of_commit n) (are of_commit notes) (one n parts.0) (each notes parts.1)
 
 -- a response
-pub response_effects-notes : (rows : List Row) (moment : ℕ) (s : Step) (m : Message) → are of_response (response_effects rows moment s m).notes ≡ true
+pub response_effects-notes : (rows : List Row) (moment : ℕ) (s : Step) (m : Message)
+    → are of_response (response_effects rows moment s m).notes ≡ true
 unfolding response_effects
 response_effects-notes rows moment s m = by (fetch_of s m (events rows))
   where
@@ -158,24 +289,33 @@ response_effects-notes rows moment s m = by (fetch_of s m (events rows))
     acknowledged Ack = refl
     acknowledged Rst = refl
 
-    whole : (request : Request) (body : List ℕ) → are of_response (completed rows moment s request body).notes ≡ true
+    whole : (request : Request) (body : List ℕ)
+        → are of_response (completed rows moment s request body).notes ≡ true
     whole request body =
-        are-append of_response (registration (entries rows) moment s request.params body [] []).notes (note.Ceased s.peer ∷ [])
-        (registration-notes of_response (λ entry. refl) (entries rows) moment s request.params body [] [] refl) refl
+        are-append of_response
+        (registration (entries rows) moment s request.params body [] []).notes
+        (note.Ceased s.peer ∷ [])
+        (registration-notes of_response (λ entry. refl) (entries rows) moment s request.params body
+        [] [] refl) refl
 
-    gathers : (more : Bool) (b : Option Block) (request : Request) → are of_response (gathering more b rows moment s m request).notes ≡ true
+    gathers : (more : Bool) (b : Option Block) (request : Request)
+        → are of_response (gathering more b rows moment s m request).notes ≡ true
     gathers more None request = whole request (collected s.peer (events rows) ++ m.payload)
     gathers false (Some b) request = whole request (collected s.peer (events rows) ++ m.payload)
     gathers true (Some b) request = refl
 
-    taken : (elsewhere over : Bool) (request : Request) → are of_response (response_taken elsewhere over rows moment s m request).notes ≡ true
+    taken : (elsewhere over : Bool) (request : Request)
+        → are of_response (response_taken elsewhere over rows moment s m request).notes ≡ true
     taken true over request = refl
     taken false true request = refl
     taken false false request = gathers (more_follow (block_in m)) (block_in m) request
 
-    by : (request : Option Request) → are of_response (response_to_request request rows moment s m).notes ≡ true
+    by : (request : Option Request)
+        → are of_response (response_to_request request rows moment s m).notes ≡ true
     by None = foreign m.kind
     by (Some request) =
-        are-append of_response (acknowledgement s m m.kind).notes (response_to rows moment s m request).notes (acknowledged m.kind)
+        are-append of_response (acknowledgement s m m.kind).notes
+        (response_to rows moment s m request).notes (acknowledged m.kind)
         (taken (is_elsewhere (block_in m) (length (collected s.peer (events rows))))
-        (ends_fetch m (gathered s.peer (events rows)) (length (collected s.peer (events rows)))) request)
+        (ends_fetch m (gathered s.peer (events rows)) (length (collected s.peer (events rows))))
+        request)

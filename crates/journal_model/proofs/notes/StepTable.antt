@@ -1,5 +1,23 @@
--- The one table of what each step notes: nothing, or what a write, a lookup, an empty message, a response, a commit, a keep or a tick notes, or that a commit failed, where it ran out of memory.
-use Rattle.std.proofs.Common.{◌≡◌, ℕ, Bool, true, false, List, [], ◌∷◌, Option, Some, None, Result, Ok, Err, refl, ap}
+-- The one table of what each step notes: nothing, or what a write, a lookup, an empty message, a
+-- response, a commit, a keep or a tick notes, or that a commit failed, where it ran out of memory.
+use Rattle.std.proofs.Common.{
+  ◌≡◌,
+  ℕ,
+  Bool,
+  true,
+  false,
+  List,
+  [],
+  ◌∷◌,
+  Option,
+  Some,
+  None,
+  Result,
+  Ok,
+  Err,
+  refl,
+  ap,
+}
 use Rattle.message_model.specs.declared.messages.Role.{Role}
 use Rattle.message_model.specs.declared.messages.Role.TheVariants as role
 use Rattle.message_model.specs.declared.messages.Unread.{Unread}
@@ -24,69 +42,134 @@ use Rattle.journal_model.specs.Writes.{write_effects}
 use Rattle.journal_model.specs.Responses.{response_effects}
 use Rattle.journal_model.specs.Commits.{commit_effects}
 use Rattle.journal_model.specs.Ticks.{tick_effects}
-use Rattle.journal_model.specs.Rows.{served, request_answered, message_effects, heard, done, kept_body, effects}
+use Rattle.journal_model.specs.Rows.{
+  served,
+  request_answered,
+  message_effects,
+  heard,
+  done,
+  kept_body,
+  effects,
+}
 use Rattle.journal_model.proofs.NoteKinds.{of_empty, are}
 use Rattle.journal_model.proofs.StepNotes.{look_effects-notes, acknowledged-notes, reset-notes}
 use Rattle.journal_model.proofs.notes.SilentSteps.{refusal_notes, unread_notes, looked_notes}
 
 -- what a step of a kind notes, after rows at a moment
-pub data StepNoted (kind : StepKind) (starved : Bool) (rows : List Row) (moment : ℕ) (s : Step) (notes : List Note) : Type 0 where
+pub data StepNoted (kind : StepKind) (starved : Bool) (rows : List Row) (moment : ℕ) (s : Step)
+    (notes : List Note) : Type 0 where
   nothing : notes ≡ [] → StepNoted kind starved rows moment s notes
-  write : (m : Message) → kind ≡ step.Admit → reading s.datagram ≡ Ok m → role_of m.kind m.code ≡ role.Request → notes ≡ (write_effects (events rows) moment s m).notes → StepNoted kind starved rows moment s notes
-  lookup : (m : Message) → kind ≡ step.Admit → reading s.datagram ≡ Ok m → is_lookup (path_in m) ≡ true → notes ≡ (lookup_effects rows moment s m).notes → StepNoted kind starved rows moment s notes
+  write : (m : Message)
+      → kind ≡ step.Admit
+      → reading s.datagram ≡ Ok m
+      → role_of m.kind m.code ≡ role.Request
+      → notes ≡ (write_effects (events rows) moment s m).notes
+      → StepNoted kind starved rows moment s notes
+  lookup : (m : Message)
+      → kind ≡ step.Admit
+      → reading s.datagram ≡ Ok m
+      → is_lookup (path_in m) ≡ true
+      → notes ≡ (lookup_effects rows moment s m).notes
+      → StepNoted kind starved rows moment s notes
   empty : kind ≡ step.Admit → are of_empty notes ≡ true → StepNoted kind starved rows moment s notes
-  response : (m : Message) → kind ≡ step.Admit → reading s.datagram ≡ Ok m → role_of m.kind m.code ≡ role.Response → notes ≡ (response_effects rows moment s m).notes → StepNoted kind starved rows moment s notes
-  commit : (m : Message) (place : ℕ) → kind ≡ step.Commit place → reading s.datagram ≡ Ok m → notes ≡ (commit_effects rows moment place s m).notes → StepNoted kind starved rows moment s notes
-  failed : (place : ℕ) → kind ≡ step.Commit place → notes ≡ note.Failed place ∷ [] → StepNoted kind starved rows moment s notes
-  keep : (m : Message) (body tag : List ℕ) → kind ≡ step.Keep body tag → notes ≡ (keep_effects s m body tag).notes → StepNoted kind starved rows moment s notes
-  tick : kind ≡ step.Tick → notes ≡ (tick_effects starved rows moment s).notes → StepNoted kind starved rows moment s notes
+  response : (m : Message)
+      → kind ≡ step.Admit
+      → reading s.datagram ≡ Ok m
+      → role_of m.kind m.code ≡ role.Response
+      → notes ≡ (response_effects rows moment s m).notes
+      → StepNoted kind starved rows moment s notes
+  commit : (m : Message) (place : ℕ)
+      → kind ≡ step.Commit place
+      → reading s.datagram ≡ Ok m
+      → notes ≡ (commit_effects rows moment place s m).notes
+      → StepNoted kind starved rows moment s notes
+  failed : (place : ℕ)
+      → kind ≡ step.Commit place
+      → notes ≡ note.Failed place ∷ []
+      → StepNoted kind starved rows moment s notes
+  keep : (m : Message) (body tag : List ℕ)
+      → kind ≡ step.Keep body tag
+      → notes ≡ (keep_effects s m body tag).notes
+      → StepNoted kind starved rows moment s notes
+  tick : kind ≡ step.Tick
+      → notes ≡ (tick_effects starved rows moment s).notes
+      → StepNoted kind starved rows moment s notes
 
 -- a request that is served as it is heard
-served-StepNoted : (p : Path) (starved : Bool) (rows : List Row) (moment : ℕ) (s : Step) (m : Message) → reading s.datagram ≡ Ok m → role_of m.kind m.code ≡ role.Request → path_in m ≡ p → StepNoted step.Admit starved rows moment s (served p rows moment s m).notes
+served-StepNoted : (p : Path) (starved : Bool) (rows : List Row) (moment : ℕ) (s : Step)
+    (m : Message)
+    → reading s.datagram ≡ Ok m
+    → role_of m.kind m.code ≡ role.Request
+    → path_in m ≡ p
+    → StepNoted step.Admit starved rows moment s (served p rows moment s m).notes
 unfolding served
-served-StepNoted path.Core starved rows moment s m read asks at = nothing (look_effects-notes (entries rows) moment s m)
-served-StepNoted path.Res starved rows moment s m read asks at = lookup m refl read (ap is_lookup at) refl
-served-StepNoted path.Ep starved rows moment s m read asks at = lookup m refl read (ap is_lookup at) refl
+served-StepNoted path.Core starved rows moment s m read asks at =
+    nothing (look_effects-notes (entries rows) moment s m)
+served-StepNoted path.Res starved rows moment s m read asks at =
+    lookup m refl read (ap is_lookup at) refl
+served-StepNoted path.Ep starved rows moment s m read asks at =
+    lookup m refl read (ap is_lookup at) refl
 served-StepNoted path.SimpleRd starved rows moment s m read asks at = write m refl read asks refl
 served-StepNoted path.Rd starved rows moment s m read asks at = write m refl read asks refl
-served-StepNoted (path.Location number) starved rows moment s m read asks at = write m refl read asks refl
+served-StepNoted (path.Location number) starved rows moment s m read asks at =
+    write m refl read asks refl
 served-StepNoted path.Other starved rows moment s m read asks at = nothing refl
 
 -- a request as it is heard, refused or served
-request-StepNoted : (refusal : Option Reply) (starved : Bool) (rows : List Row) (moment : ℕ) (s : Step) (m : Message) → reading s.datagram ≡ Ok m → role_of m.kind m.code ≡ role.Request → StepNoted step.Admit starved rows moment s (request_answered refusal rows moment s m).notes
-request-StepNoted (Some refusal) starved rows moment s m read asks = nothing (refusal_notes m.kind (first_bad_option m.options) s m refusal)
-request-StepNoted None starved rows moment s m read asks = served-StepNoted (path_in m) starved rows moment s m read asks refl
+request-StepNoted : (refusal : Option Reply) (starved : Bool) (rows : List Row) (moment : ℕ)
+    (s : Step) (m : Message)
+    → reading s.datagram ≡ Ok m
+    → role_of m.kind m.code ≡ role.Request
+    → StepNoted step.Admit starved rows moment s (request_answered refusal rows moment s m).notes
+request-StepNoted (Some refusal) starved rows moment s m read asks =
+    nothing (refusal_notes m.kind (first_bad_option m.options) s m refusal)
+request-StepNoted None starved rows moment s m read asks =
+    served-StepNoted (path_in m) starved rows moment s m read asks refl
 
 -- a message as it is heard
-role-StepNoted : (r : Role) (starved : Bool) (rows : List Row) (moment : ℕ) (s : Step) (m : Message) → reading s.datagram ≡ Ok m → role_of m.kind m.code ≡ r → StepNoted step.Admit starved rows moment s (message_effects r starved rows moment s m).notes
+role-StepNoted : (r : Role) (starved : Bool) (rows : List Row) (moment : ℕ) (s : Step) (m : Message)
+    → reading s.datagram ≡ Ok m
+    → role_of m.kind m.code ≡ r
+    → StepNoted step.Admit starved rows moment s (message_effects r starved rows moment s m).notes
 unfolding answering
 role-StepNoted role.Ping starved rows moment s m read is = nothing refl
-role-StepNoted role.Acknowledgement starved rows moment s m read is = empty refl (acknowledged-notes s.peer m.mid (events rows))
-role-StepNoted role.Reset starved rows moment s m read is = empty refl (reset-notes s.peer m.mid (events rows))
+role-StepNoted role.Acknowledgement starved rows moment s m read is =
+    empty refl (acknowledged-notes s.peer m.mid (events rows))
+role-StepNoted role.Reset starved rows moment s m read is =
+    empty refl (reset-notes s.peer m.mid (events rows))
 role-StepNoted role.Request true rows moment s m read is = nothing refl
-role-StepNoted role.Request false rows moment s m read is = request-StepNoted (refusal_of_request m) false rows moment s m read is
+role-StepNoted role.Request false rows moment s m read is =
+    request-StepNoted (refusal_of_request m) false rows moment s m read is
 role-StepNoted role.Response true rows moment s m read is = nothing refl
 role-StepNoted role.Response false rows moment s m read is = response m refl read is refl
 role-StepNoted role.Ignored starved rows moment s m read is = nothing refl
 
 -- any step
-pub effects-StepNoted : (kind : StepKind) (starved : Bool) (rows : List Row) (moment : ℕ) (s : Step) → StepNoted kind starved rows moment s (effects kind starved rows moment s).notes
+pub effects-StepNoted : (kind : StepKind) (starved : Bool) (rows : List Row) (moment : ℕ) (s : Step)
+    → StepNoted kind starved rows moment s (effects kind starved rows moment s).notes
 unfolding effects answering
 effects-StepNoted step.Admit starved rows moment s = by (reading s.datagram) refl
   where
-    by : (read : Result Message Unread) → reading s.datagram ≡ read → StepNoted step.Admit starved rows moment s (heard starved rows moment s read).notes
+    by : (read : Result Message Unread)
+        → reading s.datagram ≡ read
+        → StepNoted step.Admit starved rows moment s (heard starved rows moment s read).notes
     by (Err fault) e = nothing (unread_notes s fault)
     by (Ok m) e = role-StepNoted (role_of m.kind m.code) starved rows moment s m e refl
-effects-StepNoted step.Look starved rows moment s = nothing (looked_notes starved (entries rows) moment s (reading s.datagram))
+effects-StepNoted step.Look starved rows moment s =
+    nothing (looked_notes starved (entries rows) moment s (reading s.datagram))
 effects-StepNoted (step.Commit place) starved rows moment s = by starved (reading s.datagram) refl
   where
-    by : (b : Bool) (read : Result Message Unread) → reading s.datagram ≡ read → StepNoted (step.Commit place) starved rows moment s (done b rows moment place s read).notes
+    by : (b : Bool) (read : Result Message Unread)
+        → reading s.datagram ≡ read
+        → StepNoted (step.Commit place) starved rows moment s
+        (done b rows moment place s read).notes
     by b (Err fault) e = nothing refl
     by true (Ok m) e = failed place refl refl
     by false (Ok m) e = commit m place refl e refl
 effects-StepNoted (step.Keep body tag) starved rows moment s = by starved (reading s.datagram)
   where
-    by : (b : Bool) (read : Result Message Unread) → StepNoted (step.Keep body tag) starved rows moment s (kept_body b s read body tag).notes
+    by : (b : Bool) (read : Result Message Unread)
+        → StepNoted (step.Keep body tag) starved rows moment s (kept_body b s read body tag).notes
     by b (Err fault) = nothing refl
     by true (Ok m) = nothing refl
     by false (Ok m) = keep m body tag refl refl

@@ -1,5 +1,29 @@
--- Datagrams that are neither 2.05 nor 2.03: what refusals, writes, commits, responses and empty messages send.
-use Rattle.std.proofs.Common.{◌≡◌, ℕ, ◌+◌, ◌==◌, Bool, true, false, cond, List, [], ◌∷◌, ◌++◌, length, Option, Some, None, refl, sym, subst, ◌∙◌, codes, nat_lt}
+-- Datagrams that are neither 2.05 nor 2.03: what refusals, writes, commits, responses and empty
+-- messages send.
+use Rattle.std.proofs.Common.{
+  ◌≡◌,
+  ℕ,
+  ◌+◌,
+  ◌==◌,
+  Bool,
+  true,
+  false,
+  cond,
+  List,
+  [],
+  ◌∷◌,
+  ◌++◌,
+  length,
+  Option,
+  Some,
+  None,
+  refl,
+  sym,
+  subst,
+  ◌∙◌,
+  codes,
+  nat_lt,
+}
 use Rattle.std.specs.List.{AllByRecursion}
 use Rattle.std.proofs.lemmas.Bool.{and_parts, false≢true}
 use Rattle.rd_base.specs.declared.peers.Peer.{Peer}
@@ -32,9 +56,38 @@ use Rattle.journal_model.specs.declared.steps.Step.{Step}
 use Rattle.journal_model.specs.declared.rows.Row.{Row}
 use Rattle.journal_model.specs.Journal.{events, entries}
 use Rattle.journal_model.specs.Effects.{Reply, bare, diagnostic, answer, answering, without_memory}
-use Rattle.journal_model.specs.Requests.{sent_block, has_bad_query, has_bad_payload, refusal_or_next, refusal_of_request}
-use Rattle.journal_model.specs.Changes.{Outcome, refused_as, entered_unless, change_made, BodyRead, bad_body, good_body, body_read, registered_links, registration, created_at, number_after, entry_of_step}
-use Rattle.journal_model.specs.Registrations.{collected_before, is_one_too_many, block_taken, block_unless, block_after, block_uploaded, registration_outcome, registering}
+use Rattle.journal_model.specs.Requests.{
+  sent_block,
+  has_bad_query,
+  has_bad_payload,
+  refusal_or_next,
+  refusal_of_request,
+}
+use Rattle.journal_model.specs.Changes.{
+  Outcome,
+  refused_as,
+  entered_unless,
+  change_made,
+  BodyRead,
+  bad_body,
+  good_body,
+  body_read,
+  registered_links,
+  registration,
+  created_at,
+  number_after,
+  entry_of_step,
+}
+use Rattle.journal_model.specs.Registrations.{
+  collected_before,
+  is_one_too_many,
+  block_taken,
+  block_unless,
+  block_after,
+  block_uploaded,
+  registration_outcome,
+  registering,
+}
 use Rattle.journal_model.specs.Writes.{again_answered, admitted_unless, write_unless, write_effects}
 use Rattle.journal_model.specs.Rows.{refusal_answered, unread_answered}
 use Rattle.journal_model.specs.PlacedRows.{code_at}
@@ -59,7 +112,9 @@ unfolding spelling header_spelling
 plain_spelled m plain = plain
 
 -- an answer with such a code
-pub plain_answering : (s : Step) (m : Message) (reply : Reply) (notes : List Note) → IsPlainCode reply.code → ArePlain (answering s m reply notes).sent
+pub plain_answering : (s : Step) (m : Message) (reply : Reply) (notes : List Note)
+    → IsPlainCode reply.code
+    → ArePlain (answering s m reply notes).sent
 unfolding answering
 plain_answering s m reply notes plain = (plain_spelled (answer s m reply) plain, tt)
 
@@ -84,7 +139,9 @@ refusal_PlainIf m = by (refusal_of m)
     coded refused_for.Accept = record { no_content = refl; no_valid = refl }
     coded refused_for.Format = record { no_content = refl; no_valid = refl }
 
-    later : (a b : Bool) (query payload : List ℕ) → PlainIf (cond a (Some (diagnostic codes_of.bad_request query)) (cond b (Some (diagnostic codes_of.bad_request payload)) None))
+    later : (a b : Bool) (query payload : List ℕ)
+        → PlainIf (cond a (Some (diagnostic codes_of.bad_request query))
+        (cond b (Some (diagnostic codes_of.bad_request payload)) None))
     later true b query payload = record { no_content = refl; no_valid = refl }
     later false true query payload = record { no_content = refl; no_valid = refl }
     later false false query payload = tt
@@ -94,11 +151,15 @@ refusal_PlainIf m = by (refusal_of m)
     by None = later (has_bad_query m) (has_bad_payload m) (codes "query") (codes "payload")
 
 -- what is answered to a refusal
-pub refusal_plain : (m : Message) (reply : Reply) → refusal_of_request m ≡ Some reply → IsPlainCode reply.code
+pub refusal_plain : (m : Message) (reply : Reply)
+    → refusal_of_request m ≡ Some reply
+    → IsPlainCode reply.code
 refusal_plain m reply e = subst PlainIf e (refusal_PlainIf m)
 
 -- and the answer to it
-pub refused_plain : (kind : Kind4) (bad : Option ℕ) (s : Step) (m : Message) (reply : Reply) → IsPlainCode reply.code → ArePlain (refusal_answered kind bad s m reply).sent
+pub refused_plain : (kind : Kind4) (bad : Option ℕ) (s : Step) (m : Message) (reply : Reply)
+    → IsPlainCode reply.code
+    → ArePlain (refusal_answered kind bad s m reply).sent
 refused_plain Non (Some number) s m reply plain = tt
 refused_plain Non None s m reply plain = plain_answering s m reply [] plain
 refused_plain Con bad s m reply plain = plain_answering s m reply [] plain
@@ -107,7 +168,9 @@ refused_plain Rst bad s m reply plain = plain_answering s m reply [] plain
 
 -- 5.00 when out of memory
 pub starved_plain : (s : Step) (m : Message) → ArePlain (without_memory s m).sent
-starved_plain s m = plain_answering s m (bare codes_of.internal_server_error) [] (record { no_content = refl; no_valid = refl })
+starved_plain s m =
+    plain_answering s m (bare codes_of.internal_server_error) []
+    (record { no_content = refl; no_valid = refl })
 
 -- what is no message
 pub unread_plain : (s : Step) (fault : Unread) → ArePlain (unread_answered s fault).sent
@@ -123,14 +186,19 @@ unread_plain s (unread.Format Rst mid) = tt
 
 -- the octets that an admission was answered with
 abbrev pub SettledPlain : List Event → Type 0
-SettledPlain events = (place : ℕ) (octets : List ℕ) → settled place events ≡ Some octets → IsPlain octets
+SettledPlain events =
+    (place : ℕ) (octets : List ℕ) → settled place events ≡ Some octets → IsPlain octets
 
 -- a write as it is heard: a repeat, one too many, or one that is admitted
-pub write_plain : (events : List Event) (moment : ℕ) (s : Step) (m : Message) → SettledPlain events → ArePlain (write_effects events moment s m).sent
+pub write_plain : (events : List Event) (moment : ℕ) (s : Step) (m : Message)
+    → SettledPlain events
+    → ArePlain (write_effects events moment s m).sent
 unfolding write_effects
 write_plain events moment s m before = by (repeated moment s.peer m.mid events)
   where
-    again : (place : ℕ) (octets : Option (List ℕ)) → settled place events ≡ octets → ArePlain (again_answered s octets).sent
+    again : (place : ℕ) (octets : Option (List ℕ))
+        → settled place events ≡ octets
+        → ArePlain (again_answered s octets).sent
     again place None e = tt
     again place (Some octets) e = (before place octets e, tt)
 
@@ -145,7 +213,9 @@ write_plain events moment s m before = by (repeated moment s.peer m.mid events)
 -- ---- commits
 
 -- what comes of a change
-pub change_plain : (history : List Entry) (entry : Entry) (done : Outcome) → IsPlainCode done.reply.code → IsPlainCode (change_made history entry done).reply.code
+pub change_plain : (history : List Entry) (entry : Entry) (done : Outcome)
+    → IsPlainCode done.reply.code
+    → IsPlainCode (change_made history entry done).reply.code
 change_plain history entry done plain = by (change_refusal 0 history entry)
   where
     refused : (why : Refusal) → IsPlainCode (refused_as why).reply.code
@@ -159,38 +229,54 @@ change_plain history entry done plain = by (change_refusal 0 history entry)
     by None = plain
 
 -- a registration of a whole body
-registration_plain : (history : List Entry) (moment : ℕ) (s : Step) (params : RegParams) (body : List ℕ) (further : List Opt) (notes : List Note)
+registration_plain : (history : List Entry) (moment : ℕ) (s : Step) (params : RegParams)
+    (body : List ℕ) (further : List Opt) (notes : List Note)
     → IsPlainCode (registration history moment s params body further notes).reply.code
 unfolding registration
 registration_plain history moment s params body further notes = by (body_read body)
   where
-    by : (read : BodyRead) → IsPlainCode (registered_links history moment s params further notes read).reply.code
+    by : (read : BodyRead)
+        → IsPlainCode (registered_links history moment s params further notes read).reply.code
     by (bad_body word) = record { no_content = refl; no_valid = refl }
     by (good_body links) =
         let entry : Entry = entry_of_step moment s (change.Register params links) in
-        change_plain history entry (record { reply = created_at (number_after params.name moment (history ++ entry ∷ [])) further; notes = notes }) (record { no_content = refl; no_valid = refl })
+        change_plain history entry
+        (record {
+          reply = created_at (number_after params.name moment (history ++ entry ∷ []))
+              further;
+          notes = notes;
+        }) (record { no_content = refl; no_valid = refl })
 
 -- a registration, whole or a block of one
-pub registering_plain : (rows : List Row) (moment : ℕ) (s : Step) (m : Message) → IsPlainCode (registering rows moment s m).reply.code
+pub registering_plain : (rows : List Row) (moment : ℕ) (s : Step) (m : Message)
+    → IsPlainCode (registering rows moment s m).reply.code
 unfolding registering block_uploaded
 registering_plain rows moment s m = by (sent_block m)
   where
-    taken : (more : Bool) (b : Block) (body : List ℕ) → IsPlainCode (block_taken more rows moment s m b body).reply.code
+    taken : (more : Bool) (b : Block) (body : List ℕ)
+        → IsPlainCode (block_taken more rows moment s m b body).reply.code
     taken true b body = record { no_content = refl; no_valid = refl }
-    taken false b body = registration_plain (entries rows) moment s (registration_values (queries_in m)) body _ (note.Finished s.peer (key_in m) ∷ [])
+    taken false b body =
+        registration_plain (entries rows) moment s (registration_values (queries_in m)) body _
+        (note.Finished s.peer (key_in m) ∷ [])
 
-    unless : (too_long too_many : Bool) (b : Block) (body : List ℕ) → IsPlainCode (block_unless too_long too_many rows moment s m b body).reply.code
+    unless : (too_long too_many : Bool) (b : Block) (body : List ℕ)
+        → IsPlainCode (block_unless too_long too_many rows moment s m b body).reply.code
     unless true too_many b body = record { no_content = refl; no_valid = refl }
     unless false true b body = record { no_content = refl; no_valid = refl }
     unless false false b body = taken b.more b body
 
-    after : (front upload : Option (List ℕ)) (b : Block) → IsPlainCode (block_after front upload rows moment s m b).reply.code
+    after : (front upload : Option (List ℕ)) (b : Block)
+        → IsPlainCode (block_after front upload rows moment s m b).reply.code
     after None upload b = record { no_content = refl; no_valid = refl }
     after (Some front) upload b =
-        unless (nat_lt max_body (length front + length m.payload)) (is_one_too_many b upload (live_uploads moment (events rows))) b (front ++ m.payload)
+        unless (nat_lt max_body (length front + length m.payload))
+        (is_one_too_many b upload (live_uploads moment (events rows))) b (front ++ m.payload)
 
     by : (b : Option Block) → IsPlainCode (registration_outcome b rows moment s m).reply.code
-    by None = registration_plain (entries rows) moment s (registration_values (queries_in m)) m.payload [] []
+    by None =
+        registration_plain (entries rows) moment s (registration_values (queries_in m)) m.payload []
+        []
     by (Some b) =
         let upload : Option (List ℕ) = live_upload moment (s.peer, key_in m) (events rows) in
         after (collected_before b upload) upload b
@@ -201,9 +287,17 @@ SettlesPlainly (note.Settled place octets) = IsPlain octets
 SettlesPlainly _ = Unit {0}
 
 -- notes of a kind that settles nothing
-pub never_settles : (kind : Note → Bool) → ((place : ℕ) (octets : List ℕ) → kind (note.Settled place octets) ≡ false) → (notes : List Note) → are kind notes ≡ true → AllByRecursion SettlesPlainly notes
+pub never_settles : (kind : Note → Bool)
+    → ((place : ℕ) (octets : List ℕ) → kind (note.Settled place octets) ≡ false)
+    → (notes : List Note)
+    → are kind notes ≡ true
+    → AllByRecursion SettlesPlainly notes
 never_settles kind never [] h = tt
-never_settles kind never (n ∷ notes) h = (by n (and_parts (kind n) (are kind notes) h).0, never_settles kind never notes (and_parts (kind n) (are kind notes) h).1)
+never_settles kind never (n ∷ notes) h = (
+  by n (and_parts (kind n) (are kind notes) h).0,
+  never_settles kind never notes
+      (and_parts (kind n) (are kind notes) h).1,
+)
   where
     by : (x : Note) → kind x ≡ true → SettlesPlainly x
     by (note.Settled place octets) fits = absurd (false≢true (sym (never place octets) ∙ fits))

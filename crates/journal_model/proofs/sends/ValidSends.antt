@@ -1,5 +1,32 @@
--- Where 2.03 is sent: looks send it where the request names the tag; no other step sends it, and no confirmable message has it.
-use Rattle.std.proofs.Common.{option_map, ◌≡◌, ℕ, ◌+◌, ◌*◌, ◌/◌, ◌==◌, ◌||◌, ◌&&◌, Bool, true, false, not, List, [], ◌∷◌, length, Option, Some, None, refl, sym, ap, ◌∙◌, arith}
+-- Where 2.03 is sent: looks send it where the request names the tag; no other step sends it, and no
+-- confirmable message has it.
+use Rattle.std.proofs.Common.{
+  option_map,
+  ◌≡◌,
+  ℕ,
+  ◌+◌,
+  ◌*◌,
+  ◌/◌,
+  ◌==◌,
+  ◌||◌,
+  ◌&&◌,
+  Bool,
+  true,
+  false,
+  not,
+  List,
+  [],
+  ◌∷◌,
+  length,
+  Option,
+  Some,
+  None,
+  refl,
+  sym,
+  ap,
+  ◌∙◌,
+  arith,
+}
 use Rattle.std.specs.List.{AllByRecursion}
 use Rattle.std.proofs.lemmas.Bool.{false≢true, ne_eqb}
 use Rattle.rd_base.specs.declared.peers.Peer.{Peer}
@@ -24,10 +51,47 @@ use Rattle.journal_model.specs.declared.rows.Row.{Row}
 use Rattle.journal_model.specs.Journal.{events, entries}
 use Rattle.journal_model.specs.Effects.{Reply, answer_kind, answer, answering}
 use Rattle.journal_model.specs.Bodies.{part_reply, body_reply, is_long}
-use Rattle.journal_model.specs.Requests.{query_of, asked_block, number_of, szx_of, is_lookup, is_discovery, is_later_block, register, deregister, is_heeded, only_looks}
+use Rattle.journal_model.specs.Requests.{
+  query_of,
+  asked_block,
+  number_of,
+  szx_of,
+  is_lookup,
+  is_discovery,
+  is_later_block,
+  register,
+  deregister,
+  is_heeded,
+  only_looks,
+}
 use Rattle.journal_model.specs.Sought.{sought_at}
-use Rattle.journal_model.specs.Looks.{Look, answered, held, names_tag, unless_long, unless_valid, look_for, look, look_sent, look_effects, keep_effects}
-use Rattle.journal_model.specs.Lookups.{listing_now, block_now, block_of_kept, later_block, without, observed_if, observed, unobserved, observation_effects, first_block_effects, block_effects, lookup_effects}
+use Rattle.journal_model.specs.Looks.{
+  Look,
+  answered,
+  held,
+  names_tag,
+  unless_long,
+  unless_valid,
+  look_for,
+  look,
+  look_sent,
+  look_effects,
+  keep_effects,
+}
+use Rattle.journal_model.specs.Lookups.{
+  listing_now,
+  block_now,
+  block_of_kept,
+  later_block,
+  without,
+  observed_if,
+  observed,
+  unobserved,
+  observation_effects,
+  first_block_effects,
+  block_effects,
+  lookup_effects,
+}
 use Rattle.journal_model.specs.PlacedRows.{code_at, code_sent}
 
 -- octets with another code than 2.03
@@ -45,7 +109,8 @@ is_confirmable (first ∷ others) = first / 16 == 4
 
 -- whatever is confirmable has another code
 abbrev pub NoConfirmableValid : List (Peer × List ℕ) → Type 0
-NoConfirmableValid sent = AllByRecursion (λ (d : Peer × List ℕ). is_confirmable d.1 ≡ true → NotValid d.1) sent
+NoConfirmableValid sent =
+    AllByRecursion (λ (d : Peer × List ℕ). is_confirmable d.1 ≡ true → NotValid d.1) sent
 
 -- it is so where nothing has this code
 pub no_confirmable_valid : (sent : List (Peer × List ℕ)) → NoneValid sent → NoConfirmableValid sent
@@ -53,21 +118,24 @@ no_confirmable_valid [] h = tt
 no_confirmable_valid (d ∷ sent) h = ((λ _. h.0), no_confirmable_valid sent h.1)
 
 -- no answer is confirmable
-pub answer_apart : (kind : Kind4) (n : ℕ) → ((1 * 64 + kind_number (answer_kind kind) * 16 + n) / 16 == 4) ≡ false
+pub answer_apart : (kind : Kind4) (n : ℕ)
+    → ((1 * 64 + kind_number (answer_kind kind) * 16 + n) / 16 == 4) ≡ false
 answer_apart Con n = ne_eqb _ _ (λ e. absurd (omega (arith, e)))
 answer_apart Non n = ne_eqb _ _ (λ e. absurd (omega (arith, e)))
 answer_apart Ack n = ne_eqb _ _ (λ e. absurd (omega (arith, e)))
 answer_apart Rst n = ne_eqb _ _ (λ e. absurd (omega (arith, e)))
 
 -- whatever it says
-pub answers_apart : (s : Step) (m : Message) (reply : Reply) → is_confirmable (spelling (answer s m reply)) ≡ false
+pub answers_apart : (s : Step) (m : Message) (reply : Reply)
+    → is_confirmable (spelling (answer s m reply)) ≡ false
 unfolding spelling header_spelling
 answers_apart s m reply = answer_apart m.kind (length m.token)
 
 -- ---- looks
 
 -- so no look sends a confirmable 2.03
-pub look_no_confirmable_valid : (history : List Entry) (moment : ℕ) (s : Step) (m : Message) → NoConfirmableValid (look_effects history moment s m).sent
+pub look_no_confirmable_valid : (history : List Entry) (moment : ℕ) (s : Step) (m : Message)
+    → NoConfirmableValid (look_effects history moment s m).sent
 unfolding look_effects answering
 look_no_confirmable_valid history moment s m = by (look history moment m)
   where
@@ -80,33 +148,46 @@ look_no_confirmable_valid history moment s m = by (look history moment m)
     by (Some (held found)) = tt
 
 -- a body is answered by 2.05 or 4.00
-part_code : (tag : Option (List ℕ)) (observe : Option ℕ) (asked : Option Block) (part : Option (List ℕ × Bool)) → ((part_reply tag observe asked part).code == codes_of.valid) ≡ false
+part_code : (tag : Option (List ℕ)) (observe : Option ℕ) (asked : Option Block)
+    (part : Option (List ℕ × Bool))
+    → ((part_reply tag observe asked part).code == codes_of.valid) ≡ false
 part_code tag observe asked None = refl
 part_code tag observe asked (Some part) = refl
 
 -- whole or a block of it
-pub body_code : (tag : Option (List ℕ)) (observe : Option ℕ) (asked : Option Block) (body : List ℕ) → ((body_reply tag observe asked body).code == codes_of.valid) ≡ false
+pub body_code : (tag : Option (List ℕ)) (observe : Option ℕ) (asked : Option Block) (body : List ℕ)
+    → ((body_reply tag observe asked body).code == codes_of.valid) ≡ false
 unfolding body_reply
-body_code tag observe asked body = part_code tag observe asked (block_of body (number_of asked) (szx_of asked))
+body_code tag observe asked body =
+    part_code tag observe asked (block_of body (number_of asked) (szx_of asked))
 
 -- a look of a listing answers 2.03 exactly where the request names the tag
 pub look_valid : (history : List Entry) (moment : ℕ) (s : Step) (m : Message)
-    → (code_sent (look_effects history moment s m).sent == codes_of.valid) ≡ (is_lookup (path_in m) && names_tag (tag history moment) m)
+    → (code_sent (look_effects history moment s m).sent == codes_of.valid)
+    ≡ (is_lookup (path_in m) && names_tag (tag history moment) m)
 unfolding look_effects look answering spelling header_spelling
 look_valid history moment s m = by (path_in m)
   where
     now : Answer
     now = record { body = listing (query_of m) history moment; tag = tag history moment }
 
-    long : (b : Bool) → (code_sent (look_sent s m (Some (unless_long b m now))).sent == codes_of.valid) ≡ false
+    long : (b : Bool)
+        → (code_sent (look_sent s m (Some (unless_long b m now))).sent == codes_of.valid) ≡ false
     long true = refl
-    long false = body_code (Some (tag history moment)) None (asked_block m) (listing (query_of m) history moment)
+    long false =
+        body_code (Some (tag history moment)) None (asked_block m)
+        (listing (query_of m) history moment)
 
-    valid : (b : Bool) → (code_sent (look_sent s m (Some (unless_valid b m now))).sent == codes_of.valid) ≡ b
+    valid : (b : Bool)
+        → (code_sent (look_sent s m (Some (unless_valid b m now))).sent == codes_of.valid) ≡ b
     valid true = refl
     valid false = long (is_long (asked_block m) (listing (query_of m) history moment))
 
-    by : (p : Path) → (code_sent (look_sent s m (option_map (look_for history moment m) (sought_at p (query_of m)))).sent == codes_of.valid) ≡ (is_lookup p && names_tag (tag history moment) m)
+    by : (p : Path)
+        → (code_sent (look_sent s m
+        (option_map (look_for history moment m) (sought_at p (query_of m)))).sent
+        == codes_of.valid)
+        ≡ (is_lookup p && names_tag (tag history moment) m)
     by path.Core = body_code None None (asked_block m) (discovery (query_of m))
     by path.SimpleRd = refl
     by path.Rd = refl
@@ -116,10 +197,16 @@ look_valid history moment s m = by (path_in m)
     by path.Other = refl
 
 -- a request that is looked at asks for a listing or for discovery
-pub looks_either : (m : Message) → only_looks m ≡ true → is_lookup (path_in m) ≡ not (is_discovery (path_in m))
+pub looks_either : (m : Message)
+    → only_looks m ≡ true
+    → is_lookup (path_in m) ≡ not (is_discovery (path_in m))
 looks_either m h = by (path_in m) h
   where
-    by : (p : Path) → (is_discovery p || (is_lookup p && not (is_later_block m) && not (is_heeded (observe_in m)))) ≡ true → is_lookup p ≡ not (is_discovery p)
+    by : (p : Path)
+        → (is_discovery p
+        || (is_lookup p && not (is_later_block m) && not (is_heeded (observe_in m))))
+        ≡ true
+        → is_lookup p ≡ not (is_discovery p)
     by path.Core e = refl
     by path.Res e = refl
     by path.Ep e = refl
@@ -131,43 +218,75 @@ looks_either m h = by (path_in m) h
 -- ---- keeps and lookups
 
 -- a keep
-pub keep_not_valid : (s : Step) (m : Message) (body current : List ℕ) → NoneValid (keep_effects s m body current).sent
+pub keep_not_valid : (s : Step) (m : Message) (body current : List ℕ)
+    → NoneValid (keep_effects s m body current).sent
 unfolding keep_effects answering spelling header_spelling
 keep_not_valid s m body current = (body_code (Some current) None (asked_block m) body, tt)
 
 -- a lookup that is no look
-pub lookup_not_valid : (rows : List Row) (moment : ℕ) (s : Step) (m : Message) → is_lookup (path_in m) ≡ true → only_looks m ≡ false → NoneValid (lookup_effects rows moment s m).sent
+pub lookup_not_valid : (rows : List Row) (moment : ℕ) (s : Step) (m : Message)
+    → is_lookup (path_in m) ≡ true
+    → only_looks m ≡ false
+    → NoneValid (lookup_effects rows moment s m).sent
 unfolding lookup_effects later_block observed unobserved answering spelling header_spelling
 lookup_not_valid rows moment s m lookup other = by (is_later_block m) refl
   where
-    now_block : (part : Option (List ℕ × Bool)) → NoneValid (block_now s m (listing_now rows moment m) part).sent
+    now_block : (part : Option (List ℕ × Bool))
+        → NoneValid (block_now s m (listing_now rows moment m) part).sent
     now_block None = (refl, tt)
     now_block (Some part) = (refl, tt)
 
-    later : (found : Option Answer) → NoneValid (block_of_kept s m (listing_now rows moment m) found).sent
+    later : (found : Option Answer)
+        → NoneValid (block_of_kept s m (listing_now rows moment m) found).sent
     later (Some answer) = (body_code (Some answer.tag) None (asked_block m) answer.body, tt)
-    later None = now_block (block_of (listing_now rows moment m).body (number_of (asked_block m)) (szx_of (asked_block m)))
+    later None =
+        now_block (block_of (listing_now rows moment m).body (number_of (asked_block m))
+        (szx_of (asked_block m)))
 
     added : (b : Bool) → NoneValid (observed_if b rows s m (listing_now rows moment m)).sent
-    added true = (body_code (Some (tag (entries rows) moment)) (Some (observe_value (events rows))) (asked_block m) (listing (query_of m) (entries rows) moment), tt)
-    added false = (body_code (Some (tag (entries rows) moment)) None (asked_block m) (listing (query_of m) (entries rows) moment), tt)
+    added true = (
+      body_code (Some (tag (entries rows) moment)) (Some (observe_value (events rows)))
+          (asked_block m) (listing (query_of m) (entries rows) moment),
+      tt,
+    )
+    added false = (
+      body_code (Some (tag (entries rows) moment)) None (asked_block m)
+          (listing (query_of m) (entries rows) moment),
+      tt,
+    )
 
     -- it is a look
     a_look : is_later_block m ≡ false → is_heeded (observe_in m) ≡ false → false ≡ true
     a_look first heeded = sym other ∙ only (is_discovery (path_in m))
       where
-        only : (b : Bool) → (b || (is_lookup (path_in m) && not (is_later_block m) && not (is_heeded (observe_in m)))) ≡ true
+        only : (b : Bool)
+            → (b
+            || (is_lookup (path_in m)
+            && not (is_later_block m)
+            && not (is_heeded (observe_in m))))
+            ≡ true
         only true = refl
         only false = rw (lookup, first, heeded) refl
 
-    valued : (value : ℕ) (b c : Bool) → is_later_block m ≡ false → observe_in m ≡ Some value → (value == register) ≡ b → (value == deregister) ≡ c → NoneValid (observation_effects b c rows moment s m).sent
-    valued value true c first has begins ends = added (has_room_for (query_of m) (without (s.peer, m.token) (observers (events rows))))
+    valued : (value : ℕ) (b c : Bool)
+        → is_later_block m ≡ false
+        → observe_in m ≡ Some value
+        → (value == register) ≡ b
+        → (value == deregister) ≡ c
+        → NoneValid (observation_effects b c rows moment s m).sent
+    valued value true c first has begins ends =
+        added (has_room_for (query_of m) (without (s.peer, m.token) (observers (events rows))))
     valued value false true first has begins ends = added false
-    valued value false false first has begins ends = absurd (false≢true (a_look first (ap is_heeded has ∙ rw (begins, ends) refl)))
+    valued value false false first has begins ends =
+        absurd (false≢true (a_look first (ap is_heeded has ∙ rw (begins, ends) refl)))
 
-    observe : (o : Option ℕ) → is_later_block m ≡ false → observe_in m ≡ o → NoneValid (first_block_effects o rows moment s m).sent
+    observe : (o : Option ℕ)
+        → is_later_block m ≡ false
+        → observe_in m ≡ o
+        → NoneValid (first_block_effects o rows moment s m).sent
     observe None first has = absurd (false≢true (a_look first (ap is_heeded has)))
-    observe (Some value) first has = valued value (value == register) (value == deregister) first has refl refl
+    observe (Some value) first has =
+        valued value (value == register) (value == deregister) first has refl refl
 
     by : (b : Bool) → is_later_block m ≡ b → NoneValid (block_effects b rows moment s m).sent
     by true later_one = later (kept_answer moment (s.peer, key_in m) (events rows))

@@ -35,7 +35,8 @@ unfolding trace_on_literals
 worker_007 = refl
 
 -- the greatest moment
-moment_of_15_digits : line_of (codes "go 0 999999999999999") ≡ Ok (line.Go 0 (record { 0 = 999_999_999_999_999 }))
+moment_of_15_digits :
+    line_of (codes "go 0 999999999999999") ≡ Ok (line.Go 0 (record { 0 = 999_999_999_999_999 }))
 unfolding trace_on_literals
 moment_of_15_digits = refl
 
@@ -60,7 +61,8 @@ unfolding trace_on_literals
 tick_without_word = refl
 
 -- the greatest word
-tick_with_word : line_of (codes "tick 1 5 4294967295") ≡ Ok (line.Tick 1 (record { 0 = 5 }) 4_294_967_295)
+tick_with_word :
+    line_of (codes "tick 1 5 4294967295") ≡ Ok (line.Tick 1 (record { 0 = 5 }) 4_294_967_295)
 unfolding trace_on_literals
 tick_with_word = refl
 
@@ -75,12 +77,15 @@ unfolding trace_on_literals
 tick_word_too_great = refl
 
 -- a dash is the empty datagram
-come_empty : line_of (codes "in 0 10 192.0.2.10:5683 -") ≡ Ok (line.Come 0 (record { 0 = 10 }) device [])
+come_empty :
+    line_of (codes "in 0 10 192.0.2.10:5683 -") ≡ Ok (line.Come 0 (record { 0 = 10 }) device [])
 unfolding trace_on_literals
 come_empty = refl
 
 -- digits of either case
-come_upper : line_of (codes "in 0 10 192.0.2.10:5683 aBFf") ≡ Ok (line.Come 0 (record { 0 = 10 }) device (0xab ∷ 0xff ∷ []))
+come_upper :
+    line_of (codes "in 0 10 192.0.2.10:5683 aBFf")
+    ≡ Ok (line.Come 0 (record { 0 = 10 }) device (0xab ∷ 0xff ∷ []))
 unfolding trace_on_literals
 come_upper = refl
 
@@ -210,12 +215,15 @@ unfolding trace_on_literals
 printed_far = refl
 
 -- a line that is printed
-printed_come : line_text (line.Come 0 (record { 0 = 10 }) device (0xAB ∷ 1 ∷ [])) ≡ codes "in 0 10 192.0.2.10:5683 ab01"
+printed_come :
+    line_text (line.Come 0 (record { 0 = 10 }) device (0xAB ∷ 1 ∷ []))
+    ≡ codes "in 0 10 192.0.2.10:5683 ab01"
 unfolding trace_on_literals
 printed_come = refl
 
 -- an empty datagram is a dash
-printed_empty : line_text (line.Come 0 (record { 0 = 10 }) far []) ≡ codes "in 0 10 [2001:db8::1]:61616 -"
+printed_empty :
+    line_text (line.Come 0 (record { 0 = 10 }) far []) ≡ codes "in 0 10 [2001:db8::1]:61616 -"
 unfolding trace_on_literals
 printed_empty = refl
 

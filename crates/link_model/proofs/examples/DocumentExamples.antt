@@ -24,9 +24,17 @@ empty : document [] ≡ Some []
 unfolding document_on_literals
 empty = refl
 
-two_links : document (codes "</temp>;rt=\"temperature\";ct=0,</light>;rt=\"light-lux\";if=\"sensor\"") ≡ Some (
-    a_link (codes "/temp") (with_value (codes "rt") (codes "\"temperature\"") ∷ with_value (codes "ct") (codes "0") ∷ []) ∷
-    a_link (codes "/light") (with_value (codes "rt") (codes "\"light-lux\"") ∷ with_value (codes "if") (codes "\"sensor\"") ∷ []) ∷ [])
+two_links :
+    document (codes "</temp>;rt=\"temperature\";ct=0,</light>;rt=\"light-lux\";if=\"sensor\"")
+    ≡ Some (
+    a_link (codes "/temp") (with_value (codes "rt") (codes "\"temperature\"")
+    ∷ with_value (codes "ct") (codes "0")
+    ∷ [])
+    ∷
+    a_link (codes "/light") (with_value (codes "rt") (codes "\"light-lux\"")
+    ∷ with_value (codes "if") (codes "\"sensor\"")
+    ∷ [])
+    ∷ [])
 unfolding document_on_literals
 two_links = refl
 
@@ -37,11 +45,16 @@ unfolding document_on_literals
 commas_inside = refl
 
 asterisk_and_token : document (codes "<a>;title*=UTF-8''x;a=b=<c>") ≡ Some (
-    a_link (codes "a") (with_value (codes "title*") (codes "UTF-8''x") ∷ with_value (codes "a") (codes "b=<c>") ∷ []) ∷ [])
+    a_link (codes "a") (with_value (codes "title*") (codes "UTF-8''x")
+    ∷ with_value (codes "a") (codes "b=<c>")
+    ∷ [])
+    ∷ [])
 unfolding document_on_literals
 asterisk_and_token = refl
 
-escapes : option_map (map (λ (l : Link). map value_of l.parameters)) (document (codes "<a>;t=\"x\\\"y\"")) ≡ Some ((codes "x\"y" ∷ []) ∷ [])
+escapes :
+    option_map (map (λ (l : Link). map value_of l.parameters)) (document (codes "<a>;t=\"x\\\"y\""))
+    ≡ Some ((codes "x\"y" ∷ []) ∷ [])
 unfolding document_on_literals
 escapes = refl
 
@@ -49,11 +62,16 @@ quotes_again : quoted (codes "x\"y\\") ≡ codes "\"x\\\"y\\\\\""
 unfolding document_on_literals
 quotes_again = refl
 
-past_ascii : option_map (map (λ (l : Link). map value_of l.parameters)) (document (codes "<a>;t=\"" ++ (0xC2 ∷ 0xB0 ∷ codes "\\" ++ (0xC3 ∷ 0xA9 ∷ codes "\"")))) ≡ Some (((0xC2 ∷ 0xB0 ∷ 0xC3 ∷ 0xA9 ∷ []) ∷ []) ∷ [])
+past_ascii :
+    option_map (map (λ (l : Link). map value_of l.parameters))
+    (document (codes "<a>;t=\"" ++ (0xC2 ∷ 0xB0 ∷ codes "\\" ++ (0xC3 ∷ 0xA9 ∷ codes "\""))))
+    ≡ Some (((0xC2 ∷ 0xB0 ∷ 0xC3 ∷ 0xA9 ∷ []) ∷ []) ∷ [])
 unfolding document_on_literals
 past_ascii = refl
 
-anchors : option_map (map anchor) (document (codes "<x>;anchor=\"\",<y>;anchor;anchor=z,<z>;anchor*=x")) ≡ Some (Some [] ∷ Some [] ∷ None ∷ [])
+anchors :
+    option_map (map anchor) (document (codes "<x>;anchor=\"\",<y>;anchor;anchor=z,<z>;anchor*=x"))
+    ≡ Some (Some [] ∷ Some [] ∷ None ∷ [])
 unfolding document_on_literals
 anchors = refl
 

@@ -24,7 +24,9 @@ registration = record {
   mid = 1;
   token = hex (codes "a1");
   options =
-      (table.uri_path, codes "rd") ∷ (table.content_format, hex (codes "28")) ∷ (table.uri_query, codes "ep=node1")
+      (table.uri_path, codes "rd")
+      ∷ (table.content_format, hex (codes "28"))
+      ∷ (table.uri_query, codes "ep=node1")
       ∷ (table.uri_query, codes "lt=600") ∷ [];
   payload = link_text;
 }
@@ -32,7 +34,8 @@ registration = record {
 abbrev registration_bytes : List ℕ
 registration_bytes =
     hex (codes "41020001a1b2726411283865703d6e6f646531066c743d363030ff")
-    ++ hex (codes "3c2f74656d703e3b72743d2274656d7065726174757265223b63743d302c3c2f6c696768743e3b72743d226c696768742d6c7578223b69663d2273656e736f7222")
+    ++ hex (codes
+    "3c2f74656d703e3b72743d2274656d7065726174757265223b63743d302c3c2f6c696768743e3b72743d226c696768742d6c7578223b69663d2273656e736f7222")
 
 registration_is_read : reading registration_bytes ≡ Ok registration
 unfolding messages_on_literals
@@ -71,7 +74,10 @@ lookup = record {
   mid = 2;
   token = hex (codes "b2");
   options =
-      (table.uri_path, codes "rd-lookup") ∷ (table.uri_path, codes "res") ∷ (table.uri_query, codes "rt=light-lux") ∷ [];
+      (table.uri_path, codes "rd-lookup")
+      ∷ (table.uri_path, codes "res")
+      ∷ (table.uri_query, codes "rt=light-lux")
+      ∷ [];
   payload = [];
 }
 
@@ -94,14 +100,16 @@ listed = record {
   code = content;
   mid = 2;
   token = hex (codes "b2");
-  options = (table.etag, hex (codes "0000000000010000")) ∷ (table.content_format, hex (codes "28")) ∷ [];
+  options =
+      (table.etag, hex (codes "0000000000010000")) ∷ (table.content_format, hex (codes "28")) ∷ [];
   payload = codes "<coap://192.0.2.10/light>;rt=\"light-lux\";if=\"sensor\"";
 }
 
 abbrev listed_bytes : List ℕ
 listed_bytes =
     hex (codes "61450002b24800000000000100008128ff")
-    ++ hex (codes "3c636f61703a2f2f3139322e302e322e31302f6c696768743e3b72743d226c696768742d6c7578223b69663d2273656e736f7222")
+    ++ hex (codes
+    "3c636f61703a2f2f3139322e302e322e31302f6c696768743e3b72743d226c696768742d6c7578223b69663d2273656e736f7222")
 
 listed_is_read : reading listed_bytes ≡ Ok listed
 unfolding messages_on_literals
@@ -177,7 +185,14 @@ class_is_refused = refl
 -- ---- edges of what is a message
 
 abbrev bare : Kind4 → ℕ → ℕ → List Opt → Message
-bare kind code mid options = record { kind = kind; code = code; mid = mid; token = []; options = options; payload = [] }
+bare kind code mid options = record {
+  kind = kind;
+  code = code;
+  mid = mid;
+  token = [];
+  options = options;
+  payload = [];
+}
 
 -- an empty message, which a Reset answers
 ping_is_read : reading (hex (codes "40001238")) ≡ Ok (bare Con empty 0x1238 [])
@@ -197,16 +212,20 @@ unfolding messages_on_literals
 option_zero_is_read = refl
 
 -- the last option number, in its one spelling
-last_number_is_read : reading (hex (codes "40011234e0fef2")) ≡ Ok (bare Con get 0x1234 ((65535, []) ∷ []))
+last_number_is_read :
+    reading (hex (codes "40011234e0fef2")) ≡ Ok (bare Con get 0x1234 ((65535, []) ∷ []))
 unfolding messages_on_literals
 last_number_is_read = refl
 
-last_number_is_spelled : spelling (bare Con get 0x1234 ((65535, []) ∷ [])) ≡ hex (codes "40011234e0fef2")
+last_number_is_spelled :
+    spelling (bare Con get 0x1234 ((65535, []) ∷ [])) ≡ hex (codes "40011234e0fef2")
 unfolding messages_on_literals
 last_number_is_spelled = refl
 
 -- a delta of 13 takes one more byte
-proxy_scheme_is_read : reading (hex (codes "40011234d11a68")) ≡ Ok (bare Con get 0x1234 ((table.proxy_scheme, codes "h") ∷ []))
+proxy_scheme_is_read :
+    reading (hex (codes "40011234d11a68"))
+    ≡ Ok (bare Con get 0x1234 ((table.proxy_scheme, codes "h") ∷ []))
 unfolding messages_on_literals
 proxy_scheme_is_read = refl
 

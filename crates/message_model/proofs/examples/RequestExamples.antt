@@ -33,7 +33,8 @@ option_zero_is_passed_over : first_bad_option ((0, []) ∷ []) ≡ None
 unfolding messages_on_literals
 option_zero_is_passed_over = refl
 
-proxy_is_refused : refusal_of (request get ((table.proxy_uri, codes "coap://x") ∷ []) []) ≡ Some refusal.Proxy
+proxy_is_refused :
+    refusal_of (request get ((table.proxy_uri, codes "coap://x") ∷ []) []) ≡ Some refusal.Proxy
 unfolding messages_on_literals
 proxy_is_refused = refl
 
@@ -49,15 +50,24 @@ method_is_refused : refusal_of (request put (to_one (codes "rd")) []) ≡ Some r
 unfolding messages_on_literals
 method_is_refused = refl
 
-block_is_refused : refusal_of (request get (to_lookup ++ (table.block2, hex (codes "07")) ∷ []) []) ≡ Some refusal.Block
+block_is_refused :
+    refusal_of (request get (to_lookup ++ (table.block2, hex (codes "07")) ∷ []) [])
+    ≡ Some refusal.Block
 unfolding messages_on_literals
 block_is_refused = refl
 
-accept_is_refused : refusal_of (request get (to_lookup ++ (table.accept, hex (codes "32")) ∷ []) []) ≡ Some refusal.Accept
+accept_is_refused :
+    refusal_of (request get (to_lookup ++ (table.accept, hex (codes "32")) ∷ []) [])
+    ≡ Some refusal.Accept
 unfolding messages_on_literals
 accept_is_refused = refl
 
-format_is_refused : refusal_of (request post (to_one (codes "rd") ++ (table.content_format, hex (codes "32")) ∷ (table.uri_query, codes "ep=a") ∷ []) []) ≡ Some refusal.Format
+format_is_refused :
+    refusal_of (request post (to_one (codes "rd")
+    ++ (table.content_format, hex (codes "32"))
+    ∷ (table.uri_query, codes "ep=a")
+    ∷ []) [])
+    ≡ Some refusal.Format
 unfolding messages_on_literals
 format_is_refused = refl
 
@@ -71,29 +81,47 @@ unfolding messages_on_literals
 update_is_accepted = refl
 
 -- a registration's block that more follow has the block size, and the last may be shorter
-full_block_is_accepted : refusal_of (request post (to_one (codes "rd") ++ (table.block1, hex (codes "08")) ∷ []) (replicate 16 120)) ≡ None
+full_block_is_accepted :
+    refusal_of (request post (to_one (codes "rd") ++ (table.block1, hex (codes "08")) ∷ [])
+    (replicate 16 120))
+    ≡ None
 unfolding messages_on_literals
 full_block_is_accepted = refl
 
-short_block_is_refused : refusal_of (request post (to_one (codes "rd") ++ (table.block1, hex (codes "08")) ∷ []) (replicate 15 120)) ≡ Some refusal.Block
+short_block_is_refused :
+    refusal_of (request post (to_one (codes "rd") ++ (table.block1, hex (codes "08")) ∷ [])
+    (replicate 15 120))
+    ≡ Some refusal.Block
 unfolding messages_on_literals
 short_block_is_refused = refl
 
-last_block_is_accepted : refusal_of (request post (to_one (codes "rd") ++ (table.block1, hex (codes "10")) ∷ []) (replicate 15 120)) ≡ None
+last_block_is_accepted :
+    refusal_of (request post (to_one (codes "rd") ++ (table.block1, hex (codes "10")) ∷ [])
+    (replicate 15 120))
+    ≡ None
 unfolding messages_on_literals
 last_block_is_accepted = refl
 
-long_block_is_refused : refusal_of (request post (to_one (codes "rd") ++ (table.block1, hex (codes "10")) ∷ []) (replicate 17 120)) ≡ Some refusal.Block
+long_block_is_refused :
+    refusal_of (request post (to_one (codes "rd") ++ (table.block1, hex (codes "10")) ∷ [])
+    (replicate 17 120))
+    ≡ Some refusal.Block
 unfolding messages_on_literals
 long_block_is_refused = refl
 
 -- elsewhere only the exponent of Block1 is looked at
-other_block_is_accepted : refusal_of (request post (to_two (codes "rd") (codes "1") ++ (table.block1, hex (codes "08")) ∷ []) (codes "x")) ≡ None
+other_block_is_accepted :
+    refusal_of
+    (request post (to_two (codes "rd") (codes "1") ++ (table.block1, hex (codes "08")) ∷ [])
+    (codes "x"))
+    ≡ None
 unfolding messages_on_literals
 other_block_is_accepted = refl
 
 -- the reply to the option of number 9
-refusal_is_said : (refusal_code (refusal.BadOption 9) ∷ refusal_word (refusal.BadOption 9)) ≡ hex (codes "826f7074696f6e")
+refusal_is_said :
+    (refusal_code (refusal.BadOption 9) ∷ refusal_word (refusal.BadOption 9))
+    ≡ hex (codes "826f7074696f6e")
 refusal_is_said = refl
 
 -- ---- the option table
@@ -108,16 +136,22 @@ unfolding messages_on_literals
 if_none_match_is_refused = refl
 
 -- a first Observe of a bad length and a second that is a further occurrence: neither counts
-neither_observe_counts : observe_in (request get ((table.observe, hex (codes "00000000")) ∷ (table.observe, []) ∷ []) []) ≡ None
+neither_observe_counts :
+    observe_in (request get ((table.observe, hex (codes "00000000")) ∷ (table.observe, []) ∷ []) [])
+    ≡ None
 unfolding messages_on_literals
 neither_observe_counts = refl
 
-observe_counts : observe_in (request get ((table.observe, []) ∷ (table.observe, hex (codes "01")) ∷ []) []) ≡ Some 0
+observe_counts :
+    observe_in (request get ((table.observe, []) ∷ (table.observe, hex (codes "01")) ∷ []) [])
+    ≡ Some 0
 unfolding messages_on_literals
 observe_counts = refl
 
 -- a second Uri-Host is critical and a further occurrence; a Uri-Host of no byte has a bad length
-second_host_is_refused : first_bad_option ((table.uri_host, codes "a") ∷ (table.uri_host, codes "a") ∷ []) ≡ Some table.uri_host
+second_host_is_refused :
+    first_bad_option ((table.uri_host, codes "a") ∷ (table.uri_host, codes "a") ∷ [])
+    ≡ Some table.uri_host
 unfolding messages_on_literals
 second_host_is_refused = refl
 
@@ -126,7 +160,9 @@ unfolding messages_on_literals
 empty_host_is_refused = refl
 
 -- an entity tag of nine bytes is passed over, and the next one is the first
-long_etag_is_passed_over : etags_in (request get ((table.etag, replicate 9 1) ∷ (table.etag, hex (codes "aa")) ∷ []) []) ≡ hex (codes "aa") ∷ []
+long_etag_is_passed_over :
+    etags_in (request get ((table.etag, replicate 9 1) ∷ (table.etag, hex (codes "aa")) ∷ []) [])
+    ≡ hex (codes "aa") ∷ []
 unfolding messages_on_literals
 long_etag_is_passed_over = refl
 
@@ -145,7 +181,8 @@ zero_is_a_location : path_of (codes "rd" ∷ codes "0" ∷ []) ≡ path.Location
 unfolding messages_on_literals
 zero_is_a_location = refl
 
-fifteen_digits_are_a_location : path_of (codes "rd" ∷ codes "999999999999999" ∷ []) ≡ path.Location 999999999999999
+fifteen_digits_are_a_location :
+    path_of (codes "rd" ∷ codes "999999999999999" ∷ []) ≡ path.Location 999999999999999
 unfolding messages_on_literals
 fifteen_digits_are_a_location = refl
 
@@ -163,6 +200,9 @@ empty_segment_is_none = refl
 
 -- ---- the key
 
-key_is_made : key_in (request post (to_two (codes "rd") (codes "258") ++ (table.uri_query, codes "lt=1") ∷ []) []) ≡ hex (codes "02030000000000000102046c743d31")
+key_is_made :
+    key_in (request post (to_two (codes "rd") (codes "258") ++ (table.uri_query, codes "lt=1") ∷ [])
+    [])
+    ≡ hex (codes "02030000000000000102046c743d31")
 unfolding messages_on_literals
 key_is_made = refl

@@ -7,7 +7,10 @@ pub eqb-refl : (n : ℕ) → (n == n) ≡ true
 eqb-refl n = eq-eqb n n refl
 
 -- an octet that passes a test is not one that fails it
-pub other_octet : (test : ℕ → Bool) (c mark : ℕ) → test c ≡ true → test mark ≡ false → (c == mark) ≡ false
+pub other_octet : (test : ℕ → Bool) (c mark : ℕ)
+    → test c ≡ true
+    → test mark ≡ false
+    → (c == mark) ≡ false
 other_octet test c mark h t = by_test (c == mark) refl
   where
     by_test : (b : Bool) → (c == mark) ≡ b → b ≡ false

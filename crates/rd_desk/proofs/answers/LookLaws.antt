@@ -1,5 +1,30 @@
 -- What a look gives, by what is found, and what it does that gives this.
-use Rattle.std.proofs.Common.{◌≡◌, ℕ, Bool, true, false, not, ◌&&◌, ◌||◌, List, Option, Some, None, option_map, option_and_then, is_some, is_none, Result, Ok, Err, refl, sym, ap, subst, ◌∙◌}
+use Rattle.std.proofs.Common.{
+  ◌≡◌,
+  ℕ,
+  Bool,
+  true,
+  false,
+  not,
+  ◌&&◌,
+  ◌||◌,
+  List,
+  Option,
+  Some,
+  None,
+  option_map,
+  option_and_then,
+  is_some,
+  is_none,
+  Result,
+  Ok,
+  Err,
+  refl,
+  sym,
+  ap,
+  subst,
+  ◌∙◌,
+}
 use Rattle.std.proofs.lemmas.Bool.{and_parts}
 use Rattle.rd_base.specs.declared.peers.Peer.{Peer}
 use Rattle.rd_base.specs.declared.queries.Kind.{Kind}
@@ -23,11 +48,41 @@ use Rattle.history_model.specs.declared.entries.Entry.{Entry}
 use Rattle.history_model.specs.Listing.{listing, tag}
 use Rattle.journal_model.specs.declared.steps.Step.{Step}
 use Rattle.journal_model.specs.Effects.{Reply, without_memory}
-use Rattle.journal_model.specs.Requests.{reading_of, has_bad_query, is_lookup, is_discovery, is_later_block, is_heeded, only_looks, kind_of, query_of, asked_block, refusal_of_request, refusal_or_next, is_look_request}
+use Rattle.journal_model.specs.Requests.{
+  reading_of,
+  has_bad_query,
+  is_lookup,
+  is_discovery,
+  is_later_block,
+  is_heeded,
+  only_looks,
+  kind_of,
+  query_of,
+  asked_block,
+  refusal_of_request,
+  refusal_or_next,
+  is_look_request,
+}
 use Rattle.journal_model.specs.Bodies.{body_reply, is_long}
 use Rattle.journal_model.specs.Machine.{is_look_message, is_look_reading, is_look_datagram}
 use Rattle.journal_model.specs.Sought.{sought_at}
-use Rattle.journal_model.specs.Looks.{Look, answered, held, names_tag, still_valid, unless_long, unless_valid, found_under, look_for, look, look_sent, look_effects, looked, body_held, held_after}
+use Rattle.journal_model.specs.Looks.{
+  Look,
+  answered,
+  held,
+  names_tag,
+  still_valid,
+  unless_long,
+  unless_valid,
+  found_under,
+  look_for,
+  look,
+  look_sent,
+  look_effects,
+  looked,
+  body_held,
+  held_after,
+}
 use Rattle.rd_desk.specs.declared.looks.Looked.TheVariants as ended
 use Rattle.rd_desk.specs.Asking.{seeks_links}
 use Rattle.rd_desk.specs.Looking.{look_done, look_left, IsHeld}
@@ -37,8 +92,13 @@ no_fault : (fault : Option Fault) → is_some fault ≡ false → fault ≡ None
 no_fault None e = refl
 no_fault (Some fault) e = cc
 
--- where query options are not refused, and the path is that of a discovery or of a lookup, they have no fault of a lookup
-good_at : (p : Path) (m : Message) → seeks_links p ≡ true → is_some (option_and_then (λ as_what. fault_of as_what (queries_in m)) (reading_of p m.code)) ≡ false → lookup_fault (queries_in m) ≡ None
+-- where query options are not refused, and the path is that of a discovery or of a lookup, they
+-- have no fault of a lookup
+good_at : (p : Path) (m : Message)
+    → seeks_links p ≡ true
+    → is_some (option_and_then (λ as_what. fault_of as_what (queries_in m)) (reading_of p m.code))
+    ≡ false
+    → lookup_fault (queries_in m) ≡ None
 unfolding fault_of
 good_at path.Core m seeks good = no_fault (lookup_fault (queries_in m)) good
 good_at path.SimpleRd m seeks good = cc
@@ -48,39 +108,66 @@ good_at path.Res m seeks good = no_fault (lookup_fault (queries_in m)) good
 good_at path.Ep m seeks good = no_fault (lookup_fault (queries_in m)) good
 good_at path.Other m seeks good = cc
 
-pub good_query : (m : Message) → seeks_links (path_in m) ≡ true → has_bad_query m ≡ false → lookup_fault (queries_in m) ≡ None
+pub good_query : (m : Message)
+    → seeks_links (path_in m) ≡ true
+    → has_bad_query m ≡ false
+    → lookup_fault (queries_in m) ≡ None
 good_query m seeks good = good_at (path_in m) m seeks good
 
 -- a request that only looks is a discovery or a lookup
 pub looks_seek : (m : Message) → only_looks m ≡ true → seeks_links (path_in m) ≡ true
-looks_seek m looks = by (is_discovery (path_in m)) (is_lookup (path_in m)) (not (is_later_block m)) (not (is_heeded (observe_in m))) looks where
-  by : (d l first plain : Bool) → (d || (l && first && plain)) ≡ true → (d || l) ≡ true
-  by true l first plain h = refl
-  by false true first plain h = refl
-  by false false first plain h = h
+looks_seek m looks =
+    by (is_discovery (path_in m)) (is_lookup (path_in m)) (not (is_later_block m))
+    (not (is_heeded (observe_in m))) looks where
+      by : (d l first plain : Bool) → (d || (l && first && plain)) ≡ true → (d || l) ≡ true
+      by true l first plain h = refl
+      by false true first plain h = refl
+      by false false first plain h = h
 
 -- what the query options say: what the request asks for
-pub query_meant : (m : Message) (kind : Kind) (left : List (List ℕ)) → kind ≡ kind_of (path_in m) → left ≡ queries_in m → seeks_links (path_in m) ≡ true → has_bad_query m ≡ false → lookup_query kind left ≡ Ok (query_of m)
+pub query_meant : (m : Message) (kind : Kind) (left : List (List ℕ))
+    → kind ≡ kind_of (path_in m)
+    → left ≡ queries_in m
+    → seeks_links (path_in m) ≡ true
+    → has_bad_query m ≡ false
+    → lookup_query kind left ≡ Ok (query_of m)
 unfolding lookup_query
 query_meant m kind left by all seeks good =
-    ap (λ (k : Kind). lookup_query k left) by ∙ (ap (λ (queries : List (List ℕ)). lookup_query (kind_of (path_in m)) queries) all
-    ∙ ap (λ (fault : Option Fault). unless_fault fault (lookup_values (kind_of (path_in m)) (queries_in m))) (good_query m seeks good))
+    ap (λ (k : Kind). lookup_query k left) by
+    ∙ (ap (λ (queries : List (List ℕ)). lookup_query (kind_of (path_in m)) queries) all
+    ∙ ap (λ (fault : Option Fault).
+    unless_fault fault (lookup_values (kind_of (path_in m)) (queries_in m)))
+    (good_query m seeks good))
 
 -- so it is read as that
-pub query_read : (m : Message) (query : Query) (meant : Result Query Fault) → meant ≡ Ok (query_of m) → meant ≡ Ok query → query ≡ query_of m
-query_read m query meant same read = let both : ◌≡◌ {A = Result Query Fault} (Ok query) (Ok (query_of m)) = sym read ∙ same in cc
+pub query_read : (m : Message) (query : Query) (meant : Result Query Fault)
+    → meant ≡ Ok (query_of m)
+    → meant ≡ Ok query
+    → query ≡ query_of m
+query_read m query meant same read =
+    let both : ◌≡◌ {A = Result Query Fault} (Ok query) (Ok (query_of m)) = sym read ∙ same in cc
 
 -- and not as a fault
-pub query_faulty : (m : Message) (fault : Fault) (meant : Result Query Fault) → meant ≡ Ok (query_of m) → meant ≡ Err fault → ⊥
-query_faulty m fault meant same faulty = let both : ◌≡◌ {A = Result Query Fault} (Err fault) (Ok (query_of m)) = sym faulty ∙ same in cc
+pub query_faulty : (m : Message) (fault : Fault) (meant : Result Query Fault)
+    → meant ≡ Ok (query_of m)
+    → meant ≡ Err fault
+    → ⊥
+query_faulty m fault meant same faulty =
+    let both : ◌≡◌ {A = Result Query Fault} (Err fault) (Ok (query_of m)) = sym faulty ∙ same in cc
 
 -- discovery finds the links of the directory itself
-pub discovered : (history : List Entry) (moment : ℕ) (m : Message) (octets : List ℕ) → is_discovery (path_in m) ≡ true → octets ≡ discovery (query_of m)
+pub discovered : (history : List Entry) (moment : ℕ) (m : Message) (octets : List ℕ)
+    → is_discovery (path_in m) ≡ true
+    → octets ≡ discovery (query_of m)
     → look history moment m ≡ Some (answered (body_reply None None (asked_block m) octets))
 unfolding look
 discovered history moment m octets is same = at (path_in m) is where
-  at : (p : Path) → is_discovery p ≡ true → option_map (look_for history moment m) (sought_at p (query_of m)) ≡ Some (answered (body_reply None None (asked_block m) octets))
-  at path.Core h = ap (λ (what : List ℕ). Some (answered (body_reply None None (asked_block m) what))) (sym same)
+  at : (p : Path)
+      → is_discovery p ≡ true
+      → option_map (look_for history moment m) (sought_at p (query_of m))
+      ≡ Some (answered (body_reply None None (asked_block m) octets))
+  at path.Core h =
+      ap (λ (what : List ℕ). Some (answered (body_reply None None (asked_block m) what))) (sym same)
   at path.SimpleRd h = cc
   at path.Rd h = cc
   at (path.Location number) h = cc
@@ -89,72 +176,125 @@ discovered history moment m octets is same = at (path_in m) is where
   at path.Other h = cc
 
 -- any other look finds a listing
-pub looked_up : (history : List Entry) (moment : ℕ) (m : Message) → only_looks m ≡ true → is_discovery (path_in m) ≡ false
-    → look history moment m ≡ Some (found_under (Some (tag history moment)) m (listing (query_of m) history moment))
+pub looked_up : (history : List Entry) (moment : ℕ) (m : Message)
+    → only_looks m ≡ true
+    → is_discovery (path_in m) ≡ false
+    → look history moment m
+    ≡ Some (found_under (Some (tag history moment)) m (listing (query_of m) history moment))
 unfolding look
-looked_up history moment m looks other = at (path_in m) (not (is_later_block m)) (not (is_heeded (observe_in m))) looks other where
-  at : (p : Path) (first plain : Bool) → (is_discovery p || (is_lookup p && first && plain)) ≡ true → is_discovery p ≡ false
-      → option_map (look_for history moment m) (sought_at p (query_of m)) ≡ Some (found_under (Some (tag history moment)) m (listing (query_of m) history moment))
-  at path.Core first plain looks other = cc
-  at path.SimpleRd first plain looks other = cc
-  at path.Rd first plain looks other = cc
-  at (path.Location number) first plain looks other = cc
-  at path.Res first plain looks other = refl
-  at path.Ep first plain looks other = refl
-  at path.Other first plain looks other = cc
+looked_up history moment m looks other =
+    at (path_in m) (not (is_later_block m)) (not (is_heeded (observe_in m))) looks other where
+      at : (p : Path) (first plain : Bool)
+          → (is_discovery p || (is_lookup p && first && plain)) ≡ true
+          → is_discovery p ≡ false
+          → option_map (look_for history moment m) (sought_at p (query_of m))
+          ≡ Some (found_under (Some (tag history moment)) m (listing (query_of m) history moment))
+      at path.Core first plain looks other = cc
+      at path.SimpleRd first plain looks other = cc
+      at path.Rd first plain looks other = cc
+      at (path.Location number) first plain looks other = cc
+      at path.Res first plain looks other = refl
+      at path.Ep first plain looks other = refl
+      at path.Other first plain looks other = cc
 
 -- the client has it, where it names the tag
-pub found_valid : (m : Message) (given current what : List ℕ) → given ≡ current → names_tag given m ≡ true → found_under (Some current) m what ≡ answered (still_valid given)
+pub found_valid : (m : Message) (given current what : List ℕ)
+    → given ≡ current
+    → names_tag given m ≡ true
+    → found_under (Some current) m what ≡ answered (still_valid given)
 found_valid m given current what same named =
-    subst (λ (t : List ℕ). found_under (Some t) m what ≡ answered (still_valid given)) same (ap (λ b. unless_valid b m (record { body = what; tag = given })) named)
+    subst (λ (t : List ℕ). found_under (Some t) m what ≡ answered (still_valid given)) same
+    (ap (λ b. unless_valid b m (record { body = what; tag = given })) named)
 
 -- and else it gets it, or it is held
-pub found_whole : (m : Message) (given current octets what : List ℕ) → given ≡ current → octets ≡ what → names_tag given m ≡ false
-    → found_under (Some current) m what ≡ unless_long (is_long (asked_block m) octets) m (record { body = octets; tag = given })
+pub found_whole : (m : Message) (given current octets what : List ℕ)
+    → given ≡ current
+    → octets ≡ what
+    → names_tag given m ≡ false
+    → found_under (Some current) m what
+    ≡ unless_long (is_long (asked_block m) octets) m (record { body = octets; tag = given })
 found_whole m given current octets what same whole unnamed =
-    subst (λ (t : List ℕ). found_under (Some t) m what ≡ unless_long (is_long (asked_block m) octets) m (record { body = octets; tag = given })) same
-    (subst (λ (w : List ℕ). found_under (Some given) m w ≡ unless_long (is_long (asked_block m) octets) m (record { body = octets; tag = given })) whole
+    subst (λ (t : List ℕ).
+    found_under (Some t) m what
+    ≡ unless_long (is_long (asked_block m) octets) m
+    (record { body = octets; tag = given })) same
+    (subst (λ (w : List ℕ).
+    found_under (Some given) m w
+    ≡ unless_long (is_long (asked_block m) octets) m
+    (record { body = octets; tag = given })) whole
     (ap (λ b. unless_valid b m (record { body = octets; tag = given })) unnamed))
 
 -- ---- what is given
 
 -- it was told whether the listing is long
-is_measured : (m : Message) (octets shown : List ℕ) (asked : Option Block) (long : Bool) → asked ≡ asked_block m → shown ≡ octets → long ≡ is_long asked shown → long ≡ is_long (asked_block m) octets
+is_measured : (m : Message) (octets shown : List ℕ) (asked : Option Block) (long : Bool)
+    → asked ≡ asked_block m
+    → shown ≡ octets
+    → long ≡ is_long asked shown
+    → long ≡ is_long (asked_block m) octets
 is_measured m octets shown asked long same all measured =
-    measured ∙ (ap (λ (b : Option Block). is_long b shown) same ∙ ap (λ (body : List ℕ). is_long (asked_block m) body) all)
+    measured
+    ∙ (ap (λ (b : Option Block). is_long b shown) same
+    ∙ ap (λ (body : List ℕ). is_long (asked_block m) body) all)
 
 -- a listing that is not long
-pub given_whole : (m : Message) (octets current shown body : List ℕ) (asked : Option Block) (long : Bool) (reply : Reply) → asked ≡ asked_block m → shown ≡ octets → long ≡ is_long asked shown → long ≡ false → body ≡ octets
-    → reply ≡ body_reply (Some current) None asked body → answered reply ≡ unless_long (is_long (asked_block m) octets) m (record { body = octets; tag = current })
+pub given_whole : (m : Message) (octets current shown body : List ℕ) (asked : Option Block)
+    (long : Bool) (reply : Reply)
+    → asked ≡ asked_block m
+    → shown ≡ octets
+    → long ≡ is_long asked shown
+    → long ≡ false
+    → body ≡ octets
+    → reply ≡ body_reply (Some current) None asked body
+    → answered reply
+    ≡ unless_long (is_long (asked_block m) octets) m (record { body = octets; tag = current })
 given_whole m octets current shown body asked long reply same all measured short whole said =
-    ap (λ (r : Reply). answered r) (said ∙ (ap (λ (b : Option Block). body_reply (Some current) None b body) same ∙ ap (λ (b : List ℕ). body_reply (Some current) None (asked_block m) b) whole))
-    ∙ ap (λ (b : Bool). unless_long b m (record { body = octets; tag = current })) (sym short ∙ is_measured m octets shown asked long same all measured)
+    ap (λ (r : Reply). answered r) (said
+    ∙ (ap (λ (b : Option Block). body_reply (Some current) None b body) same
+    ∙ ap (λ (b : List ℕ). body_reply (Some current) None (asked_block m) b) whole))
+    ∙ ap (λ (b : Bool). unless_long b m (record { body = octets; tag = current }))
+    (sym short ∙ is_measured m octets shown asked long same all measured)
 
 -- one that is
-pub given_held : (m : Message) (octets current shown : List ℕ) (asked : Option Block) (long : Bool) → asked ≡ asked_block m → shown ≡ octets → long ≡ is_long asked shown → long ≡ true
-    → held (record { body = octets; tag = current }) ≡ unless_long (is_long (asked_block m) octets) m (record { body = octets; tag = current })
+pub given_held : (m : Message) (octets current shown : List ℕ) (asked : Option Block) (long : Bool)
+    → asked ≡ asked_block m
+    → shown ≡ octets
+    → long ≡ is_long asked shown
+    → long ≡ true
+    → held (record { body = octets; tag = current })
+    ≡ unless_long (is_long (asked_block m) octets) m (record { body = octets; tag = current })
 given_held m octets current shown asked long same all measured yes_long =
-    ap (λ (b : Bool). unless_long b m (record { body = octets; tag = current })) (sym yes_long ∙ is_measured m octets shown asked long same all measured)
+    ap (λ (b : Bool). unless_long b m (record { body = octets; tag = current }))
+    (sym yes_long ∙ is_measured m octets shown asked long same all measured)
 
 -- the links of the directory itself
-pub given_links : (m : Message) (octets body : List ℕ) (asked : Option Block) (reply : Reply) → asked ≡ asked_block m → body ≡ octets → reply ≡ body_reply None None asked body
+pub given_links : (m : Message) (octets body : List ℕ) (asked : Option Block) (reply : Reply)
+    → asked ≡ asked_block m
+    → body ≡ octets
+    → reply ≡ body_reply None None asked body
     → reply ≡ body_reply None None (asked_block m) octets
 given_links m octets body asked reply same whole said =
-    said ∙ (ap (λ (b : Option Block). body_reply None None b body) same ∙ ap (λ (b : List ℕ). body_reply None None (asked_block m) b) whole)
+    said
+    ∙ (ap (λ (b : Option Block). body_reply None None b body) same
+    ∙ ap (λ (b : List ℕ). body_reply None None (asked_block m) b) whole)
 
 -- nothing is there
-none_there : {A : Type 0} (o : Option A) → is_none o ≡ true → o ≡ None
+pub none_there : {A : Type 0} (o : Option A) → is_none o ≡ true → o ≡ None
 none_there None e = refl
 none_there (Some x) e = cc
 
 -- nothing refuses the request of a look, and it only looks
-look_request : (m : Message) → is_look_request m ≡ true → (refusal_of_request m ≡ None) × (only_looks m ≡ true)
+look_request : (m : Message)
+    → is_look_request m ≡ true
+    → (refusal_of_request m ≡ None) × (only_looks m ≡ true)
 unfolding is_look_request
 look_request m h =
     let both = and_parts (is_none (refusal_of_request m)) (only_looks m) h in
     (none_there (refusal_of_request m) both.0, both.1)
 
-look_message : (r : Role) (m : Message) → is_look_message r m ≡ true → (refusal_of_request m ≡ None) × (only_looks m ≡ true)
+look_message : (r : Role) (m : Message)
+    → is_look_message r m ≡ true
+    → (refusal_of_request m ≡ None) × (only_looks m ≡ true)
 look_message role.Ping m h = cc
 look_message role.Acknowledgement m h = cc
 look_message role.Reset m h = cc
@@ -162,46 +302,79 @@ look_message role.Request m h = look_request m h
 look_message role.Response m h = cc
 look_message role.Ignored m h = cc
 
-pub look_in : (datagram : List ℕ) (m : Message) → reading datagram ≡ Ok m → is_look_datagram datagram ≡ true → (refusal_of_request m ≡ None) × (only_looks m ≡ true)
+pub look_in : (datagram : List ℕ) (m : Message)
+    → reading datagram ≡ Ok m
+    → is_look_datagram datagram ≡ true
+    → (refusal_of_request m ≡ None) × (only_looks m ≡ true)
 unfolding is_look_datagram
-look_in datagram m is h = look_message (role_of m.kind m.code) m (subst (λ (r : Result Message Unread). is_look_reading r ≡ true) is h)
+look_in datagram m is h =
+    look_message (role_of m.kind m.code) m
+    (subst (λ (r : Result Message Unread). is_look_reading r ≡ true) is h)
 
 -- and its datagram can be read
-pub look_readable : (datagram : List ℕ) (fault : Unread) → reading datagram ≡ Err fault → is_look_datagram datagram ≡ true → ⊥
+pub look_readable : (datagram : List ℕ) (fault : Unread)
+    → reading datagram ≡ Err fault
+    → is_look_datagram datagram ≡ true
+    → ⊥
 unfolding is_look_datagram
-look_readable datagram fault is h = let none : false ≡ true = subst (λ (r : Result Message Unread). is_look_reading r ≡ true) is h in cc
+look_readable datagram fault is h =
+    let none : false ≡ true =
+    subst (λ (r : Result Message Unread). is_look_reading r ≡ true) is h in
+    cc
 
 -- where nothing is refused, the query options are not
 pub good_request : (m : Message) → refusal_of_request m ≡ None → has_bad_query m ≡ false
 unfolding refusal_of_request
 good_request m none = by (refusal_of m) (has_bad_query m) refl none where
-  by : (o : Option Refusal) (bad : Bool) → has_bad_query m ≡ bad → refusal_or_next o m ≡ None → has_bad_query m ≡ false
+  by : (o : Option Refusal) (bad : Bool)
+      → has_bad_query m ≡ bad
+      → refusal_or_next o m ≡ None
+      → has_bad_query m ≡ false
   by (Some refusal) bad e h = cc
   by None false e h = e
   by None true e h = let refused = rw e at h in cc
 
 -- what a look does that gives this is what is done after looking so
-pub looked_by : (starved : Bool) (history : List Entry) (moment : ℕ) (s : Step) (read : Result Message Unread) (m : Message) (given : Look) → read ≡ Ok m → look history moment m ≡ Some given
+pub looked_by : (starved : Bool) (history : List Entry) (moment : ℕ) (s : Step)
+    (read : Result Message Unread) (m : Message) (given : Look)
+    → read ≡ Ok m
+    → look history moment m ≡ Some given
     → look_done starved s m given ≡ looked starved history moment s read
 unfolding look_effects
-looked_by starved history moment s read m given is gives = subst (λ (r : Result Message Unread). look_done starved s m given ≡ looked starved history moment s r) (sym is) (by starved) where
-  by : (b : Bool) → look_done b s m given ≡ looked b history moment s (Ok m)
-  by true = refl
-  by false = ap (look_sent s m) (sym gives)
+looked_by starved history moment s read m given is gives =
+    subst (λ (r : Result Message Unread).
+    look_done starved s m given ≡ looked starved history moment s r) (sym is) (by starved)
+  where
+    by : (b : Bool) → look_done b s m given ≡ looked b history moment s (Ok m)
+    by true = refl
+    by false = ap (look_sent s m) (sym gives)
 
 -- and the body that it leaves
-pub left_by : (starved : Bool) (history : List Entry) (moment : ℕ) (read : Result Message Unread) (m : Message) (given : Look) → read ≡ Ok m → look history moment m ≡ Some given
+pub left_by : (starved : Bool) (history : List Entry) (moment : ℕ) (read : Result Message Unread)
+    (m : Message) (given : Look)
+    → read ≡ Ok m
+    → look history moment m ≡ Some given
     → look_left starved given ≡ held_after starved history moment read
-left_by starved history moment read m given is gives = subst (λ (r : Result Message Unread). look_left starved given ≡ held_after starved history moment r) (sym is) (by starved) where
-  by : (b : Bool) → look_left b given ≡ held_after b history moment (Ok m)
-  by true = refl
-  by false = ap body_held (sym gives)
+left_by starved history moment read m given is gives =
+    subst (λ (r : Result Message Unread).
+    look_left starved given ≡ held_after starved history moment r) (sym is) (by starved)
+  where
+    by : (b : Bool) → look_left b given ≡ held_after b history moment (Ok m)
+    by true = refl
+    by false = ap body_held (sym gives)
 
 -- out of memory it is answered 5.00
-pub looked_starved : (history : List Entry) (moment : ℕ) (s : Step) (read : Result Message Unread) (m : Message) → read ≡ Ok m → without_memory s m ≡ looked true history moment s read
-looked_starved history moment s read m is = subst (λ (r : Result Message Unread). without_memory s m ≡ looked true history moment s r) (sym is) refl
+pub looked_starved : (history : List Entry) (moment : ℕ) (s : Step) (read : Result Message Unread)
+    (m : Message)
+    → read ≡ Ok m
+    → without_memory s m ≡ looked true history moment s read
+looked_starved history moment s read m is =
+    subst (λ (r : Result Message Unread). without_memory s m ≡ looked true history moment s r)
+    (sym is) refl
 
 -- and nothing is held
-pub none_held : (peer : Peer) (datagram : List ℕ) (history : List Entry) (moment : ℕ) (read : Result Message Unread) → IsHeld peer datagram (held_after true history moment read) ended.Starved
+pub none_held : (peer : Peer) (datagram : List ℕ) (history : List Entry) (moment : ℕ)
+    (read : Result Message Unread)
+    → IsHeld peer datagram (held_after true history moment read) ended.Starved
 none_held peer datagram history moment (Err fault) = tt
 none_held peer datagram history moment (Ok m) = tt

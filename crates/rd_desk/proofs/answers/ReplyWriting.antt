@@ -6,7 +6,10 @@ use Rattle.message_model.proofs.OrderLemmas.{end_number-push}
 use Rattle.rd_desk.specs.Writing.{IsReadyFor}
 
 -- after an option of a number others of that number may follow
-pub ready_after : (number : ℕ) (value : List ℕ) (m after : Message) → IsReadyFor number m → after ≡ with_last_option m (number, value) → IsReadyFor number after
+pub ready_after : (number : ℕ) (value : List ℕ) (m after : Message)
+    → IsReadyFor number m
+    → after ≡ with_last_option m (number, value)
+    → IsReadyFor number after
 ready_after number value m after ready is = subst (IsReadyFor number) (sym is) (record {
   filled = ready.filled;
   open_end = ready.open_end;

@@ -1,5 +1,33 @@
--- A commit: the moment of the entry that it makes, what its query options say, and what is done by its path.
-use Rattle.std.proofs.Common.{◌≡◌, ℕ, ◌==◌, ◌++◌, Bool, true, false, List, [], ◌∷◌, Option, Some, None, Result, Ok, Err, IfOk, is_some, option_and_then, refl, sym, ap, subst, ◌∙◌, if◌then◌else◌, eqb-true}
+-- A commit: the moment of the entry that it makes, what its query options say, and what is done by
+-- its path.
+use Rattle.std.proofs.Common.{
+  ◌≡◌,
+  ℕ,
+  ◌==◌,
+  ◌++◌,
+  Bool,
+  true,
+  false,
+  List,
+  [],
+  ◌∷◌,
+  Option,
+  Some,
+  None,
+  Result,
+  Ok,
+  Err,
+  IfOk,
+  is_some,
+  option_and_then,
+  refl,
+  sym,
+  ap,
+  subst,
+  ◌∙◌,
+  if◌then◌else◌,
+  eqb-true,
+}
 use Rattle.std.proofs.lemmas.Bool.{false≢true}
 use Rattle.rd_base.specs.declared.moments.Moment.{Moment}
 use Rattle.rd_base.specs.declared.out_of_memory.Starved.{Starved}
@@ -18,7 +46,12 @@ use Rattle.record_model.specs.declared.readings.Reading.{Reading}
 use Rattle.record_model.specs.declared.readings.Reading.TheVariants as reading_as
 use Rattle.record_model.specs.Criteria.{fault_of}
 use Rattle.record_model.specs.Faults.{Fault}
-use Rattle.record_model.specs.Parameters.{unless_fault, registration_values, update_values, update_parameters}
+use Rattle.record_model.specs.Parameters.{
+  unless_fault,
+  registration_values,
+  update_values,
+  update_parameters,
+}
 use Rattle.history_model.specs.declared.entries.Change.TheVariants as change
 use Rattle.history_model.specs.declared.entries.Entry.{Entry}
 use Rattle.history_model.specs.declared.refusals.Refusal.{Refusal}
@@ -32,12 +65,42 @@ use Rattle.journal_model.specs.declared.steps.Step.{Step}
 use Rattle.journal_model.specs.declared.steps.StepKind.{StepKind}
 use Rattle.journal_model.specs.declared.steps.StepKind.TheVariants as step
 use Rattle.journal_model.specs.declared.rows.Row.{Row}
-use Rattle.journal_model.specs.Changes.{Outcome, BodyRead, bad_body, good_body, body_read, entry_of_step, entered_unless, change_made, number_after, created_at, registered_links, registration}
-use Rattle.journal_model.specs.Commits.{settling, updating, removing, on_location, write_done, commit_effects}
+use Rattle.journal_model.specs.Changes.{
+  Outcome,
+  BodyRead,
+  bad_body,
+  good_body,
+  body_read,
+  entry_of_step,
+  entered_unless,
+  change_made,
+  number_after,
+  created_at,
+  registered_links,
+  registration,
+}
+use Rattle.journal_model.specs.Commits.{
+  settling,
+  updating,
+  removing,
+  on_location,
+  write_done,
+  commit_effects,
+}
 use Rattle.journal_model.specs.Effects.{Effects, nothing, joined, noting, bare}
 use Rattle.journal_model.specs.Journal.{events, entries}
 use Rattle.journal_model.specs.Registrations.{registration_outcome, registering}
-use Rattle.journal_model.specs.Requests.{sent_block, get, post, put, delete, other_method, method_of, reading_of, refusal_of_request}
+use Rattle.journal_model.specs.Requests.{
+  sent_block,
+  get,
+  post,
+  put,
+  delete,
+  other_method,
+  method_of,
+  reading_of,
+  refusal_of_request,
+}
 use Rattle.journal_model.specs.Rows.{row_moment, effects, done, row}
 use Rattle.rd_desk.specs.declared.mids.Mids.{Mids}
 use Rattle.rd_desk.specs.declared.outcomes.Entering.{Entering}
@@ -56,10 +119,14 @@ use Rattle.rd_desk.proofs.parts.WayLaws.{way_moment, ended}
 -- ---- the moment of the entry
 
 -- a change makes its own entry
-change_entry : (history : List Entry) (entry made : Entry) (o : Outcome) (more : List Note) → (change_made history entry o).notes ≡ note.Entered made ∷ more → entry ≡ made
+change_entry : (history : List Entry) (entry made : Entry) (o : Outcome) (more : List Note)
+    → (change_made history entry o).notes ≡ note.Entered made ∷ more
+    → entry ≡ made
 change_entry history entry made o more h = by (change_refusal 0 history entry) h
   where
-    by : (why : Option Refusal) → (entered_unless why entry o).notes ≡ note.Entered made ∷ more → entry ≡ made
+    by : (why : Option Refusal)
+        → (entered_unless why entry o).notes ≡ note.Entered made ∷ more
+        → entry ≡ made
     by None e = cc
     by (Some refusal.Registration) e = absurd cc
     by (Some refusal.Registrations) e = absurd cc
@@ -67,62 +134,116 @@ change_entry history entry made o more h = by (change_refusal 0 history entry) h
     by (Some refusal.Entries) e = absurd cc
 
 -- so its moment is that of the entry
-pub change_made-at : (history : List Entry) (entry : Entry) (o : Outcome) (moment : ℕ) → entry.moment.0 ≡ moment → IsMadeAt moment (change_made history entry o)
-change_made-at history entry o moment at made more h = ap (λ (e : Entry). e.moment.0) (sym (change_entry history entry made o more h)) ∙ at
+pub change_made-at : (history : List Entry) (entry : Entry) (o : Outcome) (moment : ℕ)
+    → entry.moment.0 ≡ moment
+    → IsMadeAt moment (change_made history entry o)
+change_made-at history entry o moment at made more h =
+    ap (λ (e : Entry). e.moment.0) (sym (change_entry history entry made o more h)) ∙ at
 
 -- a registration is made at its own moment
-pub registration-at : (history : List Entry) (moment : ℕ) (s : Step) (params : RegParams) (body : List ℕ) (options : List Opt) (further : List Note) → IsMadeAt moment (registration history moment s params body options further)
+pub registration-at : (history : List Entry) (moment : ℕ) (s : Step) (params : RegParams)
+    (body : List ℕ) (options : List Opt) (further : List Note)
+    → IsMadeAt moment (registration history moment s params body options further)
 unfolding registration
 registration-at history moment s params body options further = by (body_read body)
   where
-    by : (b : BodyRead) → IsMadeAt moment (registered_links history moment s params options further b)
+    by : (b : BodyRead)
+        → IsMadeAt moment (registered_links history moment s params options further b)
     by (bad_body word) made more h = absurd cc
     by (good_body links) made more h =
         let entry : Entry = entry_of_step moment s (change.Register params links) in
-        change_made-at history entry (record { reply = created_at (number_after params.name moment (history ++ entry ∷ [])) options; notes = further }) moment refl made more h
+        change_made-at history entry
+        (record {
+          reply = created_at (number_after params.name moment (history ++ entry ∷ []))
+              options;
+          notes = further;
+        }) moment refl made more h
 
-pub whole-at : (rows : List Row) (moment : ℕ) (s : Step) (m : Message) → IsMadeAt moment (registration_outcome None rows moment s m)
-whole-at rows moment s m = registration-at (entries rows) moment s (registration_values (queries_in m)) m.payload [] []
+pub whole-at : (rows : List Row) (moment : ℕ) (s : Step) (m : Message)
+    → IsMadeAt moment (registration_outcome None rows moment s m)
+whole-at rows moment s m =
+    registration-at (entries rows) moment s (registration_values (queries_in m)) m.payload [] []
 
 -- and so are an update and a removal
-pub updating-at : (rows : List Row) (moment : ℕ) (s : Step) (m : Message) (number : ℕ) → IsMadeAt moment (updating rows moment s m number)
-updating-at rows moment s m number = change_made-at (entries rows) (entry_of_step moment s (change.Update number (update_values (queries_in m)))) (record { reply = bare codes_of.changed; notes = [] }) moment refl
+pub updating-at : (rows : List Row) (moment : ℕ) (s : Step) (m : Message) (number : ℕ)
+    → IsMadeAt moment (updating rows moment s m number)
+updating-at rows moment s m number =
+    change_made-at (entries rows)
+    (entry_of_step moment s (change.Update number (update_values (queries_in m))))
+    (record { reply = bare codes_of.changed; notes = [] }) moment refl
 
-pub removing-at : (rows : List Row) (moment : ℕ) (s : Step) (number : ℕ) → IsMadeAt moment (removing rows moment s number)
-removing-at rows moment s number = change_made-at (entries rows) (entry_of_step moment s (change.Remove number)) (record { reply = bare codes_of.deleted; notes = [] }) moment refl
+pub removing-at : (rows : List Row) (moment : ℕ) (s : Step) (number : ℕ)
+    → IsMadeAt moment (removing rows moment s number)
+removing-at rows moment s number =
+    change_made-at (entries rows) (entry_of_step moment s (change.Remove number))
+    (record { reply = bare codes_of.deleted; notes = [] }) moment refl
 
 -- ---- what was planned is done
 
 -- a refused change is answered, and that settles it
-pub way_refused : (rows : List Row) (s : Step) (starved : Bool) (place : ℕ) (m : Message) (meant : Outcome) (o : planned.Outcome) (swept : ℕ) (desk : Seen) (out : List (Peer × List ℕ)) (mids : Mids) → o.entering ≡ None
-    → IsPlanned (entries rows) swept [] meant o → UnderWay rows s starved (joined nothing (answering_settled place s m (reply_said o.reply))) desk out mids → UnderWay rows s starved (settling place s m meant) desk out mids
+pub way_refused : (rows : List Row) (s : Step) (starved : Bool) (place : ℕ) (m : Message)
+    (meant : Outcome) (o : planned.Outcome) (swept : ℕ) (desk : Seen) (out : List (Peer × List ℕ))
+    (mids : Mids)
+    → o.entering ≡ None
+    → IsPlanned (entries rows) swept [] meant o
+    → UnderWay rows s starved (joined nothing (answering_settled place s m (reply_said o.reply)))
+    desk out mids
+    → UnderWay rows s starved (settling place s m meant) desk out mids
 way_refused rows s starved place m meant o swept desk out mids none is way =
     subst (λ (e : Effects). UnderWay rows s starved e desk out mids)
-    (settling-refused place s m (reply_said o.reply) meant is.said (subst (λ (e : Option Entering). AreNotes (entries rows) swept [] meant.notes e) none is.notes)) way
+    (settling-refused place s m (reply_said o.reply) meant is.said
+    (subst (λ (e : Option Entering). AreNotes (entries rows) swept [] meant.notes e) none
+    is.notes)) way
 
--- an entry that is ready is made at the moment of the row, and the answer settles the write after that
-pub way_accepted : (rows : List Row) (s : Step) (starved : Bool) (place : ℕ) (m : Message) (meant : Outcome) (o : planned.Outcome) (ready : Entering) (swept : ℕ) (desk : Seen) (out : List (Peer × List ℕ)) (mids : Mids) → o.entering ≡ Some ready
+-- an entry that is ready is made at the moment of the row, and the answer settles the write after
+-- that
+pub way_accepted : (rows : List Row) (s : Step) (starved : Bool) (place : ℕ) (m : Message)
+    (meant : Outcome) (o : planned.Outcome) (ready : Entering) (swept : ℕ) (desk : Seen)
+    (out : List (Peer × List ℕ)) (mids : Mids)
+    → o.entering ≡ Some ready
     → IsMadeAt (row_moment rows s) meant → IsPlanned (entries rows) swept [] meant o
-    → ((entry : Entry) → entry.moment.0 ≡ row_moment rows s → IsEntering (entries rows) swept entry ready
-    → UnderWay rows s starved (joined (joined nothing (noting (note.Entered entry ∷ []))) (answering_settled place s m (reply_said o.reply))) desk out mids)
+    → ((entry : Entry)
+    → entry.moment.0 ≡ row_moment rows s
+    → IsEntering (entries rows) swept entry ready
+    → UnderWay rows s starved (joined (joined nothing (noting (note.Entered entry ∷ [])))
+    (answering_settled place s m (reply_said o.reply))) desk out mids)
     → UnderWay rows s starved (settling place s m meant) desk out mids
 way_accepted rows s starved place m meant o ready swept desk out mids some at is way =
-    let noted : AreNotes (entries rows) swept [] meant.notes (Some ready) = subst (λ (e : Option Entering). AreNotes (entries rows) swept [] meant.notes e) some is.notes in
-    subst (λ (e : Effects). UnderWay rows s starved e desk out mids) (settling-entered place s m (reply_said o.reply) noted.0 meant is.said noted.1)
+    let noted : AreNotes (entries rows) swept [] meant.notes (Some ready) =
+    subst (λ (e : Option Entering). AreNotes (entries rows) swept [] meant.notes e) some
+    is.notes in
+    subst (λ (e : Effects). UnderWay rows s starved e desk out mids)
+    (settling-entered place s m (reply_said o.reply) noted.0 meant is.said noted.1)
     (way noted.0 (at noted.0 [] noted.1) noted.2)
 
 -- a plan that was not out of memory
-pub planned_ok : (r : Result planned.Outcome Starved) (o : planned.Outcome) (P : planned.Outcome → Type 0) → r ≡ Ok o → IfOk r P → P o
+pub planned_ok : (r : Result planned.Outcome Starved) (o : planned.Outcome)
+    (P : planned.Outcome → Type 0)
+    → r ≡ Ok o
+    → IfOk r P
+    → P o
 planned_ok r o P is h = subst (λ (x : Result planned.Outcome Starved). IfOk x P) is h
 
--- what is planned of the version of a desk, at its moment, is what is meant after the journal, at the moment of the row
-pub planned_here : (rows : List Row) (s : Step) (starved : Bool) (d : Seen) (v : Version) (moment : ℕ) (out : List (Peer × List ℕ)) (mids : Mids) (r : Result planned.Outcome Starved) (meant : ℕ → Outcome) → v ≡ d.version → moment ≡ d.moment
-    → (VersionStandsFor 0 (entries rows) v → IfOk r (IsPlanned (entries rows) v.swept [] (meant moment))) → UnderWay rows s starved nothing d out mids
+-- what is planned of the version of a desk, at its moment, is what is meant after the journal, at
+-- the moment of the row
+pub planned_here : (rows : List Row) (s : Step) (starved : Bool) (d : Seen) (v : Version)
+    (moment : ℕ) (out : List (Peer × List ℕ)) (mids : Mids) (r : Result planned.Outcome Starved)
+    (meant : ℕ → Outcome)
+    → v ≡ d.version
+    → moment ≡ d.moment
+    → (VersionStandsFor 0 (entries rows) v
+    → IfOk r (IsPlanned (entries rows) v.swept [] (meant moment)))
+    → UnderWay rows s starved nothing d out mids
     → IfOk r (IsPlanned (entries rows) d.version.swept [] (meant (row_moment rows s)))
 planned_here rows s starved d v moment out mids r meant same at goes way =
-    let history : VersionStandsFor 0 (entries rows) d.version = subst (λ (es : List Entry). VersionStandsFor 0 es d.version) (entries-making_nothing rows s starved) way.stands.directory.history in
-    subst (λ (w : Version). IfOk r (IsPlanned (entries rows) w.swept [] (meant (row_moment rows s)))) same
-    (subst (λ (n : ℕ). IfOk r (IsPlanned (entries rows) v.swept [] (meant n))) (at ∙ way_moment rows s starved nothing d out mids way)
+    let history : VersionStandsFor 0 (entries rows) d.version =
+    subst (λ (es : List Entry). VersionStandsFor 0 es d.version)
+    (entries-making_nothing rows s starved) way.stands.directory.history in
+    subst
+    (λ (w : Version). IfOk r (IsPlanned (entries rows) w.swept [] (meant (row_moment rows s))))
+    same
+    (subst (λ (n : ℕ). IfOk r (IsPlanned (entries rows) v.swept [] (meant n)))
+    (at ∙ way_moment rows s starved nothing d out mids way)
     (goes (subst (VersionStandsFor 0 (entries rows)) (sym same) history)))
 
 -- ---- query options
@@ -132,60 +253,116 @@ no_fault None e = refl
 no_fault (Some fault) e = absurd (false≢true (sym e))
 
 -- where nothing refuses a request, its query options have no fault as what they are read as
-pub good_reading : (m : Message) (as_what : Reading) → refusal_of_request m ≡ None → reading_of (path_in m) m.code ≡ Some as_what → fault_of as_what (queries_in m) ≡ None
+pub good_reading : (m : Message) (as_what : Reading)
+    → refusal_of_request m ≡ None
+    → reading_of (path_in m) m.code ≡ Some as_what
+    → fault_of as_what (queries_in m) ≡ None
 good_reading m as_what none reads =
     no_fault (fault_of as_what (queries_in m))
-    (sym (ap (λ (o : Option Reading). is_some (option_and_then (λ w. fault_of w (queries_in m)) o)) reads) ∙ good_request m none)
+    (sym (ap (λ (o : Option Reading). is_some (option_and_then (λ w. fault_of w (queries_in m)) o))
+    reads)
+    ∙ good_request m none)
 
 -- so of a registration, a simple one, and an update
-pub good_registration : (m : Message) → refusal_of_request m ≡ None → path_in m ≡ path.Rd → fault_of reading_as.Register (queries_in m) ≡ None
-good_registration m none is = good_reading m reading_as.Register none (ap (λ (p : Path). reading_of p m.code) is)
+pub good_registration : (m : Message)
+    → refusal_of_request m ≡ None
+    → path_in m ≡ path.Rd
+    → fault_of reading_as.Register (queries_in m) ≡ None
+good_registration m none is =
+    good_reading m reading_as.Register none (ap (λ (p : Path). reading_of p m.code) is)
 
-pub good_simple : (m : Message) → refusal_of_request m ≡ None → path_in m ≡ path.SimpleRd → fault_of reading_as.Simple (queries_in m) ≡ None
-good_simple m none is = good_reading m reading_as.Simple none (ap (λ (p : Path). reading_of p m.code) is)
+pub good_simple : (m : Message)
+    → refusal_of_request m ≡ None
+    → path_in m ≡ path.SimpleRd
+    → fault_of reading_as.Simple (queries_in m) ≡ None
+good_simple m none is =
+    good_reading m reading_as.Simple none (ap (λ (p : Path). reading_of p m.code) is)
 
-pub good_update : (m : Message) (number : ℕ) → refusal_of_request m ≡ None → path_in m ≡ path.Location number → m.code ≡ codes_of.post → fault_of reading_as.Update (queries_in m) ≡ None
+pub good_update : (m : Message) (number : ℕ)
+    → refusal_of_request m ≡ None
+    → path_in m ≡ path.Location number
+    → m.code ≡ codes_of.post
+    → fault_of reading_as.Update (queries_in m) ≡ None
 good_update m number none is updates =
-    good_reading m reading_as.Update none (ap (λ (p : Path). reading_of p m.code) is ∙ ap (λ (code : ℕ). reading_of (path.Location number) code) updates)
+    good_reading m reading_as.Update none (ap (λ (p : Path). reading_of p m.code) is
+    ∙ ap (λ (code : ℕ). reading_of (path.Location number) code) updates)
 
 -- what the query options of an update say
-update_read : (queries : List (List ℕ)) → fault_of reading_as.Update queries ≡ None → update_parameters queries ≡ Ok (update_values queries)
+update_read : (queries : List (List ℕ))
+    → fault_of reading_as.Update queries ≡ None
+    → update_parameters queries ≡ Ok (update_values queries)
 unfolding update_parameters fault_of
-update_read queries none = ap (λ (fault : Option Fault). unless_fault fault (update_values queries)) none
+update_read queries none =
+    ap (λ (fault : Option Fault). unless_fault fault (update_values queries)) none
 
-pub update_given : (queries left : List (List ℕ)) (given : UpdateParams) → left ≡ queries → fault_of reading_as.Update queries ≡ None → update_parameters left ≡ Ok given → given ≡ update_values queries
+pub update_given : (queries left : List (List ℕ)) (given : UpdateParams)
+    → left ≡ queries
+    → fault_of reading_as.Update queries ≡ None
+    → update_parameters left ≡ Ok given
+    → given ≡ update_values queries
 update_given queries left given all none read =
-    let both : ◌≡◌ {A = Result UpdateParams Fault} (Ok given) (Ok (update_values queries)) = sym read ∙ (ap update_parameters all ∙ update_read queries none) in cc
+    let both : ◌≡◌ {A = Result UpdateParams Fault} (Ok given) (Ok (update_values queries)) =
+    sym read ∙ (ap update_parameters all ∙ update_read queries none) in
+    cc
 
-pub update_faulty : (queries left : List (List ℕ)) (fault : Fault) → left ≡ queries → fault_of reading_as.Update queries ≡ None → update_parameters left ≡ Err fault → ⊥
+pub update_faulty : (queries left : List (List ℕ)) (fault : Fault)
+    → left ≡ queries
+    → fault_of reading_as.Update queries ≡ None
+    → update_parameters left ≡ Err fault
+    → ⊥
 update_faulty queries left fault all none read =
-    let both : ◌≡◌ {A = Result UpdateParams Fault} (Err fault) (Ok (update_values queries)) = sym read ∙ (ap update_parameters all ∙ update_read queries none) in absurd cc
+    let both : ◌≡◌ {A = Result UpdateParams Fault} (Err fault) (Ok (update_values queries)) =
+    sym read ∙ (ap update_parameters all ∙ update_read queries none) in
+    absurd cc
 
 -- ---- by the block
 
 -- a registration is done, by the block that its request says
-pub way_registered : (rows : List Row) (s : Step) (starved : Bool) (place : ℕ) (m : Message) (b : Option Block) (desk : Seen) (out : List (Peer × List ℕ)) (mids : Mids) → b ≡ sent_block m
-    → UnderWay rows s starved (unless_failing starved place s m (settling place s m (registration_outcome b rows (row_moment rows s) s m))) desk out mids
-    → UnderWay rows s starved (unless_failing starved place s m (settling place s m (registering rows (row_moment rows s) s m))) desk out mids
+pub way_registered : (rows : List Row) (s : Step) (starved : Bool) (place : ℕ) (m : Message)
+    (b : Option Block) (desk : Seen) (out : List (Peer × List ℕ)) (mids : Mids)
+    → b ≡ sent_block m
+    → UnderWay rows s starved (unless_failing starved place s m
+    (settling place s m (registration_outcome b rows (row_moment rows s) s m))) desk out
+    mids
+    → UnderWay rows s starved (unless_failing starved place s m
+    (settling place s m (registering rows (row_moment rows s) s m))) desk out mids
 unfolding registering
 way_registered rows s starved place m b desk out mids is way =
-    subst (λ (x : Option Block). UnderWay rows s starved (unless_failing starved place s m (settling place s m (registration_outcome x rows (row_moment rows s) s m))) desk out mids) is way
+    subst (λ (x : Option Block).
+    UnderWay rows s starved (unless_failing starved place s m
+    (settling place s m (registration_outcome x rows (row_moment rows s) s m))) desk
+    out mids) is way
 
 -- ---- by the method
 
 -- POST updates a registration
-pub location_updates : (rows : List Row) (moment place : ℕ) (s : Step) (m : Message) (number : ℕ) → m.code ≡ codes_of.post
-    → settling place s m (updating rows moment s m number) ≡ on_location (method_of m.code) rows moment place s m number
-location_updates rows moment place s m number updates = ap (λ (code : ℕ). on_location (method_of code) rows moment place s m number) (sym updates)
+pub location_updates : (rows : List Row) (moment place : ℕ) (s : Step) (m : Message) (number : ℕ)
+    → m.code ≡ codes_of.post
+    → settling place s m (updating rows moment s m number)
+    ≡ on_location (method_of m.code) rows moment place s m number
+location_updates rows moment place s m number updates =
+    ap (λ (code : ℕ). on_location (method_of code) rows moment place s m number) (sym updates)
 
 -- any other method removes it
-pub location_removes : (rows : List Row) (moment place : ℕ) (s : Step) (m : Message) (number : ℕ) → (m.code ≡ codes_of.post → ⊥)
-    → settling place s m (removing rows moment s number) ≡ on_location (method_of m.code) rows moment place s m number
+pub location_removes : (rows : List Row) (moment place : ℕ) (s : Step) (m : Message) (number : ℕ)
+    → (m.code ≡ codes_of.post → ⊥)
+    → settling place s m (removing rows moment s number)
+    ≡ on_location (method_of m.code) rows moment place s m number
 location_removes rows moment place s m number other =
-    by (m.code == codes_of.get) (m.code == codes_of.post) (m.code == codes_of.put) (m.code == codes_of.delete) (λ e. other (eqb-true m.code codes_of.post e))
+    by (m.code == codes_of.get) (m.code == codes_of.post) (m.code == codes_of.put)
+    (m.code == codes_of.delete) (λ e. other (eqb-true m.code codes_of.post e))
   where
     by : (gets posts puts deletes : Bool) → (posts ≡ true → ⊥)
-        → settling place s m (removing rows moment s number) ≡ on_location (if gets then get else if posts then post else if puts then put else if deletes then delete else other_method) rows moment place s m number
+        → settling place s m (removing rows moment s number)
+        ≡ on_location (if gets
+        then get
+        else if posts
+        then post
+        else if puts
+        then put
+        else if deletes
+        then delete
+        else other_method) rows moment place s m number
     by true posts puts deletes e = refl
     by false true puts deletes e = absurd (e refl)
     by false false true deletes e = refl
@@ -195,44 +372,83 @@ location_removes rows moment place s m number other =
 -- ---- by the path
 
 -- what is done of a write is what its path says, unless it fails
-pub commit_by : (starved : Bool) (rows : List Row) (moment place : ℕ) (s : Step) (read : Result Message Unread) (m : Message) (p : Path) → read ≡ Ok m → p ≡ path_in m
-    → unless_failing starved place s m (write_done p rows moment place s m) ≡ done starved rows moment place s read
+pub commit_by : (starved : Bool) (rows : List Row) (moment place : ℕ) (s : Step)
+    (read : Result Message Unread) (m : Message) (p : Path)
+    → read ≡ Ok m
+    → p ≡ path_in m
+    → unless_failing starved place s m (write_done p rows moment place s m)
+    ≡ done starved rows moment place s read
 unfolding commit_effects
 commit_by starved rows moment place s read m p is way =
-    ap (λ (q : Path). unless_failing starved place s m (write_done q rows moment place s m)) way ∙ (by starved ∙ ap (λ (r : Result Message Unread). done starved rows moment place s r) (sym is))
+    ap (λ (q : Path). unless_failing starved place s m (write_done q rows moment place s m)) way
+    ∙ (by starved ∙ ap (λ (r : Result Message Unread). done starved rows moment place s r) (sym is))
   where
-    by : (b : Bool) → unless_failing b place s m (write_done (path_in m) rows moment place s m) ≡ done b rows moment place s (Ok m)
+    by : (b : Bool)
+        → unless_failing b place s m (write_done (path_in m) rows moment place s m)
+        ≡ done b rows moment place s (Ok m)
     by true = refl
     by false = refl
 
 -- what is read of a datagram is one message
-read_once : (r : Result Message Unread) (one other : Message) → r ≡ Ok one → r ≡ Ok other → one ≡ other
-read_once r one other is was = let both : ◌≡◌ {A = Result Message Unread} (Ok one) (Ok other) = sym is ∙ was in cc
+read_once : (r : Result Message Unread) (one other : Message)
+    → r ≡ Ok one
+    → r ≡ Ok other
+    → one ≡ other
+read_once r one other is was =
+    let both : ◌≡◌ {A = Result Message Unread} (Ok one) (Ok other) = sym is ∙ was in cc
 
 -- so of the job of a write, of which one part of this crate does what its path says
-pub way_job : (rows : List Row) (s : Step) (starved : Bool) (place : ℕ) (sender : Peer) (datagram : List ℕ) (admitted : ℕ) (job : Write) (m own : Message) (p : Path) (desk : Seen) (out : List (Peer × List ℕ)) (mids : Mids)
-    → record { peer = sender; datagram = datagram; admitted = admitted } ≡ job → reading datagram ≡ Ok own → reading job.datagram ≡ Ok m → p ≡ path_in own → s.peer ≡ job.peer → IsOpen place s.peer m.mid job.admitted (events rows)
-    → (s.peer ≡ sender → IsOpen place s.peer own.mid admitted (events rows) → UnderWay rows s starved (unless_failing starved place s own (write_done p rows (row_moment rows s) place s own)) desk out mids)
-    → UnderWay rows s starved (done starved rows (row_moment rows s) place s (reading job.datagram)) desk out mids
-way_job rows s starved place sender datagram admitted job m own p desk out mids same is read way_of by opened goes =
+pub way_job : (rows : List Row) (s : Step) (starved : Bool) (place : ℕ) (sender : Peer)
+    (datagram : List ℕ) (admitted : ℕ) (job : Write) (m own : Message) (p : Path) (desk : Seen)
+    (out : List (Peer × List ℕ)) (mids : Mids)
+    → record { peer = sender; datagram = datagram; admitted = admitted } ≡ job
+    → reading datagram ≡ Ok own
+    → reading job.datagram ≡ Ok m
+    → p ≡ path_in own
+    → s.peer ≡ job.peer
+    → IsOpen place s.peer m.mid job.admitted (events rows)
+    → (s.peer ≡ sender
+    → IsOpen place s.peer own.mid admitted (events rows)
+    → UnderWay rows s starved
+    (unless_failing starved place s own (write_done p rows (row_moment rows s) place s own))
+    desk out mids)
+    → UnderWay rows s starved (done starved rows (row_moment rows s) place s (reading job.datagram))
+    desk out mids
+way_job rows s starved place sender datagram admitted job m own p desk out mids same is read way_of
+    by opened goes =
     let spelled : job.datagram ≡ datagram = ap (λ (j : Write). j.datagram) (sym same) in
     let one : m ≡ own = read_once (reading job.datagram) m own read (ap reading spelled ∙ is) in
     let since : job.admitted ≡ admitted = ap (λ (j : Write). j.admitted) (sym same) in
-    subst (λ (e : Effects). UnderWay rows s starved e desk out mids) (commit_by starved rows (row_moment rows s) place s (reading job.datagram) own p (ap reading spelled ∙ is) way_of)
+    subst (λ (e : Effects). UnderWay rows s starved e desk out mids)
+    (commit_by starved rows (row_moment rows s) place s (reading job.datagram) own p
+    (ap reading spelled ∙ is) way_of)
     (goes (by ∙ ap (λ (j : Write). j.peer) (sym same))
-    (subst (λ (at : ℕ). IsOpen place s.peer own.mid at (events rows)) since (subst (λ (x : Message). IsOpen place s.peer x.mid job.admitted (events rows)) one opened)))
+    (subst (λ (at : ℕ). IsOpen place s.peer own.mid at (events rows)) since
+    (subst (λ (x : Message). IsOpen place s.peer x.mid job.admitted (events rows)) one opened)))
 
 -- ---- the row of the step
 
 -- it is all that the step does
-commit_is : (rows : List Row) (s : Step) (starved : Bool) (place : ℕ) (job : Write) → s.kind ≡ step.Commit place → s.datagram ≡ job.datagram
-    → done starved rows (row_moment rows s) place s (reading job.datagram) ≡ effects s.kind starved rows (row_moment rows s) s
+commit_is : (rows : List Row) (s : Step) (starved : Bool) (place : ℕ) (job : Write)
+    → s.kind ≡ step.Commit place
+    → s.datagram ≡ job.datagram
+    → done starved rows (row_moment rows s) place s (reading job.datagram)
+    ≡ effects s.kind starved rows (row_moment rows s) s
 unfolding effects
 commit_is rows s starved place job kind datagram =
-    ap (λ (d : List ℕ). done starved rows (row_moment rows s) place s (reading d)) (sym datagram) ∙ ap (λ (k : StepKind). effects k starved rows (row_moment rows s) s) (sym kind)
+    ap (λ (d : List ℕ). done starved rows (row_moment rows s) place s (reading d)) (sym datagram)
+    ∙ ap (λ (k : StepKind). effects k starved rows (row_moment rows s) s) (sym kind)
 
 -- so its row is made
-pub commit_made : (rows : List Row) (s : Step) (starved : Bool) (place : ℕ) (now : Moment) (job : Write) (before after : Seen) (out : List (Peer × List ℕ)) (mids_before mids : Mids) → s.kind ≡ step.Commit place → s.datagram ≡ job.datagram
-    → IsCalled rows s now mids_before before → UnderWay rows s starved (done starved rows (row_moment rows s) place s (reading job.datagram)) after out mids → Made rows (row rows s starved) after out mids_before mids
+pub commit_made : (rows : List Row) (s : Step) (starved : Bool) (place : ℕ) (now : Moment)
+    (job : Write) (before after : Seen) (out : List (Peer × List ℕ)) (mids_before mids : Mids)
+    → s.kind ≡ step.Commit place
+    → s.datagram ≡ job.datagram
+    → IsCalled rows s now mids_before before
+    → UnderWay rows s starved (done starved rows (row_moment rows s) place s (reading job.datagram))
+    after out mids
+    → Made rows (row rows s starved) after out mids_before mids
 commit_made rows s starved place now job before after out mids_before mids kind datagram call way =
-    ended rows s starved (done starved rows (row_moment rows s) place s (reading job.datagram)) after out mids_before mids way (commit_is rows s starved place job kind datagram) call.worker call.drawn
+    ended rows s starved (done starved rows (row_moment rows s) place s (reading job.datagram))
+    after out mids_before mids way (commit_is rows s starved place job kind datagram)
+    call.worker call.drawn

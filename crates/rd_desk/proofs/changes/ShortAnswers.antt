@@ -1,5 +1,31 @@
 -- How long an answer is that is kept for repeats of its write: at most 64 octets.
-use Rattle.std.proofs.Common.{◌≡◌, ℕ, ◌+◌, ◌-◌, ◌^◌, ◌<◌, ◌≤◌, Bool, true, false, List, [], ◌∷◌, ◌++◌, length, decimal, Option, Some, None, nat_lt, if◌then◌else◌, refl, sym, subst, arith}
+use Rattle.std.proofs.Common.{
+  ◌≡◌,
+  ℕ,
+  ◌+◌,
+  ◌-◌,
+  ◌^◌,
+  ◌<◌,
+  ◌≤◌,
+  Bool,
+  true,
+  false,
+  List,
+  [],
+  ◌∷◌,
+  ◌++◌,
+  length,
+  decimal,
+  Option,
+  Some,
+  None,
+  nat_lt,
+  if◌then◌else◌,
+  refl,
+  sym,
+  subst,
+  arith,
+}
 use Rattle.std.specs.Option.{ForSome}
 use Rattle.std.proofs.lemmas.Bool.{ltb-false}
 use Rattle.std.proofs.lemmas.Fmt.{length-decimal-le}
@@ -18,14 +44,22 @@ use Rattle.journal_model.proofs.MessageSizeLaws.{message_size-spelling, options_
 use Rattle.journal_model.proofs.sends.BodyAnswers.{uint_bytes-length, block_value-length}
 use Rattle.rd_desk.specs.declared.replies.Reply.{Reply}
 use Rattle.rd_desk.specs.Committing.{IsShort}
-use Rattle.rd_desk.specs.Replies.{location_option, format_option, block1_options, options_of, reply_said}
+use Rattle.rd_desk.specs.Replies.{
+  location_option,
+  format_option,
+  block1_options,
+  options_of,
+  reply_said,
+}
 
 -- few octets extend a small delta or length
 extension_none : (n : ℕ) → n < 13 → extension_size n ≡ 0
 unfolding extension_size
 extension_none n low = by (nat_lt n first_extended) refl
   where
-    by : (b : Bool) → nat_lt n first_extended ≡ b → ◌≡◌ {A = ℕ} (if b then 0 else if nat_lt n first_long then 1 else 2) 0
+    by : (b : Bool)
+        → nat_lt n first_extended ≡ b
+        → ◌≡◌ {A = ℕ} (if b then 0 else if nat_lt n first_long then 1 else 2) 0
     by true e = refl
     by false e = absurd (let high = ltb-false n first_extended e in omega (arith, low, high))
 
@@ -39,10 +73,14 @@ extension_one n low = by (nat_lt n first_extended) (nat_lt n first_long) refl
     by false false e = absurd (let high = ltb-false n first_long e in omega (arith, low, high))
 
 -- the location of a registration
-location_size : (before : ℕ) (location : Option ℕ) → ForSome location (λ n. n < 2 ^ 64) → options_size before (location_option location) ≤ 25
+location_size : (before : ℕ) (location : Option ℕ)
+    → ForSome location (λ n. n < 2 ^ 64)
+    → options_size before (location_option location) ≤ 25
 location_size before None small = omega arith
 location_size before (Some n) small =
-    let digits : length (decimal n) ≤ 20 = length-decimal-le 20 n (omega arith) (let h = small n refl in omega (arith, h)) (small n refl) in
+    let digits : length (decimal n) ≤ 20 =
+    length-decimal-le 20 n (omega arith) (let h = small n refl in omega (arith, h))
+    (small n refl) in
     let first = extension_none (8 - before) (omega arith) in
     let second = extension_one (length (decimal n)) (omega (arith, digits)) in
     let rd = extension_none 2 (omega arith) in
@@ -68,14 +106,24 @@ block1_size before (Some b) =
     omega (arith, octets, first, second)
 
 -- the options of such an answer
-short_options : (r : Reply) → IsShort r → ForSome r.location (λ n. n < 2 ^ 64) → options_size 0 (options_of r) ≤ 35
+short_options : (r : Reply)
+    → IsShort r
+    → ForSome r.location (λ n. n < 2 ^ 64)
+    → options_size 0 (options_of r) ≤ 35
 short_options r short small =
     rw (short.tag, short.observe, short.block2)
     (let location = location_size 0 r.location small in
     let format = format_size (end_number 0 (location_option r.location)) r.format in
-    let block1 = block1_size (end_number (end_number 0 (location_option r.location)) (format_option r.format)) r.block1 in
-    let whole = options_size-append 0 (location_option r.location) (format_option r.format ++ block1_options r.block1) in
-    let rest = options_size-append (end_number 0 (location_option r.location)) (format_option r.format) (block1_options r.block1) in
+    let block1 =
+    block1_size
+    (end_number (end_number 0 (location_option r.location)) (format_option r.format))
+    r.block1 in
+    let whole =
+    options_size-append 0 (location_option r.location)
+    (format_option r.format ++ block1_options r.block1) in
+    let rest =
+    options_size-append (end_number 0 (location_option r.location)) (format_option r.format)
+    (block1_options r.block1) in
     omega (arith, location, format, block1, whole, rest))
 
 payload_most : (payload : List ℕ) → payload_size payload ≤ 1 + length payload
@@ -83,7 +131,11 @@ payload_most [] = omega arith
 payload_most (b ∷ bytes) = omega arith
 
 -- the answer
-pub short_answer : (s : Step) (m : Message) (r : Reply) → length m.token ≤ longest_token → IsShort r → ForSome r.location (λ n. n < 2 ^ 64) → length (spelling (answer s m (reply_said r))) ≤ 64
+pub short_answer : (s : Step) (m : Message) (r : Reply)
+    → length m.token ≤ longest_token
+    → IsShort r
+    → ForSome r.location (λ n. n < 2 ^ 64)
+    → length (spelling (answer s m (reply_said r))) ≤ 64
 short_answer s m r token short small =
     let size = message_size-spelling (answer s m (reply_said r)) in
     let options = short_options r short small in
@@ -92,8 +144,20 @@ short_answer s m r token short small =
     omega (arith, size, options, payload, most, token)
 
 -- so it is of whoever writes the answer to a request for a worker
-pub short_written : (worker drawn : ℕ) (sender : Peer) (m written : Message) (r : Reply) → ((s : Step) → s.worker ≡ worker → s.drawn ≡ drawn → written ≡ answer s m (reply_said r)) → length m.token ≤ longest_token → IsShort r
+pub short_written : (worker drawn : ℕ) (sender : Peer) (m written : Message) (r : Reply)
+    → ((s : Step) → s.worker ≡ worker → s.drawn ≡ drawn → written ≡ answer s m (reply_said r))
+    → length m.token ≤ longest_token
+    → IsShort r
     → ForSome r.location (λ n. n < 2 ^ 64) → length (spelling written) ≤ 64
 short_written worker drawn sender m written r is token short small =
-    let s : Step = record { kind = step.Tick; worker = worker; handed = record { 0 = 0 }; word = 0; peer = sender; datagram = []; drawn = drawn } in
-    subst (λ (w : Message). length (spelling w) ≤ 64) (sym (is s refl refl)) (short_answer s m r token short small)
+    let s : Step = record {
+      kind = step.Tick;
+      worker = worker;
+      handed = record { 0 = 0 };
+      word = 0;
+      peer = sender;
+      datagram = [];
+      drawn = drawn;
+    } in
+    subst (λ (w : Message). length (spelling w) ≤ 64) (sym (is s refl refl))
+    (short_answer s m r token short small)

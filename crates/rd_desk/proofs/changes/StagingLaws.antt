@@ -1,5 +1,34 @@
--- What a step leaves on a board: what is planned of a write has one entry more than any history that the version before stands for, and is laid or leaves all as it was.
-use Rattle.std.proofs.Common.{◌≡◌, ◌≤◌, ℕ, Bool, true, false, List, [], ◌∷◌, ◌++◌, length, filter_map, if◌then◌else◌, Option, Some, None, Result, Ok, Err, IfOk, IfSome, refl, sym, ap, subst, ◌∙◌, arith}
+-- What a step leaves on a board: what is planned of a write has one entry more than any history
+-- that the version before stands for, and is laid or leaves all as it was.
+use Rattle.std.proofs.Common.{
+  ◌≡◌,
+  ◌≤◌,
+  ℕ,
+  Bool,
+  true,
+  false,
+  List,
+  [],
+  ◌∷◌,
+  ◌++◌,
+  length,
+  filter_map,
+  if◌then◌else◌,
+  Option,
+  Some,
+  None,
+  Result,
+  Ok,
+  Err,
+  IfOk,
+  IfSome,
+  refl,
+  sym,
+  ap,
+  subst,
+  ◌∙◌,
+  arith,
+}
 use Rattle.std.proofs.lemmas.Bool.{false≢true, true≢false}
 use Rattle.std.proofs.lemmas.List.{length-append}
 use Rattle.std.specs.Arc.{arc_value}
@@ -19,42 +48,73 @@ use Rattle.rd_desk.specs.declared.outcomes.Entering.{Entering}
 use Rattle.rd_desk.specs.declared.outcomes.Outcome.{Outcome}
 use Rattle.rd_desk.specs.Outcomes.{AreNotes, IsPlanned, IsTimely, IsReadyAt}
 use Rattle.rd_desk.specs.Desks.{Seen, StandsFor}
-use Rattle.rd_desk.specs.Staging.{staged_after, LeavesStaged, version_ready, IsLaid, IsLeftBy, IsNextOf, IsSweptBefore}
+use Rattle.rd_desk.specs.Staging.{
+  staged_after,
+  LeavesStaged,
+  version_ready,
+  IsLaid,
+  IsLeftBy,
+  IsNextOf,
+  IsSweptBefore,
+}
 
 -- a step of a peer
 abbrev pub from_peer : Peer → Step
-from_peer peer = record { kind = step.Tick; worker = 0; handed = record { 0 = 0 }; word = 0; peer = peer; datagram = []; drawn = 0 }
+from_peer peer = record {
+  kind = step.Tick;
+  worker = 0;
+  handed = record { 0 = 0 };
+  word = 0;
+  peer = peer;
+  datagram = [];
+  drawn = 0;
+}
 
 -- a step of any peer
 abbrev pub anyone : Step
 anyone = from_peer (record { host = host.V4 (0 ∷ 0 ∷ 0 ∷ 0 ∷ []); port = 0 })
 
-noted_next : (history : List Entry) (swept : ℕ) (further notes : List Note) (e : Option Entering) → AreNotes history swept further notes e → IfSome e (λ e. HasOneMore history (arc_value e.version))
+noted_next : (history : List Entry) (swept : ℕ) (further notes : List Note) (e : Option Entering)
+    → AreNotes history swept further notes e
+    → IfSome e (λ e. HasOneMore history (arc_value e.version))
 noted_next history swept further notes None it = tt
 noted_next history swept further notes (Some e) it = record { entry = it.0; stands = it.2.stands }
 
 -- what is planned after a history has one entry more, where it makes one
-pub next_planned : (r : Result Outcome Starved) (history : List Entry) (swept : ℕ) (further : List Note) (meant : changes.Outcome) → IfOk r (IsPlanned history swept further meant) → IfOk r (IsNextOf history)
-next_planned (Ok o) history swept further meant it = noted_next history swept further meant.notes o.entering it.notes
+pub next_planned : (r : Result Outcome Starved) (history : List Entry) (swept : ℕ)
+    (further : List Note) (meant : changes.Outcome)
+    → IfOk r (IsPlanned history swept further meant)
+    → IfOk r (IsNextOf history)
+next_planned (Ok o) history swept further meant it =
+    noted_next history swept further meant.notes o.entering it.notes
 next_planned (Err e) history swept further meant it = tt
 
-timed : (moment : ℕ) (e : Option Entering) → IfSome e (IsReadyAt moment) → IfSome e (λ e. (arc_value e.version).swept ≤ (arc_value e.version).at)
+timed : (moment : ℕ) (e : Option Entering)
+    → IfSome e (IsReadyAt moment)
+    → IfSome e (λ e. (arc_value e.version).swept ≤ (arc_value e.version).at)
 timed moment None it = tt
 timed moment (Some e) it = let at = it.0 in let swept = it.1 in omega (arith, at, swept)
 
 -- what is planned of a moment was not swept after its entry
-pub swept_planned : (r : Result Outcome Starved) (moment : ℕ) → IfOk r (IsTimely moment) → IfOk r IsSweptBefore
+pub swept_planned : (r : Result Outcome Starved) (moment : ℕ)
+    → IfOk r (IsTimely moment)
+    → IfOk r IsSweptBefore
 swept_planned (Ok o) moment it = timed moment o.entering it
 swept_planned (Err e) moment it = tt
 
 -- where a board tells a history, what holds of each that the version stands for holds of that
-pub next_told : (told : Option (List Entry)) (version : Version) (r : Result Outcome Starved) → IfSome told (λ history. VersionStandsFor 0 history version)
-    → ((history : List Entry) → VersionStandsFor 0 history version → IfOk r (IsNextOf history)) → IfSome told (λ history. IfOk r (IsNextOf history))
+pub next_told : (told : Option (List Entry)) (version : Version) (r : Result Outcome Starved)
+    → IfSome told (λ history. VersionStandsFor 0 history version)
+    → ((history : List Entry) → VersionStandsFor 0 history version → IfOk r (IsNextOf history))
+    → IfSome told (λ history. IfOk r (IsNextOf history))
 next_told None version r stands next = tt
 next_told (Some history) version r stands next = next history stands
 
 -- what is planned stays as it is when its version is laid
-pub of_laid : (P : Outcome → Type 0) (planned : Result Outcome Starved) (o : Outcome) → planned ≡ Ok o → IfOk planned P → P o
+pub of_laid : (P : Outcome → Type 0) (planned : Result Outcome Starved) (o : Outcome)
+    → planned ≡ Ok o
+    → IfOk planned P
+    → P o
 of_laid P planned o same it = subst (λ (r : Result Outcome Starved). IfOk r P) same it
 
 none_staged : (before : Option (Option Version)) → IfSome before (λ staged. before ≡ Some staged)
@@ -94,7 +154,9 @@ laid_planned old new (Some e) before after is_staged laid left next free = recor
   free = λ none. absurd (true≢false none);
 }
   where
-    staged : (b : Option (Option Version)) → IfSome b (λ staged. after ≡ Some (Some (arc_value e.version))) → IfSome b (λ staged. after ≡ Some (Some new))
+    staged : (b : Option (Option Version))
+        → IfSome b (λ staged. after ≡ Some (Some (arc_value e.version)))
+        → IfSome b (λ staged. after ≡ Some (Some new))
     staged None h = tt
     staged (Some b) h = h ∙ ap (λ v. Some (Some v)) (sym left)
 
@@ -114,20 +176,31 @@ laid_from old begun new before after is_staged same laid =
 
 -- ---- a whole step
 
-carried : (after : Option (Option Version)) (f g : Option Version → Option Version) → ((o : Option Version) → f o ≡ g o) → (before : Option (Option Version)) → IfSome before (λ o. after ≡ Some (f o)) → IfSome before (λ o. after ≡ Some (g o))
+carried : (after : Option (Option Version)) (f g : Option Version → Option Version)
+    → ((o : Option Version) → f o ≡ g o)
+    → (before : Option (Option Version))
+    → IfSome before (λ o. after ≡ Some (f o))
+    → IfSome before (λ o. after ≡ Some (g o))
 carried after f g same None h = tt
 carried after f g same (Some b) h = h ∙ ap Some (same b)
 
 -- so many entries leave the version before, or this one
-none_left : (es : List Entry) (version : Version) → length es ≡ 0 → (o : Option Version) → o ≡ staged_after es version o
+none_left : (es : List Entry) (version : Version)
+    → length es ≡ 0
+    → (o : Option Version)
+    → o ≡ staged_after es version o
 none_left [] version n o = refl
 none_left (e ∷ es) version n o = absurd (omega (arith, n))
 
-one_left : (es : List Entry) (version : Version) → length es ≡ 1 → (o : Option Version) → Some version ≡ staged_after es version o
+one_left : (es : List Entry) (version : Version)
+    → length es ≡ 1
+    → (o : Option Version)
+    → Some version ≡ staged_after es version o
 one_left [] version n o = absurd (omega (arith, n))
 one_left (e ∷ es) version n o = refl
 
--- a version stood for a history, and then one for that with the entries of these notes: it is staged where there is one
+-- a version stood for a history, and then one for that with the entries of these notes: it is
+-- staged where there is one
 leaves_staged : (history : List Entry) (notes : List Note) (old new : Version)
     (before after : Option (Option Version)) (is_staged : Bool) → VersionStandsFor 0 history old
     → VersionStandsFor 0 (history ++ filter_map entry_noted notes) new

@@ -16,40 +16,63 @@ use Rattle.journal_model.specs.declared.rows.Row.{Row}
 use Rattle.journal_model.specs.Effects.{Reply}
 use Rattle.journal_model.specs.Journal.{events}
 use Rattle.journal_model.specs.Requests.{refusal_of_request}
-use Rattle.journal_model.specs.Rows.{served, refusal_answered, message_effects, heard, effects, row_moment}
+use Rattle.journal_model.specs.Rows.{
+  served,
+  refusal_answered,
+  message_effects,
+  heard,
+  effects,
+  row_moment,
+}
 use Rattle.journal_model.specs.Writes.{write_effects}
 use Rattle.rd_desk.specs.Admitting.{write_heard}
 use Rattle.rd_desk.specs.WriteJobs.{is_write_path}
 
 -- an admission hears what is read of its datagram
-pub admission_hears : (rows : List Row) (s : Step) (starved : Bool) (read : Result Message Unread) → s.kind ≡ step.Admit → reading s.datagram ≡ read
-    → heard starved rows (row_moment rows s) s read ≡ effects s.kind starved rows (row_moment rows s) s
+pub admission_hears : (rows : List Row) (s : Step) (starved : Bool) (read : Result Message Unread)
+    → s.kind ≡ step.Admit
+    → reading s.datagram ≡ read
+    → heard starved rows (row_moment rows s) s read
+    ≡ effects s.kind starved rows (row_moment rows s) s
 unfolding effects
 admission_hears rows s starved read kind is = rw kind (rw is refl)
 
 -- a message does what it is for
-pub message_hears : (rows : List Row) (s : Step) (starved : Bool) (m : Message) (r : Role) → role_of m.kind m.code ≡ r
-    → message_effects r starved rows (row_moment rows s) s m ≡ heard starved rows (row_moment rows s) s (Ok m)
+pub message_hears : (rows : List Row) (s : Step) (starved : Bool) (m : Message) (r : Role)
+    → role_of m.kind m.code ≡ r
+    → message_effects r starved rows (row_moment rows s) s m
+    ≡ heard starved rows (row_moment rows s) s (Ok m)
 message_hears rows s starved m r is = rw is refl
 
 -- a request that is refused for itself
-pub request_refused : (rows : List Row) (s : Step) (m : Message) (refusal : Reply) → refusal_of_request m ≡ Some refusal
-    → refusal_answered m.kind (first_bad_option m.options) s m refusal ≡ message_effects role.Request false rows (row_moment rows s) s m
+pub request_refused : (rows : List Row) (s : Step) (m : Message) (refusal : Reply)
+    → refusal_of_request m ≡ Some refusal
+    → refusal_answered m.kind (first_bad_option m.options) s m refusal
+    ≡ message_effects role.Request false rows (row_moment rows s) s m
 request_refused rows s m refusal is = rw is refl
 
 -- or that is not, by its path
-pub request_served : (rows : List Row) (s : Step) (m : Message) (p : Path) → refusal_of_request m ≡ None → path_in m ≡ p
-    → served p rows (row_moment rows s) s m ≡ message_effects role.Request false rows (row_moment rows s) s m
+pub request_served : (rows : List Row) (s : Step) (m : Message) (p : Path)
+    → refusal_of_request m ≡ None
+    → path_in m ≡ p
+    → served p rows (row_moment rows s) s m
+    ≡ message_effects role.Request false rows (row_moment rows s) s m
 request_served rows s m p none is = rw none (rw is refl)
 
 -- a write
-pub request_writes : (rows : List Row) (s : Step) (starved : Bool) (m : Message) → refusal_of_request m ≡ None → is_write_path (path_in m) ≡ true
-    → write_heard starved rows s m ≡ message_effects role.Request starved rows (row_moment rows s) s m
+pub request_writes : (rows : List Row) (s : Step) (starved : Bool) (m : Message)
+    → refusal_of_request m ≡ None
+    → is_write_path (path_in m) ≡ true
+    → write_heard starved rows s m
+    ≡ message_effects role.Request starved rows (row_moment rows s) s m
 unfolding served
 request_writes rows s true m none writes = refl
 request_writes rows s false m none writes = rw none (by (path_in m) writes)
   where
-    by : (p : Path) → is_write_path p ≡ true → write_effects (events rows) (row_moment rows s) s m ≡ served p rows (row_moment rows s) s m
+    by : (p : Path)
+        → is_write_path p ≡ true
+        → write_effects (events rows) (row_moment rows s) s m
+        ≡ served p rows (row_moment rows s) s m
     by path.Rd h = refl
     by path.SimpleRd h = refl
     by (path.Location number) h = refl

@@ -17,12 +17,24 @@ pub last_moment-none : last_moment [] ≡ 0
 unfolding last_moment
 last_moment-none = refl
 
-pub StandsFor-none : (d : Seen) → d.moment ≡ 0 → VersionStandsFor 0 [] d.version → d.version.swept ≡ 0 → ExchangesStandFor 0 [] d.exchanges → ((at : ℕ) → TransfersStandFor at [] d.transfers)
-    → WatchingStandsFor [] d.watching → ((octets : OctetsSent) → FetchesStandFor octets [] d.fetches) → d.observed ≡ 0 → StandsFor [] d
+pub StandsFor-none : (d : Seen)
+    → d.moment ≡ 0
+    → VersionStandsFor 0 [] d.version
+    → d.version.swept ≡ 0
+    → ExchangesStandFor 0 [] d.exchanges
+    → ((at : ℕ) → TransfersStandFor at [] d.transfers)
+    → WatchingStandsFor [] d.watching
+    → ((octets : OctetsSent) → FetchesStandFor octets [] d.fetches)
+    → d.observed ≡ 0
+    → StandsFor [] d
 unfolding events entries now last_moment observe_values_sent
 StandsFor-none d moment version swept exchanges transfers watching fetches observed = record {
   moment = moment;
-  directory = record { history = version; at = (let at = version.at in omega (arith, at)); swept = omega (arith, swept) };
+  directory = record {
+    history = version;
+    at = (let at = version.at in omega (arith, at));
+    swept = omega (arith, swept);
+  };
   exchanges = exchanges;
   transfers = transfers 0;
   watching = watching;

@@ -1,5 +1,21 @@
 -- Effects one after the other, and the Message IDs that they draw.
-use Rattle.std.proofs.Common.{◌≡◌, ℕ, zero, suc, ◌+◌, ◌*◌, ◌%◌, ◌^◌, List, refl, ap, ◌∙◌, append_assoc, append-nil, arith}
+use Rattle.std.proofs.Common.{
+  ◌≡◌,
+  ℕ,
+  zero,
+  suc,
+  ◌+◌,
+  ◌*◌,
+  ◌%◌,
+  ◌^◌,
+  List,
+  refl,
+  ap,
+  ◌∙◌,
+  append_assoc,
+  append-nil,
+  arith,
+}
 use Rattle.std.proofs.Math.Nat.{mod-add-mod, mod-mod_of_dvd, dvd_of_mod-eq-zero}
 use Rattle.rd_base.specs.declared.peers.Peer.{Peer}
 use Rattle.event_model.specs.declared.notes.Note.{Note}
@@ -9,20 +25,28 @@ use Rattle.journal_model.specs.UnfinishedRow.{drawing}
 -- effects with equal parts
 pub effects_same : (e f : Effects) → e.sent ≡ f.sent → e.notes ≡ f.notes → e.drew ≡ f.drew → e ≡ f
 effects_same e f sent notes drew =
-    let made = λ (xs : List (Peer × List ℕ)) (ns : List Note) (n : ℕ). let x : Effects = record { sent = xs; notes = ns; drew = n } in x in
-    ap (λ (xs : List (Peer × List ℕ)). made xs e.notes e.drew) sent ∙ (ap (λ (ns : List Note). made f.sent ns e.drew) notes ∙ ap (λ (n : ℕ). made f.sent f.notes n) drew)
+    let made =
+    λ (xs : List (Peer × List ℕ)) (ns : List Note) (n : ℕ). let x : Effects = record
+    { sent = xs; notes = ns; drew = n } in x in
+    ap (λ (xs : List (Peer × List ℕ)). made xs e.notes e.drew) sent
+    ∙ (ap (λ (ns : List Note). made f.sent ns e.drew) notes
+    ∙ ap (λ (n : ℕ). made f.sent f.notes n) drew)
 
 -- nothing before others, and nothing after them
 pub joined-nothing_first : (e : Effects) → joined nothing e ≡ e
-joined-nothing_first e = let n : 0 + e.drew ≡ e.drew = omega arith in effects_same (joined nothing e) e refl refl n
+joined-nothing_first e =
+    let n : 0 + e.drew ≡ e.drew = omega arith in effects_same (joined nothing e) e refl refl n
 
 pub joined-nothing : (e : Effects) → joined e nothing ≡ e
-joined-nothing e = let n : e.drew + 0 ≡ e.drew = omega arith in effects_same (joined e nothing) e (append-nil e.sent) (append-nil e.notes) n
+joined-nothing e =
+    let n : e.drew + 0 ≡ e.drew = omega arith in
+    effects_same (joined e nothing) e (append-nil e.sent) (append-nil e.notes) n
 
 pub joined-assoc : (a b c : Effects) → joined (joined a b) c ≡ joined a (joined b c)
 joined-assoc a b c =
     let n : (a.drew + b.drew) + c.drew ≡ a.drew + (b.drew + c.drew) = omega arith in
-    effects_same (joined (joined a b) c) (joined a (joined b c)) (append_assoc a.sent b.sent c.sent) (append_assoc a.notes b.notes c.notes) n
+    effects_same (joined (joined a b) c) (joined a (joined b c)) (append_assoc a.sent b.sent c.sent)
+    (append_assoc a.notes b.notes c.notes) n
 
 -- Message IDs that are drawn one after the other
 pub drawing-more : (a b d : ℕ) → drawing b (drawing a d) ≡ drawing (a + b) d
@@ -36,4 +60,6 @@ drawing-more (suc k) (suc n) d =
 -- the Message ID that is drawn after so many more
 pub mid_of-drawing : (worker n d : ℕ) → mid_of worker (drawing n d) ≡ mid_of worker (d + n)
 mid_of-drawing worker zero d = let e : d ≡ d + 0 = omega arith in ap (mid_of worker) e
-mid_of-drawing worker (suc n) d = ap (λ x. worker_mids * worker + x) (mod-mod_of_dvd 4096 {b = 2 ^ 64} (d + suc n) (dvd_of_mod-eq-zero 4096 {n = 2 ^ 64} refl))
+mid_of-drawing worker (suc n) d =
+    ap (λ x. worker_mids * worker + x)
+    (mod-mod_of_dvd 4096 {b = 2 ^ 64} (d + suc n) (dvd_of_mod-eq-zero 4096 {n = 2 ^ 64} refl))

@@ -1,5 +1,27 @@
 -- What an admission does and leaves, by what it hears (RFC 7252 section 4).
-use Rattle.std.proofs.Common.{◌≡◌, ℕ, ◌&&◌, ◌||◌, not, Bool, true, false, List, ◌∷◌, length, Option, None, is_none, Result, Ok, refl, sym, ap, subst, ◌∙◌}
+use Rattle.std.proofs.Common.{
+  ◌≡◌,
+  ℕ,
+  ◌&&◌,
+  ◌||◌,
+  not,
+  Bool,
+  true,
+  false,
+  List,
+  ◌∷◌,
+  length,
+  Option,
+  None,
+  is_none,
+  Result,
+  Ok,
+  refl,
+  sym,
+  ap,
+  subst,
+  ◌∙◌,
+}
 use Rattle.std.specs.List.{list_any}
 use Rattle.std.proofs.lemmas.Bool.{false≢true}
 use Rattle.rd_base.specs.declared.moments.Moment.{Moment}
@@ -25,9 +47,25 @@ use Rattle.journal_model.specs.Effects.{Effects, Reply, nothing}
 use Rattle.journal_model.specs.Journal.{events}
 use Rattle.journal_model.specs.Lookups.{lookup_effects}
 use Rattle.journal_model.specs.Machine.{is_look_message, is_look_reading, is_look_datagram}
-use Rattle.journal_model.specs.Requests.{refusal_of_request, is_lookup, is_discovery, is_later_block, is_heeded, only_looks, is_look_request}
+use Rattle.journal_model.specs.Requests.{
+  refusal_of_request,
+  is_lookup,
+  is_discovery,
+  is_later_block,
+  is_heeded,
+  only_looks,
+  is_look_request,
+}
 use Rattle.journal_model.specs.Responses.{response_effects}
-use Rattle.journal_model.specs.Rows.{served, refusal_answered, unread_answered, message_effects, heard, row_moment, row}
+use Rattle.journal_model.specs.Rows.{
+  served,
+  refusal_answered,
+  unread_answered,
+  message_effects,
+  heard,
+  row_moment,
+  row,
+}
 use Rattle.journal_model.proofs.NoteKinds.{of_lookup, of_empty, of_response, are, none_of}
 use Rattle.journal_model.proofs.StepNotes.{lookup_effects-notes, acknowledged-notes, reset-notes}
 use Rattle.journal_model.proofs.RowEquations.{row-notes}
@@ -40,7 +78,15 @@ use Rattle.rd_desk.specs.declared.admissions.Admitted.TheVariants as admitted
 use Rattle.rd_desk.specs.declared.mids.Mids.{Mids}
 use Rattle.rd_desk.specs.declared.steps.Stepped.{Stepped}
 use Rattle.rd_desk.specs.declared.steps.Stepped.TheVariants as stepped
-use Rattle.rd_desk.specs.Admitting.{is_starved_admission, IsHeldFor, jobless, write_takes, served_takes, request_takes, message_takes}
+use Rattle.rd_desk.specs.Admitting.{
+  is_starved_admission,
+  IsHeldFor,
+  jobless,
+  write_takes,
+  served_takes,
+  request_takes,
+  message_takes,
+}
 use Rattle.rd_desk.specs.WriteJobs.{Write, is_write_path}
 use Rattle.rd_desk.specs.Desks.{Seen}
 use Rattle.rd_desk.specs.Lookups.{lookup_heard}
@@ -54,10 +100,20 @@ use Rattle.rd_desk.proofs.parts.WriteLaws.{without_memory-notes}
 -- ---- a lookup that does not only look
 
 -- it is of a further block, or begins or ends an observation
-pub heeded-other : (m : Message) → is_lookup (path_in m) ≡ true → only_looks m ≡ false → is_later_block m ≡ false → is_heeded (observe_in m) ≡ true
-heeded-other m lookup other first = by (is_discovery (path_in m)) (is_lookup (path_in m)) (is_later_block m) (is_heeded (observe_in m)) lookup other first
+pub heeded-other : (m : Message)
+    → is_lookup (path_in m) ≡ true
+    → only_looks m ≡ false
+    → is_later_block m ≡ false
+    → is_heeded (observe_in m) ≡ true
+heeded-other m lookup other first =
+    by (is_discovery (path_in m)) (is_lookup (path_in m)) (is_later_block m)
+    (is_heeded (observe_in m)) lookup other first
   where
-    by : (d l later heeded : Bool) → l ≡ true → (d || (l && not later && not heeded)) ≡ false → later ≡ false → heeded ≡ true
+    by : (d l later heeded : Bool)
+        → l ≡ true
+        → (d || (l && not later && not heeded)) ≡ false
+        → later ≡ false
+        → heeded ≡ true
     by d l later true h g f = refl
     by true l later false h g f = absurd (false≢true (sym g))
     by false false later false h g f = absurd (false≢true h)
@@ -65,7 +121,9 @@ heeded-other m lookup other first = by (is_discovery (path_in m)) (is_lookup (pa
     by false true false false h g f = absurd (false≢true (sym g))
 
 -- and the path is that of a lookup
-pub lookup_seeks : (m : Message) → is_lookup (path_in m) ≡ true → (is_discovery (path_in m) || is_lookup (path_in m)) ≡ true
+pub lookup_seeks : (m : Message)
+    → is_lookup (path_in m) ≡ true
+    → (is_discovery (path_in m) || is_lookup (path_in m)) ≡ true
 lookup_seeks m lookup = by (is_discovery (path_in m)) (is_lookup (path_in m)) lookup
   where
     by : (d l : Bool) → l ≡ true → (d || l) ≡ true
@@ -74,28 +132,44 @@ lookup_seeks m lookup = by (is_discovery (path_in m)) (is_lookup (path_in m)) lo
 
 -- ---- a request that nothing refuses, by its path
 
-pub served_lookup : (rows : List Row) (s : Step) (starved : Bool) (m : Message) → refusal_of_request m ≡ None → is_lookup (path_in m) ≡ true
-    → lookup_heard starved rows s m ≡ message_effects role.Request starved rows (row_moment rows s) s m
+pub served_lookup : (rows : List Row) (s : Step) (starved : Bool) (m : Message)
+    → refusal_of_request m ≡ None
+    → is_lookup (path_in m) ≡ true
+    → lookup_heard starved rows s m
+    ≡ message_effects role.Request starved rows (row_moment rows s) s m
 unfolding served
 served_lookup rows s true m none lookup = refl
 served_lookup rows s false m none lookup = rw none (by (path_in m) lookup)
   where
-    by : (p : Path) → is_lookup p ≡ true → lookup_effects rows (row_moment rows s) s m ≡ served p rows (row_moment rows s) s m
+    by : (p : Path)
+        → is_lookup p ≡ true
+        → lookup_effects rows (row_moment rows s) s m ≡ served p rows (row_moment rows s) s m
     by path.Res h = refl
     by path.Ep h = refl
     by _ h = absurd (false≢true h)
 
 -- what is left is nothing
-pub served_other : (rows : List Row) (s : Step) (m : Message) → refusal_of_request m ≡ None → only_looks m ≡ false → is_lookup (path_in m) ≡ false → is_write_path (path_in m) ≡ false
+pub served_other : (rows : List Row) (s : Step) (m : Message)
+    → refusal_of_request m ≡ None
+    → only_looks m ≡ false
+    → is_lookup (path_in m) ≡ false
+    → is_write_path (path_in m) ≡ false
     → nothing ≡ message_effects role.Request false rows (row_moment rows s) s m
 unfolding served
-served_other rows s m none other lookup writes = rw none (by (path_in m) (not_discovery (is_discovery (path_in m)) (is_lookup (path_in m) && not (is_later_block m) && not (is_heeded (observe_in m))) other) lookup writes)
+served_other rows s m none other lookup writes =
+    rw none (by (path_in m) (not_discovery (is_discovery (path_in m))
+    (is_lookup (path_in m) && not (is_later_block m) && not (is_heeded (observe_in m)))
+    other) lookup writes)
   where
     not_discovery : (d x : Bool) → (d || x) ≡ false → d ≡ false
     not_discovery true x h = absurd (false≢true (sym h))
     not_discovery false x h = refl
 
-    by : (p : Path) → is_discovery p ≡ false → is_lookup p ≡ false → is_write_path p ≡ false → nothing ≡ served p rows (row_moment rows s) s m
+    by : (p : Path)
+        → is_discovery p ≡ false
+        → is_lookup p ≡ false
+        → is_write_path p ≡ false
+        → nothing ≡ served p rows (row_moment rows s) s m
     by path.Core d l w = absurd (false≢true (sym d))
     by path.SimpleRd d l w = absurd (false≢true (sym w))
     by path.Rd d l w = absurd (false≢true (sym w))
@@ -105,20 +179,39 @@ served_other rows s m none other lookup writes = rw none (by (path_in m) (not_di
     by path.Other d l w = refl
 
 -- what takes memory
-pub takes_write : (rows : List Row) (s : Step) (m : Message) → refusal_of_request m ≡ None → is_write_path (path_in m) ≡ true
-    → message_takes role.Request rows (row_moment rows s) s m ≡ false → write_takes rows (row_moment rows s) s m ≡ false
-takes_write rows s m none writes silent = by (path_in m) writes (sym (ap (λ (o : Option Reply). request_takes o rows (row_moment rows s) s m) none) ∙ silent)
+pub takes_write : (rows : List Row) (s : Step) (m : Message)
+    → refusal_of_request m ≡ None
+    → is_write_path (path_in m) ≡ true
+    → message_takes role.Request rows (row_moment rows s) s m ≡ false
+    → write_takes rows (row_moment rows s) s m ≡ false
+takes_write rows s m none writes silent =
+    by (path_in m) writes
+    (sym (ap (λ (o : Option Reply). request_takes o rows (row_moment rows s) s m) none)
+    ∙ silent)
   where
-    by : (p : Path) → is_write_path p ≡ true → served_takes p rows (row_moment rows s) s m ≡ false → write_takes rows (row_moment rows s) s m ≡ false
+    by : (p : Path)
+        → is_write_path p ≡ true
+        → served_takes p rows (row_moment rows s) s m ≡ false
+        → write_takes rows (row_moment rows s) s m ≡ false
     by path.Rd h g = g
     by path.SimpleRd h g = g
     by (path.Location number) h g = g
     by _ h g = absurd (false≢true h)
 
-pub takes_lookup : (rows : List Row) (s : Step) (m : Message) (starved : Bool) → refusal_of_request m ≡ None → is_lookup (path_in m) ≡ true → message_takes role.Request rows (row_moment rows s) s m ≡ false → starved ≡ false
-takes_lookup rows s m starved none lookup silent = by (path_in m) lookup (sym (ap (λ (o : Option Reply). request_takes o rows (row_moment rows s) s m) none) ∙ silent)
+pub takes_lookup : (rows : List Row) (s : Step) (m : Message) (starved : Bool)
+    → refusal_of_request m ≡ None
+    → is_lookup (path_in m) ≡ true
+    → message_takes role.Request rows (row_moment rows s) s m ≡ false
+    → starved ≡ false
+takes_lookup rows s m starved none lookup silent =
+    by (path_in m) lookup
+    (sym (ap (λ (o : Option Reply). request_takes o rows (row_moment rows s) s m) none)
+    ∙ silent)
   where
-    by : (p : Path) → is_lookup p ≡ true → served_takes p rows (row_moment rows s) s m ≡ false → starved ≡ false
+    by : (p : Path)
+        → is_lookup p ≡ true
+        → served_takes p rows (row_moment rows s) s m ≡ false
+        → starved ≡ false
     by path.Res h g = absurd (false≢true (sym g))
     by path.Ep h g = absurd (false≢true (sym g))
     by _ h g = absurd (false≢true h)
@@ -126,7 +219,11 @@ takes_lookup rows s m starved none lookup silent = by (path_in m) lookup (sym (a
 -- ---- nothing is admitted but a write
 
 -- notes of a kind that admits nothing
-none_admitted : (kind : Note → Bool) → ((n : Note) → kind n ≡ true → is_admitting n ≡ false) → (notes : List Note) → are kind notes ≡ true → list_any is_admitting notes ≡ false
+none_admitted : (kind : Note → Bool)
+    → ((n : Note) → kind n ≡ true → is_admitting n ≡ false)
+    → (notes : List Note)
+    → are kind notes ≡ true
+    → list_any is_admitting notes ≡ false
 none_admitted kind other notes all = none_of kind is_admitting other notes all
 
 lookup_admits_none : (n : Note) → of_lookup n ≡ true → is_admitting n ≡ false
@@ -141,28 +238,54 @@ response_admits_none : (n : Note) → of_response n ≡ true → is_admitting n 
 response_admits_none (note.Admitted peer mid) h = absurd (false≢true h)
 response_admits_none _ h = refl
 
-pub lookup_admits : (rows : List Row) (s : Step) (starved : Bool) (m : Message) → list_any is_admitting (lookup_heard starved rows s m).notes ≡ false
+pub lookup_admits : (rows : List Row) (s : Step) (starved : Bool) (m : Message)
+    → list_any is_admitting (lookup_heard starved rows s m).notes ≡ false
 lookup_admits rows s true m = ap (list_any is_admitting) (without_memory-notes s m)
-lookup_admits rows s false m = none_admitted of_lookup lookup_admits_none (lookup_effects rows (row_moment rows s) s m).notes (lookup_effects-notes rows (row_moment rows s) s m)
+lookup_admits rows s false m =
+    none_admitted of_lookup lookup_admits_none (lookup_effects rows (row_moment rows s) s m).notes
+    (lookup_effects-notes rows (row_moment rows s) s m)
 
-pub response_admits : (rows : List Row) (s : Step) (starved : Bool) (m : Message) → list_any is_admitting (message_effects role.Response starved rows (row_moment rows s) s m).notes ≡ false
+pub response_admits : (rows : List Row) (s : Step) (starved : Bool) (m : Message)
+    → list_any is_admitting
+    (message_effects role.Response starved rows (row_moment rows s) s m).notes
+    ≡ false
 response_admits rows s true m = refl
-response_admits rows s false m = none_admitted of_response response_admits_none (response_effects rows (row_moment rows s) s m).notes (response_effects-notes rows (row_moment rows s) s m)
+response_admits rows s false m =
+    none_admitted of_response response_admits_none
+    (response_effects rows (row_moment rows s) s m).notes
+    (response_effects-notes rows (row_moment rows s) s m)
 
-pub acknowledged_admits : (rows : List Row) (s : Step) (m : Message) → list_any is_admitting (message_effects role.Acknowledgement false rows (row_moment rows s) s m).notes ≡ false
-acknowledged_admits rows s m = none_admitted of_empty empty_admits_none (message_effects role.Acknowledgement false rows (row_moment rows s) s m).notes (acknowledged-notes s.peer m.mid (events rows))
+pub acknowledged_admits : (rows : List Row) (s : Step) (m : Message)
+    → list_any is_admitting
+    (message_effects role.Acknowledgement false rows (row_moment rows s) s m).notes
+    ≡ false
+acknowledged_admits rows s m =
+    none_admitted of_empty empty_admits_none
+    (message_effects role.Acknowledgement false rows (row_moment rows s) s m).notes
+    (acknowledged-notes s.peer m.mid (events rows))
 
-pub reset_admits : (rows : List Row) (s : Step) (m : Message) → list_any is_admitting (message_effects role.Reset false rows (row_moment rows s) s m).notes ≡ false
-reset_admits rows s m = none_admitted of_empty empty_admits_none (message_effects role.Reset false rows (row_moment rows s) s m).notes (reset-notes s.peer m.mid (events rows))
+pub reset_admits : (rows : List Row) (s : Step) (m : Message)
+    → list_any is_admitting (message_effects role.Reset false rows (row_moment rows s) s m).notes
+    ≡ false
+reset_admits rows s m =
+    none_admitted of_empty empty_admits_none
+    (message_effects role.Reset false rows (row_moment rows s) s m).notes
+    (reset-notes s.peer m.mid (events rows))
 
-pub refusal_admits : (s : Step) (m : Message) (refusal : Reply) → list_any is_admitting (refusal_answered m.kind (first_bad_option m.options) s m refusal).notes ≡ false
-refusal_admits s m refusal = ap (list_any is_admitting) (refusal_notes m.kind (first_bad_option m.options) s m refusal)
+pub refusal_admits : (s : Step) (m : Message) (refusal : Reply)
+    → list_any is_admitting (refusal_answered m.kind (first_bad_option m.options) s m refusal).notes
+    ≡ false
+refusal_admits s m refusal =
+    ap (list_any is_admitting) (refusal_notes m.kind (first_bad_option m.options) s m refusal)
 
-pub unread_admits : (s : Step) (fault : Unread) → list_any is_admitting (unread_answered s fault).notes ≡ false
+pub unread_admits : (s : Step) (fault : Unread)
+    → list_any is_admitting (unread_answered s fault).notes ≡ false
 unread_admits s fault = ap (list_any is_admitting) (unread_notes s fault)
 
 -- so a datagram that leaves no job has none
-pub none_held : (x : Stepped) (notes : List Note) (s : Step) (moment : ℕ) → list_any is_admitting notes ≡ false → IsHeldFor (jobless x) notes s moment
+pub none_held : (x : Stepped) (notes : List Note) (s : Step) (moment : ℕ)
+    → list_any is_admitting notes ≡ false
+    → IsHeldFor (jobless x) notes s moment
 none_held stepped.Done notes s moment none = none
 none_held stepped.Starved notes s moment none = none
 
@@ -171,77 +294,143 @@ jobless_starved stepped.Done = refl
 jobless_starved stepped.Starved = refl
 
 -- it does what its part does, whether memory ran out or not
-pub jobless_way : (rows : List Row) (s : Step) (x : Stepped) (a : Admitted) (d after : Seen) (out sent : List (Peer × List ℕ)) (mids_before mids : Mids) (does all : Bool → Effects) → a ≡ jobless x → ((b : Bool) → does b ≡ all b)
-    → (UnderWay rows s (is_starved_step x) nothing d out mids_before → UnderWay rows s (is_starved_step x) (does (is_starved_step x)) after sent mids)
-    → UnderWay rows s (is_starved_admission a) nothing d out mids_before → UnderWay rows s (is_starved_admission a) (all (is_starved_admission a)) after sent mids
+pub jobless_way : (rows : List Row) (s : Step) (x : Stepped) (a : Admitted) (d after : Seen)
+    (out sent : List (Peer × List ℕ)) (mids_before mids : Mids) (does all : Bool → Effects)
+    → a ≡ jobless x
+    → ((b : Bool) → does b ≡ all b)
+    → (UnderWay rows s (is_starved_step x) nothing d out mids_before
+    → UnderWay rows s (is_starved_step x) (does (is_starved_step x)) after sent mids)
+    → UnderWay rows s (is_starved_admission a) nothing d out mids_before
+    → UnderWay rows s (is_starved_admission a) (all (is_starved_admission a)) after sent mids
 jobless_way rows s x a d after out sent mids_before mids does all is same goes =
-    let starved : is_starved_admission a ≡ is_starved_step x = ap is_starved_admission is ∙ jobless_starved x in
-    subst (λ (b : Bool). UnderWay rows s b nothing d out mids_before → UnderWay rows s b (all b) after sent mids) (sym starved)
-    (λ way. subst (λ (e : Effects). UnderWay rows s (is_starved_step x) e after sent mids) (same (is_starved_step x)) (goes way))
+    let starved : is_starved_admission a ≡ is_starved_step x =
+    ap is_starved_admission is ∙ jobless_starved x in
+    subst (λ (b : Bool).
+    UnderWay rows s b nothing d out mids_before → UnderWay rows s b (all b) after sent mids)
+    (sym starved)
+    (λ way. subst (λ (e : Effects). UnderWay rows s (is_starved_step x) e after sent mids)
+    (same (is_starved_step x)) (goes way))
 
-pub jobless_held : (x : Stepped) (a : Admitted) (all : Bool → Effects) (s : Step) (moment : ℕ) → a ≡ jobless x → ((b : Bool) → list_any is_admitting (all b).notes ≡ false) → IsHeldFor a (all (is_starved_admission a)).notes s moment
+pub jobless_held : (x : Stepped) (a : Admitted) (all : Bool → Effects) (s : Step) (moment : ℕ)
+    → a ≡ jobless x
+    → ((b : Bool) → list_any is_admitting (all b).notes ≡ false)
+    → IsHeldFor a (all (is_starved_admission a)).notes s moment
 jobless_held x a all s moment is none =
-    subst (λ (y : Admitted). IsHeldFor y (all (is_starved_admission a)).notes s moment) (sym is) (none_held x (all (is_starved_admission a)).notes s moment (none (is_starved_admission a)))
+    subst (λ (y : Admitted). IsHeldFor y (all (is_starved_admission a)).notes s moment) (sym is)
+    (none_held x (all (is_starved_admission a)).notes s moment (none (is_starved_admission a)))
 
 -- so it is of a lookup
-pub served_admits : (rows : List Row) (s : Step) (starved : Bool) (m : Message) → refusal_of_request m ≡ None → is_lookup (path_in m) ≡ true
-    → list_any is_admitting (message_effects role.Request starved rows (row_moment rows s) s m).notes ≡ false
-served_admits rows s starved m none lookup = ap (λ (e : Effects). list_any is_admitting e.notes) (sym (served_lookup rows s starved m none lookup)) ∙ lookup_admits rows s starved m
+pub served_admits : (rows : List Row) (s : Step) (starved : Bool) (m : Message)
+    → refusal_of_request m ≡ None
+    → is_lookup (path_in m) ≡ true
+    → list_any is_admitting
+    (message_effects role.Request starved rows (row_moment rows s) s m).notes
+    ≡ false
+served_admits rows s starved m none lookup =
+    ap (λ (e : Effects). list_any is_admitting e.notes)
+    (sym (served_lookup rows s starved m none lookup))
+    ∙ lookup_admits rows s starved m
 
 -- ---- a response
 
-pub response_is : (rows : List Row) (s : Step) (starved : Bool) (m : Message) → response_heard starved rows s m ≡ message_effects role.Response starved rows (row_moment rows s) s m
+pub response_is : (rows : List Row) (s : Step) (starved : Bool) (m : Message)
+    → response_heard starved rows s m
+    ≡ message_effects role.Response starved rows (row_moment rows s) s m
 response_is rows s true m = refl
 response_is rows s false m = refl
 
 -- ---- a message, by what it is for
 
-pub hears_as : (rows : List Row) (s : Step) (starved : Bool) (r : Role) (m : Message) (after : Seen) (sent : List (Peer × List ℕ)) (mids : Mids) → role_of m.kind m.code ≡ r
-    → UnderWay rows s starved (message_effects r starved rows (row_moment rows s) s m) after sent mids → UnderWay rows s starved (message_effects (role_of m.kind m.code) starved rows (row_moment rows s) s m) after sent mids
-hears_as rows s starved r m after sent mids is way = subst (λ (x : Role). UnderWay rows s starved (message_effects x starved rows (row_moment rows s) s m) after sent mids) (sym is) way
+pub hears_as : (rows : List Row) (s : Step) (starved : Bool) (r : Role) (m : Message) (after : Seen)
+    (sent : List (Peer × List ℕ)) (mids : Mids)
+    → role_of m.kind m.code ≡ r
+    → UnderWay rows s starved (message_effects r starved rows (row_moment rows s) s m) after sent
+    mids
+    → UnderWay rows s starved
+    (message_effects (role_of m.kind m.code) starved rows (row_moment rows s) s m) after sent
+    mids
+hears_as rows s starved r m after sent mids is way =
+    subst (λ (x : Role).
+    UnderWay rows s starved (message_effects x starved rows (row_moment rows s) s m) after
+    sent mids) (sym is) way
 
-pub held_as : (rows : List Row) (s : Step) (starved : Bool) (r : Role) (m : Message) → role_of m.kind m.code ≡ r
-    → list_any is_admitting (message_effects r starved rows (row_moment rows s) s m).notes ≡ false → list_any is_admitting (message_effects (role_of m.kind m.code) starved rows (row_moment rows s) s m).notes ≡ false
-held_as rows s starved r m is none = subst (λ (x : Role). list_any is_admitting (message_effects x starved rows (row_moment rows s) s m).notes ≡ false) (sym is) none
+pub held_as : (rows : List Row) (s : Step) (starved : Bool) (r : Role) (m : Message)
+    → role_of m.kind m.code ≡ r
+    → list_any is_admitting (message_effects r starved rows (row_moment rows s) s m).notes ≡ false
+    → list_any is_admitting
+    (message_effects (role_of m.kind m.code) starved rows (row_moment rows s) s m).notes
+    ≡ false
+held_as rows s starved r m is none =
+    subst (λ (x : Role).
+    list_any is_admitting (message_effects x starved rows (row_moment rows s) s m).notes
+    ≡ false) (sym is) none
 
 pub takes_as : (rows : List Row) (s : Step) (r : Role) (m : Message) → role_of m.kind m.code ≡ r
-    → message_takes (role_of m.kind m.code) rows (row_moment rows s) s m ≡ false → message_takes r rows (row_moment rows s) s m ≡ false
-takes_as rows s r m is silent = ap (λ (x : Role). message_takes x rows (row_moment rows s) s m) (sym is) ∙ silent
+    → message_takes (role_of m.kind m.code) rows (row_moment rows s) s m ≡ false
+    → message_takes r rows (row_moment rows s) s m ≡ false
+takes_as rows s r m is silent =
+    ap (λ (x : Role). message_takes x rows (row_moment rows s) s m) (sym is) ∙ silent
 
-pub other_as : (m : Message) → role_of m.kind m.code ≡ role.Request → is_look_message (role_of m.kind m.code) m ≡ false → is_look_request m ≡ false
+pub other_as : (m : Message)
+    → role_of m.kind m.code ≡ role.Request
+    → is_look_message (role_of m.kind m.code) m ≡ false
+    → is_look_request m ≡ false
 other_as m is other = ap (λ (x : Role). is_look_message x m) (sym is) ∙ other
 
 -- ---- what does not only look
 
-pub other_request : (m : Message) → refusal_of_request m ≡ None → is_look_request m ≡ false → only_looks m ≡ false
+pub other_request : (m : Message)
+    → refusal_of_request m ≡ None
+    → is_look_request m ≡ false
+    → only_looks m ≡ false
 unfolding is_look_request
 other_request m none other = sym (ap (λ (o : Option Reply). is_none o && only_looks m) none) ∙ other
 
-pub other_message : (datagram : List ℕ) (m : Message) → reading datagram ≡ Ok m → is_look_datagram datagram ≡ false → is_look_message (role_of m.kind m.code) m ≡ false
+pub other_message : (datagram : List ℕ) (m : Message)
+    → reading datagram ≡ Ok m
+    → is_look_datagram datagram ≡ false
+    → is_look_message (role_of m.kind m.code) m ≡ false
 unfolding is_look_datagram
-other_message datagram m is other = subst (λ (r : Result Message Unread). is_look_reading r ≡ false) is other
+other_message datagram m is other =
+    subst (λ (r : Result Message Unread). is_look_reading r ≡ false) is other
 
 -- ---- the row
 
 -- what the row of an admission notes
-pub admission_notes : (rows : List Row) (s : Step) (starved : Bool) (x : Admitted) (read : Result Message Unread) → s.kind ≡ step.Admit → reading s.datagram ≡ read
-    → IsHeldFor x (heard starved rows (row_moment rows s) s read).notes s (row_moment rows s) → IsHeldFor x (row rows s starved).notes s (row_moment rows s)
+pub admission_notes : (rows : List Row) (s : Step) (starved : Bool) (x : Admitted)
+    (read : Result Message Unread)
+    → s.kind ≡ step.Admit
+    → reading s.datagram ≡ read
+    → IsHeldFor x (heard starved rows (row_moment rows s) s read).notes s (row_moment rows s)
+    → IsHeldFor x (row rows s starved).notes s (row_moment rows s)
 admission_notes rows s starved x read kind is held =
-    subst (λ (ns : List Note). IsHeldFor x ns s (row_moment rows s)) (ap (λ (e : Effects). e.notes) (admission_hears rows s starved read kind is) ∙ sym (row-notes rows s starved)) held
+    subst (λ (ns : List Note). IsHeldFor x ns s (row_moment rows s))
+    (ap (λ (e : Effects). e.notes) (admission_hears rows s starved read kind is)
+    ∙ sym (row-notes rows s starved)) held
 
 -- the row of an admission is made
-pub admission_made : (rows : List Row) (s : Step) (starved : Bool) (now : Moment) (read : Result Message Unread) (before after : Seen) (out : List (Peer × List ℕ)) (mids_before mids : Mids) → s.kind ≡ step.Admit → reading s.datagram ≡ read
-    → IsCalled rows s now mids_before before → UnderWay rows s starved (heard starved rows (row_moment rows s) s read) after out mids → Made rows (row rows s starved) after out mids_before mids
+pub admission_made : (rows : List Row) (s : Step) (starved : Bool) (now : Moment)
+    (read : Result Message Unread) (before after : Seen) (out : List (Peer × List ℕ))
+    (mids_before mids : Mids)
+    → s.kind ≡ step.Admit
+    → reading s.datagram ≡ read
+    → IsCalled rows s now mids_before before
+    → UnderWay rows s starved (heard starved rows (row_moment rows s) s read) after out mids
+    → Made rows (row rows s starved) after out mids_before mids
 admission_made rows s starved now read before after out mids_before mids kind is call way =
-    ended rows s starved (heard starved rows (row_moment rows s) s read) after out mids_before mids way (admission_hears rows s starved read kind is) call.worker call.drawn
+    ended rows s starved (heard starved rows (row_moment rows s) s read) after out mids_before mids
+    way (admission_hears rows s starved read kind is) call.worker call.drawn
 
--- the write of a job stands open once the row that admitted it is made, with the Message ID of the request in its datagram: what a commit asks
+-- the write of a job stands open once the row that admitted it is made, with the Message ID of the
+-- request in its datagram: what a commit asks
 pub record OpenJob (rows : List Row) (r : Row) (job : Write) : Type 0 where
   pub message : Message
   pub read : reading job.datagram ≡ Ok message
   pub admission : IsOpen (length rows) job.peer message.mid job.admitted (events (r ∷ rows))
 
-pub held-OpenJob : (rows : List Row) (s : Step) (starved : Bool) (job : Write) → IsDeskJournal (row rows s starved ∷ rows) → IsHeldFor (admitted.Held job) (row rows s starved).notes s (row_moment rows s)
+pub held-OpenJob : (rows : List Row) (s : Step) (starved : Bool) (job : Write)
+    → IsDeskJournal (row rows s starved ∷ rows)
+    → IsHeldFor (admitted.Held job) (row rows s starved).notes s (row_moment rows s)
     → OpenJob rows (row rows s starved) job
 unfolding row
 held-OpenJob rows s starved job journal (mid, notes, is) =
@@ -249,5 +438,7 @@ held-OpenJob rows s starved job journal (mid, notes, is) =
     subst (λ (w : Write). OpenJob rows (row rows s starved) w) (sym is) (record {
       message = own.message;
       read = own.read;
-      admission = admitted-IsOpen rows (row rows s starved) s.peer own.message.mid (journal-IsOrderly (row rows s starved ∷ rows) journal) own.noted;
+      admission =
+          admitted-IsOpen rows (row rows s starved) s.peer own.message.mid
+          (journal-IsOrderly (row rows s starved ∷ rows) journal) own.noted;
     })

@@ -1,5 +1,34 @@
--- The first part of a tick: what it does with each notice in flight is what is due of it by the table.
-use Rattle.std.proofs.Common.{◌≡◌, ℕ, ◌+◌, ◌<◌, nat_lt, nat_le, Bool, true, false, not, cond, List, [], ◌∷◌, length, map, Option, Some, None, option_map, refl, sym, ap, ap₂, subst, ◌∙◌, arith}
+-- The first part of a tick: what it does with each notice in flight is what is due of it by the
+-- table.
+use Rattle.std.proofs.Common.{
+  ◌≡◌,
+  ℕ,
+  ◌+◌,
+  ◌<◌,
+  nat_lt,
+  nat_le,
+  Bool,
+  true,
+  false,
+  not,
+  cond,
+  List,
+  [],
+  ◌∷◌,
+  length,
+  map,
+  Option,
+  Some,
+  None,
+  option_map,
+  refl,
+  sym,
+  ap,
+  ap₂,
+  subst,
+  ◌∙◌,
+  arith,
+}
 use Rattle.std.specs.List.{AllByRecursion}
 use Rattle.std.proofs.lemmas.Bool.{false≢true}
 use Rattle.std.proofs.lemmas.Bool.Decides.{nat_tests}
@@ -8,14 +37,31 @@ use Rattle.event_model.specs.declared.notes.Note.TheVariants as note
 use Rattle.event_model.specs.declared.notes.Observer.{Observer}
 use Rattle.event_model.specs.Events.{Event}
 use Rattle.event_model.specs.Observers.{observers}
-use Rattle.event_model.specs.Flights.{Sent, Flight, max_again, deadline, flight, notice_sent, waiting_notice, retransmission}
+use Rattle.event_model.specs.Flights.{
+  Sent,
+  Flight,
+  max_again,
+  deadline,
+  flight,
+  notice_sent,
+  waiting_notice,
+  retransmission,
+}
 use Rattle.event_model.specs.Due.{Watching as Shown, watching, observers_standing}
 use Rattle.journal_model.specs.declared.steps.Step.{Step}
 use Rattle.journal_model.specs.declared.rows.Row.{Row}
 use Rattle.journal_model.specs.Effects.{Effects, nothing, joined, noting}
 use Rattle.journal_model.specs.Journal.{events, transitions}
 use Rattle.journal_model.specs.Rows.{row_with, row_moment}
-use Rattle.journal_model.specs.Ticks.{is_confirmable_with, octets_sent, each_of, notice_again, flight_again, repeating, notices_again}
+use Rattle.journal_model.specs.Ticks.{
+  is_confirmable_with,
+  octets_sent,
+  each_of,
+  notice_again,
+  flight_again,
+  repeating,
+  notices_again,
+}
 use Rattle.journal_model.specs.UnfinishedRow.{making}
 use Rattle.journal_model.proofs.UnfinishedRowLaws.{events-making_nothing}
 use Rattle.journal_model.proofs.observers.SentOctets.{waiting_notice-row}
@@ -31,15 +77,20 @@ use Rattle.rd_desk.specs.Watching.{Watching, IsConfirmable, WatchingStandsFor}
 -- ---- one notice
 
 -- a message that is confirmable has octets
-some_octets : (mid : ℕ) (octets : List ℕ) → is_confirmable_with mid octets ≡ true → 0 < length octets
+some_octets : (mid : ℕ) (octets : List ℕ)
+    → is_confirmable_with mid octets ≡ true
+    → 0 < length octets
 some_octets mid [] h = absurd (false≢true h)
 some_octets mid (a ∷ octets) h = omega arith
 
 -- what is due of a notice by the events that formed it and sent it again
 due_by : (moment : ℕ) (f : Flight) → kept_due moment (retransmission f.formed f.again)
-    ≡ cond (nat_le (deadline f.formed f.again) moment) (cond (nat_le max_again (length f.again)) again.GaveUp again.Send) again.Wait
+    ≡ cond (nat_le (deadline f.formed f.again) moment)
+    (cond (nat_le max_again (length f.again)) again.GaveUp again.Send) again.Wait
 unfolding kept_due deadline
-due_by moment f = by (retransmission f.formed f.again).sent (retransmission f.formed f.again).wait (length f.again)
+due_by moment f =
+    by (retransmission f.formed f.again).sent (retransmission f.formed f.again).wait
+    (length f.again)
   where
     late : (end : ℕ) → nat_lt moment end ≡ not (nat_le end moment)
     late end = grind (arith, nat_tests)
@@ -47,17 +98,28 @@ due_by moment f = by (retransmission f.formed f.again).sent (retransmission f.fo
     more : (n : ℕ) → nat_lt n 4 ≡ not (nat_le 4 n)
     more n = grind (arith, nat_tests)
 
-    turned : (a b : Bool) → cond (not a) again.Wait (cond (not b) again.Send again.GaveUp) ≡ cond a (cond b again.GaveUp again.Send) again.Wait
+    turned : (a b : Bool)
+        → cond (not a) again.Wait (cond (not b) again.Send again.GaveUp)
+        ≡ cond a (cond b again.GaveUp again.Send) again.Wait
     turned true true = refl
     turned true false = refl
     turned false b = refl
 
-    by : (sent wait n : ℕ) → cond (nat_lt moment (sent + wait)) again.Wait (cond (nat_lt n 4) again.Send again.GaveUp) ≡ cond (nat_le (sent + wait) moment) (cond (nat_le 4 n) again.GaveUp again.Send) again.Wait
+    by : (sent wait n : ℕ)
+        → cond (nat_lt moment (sent + wait)) again.Wait (cond (nat_lt n 4) again.Send again.GaveUp)
+        ≡ cond (nat_le (sent + wait) moment) (cond (nat_le 4 n) again.GaveUp again.Send)
+        again.Wait
     by sent wait n =
-        ap₂ (λ a b. cond a again.Wait (cond b again.Send again.GaveUp)) (late (sent + wait)) (more n) ∙ turned (nat_le (sent + wait) moment) (nat_le 4 n)
+        ap₂ (λ a b. cond a again.Wait (cond b again.Send again.GaveUp)) (late (sent + wait))
+        (more n)
+        ∙ turned (nat_le (sent + wait) moment) (nat_le 4 n)
 
 -- what is done of it
-again_one : (rows : List Row) (moment : ℕ) (o : Observer) (x : Watcher) → o.peer ≡ x.peer → o.token ≡ x.token → waiting_notice (octets_sent rows) (events rows) o ≡ x.flight → IsConfirmable x
+again_one : (rows : List Row) (moment : ℕ) (o : Observer) (x : Watcher)
+    → o.peer ≡ x.peer
+    → o.token ≡ x.token
+    → waiting_notice (octets_sent rows) (events rows) o ≡ x.flight
+    → IsConfirmable x
     → flight_again rows moment o (flight o (events rows)) ≡ again_done moment x
 unfolding waiting_notice
 again_one rows moment o x peer token waits fits = by (flight o (events rows)) waits
@@ -65,34 +127,62 @@ again_one rows moment o x peer token waits fits = by (flight o (events rows)) wa
     Goal : Option Flight → Option Sent → Type 0
     Goal f sent = flight_again rows moment o f ≡ again_as (due_of moment sent) x sent
 
-    sends : (f : Flight) (sent : Sent) → notice_sent (octets_sent rows) o.peer f ≡ sent → is_confirmable_with sent.mid sent.octets ≡ true → repeating rows f.formed.place o.peer f.mid (note.Again o.peer f.mid) ≡ sending_again x sent
+    sends : (f : Flight) (sent : Sent)
+        → notice_sent (octets_sent rows) o.peer f ≡ sent
+        → is_confirmable_with sent.mid sent.octets ≡ true
+        → repeating rows f.formed.place o.peer f.mid (note.Again o.peer f.mid)
+        ≡ sending_again x sent
     sends f sent is confirmable =
-        let some : 0 < length (octets_sent rows f.formed.place o.peer f.mid) = some_octets f.mid (octets_sent rows f.formed.place o.peer f.mid) (subst (λ (y : Sent). is_confirmable_with y.mid y.octets ≡ true) (sym is) confirmable) in
+        let some : 0 < length (octets_sent rows f.formed.place o.peer f.mid) =
+        some_octets f.mid (octets_sent rows f.formed.place o.peer f.mid)
+        (subst (λ (y : Sent). is_confirmable_with y.mid y.octets ≡ true) (sym is)
+        confirmable) in
         repeating-octets rows f.formed.place o.peer f.mid (note.Again o.peer f.mid) some
-        ∙ (ap (λ (p : Peer). let e : Effects = record { sent = (p, octets_sent rows f.formed.place o.peer f.mid) ∷ []; notes = note.Again p f.mid ∷ []; drew = 0 } in e) peer
+        ∙ (ap (λ (p : Peer). let e : Effects = record {
+          sent = (p, octets_sent rows f.formed.place o.peer f.mid) ∷ [];
+          notes = note.Again
+              p f.mid ∷ [];
+          drew = 0;
+        } in e) peer
         ∙ ap (λ (y : Sent). sending_again x y) is)
 
-    due : (a b : Bool) (f : Flight) (sent : Sent) → notice_sent (octets_sent rows) o.peer f ≡ sent → is_confirmable_with sent.mid sent.octets ≡ true
-        → notice_again a b rows o f ≡ again_as (cond a (cond b again.GaveUp again.Send) again.Wait) x (Some sent)
+    due : (a b : Bool) (f : Flight) (sent : Sent)
+        → notice_sent (octets_sent rows) o.peer f ≡ sent
+        → is_confirmable_with sent.mid sent.octets ≡ true
+        → notice_again a b rows o f
+        ≡ again_as (cond a (cond b again.GaveUp again.Send) again.Wait) x (Some sent)
     due false b f sent is confirmable = refl
-    due true true f sent is confirmable = ap₂ (λ (p : Peer) (t : List ℕ). noting (note.Unwatched p t ∷ [])) peer token
+    due true true f sent is confirmable =
+        ap₂ (λ (p : Peer) (t : List ℕ). noting (note.Unwatched p t ∷ [])) peer token
     due true false f sent is confirmable = sends f sent is confirmable
 
-    flies : (f : Flight) (sent : Sent) → x.flight ≡ Some sent → notice_sent (octets_sent rows) o.peer f ≡ sent → Goal (Some f) (Some sent)
+    flies : (f : Flight) (sent : Sent)
+        → x.flight ≡ Some sent
+        → notice_sent (octets_sent rows) o.peer f ≡ sent
+        → Goal (Some f) (Some sent)
     flies f sent kept is =
-        due (nat_le (deadline f.formed f.again) moment) (nat_le max_again (length f.again)) f sent is (fits sent kept)
-        ∙ ap (λ (d : Again). again_as d x (Some sent)) (sym (due_by moment f) ∙ ap (λ (y : Sent). kept_due moment y.resend) is)
+        due (nat_le (deadline f.formed f.again) moment) (nat_le max_again (length f.again)) f sent
+        is (fits sent kept)
+        ∙ ap (λ (d : Again). again_as d x (Some sent))
+        (sym (due_by moment f) ∙ ap (λ (y : Sent). kept_due moment y.resend) is)
 
-    by : (f : Option Flight) → option_map (notice_sent (octets_sent rows) o.peer) f ≡ x.flight → Goal f x.flight
+    by : (f : Option Flight)
+        → option_map (notice_sent (octets_sent rows) o.peer) f ≡ x.flight
+        → Goal f x.flight
     by None is = subst (Goal None) is refl
-    by (Some f) is = subst (Goal (Some f)) is (flies f (notice_sent (octets_sent rows) o.peer f) (sym is) refl)
+    by (Some f) is =
+        subst (Goal (Some f)) is (flies f (notice_sent (octets_sent rows) o.peer f) (sym is) refl)
 
 -- ---- all notices
 
 -- The first part of a tick, by the table that stands for the journal when its row begins.
-pub notices_again-StandsFor : (rows : List Row) (s : Step) (starved : Bool) (moment : ℕ) (w : Watching) → WatchingStandsFor (making rows s starved nothing) w → notices_again rows moment ≡ each_of (again_done moment) w.observers
+pub notices_again-StandsFor : (rows : List Row) (s : Step) (starved : Bool) (moment : ℕ)
+    (w : Watching)
+    → WatchingStandsFor (making rows s starved nothing) w
+    → notices_again rows moment ≡ each_of (again_done moment) w.observers
 unfolding notices_again observers_standing
-notices_again-StandsFor rows s starved moment w h = each (observers (events rows)) w.observers standing h.confirmable
+notices_again-StandsFor rows s starved moment w h =
+    each (observers (events rows)) w.observers standing h.confirmable
   where
     Made : List Row
     Made = making rows s starved nothing
@@ -103,20 +193,39 @@ notices_again-StandsFor rows s starved moment w h = each (observers (events rows
     same : Past ≡ events rows
     same = events-making_nothing rows s starved
 
-    standing : map (watching (octets_sent Made) (events rows) (transitions Made)) (observers (events rows)) ≡ map (shown h.queries) w.observers
-    standing = subst (λ past. map (watching (octets_sent Made) past (transitions Made)) (observers past) ≡ map (shown h.queries) w.observers) same h.observers.standing
+    standing :
+        map (watching (octets_sent Made) (events rows) (transitions Made)) (observers (events rows))
+        ≡ map (shown h.queries) w.observers
+    standing =
+        subst (λ past.
+        map (watching (octets_sent Made) past (transitions Made)) (observers past)
+        ≡ map (shown h.queries) w.observers) same h.observers.standing
 
-    one : (o : Observer) (x : Watcher) → watching (octets_sent Made) (events rows) (transitions Made) o ≡ shown h.queries x → IsConfirmable x → flight_again rows moment o (flight o (events rows)) ≡ again_done moment x
+    one : (o : Observer) (x : Watcher)
+        → watching (octets_sent Made) (events rows) (transitions Made) o ≡ shown h.queries x
+        → IsConfirmable x
+        → flight_again rows moment o (flight o (events rows)) ≡ again_done moment x
     one o x here fits =
-        again_one rows moment o x (ap (λ (y : Shown). y.observer.peer) here) (ap (λ (y : Shown). y.observer.token) here)
-        (sym (waiting_notice-row rows (row_with s (row_moment rows s) starved nothing) o) ∙ ap (λ (y : Shown). y.waits) here) fits
+        again_one rows moment o x (ap (λ (y : Shown). y.observer.peer) here)
+        (ap (λ (y : Shown). y.observer.token) here)
+        (sym (waiting_notice-row rows (row_with s (row_moment rows s) starved nothing) o)
+        ∙ ap (λ (y : Shown). y.waits) here) fits
 
-    each : (os : List Observer) (xs : List Watcher) → map (watching (octets_sent Made) (events rows) (transitions Made)) os ≡ map (shown h.queries) xs → AllByRecursion IsConfirmable xs
-        → each_of (λ o. flight_again rows moment o (flight o (events rows))) os ≡ each_of (again_done moment) xs
+    each : (os : List Observer) (xs : List Watcher)
+        → map (watching (octets_sent Made) (events rows) (transitions Made)) os
+        ≡ map (shown h.queries) xs
+        → AllByRecursion IsConfirmable xs
+        → each_of (λ o. flight_again rows moment o (flight o (events rows))) os
+        ≡ each_of (again_done moment) xs
     each [] [] e fits = refl
     each [] (x ∷ xs) e fits = absurd cc
     each (o ∷ os) [] e fits = absurd cc
     each (o ∷ os) (x ∷ xs) e fits =
-        let here : watching (octets_sent Made) (events rows) (transitions Made) o ≡ shown h.queries x = cc in
-        let rest : map (watching (octets_sent Made) (events rows) (transitions Made)) os ≡ map (shown h.queries) xs = cc in
+        let here :
+        watching (octets_sent Made) (events rows) (transitions Made) o ≡ shown h.queries x =
+        cc in
+        let rest :
+        map (watching (octets_sent Made) (events rows) (transitions Made)) os
+        ≡ map (shown h.queries) xs =
+        cc in
         ap₂ (λ (a b : Effects). joined a b) (one o x here fits.0) (each os xs rest fits.1)

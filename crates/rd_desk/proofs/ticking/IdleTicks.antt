@@ -1,5 +1,21 @@
--- A tick in which, after the notices that are sent again, nobody is due and free: no notice is formed, and no memory is taken.
-use Rattle.std.proofs.Common.{◌≡◌, ℕ, nat_le, Bool, false, List, [], fold, Option, is_some, sym, ap, subst, ◌∙◌}
+-- A tick in which, after the notices that are sent again, nobody is due and free: no notice is
+-- formed, and no memory is taken.
+use Rattle.std.proofs.Common.{
+  ◌≡◌,
+  ℕ,
+  nat_le,
+  Bool,
+  false,
+  List,
+  [],
+  fold,
+  Option,
+  is_some,
+  sym,
+  ap,
+  subst,
+  ◌∙◌,
+}
 use Rattle.rd_base.specs.declared.peers.Peer.{Peer}
 use Rattle.event_model.specs.Events.{Event}
 use Rattle.event_model.specs.Observers.{observers}
@@ -24,33 +40,62 @@ use Rattle.rd_desk.proofs.ticking.NoticeWalk.{events-with, notices-end, next-unl
 use Rattle.rd_desk.proofs.ticking.WholeTick.{again_draws}
 
 -- what is sent again enters nothing
-again_silent : (rows : List Row) (s : Step) → entries_in (notices_again rows (row_moment rows s)).notes ≡ []
-again_silent rows s = tick-entries_in (notices_again rows (row_moment rows s)).notes (again_tick (notices_again rows (row_moment rows s)).notes (notices_again-notes rows (row_moment rows s)))
+again_silent : (rows : List Row) (s : Step)
+    → entries_in (notices_again rows (row_moment rows s)).notes ≡ []
+again_silent rows s =
+    tick-entries_in (notices_again rows (row_moment rows s)).notes
+    (again_tick (notices_again rows (row_moment rows s)).notes
+    (notices_again-notes rows (row_moment rows s)))
 
 -- and forms no notice
-again_few : (rows : List Row) (s : Step) → nat_le max_notices (notices_again rows (row_moment rows s)).drew ≡ false
+again_few : (rows : List Row) (s : Step)
+    → nat_le max_notices (notices_again rows (row_moment rows s)).drew ≡ false
 again_few rows s = ap (nat_le max_notices) (again_draws rows (row_moment rows s))
 
 -- who comes next after what is sent again, as the observers of a desk tell it
 abbrev Tells : Option ℕ → Watching → Type 0
-Tells next w = (past : List Row) → WatchingStandsFor past w → next ≡ next_noticed 0 (events past) (transitions past)
+Tells next w =
+    (past : List Row)
+    → WatchingStandsFor past w
+    → next ≡ next_noticed 0 (events past) (transitions past)
 
 -- Where nobody comes next, no notice is formed.
-pub way_idle : (rows : List Row) (s : Step) (b d : Seen) (out : List (Peer × List ℕ)) (mids : Mids) (next : Option ℕ) → b ≡ d → Tells next b.watching → is_some next ≡ false → UnderWay rows s false (notices_again rows (row_moment rows s)) d out mids
-    → UnderWay rows s false (notices (ticking rows (row_moment rows s) s) (notices_again rows (row_moment rows s))) d out mids
+pub way_idle : (rows : List Row) (s : Step) (b d : Seen) (out : List (Peer × List ℕ)) (mids : Mids)
+    (next : Option ℕ)
+    → b ≡ d
+    → Tells next b.watching
+    → is_some next ≡ false
+    → UnderWay rows s false (notices_again rows (row_moment rows s)) d out mids
+    → UnderWay rows s false
+    (notices (ticking rows (row_moment rows s) s) (notices_again rows (row_moment rows s))) d
+    out mids
 unfolding notices
 way_idle rows s b d out mids next seen tells none way =
     let first = notices_again rows (row_moment rows s) in
     let t = ticking rows (row_moment rows s) s in
-    let watching = subst (λ (x : Seen). WatchingStandsFor (making rows s false first) x.watching) (sym seen) way.stands.watching in
+    let watching =
+    subst (λ (x : Seen). WatchingStandsFor (making rows s false first) x.watching) (sym seen)
+    way.stands.watching in
     let last = sym (tells (making rows s false first) watching) ∙ is_none next (sym none) in
-    let all : notices t first ≡ first = ap (λ (es : List Event). fold (notice_next t) first (observers es)) (events-with rows s false first) ∙ notices-end rows s false first 0 way.no_look (again_silent rows s) (again_few rows s) last in
+    let all : notices t first ≡ first =
+    ap (λ (es : List Event). fold (notice_next t) first (observers es))
+    (events-with rows s false first)
+    ∙ notices-end rows s false first 0 way.no_look (again_silent rows s) (again_few rows s)
+    last in
     subst (λ (e : Effects). UnderWay rows s false e d out mids) (sym all) way
 
 -- Where nobody is looked at, nobody comes next.
-pub none_comes : (rows : List Row) (s : Step) (starved : Bool) (b d : Seen) (out : List (Peer × List ℕ)) (mids : Mids) (next : Option ℕ) → b ≡ d → Tells next b.watching → UnderWay rows s starved (notices_again rows (row_moment rows s)) d out mids
+pub none_comes : (rows : List Row) (s : Step) (starved : Bool) (b d : Seen)
+    (out : List (Peer × List ℕ)) (mids : Mids) (next : Option ℕ)
+    → b ≡ d
+    → Tells next b.watching
+    → UnderWay rows s starved (notices_again rows (row_moment rows s)) d out mids
     → tick_takes_memory rows (row_moment rows s) s ≡ false → is_some next ≡ false
 none_comes rows s starved b d out mids next seen tells way silent =
     let first = notices_again rows (row_moment rows s) in
-    let watching = subst (λ (x : Seen). WatchingStandsFor (making rows s starved first) x.watching) (sym seen) way.stands.watching in
-    ap is_some (tells (making rows s starved first) watching ∙ next-unlooked rows s starved first way.no_look (again_silent rows s) (again_few rows s) silent)
+    let watching =
+    subst (λ (x : Seen). WatchingStandsFor (making rows s starved first) x.watching) (sym seen)
+    way.stands.watching in
+    ap is_some (tells (making rows s starved first) watching
+    ∙ next-unlooked rows s starved first way.no_look (again_silent rows s) (again_few rows s)
+    silent)

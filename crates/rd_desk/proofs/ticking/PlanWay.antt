@@ -1,5 +1,23 @@
 -- While a plan is made: the step is under way as before, and the tag is that of the tick.
-use Rattle.std.proofs.Common.{◌≡◌, ℕ, Bool, true, List, ◌++◌, Result, Ok, Err, OnOk, is_ok, sym, ap, ap₂, subst, ◌∙◌, append-nil}
+use Rattle.std.proofs.Common.{
+  ◌≡◌,
+  ℕ,
+  Bool,
+  true,
+  List,
+  ◌++◌,
+  Result,
+  Ok,
+  Err,
+  OnOk,
+  is_ok,
+  sym,
+  ap,
+  ap₂,
+  subst,
+  ◌∙◌,
+  append-nil,
+}
 use Rattle.std.proofs.lemmas.Bool.{false≢true}
 use Rattle.rd_base.specs.declared.peers.Peer.{Peer}
 use Rattle.history_model.specs.declared.entries.Entry.{Entry}
@@ -20,15 +38,23 @@ use Rattle.rd_desk.specs.Desks.{Seen, StandsFor}
 use Rattle.rd_desk.specs.UnderWay.{UnderWay}
 
 -- nothing is entered where notices are sent again
-pub entries-again : (rows : List Row) (s : Step) (starved : Bool) → entries (making rows s starved (notices_again rows (row_moment rows s))) ≡ entries rows
+pub entries-again : (rows : List Row) (s : Step) (starved : Bool)
+    → entries (making rows s starved (notices_again rows (row_moment rows s))) ≡ entries rows
 unfolding entries
 entries-again rows s starved =
-    ap (λ (es : List Entry). entries rows ++ es) (tick-entries_in (notices_again rows (row_moment rows s)).notes (again_tick (notices_again rows (row_moment rows s)).notes (notices_again-notes rows (row_moment rows s)))) ∙ append-nil (entries rows)
+    ap (λ (es : List Entry). entries rows ++ es)
+    (tick-entries_in (notices_again rows (row_moment rows s)).notes
+    (again_tick (notices_again rows (row_moment rows s)).notes
+    (notices_again-notes rows (row_moment rows s))))
+    ∙ append-nil (entries rows)
 
 -- ---- while a plan is made
 
 -- the step is under way as before, where the desk stands for the same
-pub way_kept : (rows : List Row) (s : Step) (starved : Bool) (done : Effects) (d after : Seen) (out : List (Peer × List ℕ)) (mids : Mids) → ((past : List Row) → StandsFor past d → StandsFor past after) → UnderWay rows s starved done d out mids
+pub way_kept : (rows : List Row) (s : Step) (starved : Bool) (done : Effects) (d after : Seen)
+    (out : List (Peer × List ℕ)) (mids : Mids)
+    → ((past : List Row) → StandsFor past d → StandsFor past after)
+    → UnderWay rows s starved done d out mids
     → UnderWay rows s starved done after out mids
 way_kept rows s starved done d after out mids stands way = record {
   journal = way.journal;
@@ -54,15 +80,34 @@ when_ok (Err e) is h = absurd (false≢true is)
 
 -- what the desk tells of the tag of its version
 abbrev IsTagged : List ℕ → Version → ℕ → Type 0
-IsTagged current v moment = (n : ℕ) (history : List Entry) → VersionStandsFor n history v → current ≡ tag_from n history moment
+IsTagged current v moment =
+    (n : ℕ) (history : List Entry)
+    → VersionStandsFor n history v
+    → current ≡ tag_from n history moment
 
 -- its moment is that of the tick
-pub moment_again : (rows : List Row) (s : Step) (starved : Bool) (b d : Seen) (out : List (Peer × List ℕ)) (mids : Mids) → b ≡ d → UnderWay rows s starved (notices_again rows (row_moment rows s)) d out mids → b.moment ≡ row_moment rows s
-moment_again rows s starved b d out mids seen way = ap (λ (y : Seen). y.moment) seen ∙ (way.stands.moment ∙ now-making rows s starved (notices_again rows (row_moment rows s)) way.no_look)
+pub moment_again : (rows : List Row) (s : Step) (starved : Bool) (b d : Seen)
+    (out : List (Peer × List ℕ)) (mids : Mids)
+    → b ≡ d
+    → UnderWay rows s starved (notices_again rows (row_moment rows s)) d out mids
+    → b.moment ≡ row_moment rows s
+moment_again rows s starved b d out mids seen way =
+    ap (λ (y : Seen). y.moment) seen
+    ∙ (way.stands.moment
+    ∙ now-making rows s starved (notices_again rows (row_moment rows s)) way.no_look)
 
 -- it is the tag of the tick
-pub tag_again : (rows : List Row) (s : Step) (starved : Bool) (b d : Seen) (out : List (Peer × List ℕ)) (mids : Mids) (current : List ℕ) → b ≡ d → IsTagged current b.version b.moment → UnderWay rows s starved (notices_again rows (row_moment rows s)) d out mids
+pub tag_again : (rows : List Row) (s : Step) (starved : Bool) (b d : Seen)
+    (out : List (Peer × List ℕ)) (mids : Mids) (current : List ℕ)
+    → b ≡ d
+    → IsTagged current b.version b.moment
+    → UnderWay rows s starved (notices_again rows (row_moment rows s)) d out mids
     → current ≡ tag (entries rows) (row_moment rows s)
 tag_again rows s starved b d out mids current seen says way =
-    says 0 (entries (making rows s starved (notices_again rows (row_moment rows s)))) (subst (λ (y : Seen). VersionStandsFor 0 (entries (making rows s starved (notices_again rows (row_moment rows s)))) y.version) (sym seen) way.stands.directory.history)
-    ∙ ap₂ (λ (es : List Entry) (m : ℕ). tag es m) (entries-again rows s starved) (moment_again rows s starved b d out mids seen way)
+    says 0 (entries (making rows s starved (notices_again rows (row_moment rows s))))
+    (subst (λ (y : Seen).
+    VersionStandsFor 0
+    (entries (making rows s starved (notices_again rows (row_moment rows s))))
+    y.version) (sym seen) way.stands.directory.history)
+    ∙ ap₂ (λ (es : List Entry) (m : ℕ). tag es m) (entries-again rows s starved)
+    (moment_again rows s starved b d out mids seen way)

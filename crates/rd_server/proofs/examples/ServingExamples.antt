@@ -1,5 +1,20 @@
 -- Serving: calls that are wrong after a receive, sums, lines, and words, computed.
-use Rattle.std.proofs.Common.{◌≡◌, ℕ, List, [], ◌∷◌, length, Some, None, Ok, Err, codes, refl, sym, ap}
+use Rattle.std.proofs.Common.{
+  ◌≡◌,
+  ℕ,
+  List,
+  [],
+  ◌∷◌,
+  length,
+  Some,
+  None,
+  Ok,
+  Err,
+  codes,
+  refl,
+  sym,
+  ap,
+}
 use Rattle.std.proofs.Common.{◌∙◌, arith}
 use Rattle.std.specs.Prelude.{⊤}
 use Rattle.std.specs.Fmt.{digits}

@@ -15,20 +15,27 @@ unfolding on_literals
 nothing_said = refl
 
 -- both spellings
-joined : words_said (codes "--workers=16" ∷ []) ≡ Some (record { workers = Some 16; devices = None })
+joined :
+    words_said (codes "--workers=16" ∷ []) ≡ Some (record { workers = Some 16; devices = None })
 unfolding on_literals
 joined = refl
 
-as_two : words_said (codes "--make" ∷ codes "4000" ∷ []) ≡ Some (record { workers = None; devices = Some 4_000 })
+as_two :
+    words_said (codes "--make" ∷ codes "4000" ∷ [])
+    ≡ Some (record { workers = None; devices = Some 4_000 })
 unfolding on_literals
 as_two = refl
 
 -- both orders
-workers_first : words_said (codes "--workers" ∷ codes "2" ∷ codes "--make=10" ∷ []) ≡ Some (record { workers = Some 2; devices = Some 10 })
+workers_first :
+    words_said (codes "--workers" ∷ codes "2" ∷ codes "--make=10" ∷ [])
+    ≡ Some (record { workers = Some 2; devices = Some 10 })
 unfolding on_literals
 workers_first = refl
 
-make_first : words_said (codes "--make=10" ∷ codes "--workers=2" ∷ []) ≡ Some (record { workers = Some 2; devices = Some 10 })
+make_first :
+    words_said (codes "--make=10" ∷ codes "--workers=2" ∷ [])
+    ≡ Some (record { workers = Some 2; devices = Some 10 })
 unfolding on_literals
 make_first = refl
 

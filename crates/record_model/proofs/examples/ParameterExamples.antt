@@ -43,12 +43,15 @@ unfolding record_on_literals
 lifetime_zeros = refl
 
 -- U+0085 in two octets is a control character
-control_85 : fault_of reading.Register ((codes "ep=" ++ 0xC2 ∷ 0x85 ∷ []) ∷ []) ≡ Some (0, why.Control)
+control_85 :
+    fault_of reading.Register ((codes "ep=" ++ 0xC2 ∷ 0x85 ∷ []) ∷ []) ≡ Some (0, why.Control)
 unfolding record_on_literals
 control_85 = refl
 
 -- and it comes before the length
-control_before_length : fault_of reading.Register ((codes "ep=" ++ (replicate 64 97 ++ 1 ∷ [])) ∷ []) ≡ Some (0, why.Control)
+control_before_length :
+    fault_of reading.Register ((codes "ep=" ++ (replicate 64 97 ++ 1 ∷ [])) ∷ [])
+    ≡ Some (0, why.Control)
 unfolding record_on_literals
 control_before_length = refl
 
@@ -58,22 +61,29 @@ unfolding record_on_literals
 utf8_first = refl
 
 -- a control character comes before a name that does not belong
-control_before_place : fault_of reading.Update ((codes "ep=" ++ 1 ∷ []) ∷ []) ≡ Some (0, why.Control)
+control_before_place :
+    fault_of reading.Update ((codes "ep=" ++ 1 ∷ []) ∷ []) ≡ Some (0, why.Control)
 unfolding record_on_literals
 control_before_place = refl
 
 -- a link-local base
-link_local : fault_of reading.Register (codes "base=coap://[fe80::1]" ∷ codes "ep=a" ∷ []) ≡ Some (0, why.LinkLocal)
+link_local :
+    fault_of reading.Register (codes "base=coap://[fe80::1]" ∷ codes "ep=a" ∷ [])
+    ≡ Some (0, why.LinkLocal)
 unfolding record_on_literals
 link_local = refl
 
 -- one group is enough
-link_local_alone : fault_of reading.Register (codes "base=coap://[fe80]" ∷ codes "ep=a" ∷ []) ≡ Some (0, why.LinkLocal)
+link_local_alone :
+    fault_of reading.Register (codes "base=coap://[fe80]" ∷ codes "ep=a" ∷ [])
+    ≡ Some (0, why.LinkLocal)
 unfolding record_on_literals
 link_local_alone = refl
 
 -- in either case
-link_local_upper : fault_of reading.Register (codes "base=coap://[FEBf::1]:5" ∷ codes "ep=a" ∷ []) ≡ Some (0, why.LinkLocal)
+link_local_upper :
+    fault_of reading.Register (codes "base=coap://[FEBf::1]:5" ∷ codes "ep=a" ∷ [])
+    ≡ Some (0, why.LinkLocal)
 unfolding record_on_literals
 link_local_upper = refl
 
@@ -83,12 +93,14 @@ unfolding record_on_literals
 link_local_dot = refl
 
 -- nor inside the group
-link_local_dot_inside : fault_of reading.Register (codes "base=coap://[fe8.::1]" ∷ codes "ep=a" ∷ []) ≡ None
+link_local_dot_inside :
+    fault_of reading.Register (codes "base=coap://[fe8.::1]" ∷ codes "ep=a" ∷ []) ≡ None
 unfolding record_on_literals
 link_local_dot_inside = refl
 
 -- three digits are not four
-link_local_three : fault_of reading.Register (codes "base=coap://[fe8::1]" ∷ codes "ep=a" ∷ []) ≡ None
+link_local_three :
+    fault_of reading.Register (codes "base=coap://[fe8::1]" ∷ codes "ep=a" ∷ []) ≡ None
 unfolding record_on_literals
 link_local_three = refl
 
@@ -98,17 +110,21 @@ unfolding record_on_literals
 site_local = refl
 
 -- a base with a query comes first
-base_before_link_local : fault_of reading.Register (codes "base=coap://[fe80::1]/?q" ∷ codes "ep=a" ∷ []) ≡ Some (0, why.Base)
+base_before_link_local :
+    fault_of reading.Register (codes "base=coap://[fe80::1]/?q" ∷ codes "ep=a" ∷ [])
+    ≡ Some (0, why.Base)
 unfolding record_on_literals
 base_before_link_local = refl
 
 -- a base has a host
-base_without_host : fault_of reading.Register (codes "base=coap:///x" ∷ codes "ep=a" ∷ []) ≡ Some (0, why.Base)
+base_without_host :
+    fault_of reading.Register (codes "base=coap:///x" ∷ codes "ep=a" ∷ []) ≡ Some (0, why.Base)
 unfolding record_on_literals
 base_without_host = refl
 
 -- and a scheme
-base_without_scheme : fault_of reading.Register (codes "base=//h/x" ∷ codes "ep=a" ∷ []) ≡ Some (0, why.Base)
+base_without_scheme :
+    fault_of reading.Register (codes "base=//h/x" ∷ codes "ep=a" ∷ []) ≡ Some (0, why.Base)
 unfolding record_on_literals
 base_without_scheme = refl
 
@@ -148,7 +164,9 @@ unfolding record_on_literals
 ep_63 = refl
 
 -- a parameter stands once, and this comes before the rules of its value
-repeated : fault_of reading.Register (codes "ep=a" ∷ codes "lt=5" ∷ codes "lt=0" ∷ []) ≡ Some (2, why.Repeated)
+repeated :
+    fault_of reading.Register (codes "ep=a" ∷ codes "lt=5" ∷ codes "lt=0" ∷ [])
+    ≡ Some (2, why.Repeated)
 unfolding record_on_literals
 repeated = refl
 
@@ -173,17 +191,49 @@ unfolding record_on_literals
 extra_space = refl
 
 -- the parameters of a registration
-registration : registration_parameters reading.Register (codes "et=a=b" ∷ codes "ep=n" ∷ codes "obs" ∷ codes "lt=060" ∷ codes "d=s" ∷ codes "base=coap://h" ∷ []) ≡ Ok (record { name = record { ep = codes "n"; sector = Some (codes "s") }; lt = 60; base = Some (codes "coap://h"); attrs = record { name = codes "et"; value = codes "a=b" } ∷ record { name = codes "obs"; value = [] } ∷ [] })
+registration :
+    registration_parameters reading.Register (codes "et=a=b"
+    ∷ codes "ep=n"
+    ∷ codes "obs"
+    ∷ codes "lt=060"
+    ∷ codes "d=s"
+    ∷ codes "base=coap://h"
+    ∷ [])
+    ≡ Ok (record {
+      name = record { ep = codes "n"; sector = Some (codes "s") };
+      lt = 60;
+      base = Some
+          (codes "coap://h");
+      attrs = record { name = codes "et"; value = codes "a=b" }
+          ∷ record { name = codes "obs"; value = [] }
+          ∷ [];
+    })
 unfolding record_on_literals
 registration = refl
 
 -- the lifetime where none is given
-registration_default : registration_parameters reading.Simple (codes "ep=n" ∷ []) ≡ Ok (record { name = record { ep = codes "n"; sector = None }; lt = 90_000; base = None; attrs = [] })
+registration_default :
+    registration_parameters reading.Simple (codes "ep=n" ∷ [])
+    ≡ Ok (record {
+      name = record { ep = codes "n"; sector = None };
+      lt = 90_000;
+      base = None;
+      attrs =
+          [];
+    })
 unfolding record_on_literals
 registration_default = refl
 
 -- the parameters of an update
-update : update_parameters (codes "floor=4" ∷ codes "lt=60" ∷ []) ≡ Ok (record { lt = Some 60; base = None; attrs = record { name = codes "floor"; value = codes "4" } ∷ [] })
+update :
+    update_parameters (codes "floor=4" ∷ codes "lt=60" ∷ [])
+    ≡ Ok (record {
+      lt = Some 60;
+      base = None;
+      attrs = record
+          { name = codes "floor"; value = codes "4" }
+          ∷ [];
+    })
 unfolding record_on_literals
 update = refl
 
@@ -198,7 +248,8 @@ unfolding record_on_literals
 page_number = refl
 
 -- and stands once
-count_repeated : fault_of reading.Lookup (codes "count=1" ∷ codes "count=x" ∷ []) ≡ Some (1, why.Repeated)
+count_repeated :
+    fault_of reading.Lookup (codes "count=1" ∷ codes "count=x" ∷ []) ≡ Some (1, why.Repeated)
 unfolding record_on_literals
 count_repeated = refl
 
@@ -218,11 +269,24 @@ unfolding record_on_literals
 criterion_control = refl
 
 -- zeros may lead a count
-count_zeros : lookup_query kind.Resource (codes "count=01" ∷ []) ≡ Ok (record { kind = kind.Resource; criteria = []; page = None; count = Some 1 })
+count_zeros :
+    lookup_query kind.Resource (codes "count=01" ∷ [])
+    ≡ Ok (record { kind = kind.Resource; criteria = []; page = None; count = Some 1 })
 unfolding record_on_literals
 count_zeros = refl
 
 -- criteria in their order
-criteria : lookup_query kind.Endpoint (codes "rt=a=b*" ∷ codes "page=2" ∷ codes "obs" ∷ codes "count=1" ∷ []) ≡ Ok (record { kind = kind.Endpoint; criteria = record { name = codes "rt"; pattern = codes "a=b*" } ∷ record { name = codes "obs"; pattern = [] } ∷ []; page = Some 2; count = Some 1 })
+criteria :
+    lookup_query kind.Endpoint
+    (codes "rt=a=b*" ∷ codes "page=2" ∷ codes "obs" ∷ codes "count=1" ∷ [])
+    ≡ Ok (record {
+      kind = kind.Endpoint;
+      criteria = record
+          { name = codes "rt"; pattern = codes "a=b*" }
+          ∷ record { name = codes "obs"; pattern = [] }
+          ∷ [];
+      page = Some 2;
+      count = Some 1;
+    })
 unfolding record_on_literals
 criteria = refl

@@ -31,7 +31,9 @@ at ms = record { 0 = ms }
 
 -- what the device registers with these parameters and this body
 abbrev registered_by : List (List ℕ) → List ℕ → Record
-registered_by queries body = registered 1 (at 1000) device (registration_values queries) (unwrap_or (linked_references body) [])
+registered_by queries body =
+    registered 1 (at 1000) device (registration_values queries)
+    (unwrap_or (linked_references body) [])
 
 -- the listing that a record gives to a query
 abbrev listed : Kind → List (List ℕ) → Record → List ℕ
@@ -39,7 +41,9 @@ listed k queries r = shown (lookup_values k queries) (part (lookup_values k quer
 
 -- a registration of two links
 abbrev two_links : Record
-two_links = registered_by (codes "ep=node1" ∷ codes "lt=600" ∷ []) (codes "</temp>;rt=\"temperature\";ct=0,</light>;rt=\"light-lux\";if=\"sensor\"")
+two_links =
+    registered_by (codes "ep=node1" ∷ codes "lt=600" ∷ [])
+    (codes "</temp>;rt=\"temperature\";ct=0,</light>;rt=\"light-lux\";if=\"sensor\"")
 
 -- the line of its second link
 abbrev lux : List ℕ
@@ -55,7 +59,9 @@ unfolding record_on_literals
 weighed = refl
 
 -- its endpoint line
-endpoint_of_two : endpoint_line two_links ≡ codes "</rd/1>;base=\"coap://192.0.2.10\";ep=\"node1\";rt=\"core.rd-ep\""
+endpoint_of_two :
+    endpoint_line two_links
+    ≡ codes "</rd/1>;base=\"coap://192.0.2.10\";ep=\"node1\";rt=\"core.rd-ep\""
 unfolding record_on_literals
 endpoint_of_two = refl
 
@@ -80,7 +86,9 @@ unfolding record_on_literals
 by_anchor = refl
 
 -- two criteria of an endpoint may be met by two links
-endpoint_by_two : listed kind.Endpoint (codes "rt=temperature" ∷ codes "if=sensor" ∷ []) two_links ≡ endpoint_line two_links
+endpoint_by_two :
+    listed kind.Endpoint (codes "rt=temperature" ∷ codes "if=sensor" ∷ []) two_links
+    ≡ endpoint_line two_links
 unfolding record_on_literals
 endpoint_by_two = refl
 
@@ -95,7 +103,8 @@ unfolding record_on_literals
 any_type = refl
 
 -- as here
-endpoint_type_of_links : listed kind.Resource (codes "rt=core.rd-ep" ∷ []) two_links ≡ temp ++ codes "," ++ lux
+endpoint_type_of_links :
+    listed kind.Resource (codes "rt=core.rd-ep" ∷ []) two_links ≡ temp ++ codes "," ++ lux
 unfolding record_on_literals
 endpoint_type_of_links = refl
 
@@ -157,7 +166,9 @@ abbrev three : Record
 three = registered_by (codes "ep=n" ∷ []) (codes "</a>,</b>,</c>")
 
 -- a second page
-second_page : listed kind.Resource (codes "count=2" ∷ codes "page=1" ∷ []) three ≡ codes "<coap://192.0.2.10/c>"
+second_page :
+    listed kind.Resource (codes "count=2" ∷ codes "page=1" ∷ []) three
+    ≡ codes "<coap://192.0.2.10/c>"
 unfolding record_on_literals
 second_page = refl
 
@@ -167,16 +178,23 @@ unfolding record_on_literals
 no_page = refl
 
 -- without a page it is the first
-first_page : listed kind.Resource (codes "count=2" ∷ []) three ≡ codes "<coap://192.0.2.10/a>,<coap://192.0.2.10/b>"
+first_page :
+    listed kind.Resource (codes "count=2" ∷ []) three
+    ≡ codes "<coap://192.0.2.10/a>,<coap://192.0.2.10/b>"
 unfolding record_on_literals
 first_page = refl
 
 -- links that are resolved against a given base
 abbrev references : Record
-references = registered_by (codes "ep=n" ∷ codes "base=coap://h/c/d" ∷ []) (codes "</a/../b>,<x>;anchor=\"\",<http://e.org/./z>,<//k/y>")
+references =
+    registered_by (codes "ep=n" ∷ codes "base=coap://h/c/d" ∷ [])
+    (codes "</a/../b>,<x>;anchor=\"\",<http://e.org/./z>,<//k/y>")
 
 -- a reference with a scheme keeps its dot segments
-resolved_links : listed kind.Resource [] references ≡ codes "<coap://h/b>,<coap://h/c/x>;anchor=\"coap://h/c/d\",<http://e.org/./z>,<coap://k/y>"
+resolved_links :
+    listed kind.Resource [] references
+    ≡ codes
+    "<coap://h/b>,<coap://h/c/x>;anchor=\"coap://h/c/d\",<http://e.org/./z>,<coap://k/y>"
 unfolding record_on_literals
 resolved_links = refl
 
@@ -185,17 +203,23 @@ abbrev without_base : Record
 without_base = registered_by (codes "ep=n" ∷ []) (codes "</a/../b>,<x>;anchor=\"\"")
 
 -- it is that of the peer
-resolved_by_peer : listed kind.Resource (codes "ep=n" ∷ []) without_base ≡ codes "<coap://192.0.2.10/b>,<coap://192.0.2.10/x>;anchor=\"coap://192.0.2.10\""
+resolved_by_peer :
+    listed kind.Resource (codes "ep=n" ∷ []) without_base
+    ≡ codes "<coap://192.0.2.10/b>,<coap://192.0.2.10/x>;anchor=\"coap://192.0.2.10\""
 unfolding record_on_literals
 resolved_by_peer = refl
 
 -- a criterion sees the resolved anchor
-by_resolved_anchor : listed kind.Resource (codes "anchor=coap://192.0.2.10" ∷ []) without_base ≡ codes "<coap://192.0.2.10/x>;anchor=\"coap://192.0.2.10\""
+by_resolved_anchor :
+    listed kind.Resource (codes "anchor=coap://192.0.2.10" ∷ []) without_base
+    ≡ codes "<coap://192.0.2.10/x>;anchor=\"coap://192.0.2.10\""
 unfolding record_on_literals
 by_resolved_anchor = refl
 
 -- and the resolved target
-by_resolved_target : listed kind.Resource (codes "href=coap://192.0.2.10/b" ∷ []) without_base ≡ codes "<coap://192.0.2.10/b>"
+by_resolved_target :
+    listed kind.Resource (codes "href=coap://192.0.2.10/b" ∷ []) without_base
+    ≡ codes "<coap://192.0.2.10/b>"
 unfolding record_on_literals
 by_resolved_target = refl
 
@@ -225,21 +249,32 @@ unfolding record_on_literals
 empty_document = refl
 
 -- an update from another port
-updated_port : part (lookup_values kind.Resource (codes "rt=light-lux" ∷ [])) (updated (at 2000) moved (update_values []) two_links) ≡ codes "<coap://192.0.2.10:61616/light>;rt=\"light-lux\";if=\"sensor\"" ∷ []
+updated_port :
+    part (lookup_values kind.Resource (codes "rt=light-lux" ∷ []))
+    (updated (at 2000) moved (update_values []) two_links)
+    ≡ codes "<coap://192.0.2.10:61616/light>;rt=\"light-lux\";if=\"sensor\"" ∷ []
 unfolding record_on_literals
 updated_port = refl
 
 -- a registration with a base
 abbrev sensor : Record
-sensor = registered_by (codes "ep=node1" ∷ codes "base=coap://sensor.example" ∷ []) (codes "</temp>;rt=\"temperature\";ct=0,</light>;rt=\"light-lux\";if=\"sensor\"")
+sensor =
+    registered_by (codes "ep=node1" ∷ codes "base=coap://sensor.example" ∷ [])
+    (codes "</temp>;rt=\"temperature\";ct=0,</light>;rt=\"light-lux\";if=\"sensor\"")
 
 -- which an update keeps
-updated_with_base : part (lookup_values kind.Resource (codes "rt=light-lux" ∷ [])) (updated (at 2000) moved (update_values []) sensor) ≡ codes "<coap://sensor.example/light>;rt=\"light-lux\";if=\"sensor\"" ∷ []
+updated_with_base :
+    part (lookup_values kind.Resource (codes "rt=light-lux" ∷ []))
+    (updated (at 2000) moved (update_values []) sensor)
+    ≡ codes "<coap://sensor.example/light>;rt=\"light-lux\";if=\"sensor\"" ∷ []
 unfolding record_on_literals
 updated_with_base = refl
 
 -- unless it gives one
-updated_new_base : part (lookup_values kind.Resource (codes "rt=light-lux" ∷ [])) (updated (at 2000) moved (update_values (codes "base=coap://other" ∷ [])) sensor) ≡ codes "<coap://other/light>;rt=\"light-lux\";if=\"sensor\"" ∷ []
+updated_new_base :
+    part (lookup_values kind.Resource (codes "rt=light-lux" ∷ []))
+    (updated (at 2000) moved (update_values (codes "base=coap://other" ∷ [])) sensor)
+    ≡ codes "<coap://other/light>;rt=\"light-lux\";if=\"sensor\"" ∷ []
 unfolding record_on_literals
 updated_new_base = refl
 
@@ -252,7 +287,11 @@ abbrev floor_later : Record
 floor_later = updated (at 2000) device (update_values (codes "floor=4" ∷ codes "lt=60" ∷ [])) floor
 
 -- all of that name are dropped, and its own appended
-updated_attributes_of_floor : floor_later.attrs ≡ record { name = codes "wing"; value = codes "w" } ∷ record { name = codes "floor"; value = codes "4" } ∷ []
+updated_attributes_of_floor :
+    floor_later.attrs
+    ≡ record { name = codes "wing"; value = codes "w" }
+    ∷ record { name = codes "floor"; value = codes "4" }
+    ∷ []
 unfolding record_on_literals
 updated_attributes_of_floor = refl
 
@@ -273,10 +312,16 @@ kept_lifetime = refl
 
 -- a record with a sector and attributes to be quoted
 abbrev all_attributes : Record
-all_attributes = registered 12 (at 0) moved (registration_values (codes "ep=a\"b" ∷ codes "d=s" ∷ codes "et=x\\y" ∷ codes "obs" ∷ [])) []
+all_attributes =
+    registered 12 (at 0) moved
+    (registration_values (codes "ep=a\"b" ∷ codes "d=s" ∷ codes "et=x\\y" ∷ codes "obs" ∷ []))
+    []
 
 -- its line
-quoted_line : endpoint_line all_attributes ≡ codes "</rd/12>;base=\"coap://192.0.2.10:61616\";ep=\"a\\\"b\";d=\"s\";rt=\"core.rd-ep\";et=\"x\\\\y\";obs"
+quoted_line :
+    endpoint_line all_attributes
+    ≡ codes
+    "</rd/12>;base=\"coap://192.0.2.10:61616\";ep=\"a\\\"b\";d=\"s\";rt=\"core.rd-ep\";et=\"x\\\\y\";obs"
 unfolding record_on_literals
 quoted_line = refl
 
@@ -286,46 +331,66 @@ unfolding record_on_literals
 weighed_alone = refl
 
 -- the base of an IPv6 peer
-base_ipv6 : base_of (record { host = host.V6 (0x2001 ∷ 0xdb8 ∷ 0 ∷ 0 ∷ 0 ∷ 0 ∷ 0 ∷ 1 ∷ []); port = 5683 }) ≡ codes "coap://[2001:db8::1]"
+base_ipv6 :
+    base_of (record { host = host.V6 (0x2001 ∷ 0xdb8 ∷ 0 ∷ 0 ∷ 0 ∷ 0 ∷ 0 ∷ 1 ∷ []); port = 5683 })
+    ≡ codes "coap://[2001:db8::1]"
 unfolding record_on_literals
 base_ipv6 = refl
 
 -- and at another port
-base_ipv6_port : base_of (record { host = host.V6 (0 ∷ 0 ∷ 0 ∷ 0 ∷ 0 ∷ 0 ∷ 0 ∷ 1 ∷ []); port = 5684 }) ≡ codes "coap://[::1]:5684"
+base_ipv6_port :
+    base_of (record { host = host.V6 (0 ∷ 0 ∷ 0 ∷ 0 ∷ 0 ∷ 0 ∷ 0 ∷ 1 ∷ []); port = 5684 })
+    ≡ codes "coap://[::1]:5684"
 unfolding record_on_literals
 base_ipv6_port = refl
 
 -- without criteria
-discovered_all : discovery (lookup_values kind.Discovery []) ≡ codes "</rd>;rt=\"core.rd\";ct=40,</rd-lookup/ep>;rt=\"core.rd-lookup-ep\";ct=40;obs,</rd-lookup/res>;rt=\"core.rd-lookup-res\";ct=40;obs"
+discovered_all :
+    discovery (lookup_values kind.Discovery [])
+    ≡ codes
+    "</rd>;rt=\"core.rd\";ct=40,</rd-lookup/ep>;rt=\"core.rd-lookup-ep\";ct=40;obs,</rd-lookup/res>;rt=\"core.rd-lookup-res\";ct=40;obs"
 unfolding record_on_literals
 discovered_all = refl
 
 -- each link matches
-discovered_wildcard : discovery (lookup_values kind.Discovery (codes "rt=core.rd*" ∷ [])) ≡ codes "</rd>;rt=\"core.rd\";ct=40,</rd-lookup/ep>;rt=\"core.rd-lookup-ep\";ct=40;obs,</rd-lookup/res>;rt=\"core.rd-lookup-res\";ct=40;obs"
+discovered_wildcard :
+    discovery (lookup_values kind.Discovery (codes "rt=core.rd*" ∷ []))
+    ≡ codes
+    "</rd>;rt=\"core.rd\";ct=40,</rd-lookup/ep>;rt=\"core.rd-lookup-ep\";ct=40;obs,</rd-lookup/res>;rt=\"core.rd-lookup-res\";ct=40;obs"
 unfolding record_on_literals
 discovered_wildcard = refl
 
 -- one matches
-discovered_registration : discovery (lookup_values kind.Discovery (codes "rt=core.rd" ∷ [])) ≡ codes "</rd>;rt=\"core.rd\";ct=40"
+discovered_registration :
+    discovery (lookup_values kind.Discovery (codes "rt=core.rd" ∷ []))
+    ≡ codes "</rd>;rt=\"core.rd\";ct=40"
 unfolding record_on_literals
 discovered_registration = refl
 
 -- two match
-discovered_obs : discovery (lookup_values kind.Discovery (codes "obs" ∷ [])) ≡ codes "</rd-lookup/ep>;rt=\"core.rd-lookup-ep\";ct=40;obs,</rd-lookup/res>;rt=\"core.rd-lookup-res\";ct=40;obs"
+discovered_obs :
+    discovery (lookup_values kind.Discovery (codes "obs" ∷ []))
+    ≡ codes
+    "</rd-lookup/ep>;rt=\"core.rd-lookup-ep\";ct=40;obs,</rd-lookup/res>;rt=\"core.rd-lookup-res\";ct=40;obs"
 unfolding record_on_literals
 discovered_obs = refl
 
 -- by the target as it is printed
-discovered_target : discovery (lookup_values kind.Discovery (codes "href=/rd" ∷ [])) ≡ codes "</rd>;rt=\"core.rd\";ct=40"
+discovered_target :
+    discovery (lookup_values kind.Discovery (codes "href=/rd" ∷ []))
+    ≡ codes "</rd>;rt=\"core.rd\";ct=40"
 unfolding record_on_literals
 discovered_target = refl
 
 -- cut by page and count
-discovered_page : discovery (lookup_values kind.Discovery (codes "count=1" ∷ codes "page=2" ∷ [])) ≡ codes "</rd-lookup/res>;rt=\"core.rd-lookup-res\";ct=40;obs"
+discovered_page :
+    discovery (lookup_values kind.Discovery (codes "count=1" ∷ codes "page=2" ∷ []))
+    ≡ codes "</rd-lookup/res>;rt=\"core.rd-lookup-res\";ct=40;obs"
 unfolding record_on_literals
 discovered_page = refl
 
 -- none matches
-discovered_none : discovery (lookup_values kind.Discovery (codes "rt=core.rd" ∷ codes "obs" ∷ [])) ≡ []
+discovered_none :
+    discovery (lookup_values kind.Discovery (codes "rt=core.rd" ∷ codes "obs" ∷ [])) ≡ []
 unfolding record_on_literals
 discovered_none = refl

@@ -17,7 +17,10 @@ abbrev long_base : List ℕ
 long_base = codes "coap://" ++ replicate 193 104
 
 -- each link line has 202 octets, and the endpoint line 239
-large_weight : weight (registered 1 (record { 0 = 100 }) (record { host = host.V4 (192 ∷ 0 ∷ 2 ∷ 10 ∷ []); port = 5683 })
-    (registration_values (codes "ep=n1" ∷ (codes "base=" ++ long_base) ∷ [])) (unwrap_or (linked_references thousand_links) [])) ≡ 203_240
+large_weight : weight (registered 1 (record { 0 = 100 })
+    (record { host = host.V4 (192 ∷ 0 ∷ 2 ∷ 10 ∷ []); port = 5683 })
+    (registration_values (codes "ep=n1" ∷ (codes "base=" ++ long_base) ∷ []))
+    (unwrap_or (linked_references thousand_links) []))
+    ≡ 203_240
 unfolding record_on_literals
 large_weight = refl

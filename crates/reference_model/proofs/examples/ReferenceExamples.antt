@@ -23,11 +23,22 @@ all_parts : reference (codes "coap://u:p@[2001:db8::1]:61616/a/b;c?d=e/?#f?") �
 unfolding reference_on_literals
 all_parts = refl
 
-no_octets : reference [] ≡ Some (record { scheme = None; authority = None; path = []; query = None; fragment = None })
+no_octets :
+    reference []
+    ≡ Some
+    (record { scheme = None; authority = None; path = []; query = None; fragment = None })
 unfolding reference_on_literals
 no_octets = refl
 
-empty_parts : reference (codes "s://?#") ≡ Some (record { scheme = Some (codes "s"); authority = Some []; path = []; query = Some []; fragment = Some [] })
+empty_parts :
+    reference (codes "s://?#")
+    ≡ Some (record {
+      scheme = Some (codes "s");
+      authority = Some [];
+      path = [];
+      query = Some [];
+      fragment = Some [];
+    })
 unfolding reference_on_literals
 empty_parts = refl
 
@@ -35,7 +46,8 @@ a_host : option_map host (reference (codes "//u@[fe80::1]:1/x")) ≡ Some (Some 
 unfolding reference_on_literals
 a_host = refl
 
-named_host : option_map host (reference (codes "//u:p@h.example:")) ≡ Some (Some (codes "h.example"))
+named_host :
+    option_map host (reference (codes "//u:p@h.example:")) ≡ Some (Some (codes "h.example"))
 unfolding reference_on_literals
 named_host = refl
 
@@ -169,7 +181,8 @@ other_host : resolved (codes "coap://h/c/d") (codes "//k/y") ≡ codes "coap://k
 unfolding reference_on_literals
 other_host = refl
 
-dots_after_scheme : resolved (codes "coap://h/c/d") (codes "http://e.org/./z") ≡ codes "http://e.org/z"
+dots_after_scheme :
+    resolved (codes "coap://h/c/d") (codes "http://e.org/./z") ≡ codes "http://e.org/z"
 unfolding reference_on_literals
 dots_after_scheme = refl
 

@@ -1,5 +1,22 @@
--- What a table of fetches answers, computed at the edges: who may start, what is due when, and what a response says.
-use Rattle.std.proofs.Common.{◌≡◌, ℕ, ◌+◌, true, false, List, [], ◌∷◌, ◌++◌, map, codes, Option, Some, None, refl}
+-- What a table of fetches answers, computed at the edges: who may start, what is due when, and what
+-- a response says.
+use Rattle.std.proofs.Common.{
+  ◌≡◌,
+  ℕ,
+  ◌+◌,
+  true,
+  false,
+  List,
+  [],
+  ◌∷◌,
+  ◌++◌,
+  map,
+  codes,
+  Option,
+  Some,
+  None,
+  refl,
+}
 use Rattle.std.specs.List.{range_with_len}
 use Rattle.rd_base.specs.declared.peers.Host.TheVariants as host
 use Rattle.rd_base.specs.declared.peers.Peer.{Peer}
@@ -16,14 +33,24 @@ use Rattle.simple_registration.specs.declared.hearing.Heard.{Heard}
 use Rattle.simple_registration.specs.declared.hearing.Heard.TheVariants as heard
 use Rattle.simple_registration.specs.declared.starts.StartFault.TheVariants as fault
 use Rattle.simple_registration.specs.Responses.{request_after}
-use Rattle.simple_registration.specs.FetchEvents.{start_refusal, belongs_after, heard_after, fetch_due}
+use Rattle.simple_registration.specs.FetchEvents.{
+  start_refusal,
+  belongs_after,
+  heard_after,
+  fetch_due,
+}
 
 -- a device by the last octet of its address
 abbrev device : ℕ → Peer
 device n = record { host = host.V4 (192 ∷ 0 ∷ 2 ∷ n ∷ []); port = 5683 }
 
 abbrev params : RegParams
-params = record { name = record { ep = codes "s1"; sector = None }; lt = 600; base = None; attrs = [] }
+params = record {
+  name = record { ep = codes "s1"; sector = None };
+  lt = 600;
+  base = None;
+  attrs = [];
+}
 
 -- an event at a moment, in a row with the word 0
 abbrev at : ℕ → Note → Event
@@ -47,7 +74,10 @@ runs : start_refusal (device 10) (asks 0 10 0 ∷ []) ≡ Some (fault.Fetching (
 unfolding machine_on_literals
 runs = refl
 
-other_port : start_refusal (record { host = host.V4 (192 ∷ 0 ∷ 2 ∷ 10 ∷ []); port = 5684 }) (asks 0 10 0 ∷ []) ≡ None
+other_port :
+    start_refusal (record { host = host.V4 (192 ∷ 0 ∷ 2 ∷ 10 ∷ []); port = 5684 })
+    (asks 0 10 0 ∷ [])
+    ≡ None
 unfolding machine_on_literals
 other_port = refl
 
@@ -70,7 +100,12 @@ abbrev first : Event
 first = asks 1_000 10 0
 
 abbrev resent : List Event
-resent = at 31_000 (note.Resent (device 10)) ∷ at 15_000 (note.Resent (device 10)) ∷ at 7_000 (note.Resent (device 10)) ∷ at 3_000 (note.Resent (device 10)) ∷ []
+resent =
+    at 31_000 (note.Resent (device 10))
+    ∷ at 15_000 (note.Resent (device 10))
+    ∷ at 7_000 (note.Resent (device 10))
+    ∷ at 3_000 (note.Resent (device 10))
+    ∷ []
 
 before_first : fetch_due 2_999 (device 10) first (first ∷ []) ≡ again.Wait
 unfolding machine_on_literals fetch_due
@@ -108,7 +143,14 @@ request = record { token = 1 ∷ []; mid = 7; params = params; number = 0 }
 
 -- a response under a token, with a value of Block2 and an entity tag
 abbrev response : List ℕ → List Opt → List ℕ → List ℕ → Message
-response token tags block payload = record { kind = Con; code = 69; mid = 9; token = token; options = tags ++ (12, 40 ∷ []) ∷ (23, block) ∷ []; payload = payload }
+response token tags block payload = record {
+  kind = Con;
+  code = 69;
+  mid = 9;
+  token = token;
+  options = tags ++ (12, 40 ∷ []) ∷ (23, block) ∷ [];
+  payload = payload;
+}
 
 sixteen : List ℕ
 sixteen = codes "</a>;rt=\"0123456"
@@ -126,39 +168,68 @@ unfolding machine_on_literals
 other_device = refl
 
 -- the first block, and more follow
-next : heard_after 8 (device 10) (response (1 ∷ []) ((4, 170 ∷ []) ∷ []) (8 ∷ []) sixteen) request (first ∷ [])
-    ≡ heard.Next (record { peer = device 10; bytes = request_after 8 (1 ∷ []) (record { num = 0; more = true; szx = 0 }) })
+next : heard_after 8 (device 10) (response (1 ∷ []) ((4, 170 ∷ []) ∷ []) (8 ∷ []) sixteen) request
+    (first ∷ [])
+    ≡ heard.Next (record {
+      peer = device 10;
+      bytes = request_after 8 (1 ∷ [])
+          (record { num = 0; more = true; szx = 0 });
+    })
 unfolding machine_on_literals sixteen
 next = refl
 
 -- after it, under its tag
 abbrev second : List Event
-second = asks 1_200 10 1 ∷ at 1_200 (note.Gathered (device 10) (codes "0123456789abcdef") (Some (170 ∷ []))) ∷ first ∷ []
+second =
+    asks 1_200 10 1
+    ∷ at 1_200 (note.Gathered (device 10) (codes "0123456789abcdef") (Some (170 ∷ [])))
+    ∷ first
+    ∷ []
 
-whole : heard_after 8 (device 10) (response (1 ∷ []) ((4, 170 ∷ []) ∷ []) (16 ∷ []) (codes "x")) request second ≡ heard.Whole params (codes "0123456789abcdefx")
+whole :
+    heard_after 8 (device 10) (response (1 ∷ []) ((4, 170 ∷ []) ∷ []) (16 ∷ []) (codes "x")) request
+    second
+    ≡ heard.Whole params (codes "0123456789abcdefx")
 unfolding machine_on_literals
 whole = refl
 
-other_tag : heard_after 8 (device 10) (response (1 ∷ []) ((4, 187 ∷ []) ∷ []) (16 ∷ []) (codes "x")) request second ≡ heard.Ended
+other_tag :
+    heard_after 8 (device 10) (response (1 ∷ []) ((4, 187 ∷ []) ∷ []) (16 ∷ []) (codes "x")) request
+    second
+    ≡ heard.Ended
 unfolding machine_on_literals
 other_tag = refl
 
-no_tag : heard_after 8 (device 10) (response (1 ∷ []) [] (16 ∷ []) (codes "x")) request second ≡ heard.Ended
+no_tag :
+    heard_after 8 (device 10) (response (1 ∷ []) [] (16 ∷ []) (codes "x")) request second
+    ≡ heard.Ended
 unfolding machine_on_literals
 no_tag = refl
 
-gap : heard_after 8 (device 10) (response (1 ∷ []) ((4, 170 ∷ []) ∷ []) (32 ∷ []) (codes "x")) request second ≡ heard.Passed
+gap :
+    heard_after 8 (device 10) (response (1 ∷ []) ((4, 170 ∷ []) ∷ []) (32 ∷ []) (codes "x")) request
+    second
+    ≡ heard.Passed
 unfolding machine_on_literals
 gap = refl
 
-repeated : heard_after 8 (device 10) (response (1 ∷ []) ((4, 170 ∷ []) ∷ []) (8 ∷ []) sixteen) request second ≡ heard.Passed
+repeated :
+    heard_after 8 (device 10) (response (1 ∷ []) ((4, 170 ∷ []) ∷ []) (8 ∷ []) sixteen) request
+    second
+    ≡ heard.Passed
 unfolding machine_on_literals sixteen
 repeated = refl
 
-reserved : heard_after 8 (device 10) (response (1 ∷ []) ((4, 170 ∷ []) ∷ []) (23 ∷ []) (codes "x")) request second ≡ heard.Ended
+reserved :
+    heard_after 8 (device 10) (response (1 ∷ []) ((4, 170 ∷ []) ∷ []) (23 ∷ []) (codes "x")) request
+    second
+    ≡ heard.Ended
 unfolding machine_on_literals
 reserved = refl
 
-short : heard_after 8 (device 10) (response (1 ∷ []) ((4, 170 ∷ []) ∷ []) (24 ∷ []) (codes "x")) request second ≡ heard.Ended
+short :
+    heard_after 8 (device 10) (response (1 ∷ []) ((4, 170 ∷ []) ∷ []) (24 ∷ []) (codes "x")) request
+    second
+    ≡ heard.Ended
 unfolding machine_on_literals
 short = refl

@@ -1,11 +1,13 @@
--- Traces of bodies in blocks. Beside each the datagrams are shown: type, code, Message ID, token, options, payload.
+-- Traces of bodies in blocks. Beside each the datagrams are shown: type, code, Message ID, token,
+-- options, payload.
 use Rattle.std.proofs.Common.{◌≡◌, [], ◌∷◌, ◌++◌, codes, refl}
 use Rattle.trace_model.specs.Output.{output}
 use Rattle.trace_model.proofs.OnLiterals.{output_on_literals}
 use Rattle.trace_model.proofs.OutputLines.{lines, writes, many}
 
 -- the second block of a listing comes from the state of the first
---     in 0 1000 192.0.2.10:5683: CON 0.02 m=0001 t=a1 [11 rd][15 ep=n][15 base=coap://h] | </x{2039}>
+--     in 0 1000 192.0.2.10:5683: CON 0.02 m=0001 t=a1 [11 rd][15 ep=n][15 base=coap://h] |
+-- </x{2039}>
 --     go 0 1000
 --     in 0 1001 192.0.2.30:40000: CON 0.01 m=0010 t=c1 [11 rd-lookup][11 res][15 ep=n]
 --     go 0 1002
@@ -16,14 +18,17 @@ use Rattle.trace_model.proofs.OutputLines.{lines, writes, many}
 --     in 0 1006 192.0.2.30:40000: CON 0.01 m=0010 t=c1 [11 rd-lookup][11 res][15 ep=n]
 -- gives
 --     out 0 192.0.2.10:5683: ACK 2.01 m=0001 t=a1 [8 rd][8 1]
---     out 0 192.0.2.30:40000: ACK 2.05 m=0010 t=c1 [4 x0000000000010000][12 x28][23 x0e] | <coap://h/x{1014}
+--     out 0 192.0.2.30:40000: ACK 2.05 m=0010 t=c1 [4 x0000000000010000][12 x28][23 x0e] |
+-- <coap://h/x{1014}
 --     out 0 192.0.2.10:5683: ACK 2.02 m=0002 t=a2
 --     out 0 192.0.2.30:40000: ACK 2.05 m=0010 t=c1 [4 x0000000000010000][12 x28][23 x26] | x>
 --     out 0 192.0.2.30:40000: ACK 4.00 m=0010 t=c1 | block
 --     out 0 192.0.2.30:40000: ACK 2.05 m=0010 t=c1 [4 x0000000000020000][12 x28]
 --     end 2 0 0
 blocks_of_one_state : output 1 (lines (
-    (codes "in 0 1000 192.0.2.10:5683 41020001a1b272644465703d6e0d00626173653d636f61703a2f2f68ff3c2f" ++ (many 2039 (codes "78") ++ codes "3e"))
+    (codes
+    "in 0 1000 192.0.2.10:5683 41020001a1b272644465703d6e0d00626173653d636f61703a2f2f68ff3c2f"
+    ++ (many 2039 (codes "78") ++ codes "3e"))
     ∷ codes "go 0 1000"
     ∷ codes "in 0 1001 192.0.2.30:40000 41010010c1b972642d6c6f6f6b7570037265734465703d6e"
     ∷ codes "go 0 1002"
@@ -34,7 +39,8 @@ blocks_of_one_state : output 1 (lines (
     ∷ codes "in 0 1006 192.0.2.30:40000 41010010c1b972642d6c6f6f6b7570037265734465703d6e" ∷ []))
     ≡ writes (
     codes "out 0 192.0.2.10:5683 61410001a18272640131"
-    ∷ (codes "out 0 192.0.2.30:40000 61450010c14800000000000100008128b10eff3c636f61703a2f2f682f" ++ many 1014 (codes "78"))
+    ∷ (codes "out 0 192.0.2.30:40000 61450010c14800000000000100008128b10eff3c636f61703a2f2f682f"
+    ++ many 1014 (codes "78"))
     ∷ codes "out 0 192.0.2.10:5683 61420002a2"
     ∷ codes "out 0 192.0.2.30:40000 61450010c14800000000000100008128b126ff783e"
     ∷ codes "out 0 192.0.2.30:40000 61800010c1ff626c6f636b"
@@ -44,7 +50,8 @@ unfolding output_on_literals
 blocks_of_one_state = refl
 
 -- a further block for a peer that has no kept answer
---     in 0 1000 192.0.2.10:5683: CON 0.02 m=0001 t=a1 [11 rd][15 ep=n][15 base=coap://h] | </x{2039}>
+--     in 0 1000 192.0.2.10:5683: CON 0.02 m=0001 t=a1 [11 rd][15 ep=n][15 base=coap://h] |
+-- </x{2039}>
 --     go 0 1000
 --     in 0 1001 192.0.2.30:40000: CON 0.01 m=0010 t=c1 [11 rd-lookup][11 res][15 ep=n]
 --     go 0 1002
@@ -54,13 +61,16 @@ blocks_of_one_state = refl
 --     in 0 1005 192.0.2.20:61616: CON 0.01 m=0010 t=c1 [11 rd-lookup][11 res][15 ep=n][23 x26]
 -- gives
 --     out 0 192.0.2.10:5683: ACK 2.01 m=0001 t=a1 [8 rd][8 1]
---     out 0 192.0.2.30:40000: ACK 2.05 m=0010 t=c1 [4 x0000000000010000][12 x28][23 x0e] | <coap://h/x{1014}
+--     out 0 192.0.2.30:40000: ACK 2.05 m=0010 t=c1 [4 x0000000000010000][12 x28][23 x0e] |
+-- <coap://h/x{1014}
 --     out 0 192.0.2.20:61616: ACK 2.05 m=0010 t=c1 [4 x0000000000010000][12 x28][23 x26] | x>
 --     out 0 192.0.2.10:5683: ACK 2.02 m=0002 t=a2
 --     out 0 192.0.2.20:61616: ACK 2.05 m=0010 t=c1 [4 x0000000000010000][12 x28][23 x26] | x>
 --     end 2 0 0
 block_for_another_peer : output 1 (lines (
-    (codes "in 0 1000 192.0.2.10:5683 41020001a1b272644465703d6e0d00626173653d636f61703a2f2f68ff3c2f" ++ (many 2039 (codes "78") ++ codes "3e"))
+    (codes
+    "in 0 1000 192.0.2.10:5683 41020001a1b272644465703d6e0d00626173653d636f61703a2f2f68ff3c2f"
+    ++ (many 2039 (codes "78") ++ codes "3e"))
     ∷ codes "go 0 1000"
     ∷ codes "in 0 1001 192.0.2.30:40000 41010010c1b972642d6c6f6f6b7570037265734465703d6e"
     ∷ codes "go 0 1002"
@@ -70,7 +80,8 @@ block_for_another_peer : output 1 (lines (
     ∷ codes "in 0 1005 192.0.2.20:61616 41010010c1b972642d6c6f6f6b7570037265734465703d6e8126" ∷ []))
     ≡ writes (
     codes "out 0 192.0.2.10:5683 61410001a18272640131"
-    ∷ (codes "out 0 192.0.2.30:40000 61450010c14800000000000100008128b10eff3c636f61703a2f2f682f" ++ many 1014 (codes "78"))
+    ∷ (codes "out 0 192.0.2.30:40000 61450010c14800000000000100008128b10eff3c636f61703a2f2f682f"
+    ++ many 1014 (codes "78"))
     ∷ codes "out 0 192.0.2.20:61616 61450010c14800000000000100008128b126ff783e"
     ∷ codes "out 0 192.0.2.10:5683 61420002a2"
     ∷ codes "out 0 192.0.2.20:61616 61450010c14800000000000100008128b126ff783e"
@@ -170,25 +181,33 @@ unfolding output_on_literals
 uploaded = refl
 
 -- 2.03 is given at once, also where the listing is long
---     in 0 1000 192.0.2.10:5683: CON 0.02 m=0001 t=a1 [11 rd][15 ep=n][15 base=coap://h] | </x{2039}>
+--     in 0 1000 192.0.2.10:5683: CON 0.02 m=0001 t=a1 [11 rd][15 ep=n][15 base=coap://h] |
+-- </x{2039}>
 --     go 0 1000
 --     in 0 1001 192.0.2.30:40000: CON 0.01 m=0010 t=c1 [11 rd-lookup][11 res][15 ep=n]
 --     go 0 1002
---     in 0 1003 192.0.2.30:40000: CON 0.01 m=0010 t=c1 [4 x0000000000010000][11 rd-lookup][11 res][15 ep=n]
+--     in 0 1003 192.0.2.30:40000: CON 0.01 m=0010 t=c1 [4 x0000000000010000][11 rd-lookup][11
+-- res][15 ep=n]
 -- gives
 --     out 0 192.0.2.10:5683: ACK 2.01 m=0001 t=a1 [8 rd][8 1]
---     out 0 192.0.2.30:40000: ACK 2.05 m=0010 t=c1 [4 x0000000000010000][12 x28][23 x0e] | <coap://h/x{1014}
+--     out 0 192.0.2.30:40000: ACK 2.05 m=0010 t=c1 [4 x0000000000010000][12 x28][23 x0e] |
+-- <coap://h/x{1014}
 --     out 0 192.0.2.30:40000: ACK 2.03 m=0010 t=c1 [4 x0000000000010000]
 --     end 1 1 0
 valid_though_long : output 1 (lines (
-    (codes "in 0 1000 192.0.2.10:5683 41020001a1b272644465703d6e0d00626173653d636f61703a2f2f68ff3c2f" ++ (many 2039 (codes "78") ++ codes "3e"))
+    (codes
+    "in 0 1000 192.0.2.10:5683 41020001a1b272644465703d6e0d00626173653d636f61703a2f2f68ff3c2f"
+    ++ (many 2039 (codes "78") ++ codes "3e"))
     ∷ codes "go 0 1000"
     ∷ codes "in 0 1001 192.0.2.30:40000 41010010c1b972642d6c6f6f6b7570037265734465703d6e"
     ∷ codes "go 0 1002"
-    ∷ codes "in 0 1003 192.0.2.30:40000 41010010c14800000000000100007972642d6c6f6f6b7570037265734465703d6e" ∷ []))
+    ∷ codes
+    "in 0 1003 192.0.2.30:40000 41010010c14800000000000100007972642d6c6f6f6b7570037265734465703d6e"
+    ∷ []))
     ≡ writes (
     codes "out 0 192.0.2.10:5683 61410001a18272640131"
-    ∷ (codes "out 0 192.0.2.30:40000 61450010c14800000000000100008128b10eff3c636f61703a2f2f682f" ++ many 1014 (codes "78"))
+    ∷ (codes "out 0 192.0.2.30:40000 61450010c14800000000000100008128b10eff3c636f61703a2f2f682f"
+    ++ many 1014 (codes "78"))
     ∷ codes "out 0 192.0.2.30:40000 61430010c1480000000000010000"
     ∷ codes "end 1 1 0" ∷ [])
 unfolding output_on_literals

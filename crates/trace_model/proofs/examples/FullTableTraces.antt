@@ -18,7 +18,9 @@ peers = range_with_len 1 64
 -- a message that comes from a peer, and is done at once
 abbrev posts : Message → ℕ → List (List ℕ)
 posts m k =
-    (codes "in 0 5 192.0.3." ++ (decimal k ++ (codes ":5683 " ++ datagram_text (spelling m)))) ∷ codes "go 0 5" ∷ []
+    (codes "in 0 5 192.0.3." ++ (decimal k ++ (codes ":5683 " ++ datagram_text (spelling m))))
+    ∷ codes "go 0 5"
+    ∷ []
 
 -- a message that is sent to a peer
 abbrev sent : List ℕ → ℕ → List ℕ
@@ -31,13 +33,17 @@ first_block = record {
   code = codes_of.post;
   mid = 1;
   token = [];
-  options = (table.uri_path, codes "rd") ∷ (table.uri_query, codes "ep=n") ∷ (table.block1, 8 ∷ []) ∷ [];
+  options =
+      (table.uri_path, codes "rd") ∷ (table.uri_query, codes "ep=n") ∷ (table.block1, 8 ∷ []) ∷ [];
   payload = codes "0123456789abcdef";
 }
 
 -- 64 uploads get 2.31, and the next 5.03 `uploads`
 full_of_uploads : output 1 (lines (flat_map (posts first_block) peers ++ posts first_block 65))
-    ≡ writes (flat_map (λ k. sent (codes "605f0001d10e08") k ∷ []) peers ++ sent (codes "60a30001ff75706c6f616473") 65 ∷ codes "end 0 0 0" ∷ [])
+    ≡ writes (flat_map (λ k. sent (codes "605f0001d10e08") k ∷ []) peers
+    ++ sent (codes "60a30001ff75706c6f616473") 65
+    ∷ codes "end 0 0 0"
+    ∷ [])
 unfolding output_on_literals
 full_of_uploads = refl
 
@@ -48,11 +54,16 @@ simple = record {
   code = codes_of.post;
   mid = 5;
   token = [];
-  options = (table.uri_path, codes ".well-known") ∷ (table.uri_path, codes "rd") ∷ (table.uri_query, codes "ep=s") ∷ [];
+  options =
+      (table.uri_path, codes ".well-known")
+      ∷ (table.uri_path, codes "rd")
+      ∷ (table.uri_query, codes "ep=s")
+      ∷ [];
   payload = [];
 }
 
--- the request of the fetch of a peer: CON 0.01 m=0000 t=0000000000000001 [11 .well-known][11 core], one more for each
+-- the request of the fetch of a peer: CON 0.01 m=0000 t=0000000000000001 [11 .well-known][11 core],
+-- one more for each
 abbrev asked : ℕ → Message
 asked k = record {
   kind = Con;
@@ -68,6 +79,9 @@ fetched k = sent (codes "60440005") (k + 1) ∷ sent (datagram_text (spelling (a
 
 -- 64 fetches start, and the next is refused by 5.03 `fetches`
 full_of_fetches : output 1 (lines (flat_map (posts simple) peers ++ posts simple 65))
-    ≡ writes (flat_map fetched (range_with_len 0 64) ++ sent (codes "60a30005ff66657463686573") 65 ∷ codes "end 0 0 0" ∷ [])
+    ≡ writes (flat_map fetched (range_with_len 0 64)
+    ++ sent (codes "60a30005ff66657463686573") 65
+    ∷ codes "end 0 0 0"
+    ∷ [])
 unfolding output_on_literals
 full_of_fetches = refl

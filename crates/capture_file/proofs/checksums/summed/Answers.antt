@@ -1,5 +1,22 @@
 -- Two octets more are the next word of the sum.
-use Rattle.std.proofs.Common.{arith, ◌≡◌, ◌+◌, ◌-◌, ◌*◌, ◌≤◌, ℕ, List, [], ◌∷◌, length, take, drop, get_or, ap, ◌∙◌}
+use Rattle.std.proofs.Common.{
+  arith,
+  ◌≡◌,
+  ◌+◌,
+  ◌-◌,
+  ◌*◌,
+  ◌≤◌,
+  ℕ,
+  List,
+  [],
+  ◌∷◌,
+  length,
+  take,
+  drop,
+  get_or,
+  ap,
+  ◌∙◌,
+}
 use Rattle.std.proofs.lemmas.List.{take_rest}
 use Rattle.capture_file.specs.Checksums.{ones_sum, sum_of}
 use Rattle.capture_file.proofs.checksums.summed.Goals as goal

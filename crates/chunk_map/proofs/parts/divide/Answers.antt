@@ -15,4 +15,8 @@ returns-clause-whole g c =
     let count = c.front_count-count.result in
     let front : c.split_off.new.self.items ≡ take count c.args.parts.now.items = search rules in
     let back : c.in_ok-behind.behind.items ≡ drop count c.args.parts.now.items = search rules in
-    rw (front, back) (All-take g.P.Part.is_whole count c.args.parts.now.items c.requires.whole, All-drop g.P.Part.is_whole count c.args.parts.now.items c.requires.whole)
+    rw (front, back) (
+      All-take g.P.Part.is_whole count c.args.parts.now.items c.requires.whole,
+      All-drop
+          g.P.Part.is_whole count c.args.parts.now.items c.requires.whole,
+    )

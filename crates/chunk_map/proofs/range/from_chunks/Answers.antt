@@ -16,8 +16,10 @@ pub returns-then-begin_by-clause-pairs : goal.returns-then-begin_by-clause-pairs
 returns-then-begin_by-clause-pairs g c =
     let front = c.args.pairs.now in
     let behind = flat_map chunk_pairs c.args.chunks.now in
-    let begins : begins_by g.K.Ord.cmp behind c.args.from.now ≡ true = sym c.begin_by.ensures ∙ c.if-begin_by.true in
-    c.in_chunks.ensures.pairs ∙ sym (seek_behind g.met.K.Ord.total c.args.from.now front behind c.requires.ascends begins)
+    let begins : begins_by g.K.Ord.cmp behind c.args.from.now ≡ true =
+    sym c.begin_by.ensures ∙ c.if-begin_by.true in
+    c.in_chunks.ensures.pairs
+    ∙ sym (seek_behind g.met.K.Ord.total c.args.from.now front behind c.requires.ascends begins)
 
 pub pairs_from-requires : goal.pairs_from-requires
 pairs_from-requires g c =
@@ -29,5 +31,7 @@ pub returns-clause-pairs : goal.returns-clause-pairs
 returns-clause-pairs g c =
     let front = c.args.pairs.now in
     let behind = flat_map chunk_pairs c.args.chunks.now in
-    let begins : begins_by g.K.Ord.cmp behind c.args.from.now ≡ false = sym c.begin_by.ensures ∙ c.if-begin_by.false in
-    ap (λ es. es ++ behind) c.pairs_from.ensures ∙ sym (seek_front g.met.K.Ord.total c.args.from.now front behind c.requires.ascends begins)
+    let begins : begins_by g.K.Ord.cmp behind c.args.from.now ≡ false =
+    sym c.begin_by.ensures ∙ c.if-begin_by.false in
+    ap (λ es. es ++ behind) c.pairs_from.ensures
+    ∙ sym (seek_front g.met.K.Ord.total c.args.from.now front behind c.requires.ascends begins)

@@ -8,26 +8,41 @@ use Rattle.chunk_map.proofs.range.from_divisions.Goals as goal
 
 pub in_divisions-requires-clause-ascends : goal.in_divisions-requires-clause-ascends
 in_divisions-requires-clause-ascends g c =
-    let front = (((c.args.pairs.now ++ flat_map chunk_pairs c.args.chunks.now) ++ flat_map group_pairs c.args.groups.now) ++ flat_map section_pairs c.args.sections.now) in
+    let front =
+    (((c.args.pairs.now ++ flat_map chunk_pairs c.args.chunks.now) ++ flat_map group_pairs
+    c.args.groups.now) ++ flat_map section_pairs c.args.sections.now) in
     let behind = flat_map division_pairs c.args.divisions.now in
     ascends_back g.K.Ord.cmp front behind c.requires.ascends
 
 pub returns-then-begin_by-clause-pairs : goal.returns-then-begin_by-clause-pairs
 returns-then-begin_by-clause-pairs g c =
-    let front = (((c.args.pairs.now ++ flat_map chunk_pairs c.args.chunks.now) ++ flat_map group_pairs c.args.groups.now) ++ flat_map section_pairs c.args.sections.now) in
+    let front =
+    (((c.args.pairs.now ++ flat_map chunk_pairs c.args.chunks.now) ++ flat_map group_pairs
+    c.args.groups.now) ++ flat_map section_pairs c.args.sections.now) in
     let behind = flat_map division_pairs c.args.divisions.now in
-    let begins : begins_by g.K.Ord.cmp behind c.args.from.now ≡ true = sym c.begin_by.ensures ∙ c.if-begin_by.true in
-    c.in_divisions.ensures.pairs ∙ sym (seek_behind g.met.K.Ord.total c.args.from.now front behind c.requires.ascends begins)
+    let begins : begins_by g.K.Ord.cmp behind c.args.from.now ≡ true =
+    sym c.begin_by.ensures ∙ c.if-begin_by.true in
+    c.in_divisions.ensures.pairs
+    ∙ sym (seek_behind g.met.K.Ord.total c.args.from.now front behind c.requires.ascends begins)
 
 pub from_sections-requires-clause-ascends : goal.from_sections-requires-clause-ascends
 from_sections-requires-clause-ascends g c =
-    let front = (((c.args.pairs.now ++ flat_map chunk_pairs c.args.chunks.now) ++ flat_map group_pairs c.args.groups.now) ++ flat_map section_pairs c.args.sections.now) in
+    let front =
+    (((c.args.pairs.now ++ flat_map chunk_pairs c.args.chunks.now) ++ flat_map group_pairs
+    c.args.groups.now) ++ flat_map section_pairs c.args.sections.now) in
     let behind = flat_map division_pairs c.args.divisions.now in
     ascends_front g.K.Ord.cmp front behind c.requires.ascends
 
 pub returns-clause-pairs : goal.returns-clause-pairs
 returns-clause-pairs g c =
-    let front = (((c.args.pairs.now ++ flat_map chunk_pairs c.args.chunks.now) ++ flat_map group_pairs c.args.groups.now) ++ flat_map section_pairs c.args.sections.now) in
+    let front =
+    (((c.args.pairs.now ++ flat_map chunk_pairs c.args.chunks.now) ++ flat_map group_pairs
+    c.args.groups.now) ++ flat_map section_pairs c.args.sections.now) in
     let behind = flat_map division_pairs c.args.divisions.now in
-    let begins : begins_by g.K.Ord.cmp behind c.args.from.now ≡ false = sym c.begin_by.ensures ∙ c.if-begin_by.false in
-    behind_four c.from_sections.result.0.now (flat_map chunk_pairs c.from_sections.result.1.now) (flat_map group_pairs c.from_sections.result.2.now) (flat_map section_pairs c.from_sections.result.3.now) behind ∙ ap (λ es. es ++ behind) c.from_sections.ensures.pairs ∙ sym (seek_front g.met.K.Ord.total c.args.from.now front behind c.requires.ascends begins)
+    let begins : begins_by g.K.Ord.cmp behind c.args.from.now ≡ false =
+    sym c.begin_by.ensures ∙ c.if-begin_by.false in
+    behind_four c.from_sections.result.0.now (flat_map chunk_pairs c.from_sections.result.1.now)
+    (flat_map group_pairs c.from_sections.result.2.now)
+    (flat_map section_pairs c.from_sections.result.3.now) behind
+    ∙ ap (λ es. es ++ behind) c.from_sections.ensures.pairs
+    ∙ sym (seek_front g.met.K.Ord.total c.args.from.now front behind c.requires.ascends begins)

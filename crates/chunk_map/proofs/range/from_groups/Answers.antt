@@ -16,8 +16,10 @@ pub returns-then-begin_by-clause-pairs : goal.returns-then-begin_by-clause-pairs
 returns-then-begin_by-clause-pairs g c =
     let front = (c.args.pairs.now ++ flat_map chunk_pairs c.args.chunks.now) in
     let behind = flat_map group_pairs c.args.groups.now in
-    let begins : begins_by g.K.Ord.cmp behind c.args.from.now ≡ true = sym c.begin_by.ensures ∙ c.if-begin_by.true in
-    c.in_groups.ensures.pairs ∙ sym (seek_behind g.met.K.Ord.total c.args.from.now front behind c.requires.ascends begins)
+    let begins : begins_by g.K.Ord.cmp behind c.args.from.now ≡ true =
+    sym c.begin_by.ensures ∙ c.if-begin_by.true in
+    c.in_groups.ensures.pairs
+    ∙ sym (seek_behind g.met.K.Ord.total c.args.from.now front behind c.requires.ascends begins)
 
 pub from_chunks-requires-clause-ascends : goal.from_chunks-requires-clause-ascends
 from_chunks-requires-clause-ascends g c =
@@ -29,5 +31,8 @@ pub returns-clause-pairs : goal.returns-clause-pairs
 returns-clause-pairs g c =
     let front = (c.args.pairs.now ++ flat_map chunk_pairs c.args.chunks.now) in
     let behind = flat_map group_pairs c.args.groups.now in
-    let begins : begins_by g.K.Ord.cmp behind c.args.from.now ≡ false = sym c.begin_by.ensures ∙ c.if-begin_by.false in
-    behind_two c.from_chunks.result.0.now (flat_map chunk_pairs c.from_chunks.result.1.now) behind ∙ ap (λ es. es ++ behind) c.from_chunks.ensures.pairs ∙ sym (seek_front g.met.K.Ord.total c.args.from.now front behind c.requires.ascends begins)
+    let begins : begins_by g.K.Ord.cmp behind c.args.from.now ≡ false =
+    sym c.begin_by.ensures ∙ c.if-begin_by.false in
+    behind_two c.from_chunks.result.0.now (flat_map chunk_pairs c.from_chunks.result.1.now) behind
+    ∙ ap (λ es. es ++ behind) c.from_chunks.ensures.pairs
+    ∙ sym (seek_front g.met.K.Ord.total c.args.from.now front behind c.requires.ascends begins)

@@ -11,4 +11,6 @@ abbrev pub invariant-queries : goal.invariant-queries
 invariant-queries l =
     (goal.iterator-queries).can_next l.query-iterator
     × (goal.iterator-queries).is_finite l.query-iterator
-    × (l.octets.items ++ flat_map keys.query_bytes (queries_left l.query-iterator) ≡ keys.key_of l.meaning.view.code l.meaning.path (request.queries_in (message_in l.meaning.view)))
+    × (l.octets.items ++ flat_map keys.query_bytes (queries_left l.query-iterator)
+    ≡ keys.key_of l.meaning.view.code l.meaning.path
+    (request.queries_in (message_in l.meaning.view)))

@@ -9,13 +9,27 @@ pub returns-in_err-found-clause-bad : goal.returns-in_err-found-clause-bad
 returns-in_err-found-clause-bad c =
     let option = option_in c.in-Some.option in
     let left = options_left c.next.new.self in
-    let further = walked_further (options_at 0 c.args.view.now.options.now) option left (options_left c.options.option-iterator) c.options.found c.options.invariant (options_ascend c.args.view.now.options.now) c.in-Some.ensures.steps in
-    let bad = walked_bad (options_at 0 c.args.view.now.options.now) option left (options_left c.options.option-iterator) c.options.found c.in_err-found.field-0.0.0 c.options.invariant c.in-Some.ensures.steps (c.in_err-found.ensures.bad c.options.invariant.front c.options.invariant.found further) in
+    let further =
+    walked_further (options_at 0 c.args.view.now.options.now) option left
+    (options_left c.options.option-iterator) c.options.found c.options.invariant
+    (options_ascend c.args.view.now.options.now) c.in-Some.ensures.steps in
+    let bad =
+    walked_bad (options_at 0 c.args.view.now.options.now) option left
+    (options_left c.options.option-iterator) c.options.found c.in_err-found.field-0.0.0
+    c.options.invariant c.in-Some.ensures.steps
+    (c.in_err-found.ensures.bad c.options.invariant.front c.options.invariant.found further)
+    in
     search (rules, bad)
 
 pub options-preserved : goal.options-preserved
 options-preserved c =
     let option = option_in c.in-Some.option in
     let left = options_left c.next.new.self in
-    let further = walked_further (options_at 0 c.args.view.now.options.now) option left (options_left c.options.option-iterator) c.options.found c.options.invariant (options_ascend c.args.view.now.options.now) c.in-Some.ensures.steps in
-    walked_more (options_at 0 c.args.view.now.options.now) option left (options_left c.options.option-iterator) c.options.found c.in_ok-found.found c.options.invariant c.in-Some.ensures.steps (c.in_ok-found.ensures.found c.options.invariant.front c.options.invariant.found further)
+    let further =
+    walked_further (options_at 0 c.args.view.now.options.now) option left
+    (options_left c.options.option-iterator) c.options.found c.options.invariant
+    (options_ascend c.args.view.now.options.now) c.in-Some.ensures.steps in
+    walked_more (options_at 0 c.args.view.now.options.now) option left
+    (options_left c.options.option-iterator) c.options.found c.in_ok-found.found
+    c.options.invariant c.in-Some.ensures.steps
+    (c.in_ok-found.ensures.found c.options.invariant.front c.options.invariant.found further)

@@ -5,4 +5,5 @@ use Rattle.coap_options.proofs.option_walks.meaning.Given as goal
 
 -- the options that are left follow those that were walked
 abbrev pub invariant-options : goal.invariant-options
-invariant-options l = IsWalked (options_at 0 l.view.options.now) (options_left l.option-iterator) l.found
+invariant-options l =
+    IsWalked (options_at 0 l.view.options.now) (options_left l.option-iterator) l.found

@@ -6,4 +6,6 @@ use Rattle.coap_options.proofs.ValuesLemmas.{etags_all}
 use Rattle.coap_options.proofs.values.etags.Goals as goal
 
 pub returns : goal.returns
-returns c = ap (values_left etag) c.options_of.ensures ∙ etags_all (message_in c.args.meaning.now.view).options
+returns c =
+    ap (values_left etag) c.options_of.ensures
+    ∙ etags_all (message_in c.args.meaning.now.view).options

@@ -5,7 +5,8 @@ use Rattle.coap_options.proofs.values.next_value.Given as goal
 
 -- what was passed holds no value
 abbrev pub invariant-options : goal.invariant-options
-invariant-options l = values_left l.number (options_left l.left) ≡ values_left l.number (options_left l.options)
+invariant-options l =
+    values_left l.number (options_left l.left) ≡ values_left l.number (options_left l.options)
 
 abbrev pub decreases-options : goal.decreases-options
 decreases-options l = length (options_left l.left)

@@ -6,4 +6,6 @@ use Rattle.coap_options.proofs.ValuesLemmas.{queries_all}
 use Rattle.coap_options.proofs.values.queries.Goals as goal
 
 pub returns : goal.returns
-returns c = ap (values_left uri_query) c.options_of.ensures ∙ queries_all (message_in c.args.meaning.now.view).options
+returns c =
+    ap (values_left uri_query) c.options_of.ensures
+    ∙ queries_all (message_in c.args.meaning.now.view).options

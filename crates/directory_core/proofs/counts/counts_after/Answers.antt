@@ -10,10 +10,13 @@ lapsed-preserved g c =
     ap (λ counts. without_lapses from records counts c.step.new.self)
     (c.counts_without-counts.ensures ∙ ap (without_lapse from c.lapsed.counts) c.get.ensures)
     ∙ sym (lapses_first from records c.lapsed.counts c.in-Some.number c.step.new.self)
-    ∙ ap (without_lapses from records c.lapsed.counts) (sym c.in-Some.ensures.next) ∙ c.lapsed.invariant
+    ∙ ap (without_lapses from records c.lapsed.counts) (sym c.in-Some.ensures.next)
+    ∙ c.lapsed.invariant
 
 pub returns : goal.returns
 returns g c =
     let from = c.args.from.0 in
     let records = c.args.records.now in
-    sym (lapses_end from records c.lapsed.counts) ∙ ap (without_lapses from records c.lapsed.counts) (sym c.in_default.ensures.end.0) ∙ c.lapsed.invariant
+    sym (lapses_end from records c.lapsed.counts)
+    ∙ ap (without_lapses from records c.lapsed.counts) (sym c.in_default.ensures.end.0)
+    ∙ c.lapsed.invariant

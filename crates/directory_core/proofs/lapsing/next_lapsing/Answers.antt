@@ -10,7 +10,8 @@ returns-then-is_live_at-clause-next g c =
     let records = c.args.records.now in
     let later : nat_lt from (lapse c.in-Some-get.kept.now) ≡ true = search rules in
     sym c.numbers.invariant ∙ ap (lapsing_left from records) c.in-Some.ensures.next
-    ∙ lapses_here from records c.in-Some.number c.step.new.self c.in-Some-get.kept.now (sym c.in-Some-get.ensures) later
+    ∙ lapses_here from records c.in-Some.number c.step.new.self c.in-Some-get.kept.now
+    (sym c.in-Some-get.ensures) later
     ∙ ap (λ r. r ∷ lapsing_left from records c.step.new.self) (sym c.as_record.ensures)
 
 pub numbers-preserved-else-is_live_at : goal.numbers-preserved-else-is_live_at
@@ -18,7 +19,8 @@ numbers-preserved-else-is_live_at g c =
     let from = c.args.from.0 in
     let records = c.args.records.now in
     let not_later : nat_lt from (lapse c.in-Some-get.kept.now) ≡ false = search rules in
-    sym (lapses_not from records c.in-Some.number c.step.new.self c.in-Some-get.kept.now (sym c.in-Some-get.ensures) not_later)
+    sym (lapses_not from records c.in-Some.number c.step.new.self c.in-Some-get.kept.now
+    (sym c.in-Some-get.ensures) not_later)
     ∙ ap (lapsing_left from records) (sym c.in-Some.ensures.next) ∙ c.numbers.invariant
 
 pub numbers-preserved : goal.numbers-preserved
@@ -32,5 +34,10 @@ pub returns-clause-end : goal.returns-clause-end
 returns-clause-end g c =
     let from = c.args.from.0 in
     let records = c.args.records.now in
-    let none = lapsing_none from records in
-    (sym c.numbers.invariant ∙ ap (lapsing_left from records) c.in_default.ensures.end.0 ∙ none, ap (lapsing_left from records) c.in_default.ensures.end.1 ∙ none)
+    let none = lapsing_none from records in (
+      sym c.numbers.invariant
+          ∙ ap (lapsing_left from records) c.in_default.ensures.end.0
+          ∙ none,
+      ap (lapsing_left from records) c.in_default.ensures.end.1
+          ∙ none,
+    )

@@ -6,14 +6,18 @@ pub returns-in_err-numbers-clause-counted : goal.returns-in_err-numbers-clause-c
 returns-in_err-numbers-clause-counted g c =
     let racers = c.in_ok-racers.racers in
     let size : vec_len racers ≡ length racers.items = search rules in
-    counted_each c.args.steps.now c.fewest.new.steps (vec_len racers) c.args.index.now c.args.criteria.now racers.items c.in_ok-racers.ensures size c.fewest.ensures.counted
+    counted_each c.args.steps.now c.fewest.new.steps (vec_len racers) c.args.index.now
+    c.args.criteria.now racers.items c.in_ok-racers.ensures size c.fewest.ensures.counted
 
 pub returns-clause-carriers : goal.returns-clause-carriers
 returns-clause-carriers g c =
-    numbers_of c.args.index.now c.args.criteria.now c.in_ok-racers.racers.items c.in_ok-numbers.numbers.items c.sorted.result.items c.in_ok-racers.ensures c.in_ok-numbers.ensures.found c.sorted.ensures.same
+    numbers_of c.args.index.now c.args.criteria.now c.in_ok-racers.racers.items
+    c.in_ok-numbers.numbers.items c.sorted.result.items c.in_ok-racers.ensures
+    c.in_ok-numbers.ensures.found c.sorted.ensures.same
 
 pub returns-clause-counted : goal.returns-clause-counted
 returns-clause-counted g c =
     let racers = c.in_ok-racers.racers in
     let size : vec_len racers ≡ length racers.items = search rules in
-    counted_each c.args.steps.now c.fewest.new.steps (vec_len racers) c.args.index.now c.args.criteria.now racers.items c.in_ok-racers.ensures size c.fewest.ensures.counted
+    counted_each c.args.steps.now c.fewest.new.steps (vec_len racers) c.args.index.now
+    c.args.criteria.now racers.items c.in_ok-racers.ensures size c.fewest.ensures.counted

@@ -3,11 +3,17 @@ use Rattle.directory_core.proofs.RaceLaws.{fair_start, raced, round, same_wholes
 use Rattle.directory_core.proofs.races.race.Goals as goal
 
 pub turns-init : goal.turns-init
-turns-init g c = record { within = c.requires; same = refl; fair = fair_start c.args.steps.now (length c.args.racers.now) c.args.racers.now }
+turns-init g c = record {
+  within = c.requires;
+  same = refl;
+  fair = fair_start c.args.steps.now (length c.args.racers.now) c.args.racers.now;
+}
 
 pub returns-in_err-advance-clause-counted : goal.returns-in_err-advance-clause-counted
 returns-in_err-advance-clause-counted g c =
-    raced c.args.steps.now c.turns.steps c.advance.new.steps (length c.args.racers.now) c.turns.at c.turns.racers c.args.racers.now c.turns.invariant.within c.turns.auto.racers c.advance.ensures.counted c.turns.invariant.same c.turns.invariant.fair
+    raced c.args.steps.now c.turns.steps c.advance.new.steps (length c.args.racers.now) c.turns.at
+    c.turns.racers c.args.racers.now c.turns.invariant.within c.turns.auto.racers
+    c.advance.ensures.counted c.turns.invariant.same c.turns.invariant.fair
 
 pub turns-preserved-then-at-racers : goal.turns-preserved-then-at-racers
 turns-preserved-then-at-racers g c =
@@ -15,8 +21,17 @@ turns-preserved-then-at-racers g c =
     let given = rw c.if-branch.true at c.in_ok-advance.ensures.turned in
     record {
       within = omega (arith, size, c.turns.invariant.within);
-      same = same_wholes c.turns.racers c.turns.at (get_or c.turns.racers c.turns.at c.index-racers-at.result) c.index-racers-at.result c.advance.new.self c.turns.invariant.within refl given.0 ∙ c.turns.invariant.same;
-      fair = round c.args.steps.now c.turns.steps c.advance.new.steps (length c.args.racers.now) c.turns.at c.turns.racers (get_or c.turns.racers c.turns.at c.index-racers-at.result) c.index-racers-at.result c.advance.new.self c.turns.invariant.within c.turns.auto.racers (omega (arith, size, c.turns.auto.racers, c.if-at-racers.true)) c.advance.ensures.counted refl given.1 c.turns.invariant.fair;
+      same =
+          same_wholes c.turns.racers c.turns.at
+          (get_or c.turns.racers c.turns.at c.index-racers-at.result) c.index-racers-at.result
+          c.advance.new.self c.turns.invariant.within refl given.0
+          ∙ c.turns.invariant.same;
+      fair =
+          round c.args.steps.now c.turns.steps c.advance.new.steps (length c.args.racers.now)
+          c.turns.at c.turns.racers (get_or c.turns.racers c.turns.at c.index-racers-at.result)
+          c.index-racers-at.result c.advance.new.self c.turns.invariant.within
+          c.turns.auto.racers (omega (arith, size, c.turns.auto.racers, c.if-at-racers.true))
+          c.advance.ensures.counted refl given.1 c.turns.invariant.fair;
     }
 
 pub turns-preserved : goal.turns-preserved
@@ -25,15 +40,28 @@ turns-preserved g c =
     let given = rw c.if-branch.true at c.in_ok-advance.ensures.turned in
     record {
       within = omega (arith, size, c.turns.invariant.within, c.if-at-racers.false);
-      same = same_wholes c.turns.racers c.turns.at (get_or c.turns.racers c.turns.at c.index-racers-at.result) c.index-racers-at.result c.advance.new.self c.turns.invariant.within refl given.0 ∙ c.turns.invariant.same;
-      fair = turned c.args.steps.now c.turns.steps c.advance.new.steps (length c.args.racers.now) c.turns.at c.turns.racers (get_or c.turns.racers c.turns.at c.index-racers-at.result) c.index-racers-at.result c.advance.new.self c.turns.invariant.within c.advance.ensures.counted refl given.1 c.turns.invariant.fair;
+      same =
+          same_wholes c.turns.racers c.turns.at
+          (get_or c.turns.racers c.turns.at c.index-racers-at.result) c.index-racers-at.result
+          c.advance.new.self c.turns.invariant.within refl given.0
+          ∙ c.turns.invariant.same;
+      fair =
+          turned c.args.steps.now c.turns.steps c.advance.new.steps (length c.args.racers.now)
+          c.turns.at c.turns.racers (get_or c.turns.racers c.turns.at c.index-racers-at.result)
+          c.index-racers-at.result c.advance.new.self c.turns.invariant.within
+          c.advance.ensures.counted refl given.1 c.turns.invariant.fair;
     }
 
 pub returns-clause-same : goal.returns-clause-same
 returns-clause-same g c =
     let given = rw c.if-branch.false at c.in_ok-advance.ensures.turned in
-    same_wholes c.turns.racers c.turns.at (get_or c.turns.racers c.turns.at c.index-racers-at.result) c.index-racers-at.result c.advance.new.self c.turns.invariant.within refl given.0 ∙ c.turns.invariant.same
+    same_wholes c.turns.racers c.turns.at
+    (get_or c.turns.racers c.turns.at c.index-racers-at.result) c.index-racers-at.result
+    c.advance.new.self c.turns.invariant.within refl given.0
+    ∙ c.turns.invariant.same
 
 pub returns-clause-counted : goal.returns-clause-counted
 returns-clause-counted g c =
-    raced c.args.steps.now c.turns.steps c.advance.new.steps (length c.args.racers.now) c.turns.at c.turns.racers c.args.racers.now c.turns.invariant.within c.turns.auto.racers c.advance.ensures.counted c.turns.invariant.same c.turns.invariant.fair
+    raced c.args.steps.now c.turns.steps c.advance.new.steps (length c.args.racers.now) c.turns.at
+    c.turns.racers c.args.racers.now c.turns.invariant.within c.turns.auto.racers
+    c.advance.ensures.counted c.turns.invariant.same c.turns.invariant.fair

@@ -4,4 +4,6 @@ use Rattle.directory_core.proofs.AgainstLaws.{against_rebased}
 use Rattle.directory_core.proofs.updated_drafts.items_against.Goals as goal
 
 pub returns-clause-against : goal.returns-clause-against
-returns-clause-against c = subst (AreAgainst c.args.base.now) (sym c.in_ok-items-2.ensures.items) (against_rebased c.args.base.now c.args.old.now.items)
+returns-clause-against c =
+    subst (AreAgainst c.args.base.now) (sym c.in_ok-items-2.ensures.items)
+    (against_rebased c.args.base.now c.args.old.now.items)

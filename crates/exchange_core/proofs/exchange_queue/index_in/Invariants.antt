@@ -5,7 +5,9 @@ use Rattle.exchange_core.proofs.ChainLaws.{CameTo}
 use Rattle.exchange_core.proofs.exchange_queue.index_in.Given as goal
 
 abbrev pub invariant-older : goal.invariant-older
-invariant-older l = CameTo l.chains.first (bucket_of l.peer l.mid) l.number (is_sought l.peer l.mid l.admitted) l.rows.items
+invariant-older l =
+    CameTo l.chains.first (bucket_of l.peer l.mid) l.number (is_sought l.peer l.mid l.admitted)
+    l.rows.items
 
 abbrev pub decreases-older : goal.decreases-older
 decreases-older l = l.number

@@ -11,9 +11,13 @@ returns-in-Some c =
     let any : Exchange = admitted_now c.args.peer c.args.mid 0 in
     let x : Exchange = get_or c.args.queue.now c.in-Some.index any in
     let there = sym c.in-Some.ensures in
-    let is = some_same (sym (find-or test c.args.queue.now c.in-Some.index any there) ∙ find-or test c.args.queue.now c.in-Some.index x there) in
-    c.answer.ensures any ∙ changed_first-at test (answered c.args.reply) c.args.queue.now c.in-Some.index x there is
+    let is =
+    some_same (sym (find-or test c.args.queue.now c.in-Some.index any there) ∙ find-or test
+    c.args.queue.now c.in-Some.index x there) in
+    c.answer.ensures any
+    ∙ changed_first-at test (answered c.args.reply) c.args.queue.now c.in-Some.index x there is
 
 pub returns-in_default : goal.returns-in_default
 returns-in_default c =
-    changed_first-nowhere (is_admitted_at c.args.peer c.args.mid c.args.admitted.0) (answered c.args.reply) c.args.queue.now (sym c.in_default.ensures)
+    changed_first-nowhere (is_admitted_at c.args.peer c.args.mid c.args.admitted.0)
+    (answered c.args.reply) c.args.queue.now (sym c.in_default.ensures)

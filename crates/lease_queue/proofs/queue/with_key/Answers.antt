@@ -12,8 +12,12 @@ use Rattle.lease_queue.proofs.queue.with_key.Goals as goal
 pub returns : goal.returns
 returns c = by c.changed.result c.changed.ensures.pairs
   where
-    by : (r : Result (List (Lease × Unit {0})) Starved) → IfOk r (IsChanged lease_cmp (λ _ new. new ≡ Some tt) c.args.leases c.args.lease)
+    by : (r : Result (List (Lease × Unit {0})) Starved)
+        → IfOk r (IsChanged lease_cmp (λ _ new. new ≡ Some tt) c.args.leases c.args.lease)
         → IfOk r (λ map. keys_of map ≡ with_lease (keys_of c.args.leases) c.args.lease)
     by (Ok map) h =
-        ap keys_of h.2 ∙ (ap (λ (o : Option (Unit {0})). keys_of (with_value lease_cmp c.args.leases c.args.lease o)) h.1 ∙ keys_with tt c.args.leases c.args.lease c.requires)
+        ap keys_of h.2
+        ∙ (ap (λ (o : Option (Unit {0})).
+        keys_of (with_value lease_cmp c.args.leases c.args.lease o)) h.1
+        ∙ keys_with tt c.args.leases c.args.lease c.requires)
     by (Err e) h = tt

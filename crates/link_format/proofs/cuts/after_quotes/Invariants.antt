@@ -1,4 +1,5 @@
--- The octets read in the string and the count of those left make the count of all, whatever the separator is.
+-- The octets read in the string and the count of those left make the count of all, whatever the
+-- separator is.
 use Rattle.std.proofs.Common.{ℕ, length}
 use Rattle.link_format.specs.declared.cuts.Quotes.TheVariants.{Inside}
 use Rattle.link_format.proofs.CutLemmas.{Counted}

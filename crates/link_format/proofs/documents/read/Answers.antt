@@ -7,14 +7,18 @@ use Rattle.link_format.proofs.documents.read.Goals as goal
 
 pub from_utf8_unchecked-text-requires : goal.from_utf8_unchecked-text-requires
 from_utf8_unchecked-text-requires c =
-    (checked_where_found c.args.body.now c.walk-reach.result.is_document c.walk-reach.ensures.document c.if-not-reach.false).utf8
+    (checked_where_found c.args.body.now c.walk-reach.result.is_document
+    c.walk-reach.ensures.document c.if-not-reach.false).utf8
 
 pub links_of_text-requires : goal.links_of_text-requires
 links_of_text-requires c =
     ap (λ text. is_some (links_of text)) c.from_utf8_unchecked-text.ensures
-    ∙ (checked_where_found c.args.body.now c.walk-reach.result.is_document c.walk-reach.ensures.document c.if-not-reach.false).spells
+    ∙ (checked_where_found c.args.body.now c.walk-reach.result.is_document
+    c.walk-reach.ensures.document c.if-not-reach.false).spells
 
 pub returns-clause-ok : goal.returns-clause-ok
 returns-clause-ok c =
-    (checked_where_found c.args.body.now c.walk-reach.result.is_document c.walk-reach.ensures.document c.if-not-reach.false).links
-    ∙ ap (λ (links : List Link). Some links) (ap links_in (sym c.from_utf8_unchecked-text.ensures) ∙ sym c.links_of_text.ensures)
+    (checked_where_found c.args.body.now c.walk-reach.result.is_document
+    c.walk-reach.ensures.document c.if-not-reach.false).links
+    ∙ ap (λ (links : List Link). Some links)
+    (ap links_in (sym c.from_utf8_unchecked-text.ensures) ∙ sym c.links_of_text.ensures)

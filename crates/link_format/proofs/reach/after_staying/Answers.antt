@@ -8,4 +8,6 @@ staying-init c = none_over (point_in c.args.point) c.args.octets.now
 
 pub staying-preserved : goal.staying-preserved
 staying-preserved c =
-    one_over (point_in c.args.point) c.args.octets.now c.staying.rest.now c.in-Some.more.now c.in-Some.octet.now c.staying.invariant c.in-Some.ensures.cases.0 (c.stays.ensures.point c.if-not-stays.false) (c.stays.ensures.tails c.if-not-stays.false)
+    one_over (point_in c.args.point) c.args.octets.now c.staying.rest.now c.in-Some.more.now
+    c.in-Some.octet.now c.staying.invariant c.in-Some.ensures.cases.0
+    (c.stays.ensures.point c.if-not-stays.false) (c.stays.ensures.tails c.if-not-stays.false)

@@ -1,4 +1,5 @@
--- The octets left are read from the point that was reached, and after the octets of UTF-8 that are due.
+-- The octets left are read from the point that was reached, and after the octets of UTF-8 that are
+-- due.
 use Rattle.std.proofs.Common.{length}
 use Rattle.link_format.specs.Points.{point_in}
 use Rattle.link_format.proofs.WalkLemmas.{Walked}

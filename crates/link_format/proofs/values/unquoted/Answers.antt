@@ -8,13 +8,19 @@ use Rattle.link_format.proofs.values.unquoted.Goals as goal
 use Rattle.std.specs.Prelude.{false, length}
 
 pub returns-in_default : goal.returns-in_default
-returns-in_default c = sym (unquoted_empty c.args.value.now (ap length (sym c.chars-characters.ensures.rest) ∙ c.in_default.ensures.steps.0.0))
+returns-in_default c =
+    sym (unquoted_empty c.args.value.now
+    (ap length (sym c.chars-characters.ensures.rest) ∙ c.in_default.ensures.steps.0.0))
 
 pub returns-then-first-ne34 : goal.returns-then-first-ne34
-returns-then-first-ne34 c = unquoted_first c.args.value.now (chars_rest c.next.new.self) c.in-Some.first (sym c.chars-characters.ensures.rest ∙ c.in-Some.ensures.steps.0) c.if-first-ne34.true
+returns-then-first-ne34 c =
+    unquoted_first c.args.value.now (chars_rest c.next.new.self) c.in-Some.first
+    (sym c.chars-characters.ensures.rest ∙ c.in-Some.ensures.steps.0) c.if-first-ne34.true
 
 pub returns : goal.returns
 returns c =
     subst (λ (v : List ℕ). IfOk c.content.result (λ said. value_seen said ≡ v))
-    (ap (content_up_to_quote false) c.as_str.ensures ∙ unquoted_opened c.args.value.now (chars_rest c.next.new.self) c.in-Some.first (sym c.chars-characters.ensures.rest ∙ c.in-Some.ensures.steps.0) c.if-first-ne34.false)
+    (ap (content_up_to_quote false) c.as_str.ensures
+    ∙ unquoted_opened c.args.value.now (chars_rest c.next.new.self) c.in-Some.first
+    (sym c.chars-characters.ensures.rest ∙ c.in-Some.ensures.steps.0) c.if-first-ne34.false)
     c.content.ensures

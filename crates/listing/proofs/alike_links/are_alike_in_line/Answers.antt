@@ -8,5 +8,8 @@ returns c same line = record {
   line = line;
   target = target_same c.args.old.now c.args.new.now line (search rules);
   anchor = search rules;
-  pairs = sym c.pairs.ensures ∙ pairs_same c.pairs.result c.pairs-2.result (sym c.eq.ensures ∙ same) ∙ c.pairs-2.ensures;
+  pairs =
+      sym c.pairs.ensures
+      ∙ pairs_same c.pairs.result c.pairs-2.result (sym c.eq.ensures ∙ same)
+      ∙ c.pairs-2.ensures;
 }

@@ -13,11 +13,18 @@ pub links-preserved : goal.links-preserved
 links-preserved c =
     let split = c.in-Some.ensures.steps in
     let cut = c.in-Some-next.ensures.steps in
-    let long = sym (ap length c.line.ensures) ∙ c.if-line.false ∙ ap length c.line-in-Some.ensures in
-    let line = first_same c.links.left c.links.others c.next.new.self c.next-in-Some.new.self c.in-Some.link c.in-Some-next.other split cut long c.links.invariant.text in
+    let long =
+    sym (ap length c.line.ensures) ∙ c.if-line.false ∙ ap length c.line-in-Some.ensures in
+    let line =
+    first_same c.links.left c.links.others c.next.new.self c.next-in-Some.new.self
+    c.in-Some.link c.in-Some-next.other split cut long c.links.invariant.text in
     record {
-      text = others_same c.links.left c.links.others c.next.new.self c.next-in-Some.new.self c.in-Some.link c.in-Some-next.other split cut long c.links.invariant.text;
+      text =
+          others_same c.links.left c.links.others c.next.new.self c.next-in-Some.new.self
+          c.in-Some.link c.in-Some-next.other split cut long c.links.invariant.text;
       alike = λ rest.
           c.links.invariant.alike
-          (AreAllAlike-more c.links.left c.links.others c.next.new.self c.next-in-Some.new.self c.in-Some.link c.in-Some-next.other split cut (c.are_alike_in_line.ensures c.if-not-are_alike_in_line.false line) rest);
+          (AreAllAlike-more c.links.left c.links.others c.next.new.self c.next-in-Some.new.self
+          c.in-Some.link c.in-Some-next.other split cut
+          (c.are_alike_in_line.ensures c.if-not-are_alike_in_line.false line) rest);
     }

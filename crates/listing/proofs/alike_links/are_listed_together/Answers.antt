@@ -10,4 +10,5 @@ returns c r s old new =
     let first = subst (AreJudged r c.args.old_judged.now) (sym c.as_slice.ensures) old in
     let second = subst (AreJudged s c.args.new_judged.now) (sym c.as_slice.ensures) new in
     listed-agree c.are_judged_alike.result c.args.query.now r s
-    (λ same. subst (λ (cs : List Criterion). AreJudgedAlike cs r s) c.as_slice.ensures (c.are_judged_alike.ensures same r s first second))
+    (λ same. subst (λ (cs : List Criterion). AreJudgedAlike cs r s) c.as_slice.ensures
+    (c.are_judged_alike.ensures same r s first second))

@@ -9,5 +9,7 @@ pub returns-then-ne : goal.returns-then-ne
 returns-then-ne c =
     texts_differ c.args.old.now c.args.new.now
     (λ same.
-    let yet = (bytes_eq-Decides c.listed.result.now c.listed-2.result.now).1 (c.listed.ensures ∙ same ∙ sym c.listed-2.ensures) in
+    let yet =
+    (bytes_eq-Decides c.listed.result.now c.listed-2.result.now).1
+    (c.listed.ensures ∙ same ∙ sym c.listed-2.ensures) in
     false≢true (sym (ap not yet) ∙ sym c.ne.ensures ∙ c.if-ne.true))

@@ -7,7 +7,9 @@ use Rattle.listing.proofs.alike_links.same_lines_in_text.Given as goal
 abbrev pub invariant-links : goal.invariant-links
 invariant-links l = record {
   text : tail_of l.left ≡ tail_of l.others;
-  same : same_lines (all_lines l.left) (all_lines l.others) ≡ same_lines (all_lines l.fn.old) (all_lines l.fn.new);
+  same :
+      same_lines (all_lines l.left) (all_lines l.others)
+      ≡ same_lines (all_lines l.fn.old) (all_lines l.fn.new);
 }
 
 abbrev pub decreases-links : goal.decreases-links

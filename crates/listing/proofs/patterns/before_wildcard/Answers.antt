@@ -5,4 +5,7 @@ use Rattle.listing.proofs.PatternLaws.{before_end}
 use Rattle.listing.proofs.patterns.before_wildcard.Goals as goal
 
 pub returns : goal.returns
-returns c = before_end c.args.pattern.now c.strip_suffix.result (strip_suffix_char asterisk c.args.pattern.now c.strip_suffix.result c.strip_suffix.ensures.cases (search rules))
+returns c =
+    before_end c.args.pattern.now c.strip_suffix.result
+    (strip_suffix_char asterisk c.args.pattern.now c.strip_suffix.result
+    c.strip_suffix.ensures.cases (search rules))

@@ -11,9 +11,15 @@ returns-then-not-is_empty c =
     let rest = c.parts.rest.now in
     let part = c.in-Some.part.now in
     let more = c.in-Some.more.now in
-    let parts = split_parts space rest (Some (c.in-Some.part, c.in-Some.more)) c.in-Some.ensures.cases (search rules) in
-    let some : part ≢ [] = search rules in
-    (c.parts.invariant.same ∙ part_before rest part more parts.0 parts.1 some, omega (arith, ap length parts.0, length-append part (space ∷ more), c.parts.invariant.few))
+    let parts =
+    split_parts space rest (Some (c.in-Some.part, c.in-Some.more)) c.in-Some.ensures.cases
+    (search rules) in
+    let some : part ≢ [] = search rules in (
+      c.parts.invariant.same
+          ∙ part_before rest part more parts.0 parts.1 some,
+      omega
+          (arith, ap length parts.0, length-append part (space ∷ more), c.parts.invariant.few),
+    )
 
 pub returns : goal.returns
 returns c =

@@ -12,7 +12,10 @@ unfolding part
 returns-in-Resource c =
     let sieve = sifts c.of-sieve.result in
     let listed = link_listed c.args.query.now c.args.record_of.now in
-    lines_none sieve c.links.result c.first_listed.result c.is_none.result c.first_listed.ensures c.is_none.ensures
+    lines_none sieve c.links.result c.first_listed.result c.is_none.result c.first_listed.ensures
+    c.is_none.ensures
     ∙ ap (λ (ls : List (List ℕ)). same_lines ls [])
-    (lines-same sieve listed c.of-sieve.ensures.lists c.links.result ∙ ap (lines_by listed) c.links.ensures
-    ∙ sym (ap (λ (kind : Kind). part_of_kind kind c.args.query.now c.args.record_of.now) c.in-Resource.is))
+    (lines-same sieve listed c.of-sieve.ensures.lists c.links.result
+    ∙ ap (lines_by listed) c.links.ensures
+    ∙ sym (ap (λ (kind : Kind). part_of_kind kind c.args.query.now c.args.record_of.now)
+    c.in-Resource.is))

@@ -7,8 +7,12 @@ use Rattle.listing.proofs.sieves.link_listed_by.Given as goal
 abbrev pub invariant-criteria : goal.invariant-criteria
 invariant-criteria l = record {
   judged : AreJudged l.record_of l.left l.rest;
-  same : list_all (λ criterion. model.link_matches criterion l.link || model.endpoint_matches criterion l.record_of) l.rest
-      ≡ list_all (λ criterion. model.link_matches criterion l.link || model.endpoint_matches criterion l.record_of) l.criteria;
+  same : list_all (λ criterion.
+      model.link_matches criterion l.link || model.endpoint_matches criterion l.record_of)
+      l.rest
+      ≡ list_all (λ criterion.
+      model.link_matches criterion l.link || model.endpoint_matches criterion l.record_of)
+      l.criteria;
 }
 
 abbrev pub decreases-criteria : goal.decreases-criteria

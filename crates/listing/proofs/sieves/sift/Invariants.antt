@@ -8,7 +8,10 @@ use Rattle.listing.proofs.sieves.sift.Given as goal
 abbrev pub invariant-criteria : goal.invariant-criteria
 invariant-criteria l = record {
   judged : (r : Record) → AreJudged r l.judged l.criteria → AreJudged r l.left l.rest;
-  listed : (r : Record) → AreJudged r l.judged l.criteria → (item : Item) → meets (Some r) l.rest item ≡ meets (Some r) l.criteria item;
+  listed : (r : Record)
+      → AreJudged r l.judged l.criteria
+      → (item : Item)
+      → meets (Some r) l.rest item ≡ meets (Some r) l.criteria item;
 }
 
 abbrev pub decreases-criteria : goal.decreases-criteria

@@ -4,7 +4,8 @@ use Rattle.observers.proofs.walks.gather.Given as goal
 
 abbrev pub invariant-observers : goal.invariant-observers
 invariant-observers l = record {
-  peers : l.awaited.items ++ awaited_of (drop l.observer-index l.observers) ≡ awaited_of l.observers;
+  peers :
+      l.awaited.items ++ awaited_of (drop l.observer-index l.observers) ≡ awaited_of l.observers;
   few : length l.awaited.items ≤ l.observer-index;
   capacity : vec_capacity l.awaited ≡ vec_capacity l.initial.awaited;
 }

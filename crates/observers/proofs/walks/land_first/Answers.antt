@@ -6,15 +6,27 @@ use Rattle.observers.proofs.WalkLaws.{any-first, any-nowhere}
 use Rattle.observers.proofs.walks.land_first.Goals as goal
 
 pub returns-in-Some-clause-found : goal.returns-in-Some-clause-found
-returns-in-Some-clause-found c = any-first (has_notice c.args.peer.now c.args.mid) c.args.observers.now.items c.in-Some.index (sym (c.in-Some.ensures ∙ ap (position (has_notice c.args.peer.now c.args.mid)) c.as_slice.ensures.value))
+returns-in-Some-clause-found c =
+    any-first (has_notice c.args.peer.now c.args.mid) c.args.observers.now.items c.in-Some.index
+    (sym (c.in-Some.ensures
+    ∙ ap (position (has_notice c.args.peer.now c.args.mid)) c.as_slice.ensures.value))
 
 pub returns-in-Some-clause-landed : goal.returns-in-Some-clause-landed
 returns-in-Some-clause-landed c =
     ap (slice_set c.args.observers.now.items c.in-Some.index) c.land.ensures
-    ∙ changed_first-at (has_notice c.args.peer.now c.args.mid) landed c.args.observers.now.items c.in-Some.index c.index_mut.result.now (sym (c.in-Some.ensures ∙ ap (position (has_notice c.args.peer.now c.args.mid)) c.as_slice.ensures.value)) c.index_mut.ensures.value
+    ∙ changed_first-at (has_notice c.args.peer.now c.args.mid) landed c.args.observers.now.items
+    c.in-Some.index c.index_mut.result.now (sym (c.in-Some.ensures
+    ∙ ap (position (has_notice c.args.peer.now c.args.mid)) c.as_slice.ensures.value))
+    c.index_mut.ensures.value
 
 pub returns-in-None-clause-found : goal.returns-in-None-clause-found
-returns-in-None-clause-found c = any-nowhere (has_notice c.args.peer.now c.args.mid) c.args.observers.now.items (sym (c.in-None.ensures ∙ ap (position (has_notice c.args.peer.now c.args.mid)) c.as_slice.ensures.value))
+returns-in-None-clause-found c =
+    any-nowhere (has_notice c.args.peer.now c.args.mid) c.args.observers.now.items
+    (sym (c.in-None.ensures
+    ∙ ap (position (has_notice c.args.peer.now c.args.mid)) c.as_slice.ensures.value))
 
 pub returns-in-None-clause-landed : goal.returns-in-None-clause-landed
-returns-in-None-clause-landed c = changed_first-nowhere (has_notice c.args.peer.now c.args.mid) landed c.args.observers.now.items (sym (c.in-None.ensures ∙ ap (position (has_notice c.args.peer.now c.args.mid)) c.as_slice.ensures.value))
+returns-in-None-clause-landed c =
+    changed_first-nowhere (has_notice c.args.peer.now c.args.mid) landed c.args.observers.now.items
+    (sym (c.in-None.ensures
+    ∙ ap (position (has_notice c.args.peer.now c.args.mid)) c.as_slice.ensures.value))

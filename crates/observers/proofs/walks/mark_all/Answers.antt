@@ -11,4 +11,6 @@ items-preserved c =
     let same = c.items.auto.item-items in
     let inside = c.items-test.true in
     let within : i < length ys = omega (arith, same, inside) in
-    ap (λ w. slice_set ys i w) c.mark.ensures ∙ map_over_more (marked c.args.place) c.deref_mut-item-items.result.now ys i _ inside c.items.invariant (get_or_default ys i _ _ within)
+    ap (λ w. slice_set ys i w) c.mark.ensures
+    ∙ map_over_more (marked c.args.place) c.deref_mut-item-items.result.now ys i _ inside
+    c.items.invariant (get_or_default ys i _ _ within)

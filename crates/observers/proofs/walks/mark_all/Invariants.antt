@@ -3,4 +3,7 @@ use Rattle.observers.specs.Watchers.{marked}
 use Rattle.observers.proofs.walks.mark_all.Given as goal
 
 abbrev pub invariant-items : goal.invariant-items
-invariant-items l = l.item-items ≡ map (marked l.place) (take l.item-index l.initial.item-items) ++ drop l.item-index l.initial.item-items
+invariant-items l =
+    l.item-items
+    ≡ map (marked l.place) (take l.item-index l.initial.item-items)
+    ++ drop l.item-index l.initial.item-items

@@ -5,4 +5,7 @@ use Rattle.observers.proofs.WalkLaws.{changed-set, got-at}
 use Rattle.observers.proofs.walks.see_at.Goals as goal
 
 pub returns-clause-seen : goal.returns-clause-seen
-returns-clause-seen c = ap (slice_set c.args.observers.now.items c.args.index) c.see.ensures ∙ changed-set seen c.args.observers.now.items c.args.index c.index_mut.result.now c.requires c.index_mut.ensures.value
+returns-clause-seen c =
+    ap (slice_set c.args.observers.now.items c.args.index) c.see.ensures
+    ∙ changed-set seen c.args.observers.now.items c.args.index c.index_mut.result.now c.requires
+    c.index_mut.ensures.value

@@ -6,9 +6,13 @@ use Rattle.query_text.proofs.given_parameters.gathered.Given as goal
 
 abbrev pub invariant-options : goal.invariant-options
 invariant-options g l = record {
-  same : faults_from l.walk (g.Q.Pieces.left l.queries) ≡ faults_from (start_of l.fn.kind) (g.Q.Pieces.left l.fn.queries);
+  same :
+      faults_from l.walk (g.Q.Pieces.left l.queries)
+      ≡ faults_from (start_of l.fn.kind) (g.Q.Pieces.left l.fn.queries);
   kind : l.walk.kind ≡ l.fn.kind;
-  given : joined (values_in l.given) (values_of (g.Q.Pieces.left l.queries)) ≡ values_of (g.Q.Pieces.left l.fn.queries);
+  given :
+      joined (values_in l.given) (values_of (g.Q.Pieces.left l.queries))
+      ≡ values_of (g.Q.Pieces.left l.fn.queries);
   room : 0 < l.walk.index → l.walk.index + length (g.Q.Pieces.left l.queries) < 2 ^ 63;
 }
 

@@ -13,11 +13,13 @@ returns-in_err-rest c =
 pub returns-in_err-rest-2 : goal.returns-in_err-rest-2
 returns-in_err-rest-2 c =
     ap (option_map (λ b. b.now)) c.from_residual-in_err-rest-2.ensures
-    ∙ no_second _ (codes ":") (decimal c.args.peer.now.port) _ _ c.in_ok-rest.ensures c.in_err-rest-2.ensures
+    ∙ no_second _ (codes ":") (decimal c.args.peer.now.port) _ _ c.in_ok-rest.ensures
+    c.in_err-rest-2.ensures
     ∙ sym (ap (λ t. after_prefix t c.args.text.now) (peer_text_parts c.args.peer.now))
 
 pub returns : goal.returns
 returns c =
     c.after_number.ensures
-    ∙ after_three _ (codes ":") (decimal c.args.peer.now.port) _ _ _ c.in_ok-rest.ensures c.in_ok-rest-2.ensures
+    ∙ after_three _ (codes ":") (decimal c.args.peer.now.port) _ _ _ c.in_ok-rest.ensures
+    c.in_ok-rest-2.ensures
     ∙ sym (ap (λ t. after_prefix t c.args.text.now) (peer_text_parts c.args.peer.now))

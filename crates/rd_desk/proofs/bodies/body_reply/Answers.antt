@@ -9,5 +9,7 @@ returns-clause-reply c = record {
   observe = c.requires.observe;
   block2 = c.answered_block.ensures.block;
   block1 = λ b e. cc;
-  payload = let short = block_size-most c.szx_of.result c.szx_of.ensures.short in let most = c.in-Some.ensures.piece.most in omega (arith, short, most);
+  payload =
+      let short = block_size-most c.szx_of.result c.szx_of.ensures.short in
+      let most = c.in-Some.ensures.piece.most in omega (arith, short, most);
 }

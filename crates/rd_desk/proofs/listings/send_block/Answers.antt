@@ -8,6 +8,10 @@ use Rattle.rd_desk.proofs.listings.send_block.Goals as goal
 
 pub returns : goal.returns
 returns c s notes of =
-    let m = message_in c.args.meaning.now.view in
-    subst (λ (r : Reply). Sends (answering s m r notes) c.args.out.now c.answer.new.out c.args.mids.now c.answer.new.mids)
-    (c.body_reply-reply.ensures.said ∙ ap (λ (b : Option Block). body_reply (Some c.args.tag.0) c.args.observe b c.args.body.now) (c.asked_block-asked.ensures.asked m c.requires.meaning)) (c.answer.ensures.sends s notes of)
+    let m = message_in c.args.request.now.meaning.view in
+    subst (λ (r : Reply).
+    Sends (answering s m r notes) c.args.out.now c.answer.new.out c.args.mids.now
+    c.answer.new.mids)
+    (c.body_reply-reply.ensures.said
+    ∙ ap (λ (b : Option Block). body_reply (Some c.args.tag.0) c.args.observe b c.args.body.now)
+    c.args.request.now.asked_said) (c.answer.ensures.sends s notes of)

@@ -7,8 +7,10 @@ use Rattle.rd_desk.proofs.locations.given_change.Goals as goal
 pub unreachable-requires : goal.unreachable-requires
 unreachable-requires c =
     let faulty = rw c.in-Err-At.field-0-is at c.in-Err-At.ensures.value in
-    update_faulty (queries_in (message_in c.args.meaning.now.view)) (queries_left c.queries.result) (c.in-Err-At.field-0-0, c.in-Err-At.field-0-1) c.queries.ensures c.requires faulty
+    update_faulty (queries_in (message_in c.args.meaning.now.view)) (queries_left c.queries.result)
+    (c.in-Err-At.field-0-0, c.in-Err-At.field-0-1) c.queries.ensures c.requires faulty
 
 pub returns-in-Ok-clause-value : goal.returns-in-Ok-clause-value
 returns-in-Ok-clause-value c =
-    update_given (queries_in (message_in c.args.meaning.now.view)) (queries_left c.queries.result) c.in-Ok.change c.queries.ensures c.requires c.in-Ok.ensures.value
+    update_given (queries_in (message_in c.args.meaning.now.view)) (queries_left c.queries.result)
+    c.in-Ok.change c.queries.ensures c.requires c.in-Ok.ensures.value

@@ -6,10 +6,14 @@ use Rattle.rd_desk.proofs.looks.find_listing.Goals as goal
 
 pub returns-then-names_tag : goal.returns-then-names_tag
 returns-then-names_tag c history stands =
-    found_valid (message_in c.args.meaning.now.view) c.tag-tag.result.0 (tag history c.args.now.0) (listing c.args.query.now history c.args.now.0) (c.tag-tag.ensures 0 history stands)
+    found_valid (message_in c.args.request.now.meaning.view) c.tag-tag.result.0
+    (tag history c.args.now.0) (listing c.args.query.now history c.args.now.0)
+    (c.tag-tag.ensures 0 history stands)
     (sym c.names_tag.ensures ∙ c.if-names_tag.true)
 
 pub returns : goal.returns
 returns c history stands =
-    found_whole (message_in c.args.meaning.now.view) c.tag-tag.result.0 (tag history c.args.now.0) c.in_ok-octets.octets (listing c.args.query.now history c.args.now.0) (c.tag-tag.ensures 0 history stands)
+    found_whole (message_in c.args.request.now.meaning.view) c.tag-tag.result.0
+    (tag history c.args.now.0) c.in_ok-octets.octets
+    (listing c.args.query.now history c.args.now.0) (c.tag-tag.ensures 0 history stands)
     (c.in_ok-octets.ensures history stands) (sym c.names_tag.ensures ∙ c.if-names_tag.false)

@@ -11,21 +11,35 @@ use Rattle.rd_desk.proofs.looks.give.Goals as goal
 
 pub returns-in-Valid-clause-sends : goal.returns-in-Valid-clause-sends
 returns-in-Valid-clause-sends c s of =
-    let m = message_in c.args.meaning.now.view in
-    subst (λ (f : Found). Sends (look_sent s m (Some (look_found m f))) c.args.out.now c.answer.new.out c.args.mids.now c.answer.new.mids) (sym c.in-Valid.is)
-    (subst (λ (reply : Reply). Sends (answering s m reply []) c.args.out.now c.answer.new.out c.args.mids.now c.answer.new.mids) c.still_valid.ensures.said (c.answer.ensures.sends s [] of))
+    let m = message_in c.args.request.now.meaning.view in
+    subst (λ (f : Found).
+    Sends (look_sent s m (Some (look_found m f))) c.args.out.now c.answer.new.out
+    c.args.mids.now c.answer.new.mids) (sym c.in-Valid.is)
+    (subst (λ (reply : Reply).
+    Sends (answering s m reply []) c.args.out.now c.answer.new.out c.args.mids.now
+    c.answer.new.mids) c.still_valid.ensures.said (c.answer.ensures.sends s [] of))
 
 pub returns-in-Listing-clause-sends : goal.returns-in-Listing-clause-sends
 returns-in-Listing-clause-sends c s of =
-    let m = message_in c.args.meaning.now.view in
-    subst (λ (f : Found). Sends (look_done (is_starved_look c.give_listing.result) s m (look_found m f)) c.args.out.now c.give_listing.new.out c.args.mids.now c.give_listing.new.mids) (sym c.in-Listing.is)
+    let m = message_in c.args.request.now.meaning.view in
+    subst (λ (f : Found).
+    Sends (look_done (is_starved_look c.give_listing.result) s m (look_found m f))
+    c.args.out.now c.give_listing.new.out c.args.mids.now c.give_listing.new.mids)
+    (sym c.in-Listing.is)
     (c.give_listing.ensures.sends s of)
 
 pub returns-in-OwnLinks-clause-sends : goal.returns-in-OwnLinks-clause-sends
 returns-in-OwnLinks-clause-sends c s of =
-    let m = message_in c.args.meaning.now.view in
-    subst (λ (f : Found). Sends (look_sent s m (Some (look_found m f))) c.args.out.now c.answer-in-OwnLinks.new.out c.args.mids.now c.answer-in-OwnLinks.new.mids) (sym c.in-OwnLinks.is)
-    (subst (λ (reply : Reply). Sends (answering s m reply []) c.args.out.now c.answer-in-OwnLinks.new.out c.args.mids.now c.answer-in-OwnLinks.new.mids)
-    (given_links m c.in-OwnLinks.octets c.as_slice.result.now c.asked_block-asked.result (reply_said c.body_reply-reply.result) (c.asked_block-asked.ensures.asked m c.requires.meaning) c.as_slice.ensures.value
+    let m = message_in c.args.request.now.meaning.view in
+    subst (λ (f : Found).
+    Sends (look_sent s m (Some (look_found m f))) c.args.out.now
+    c.answer-in-OwnLinks.new.out c.args.mids.now c.answer-in-OwnLinks.new.mids)
+    (sym c.in-OwnLinks.is)
+    (subst (λ (reply : Reply).
+    Sends (answering s m reply []) c.args.out.now c.answer-in-OwnLinks.new.out
+    c.args.mids.now c.answer-in-OwnLinks.new.mids)
+    (given_links m c.in-OwnLinks.octets c.as_slice.result.now c.args.request.now.asked
+    (reply_said c.body_reply-reply.result) c.args.request.now.asked_said
+    c.as_slice.ensures.value
     c.body_reply-reply.ensures.said)
     (c.answer-in-OwnLinks.ensures.sends s [] of))

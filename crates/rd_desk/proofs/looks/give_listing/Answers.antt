@@ -11,32 +11,49 @@ use Rattle.rd_desk.proofs.looks.give_listing.Goals as goal
 
 pub returns-then-not-is_long-clause-sends : goal.returns-then-not-is_long-clause-sends
 returns-then-not-is_long-clause-sends c s of =
-    let m = message_in c.args.meaning.now.view in
-    subst (λ (given : Look). Sends (look_sent s m (Some given)) c.args.out.now c.answer.new.out c.args.mids.now c.answer.new.mids)
-    (given_whole m c.args.tagged.octets c.args.tagged.tag.0 c.as_slice.result.now c.as_slice-then-not-is_long.result.now c.asked_block-asked.result c.is_long.result (reply_said c.body_reply-reply.result)
-    (c.asked_block-asked.ensures.asked m c.requires.meaning) c.as_slice.ensures.value c.is_long.ensures c.if-not-is_long.true c.as_slice-then-not-is_long.ensures.value c.body_reply-reply.ensures.said)
+    let m = message_in c.args.request.now.meaning.view in
+    subst (λ (given : Look).
+    Sends (look_sent s m (Some given)) c.args.out.now c.answer.new.out c.args.mids.now
+    c.answer.new.mids)
+    (given_whole m c.args.tagged.octets c.args.tagged.tag.0 c.as_slice.result.now
+    c.as_slice-then-not-is_long.result.now c.args.request.now.asked c.is_long.result
+    (reply_said c.body_reply-reply.result)
+    c.args.request.now.asked_said c.as_slice.ensures.value c.is_long.ensures c.if-not-is_long.true
+    c.as_slice-then-not-is_long.ensures.value c.body_reply-reply.ensures.said)
     (c.answer.ensures.sends s [] of)
 
 pub returns-then-not-is_long-clause-held : goal.returns-then-not-is_long-clause-held
 returns-then-not-is_long-clause-held c =
-    let m = message_in c.args.meaning.now.view in
-    subst (λ (given : Look). IsHeld c.args.peer c.args.datagram.now (body_held (Some given)) ended.Done)
-    (given_whole m c.args.tagged.octets c.args.tagged.tag.0 c.as_slice.result.now c.as_slice-then-not-is_long.result.now c.asked_block-asked.result c.is_long.result (reply_said c.body_reply-reply.result)
-    (c.asked_block-asked.ensures.asked m c.requires.meaning) c.as_slice.ensures.value c.is_long.ensures c.if-not-is_long.true c.as_slice-then-not-is_long.ensures.value c.body_reply-reply.ensures.said)
+    let m = message_in c.args.request.now.meaning.view in
+    subst (λ (given : Look).
+    IsHeld c.args.peer c.args.datagram.now (body_held (Some given)) ended.Done)
+    (given_whole m c.args.tagged.octets c.args.tagged.tag.0 c.as_slice.result.now
+    c.as_slice-then-not-is_long.result.now c.args.request.now.asked c.is_long.result
+    (reply_said c.body_reply-reply.result)
+    c.args.request.now.asked_said c.as_slice.ensures.value c.is_long.ensures c.if-not-is_long.true
+    c.as_slice-then-not-is_long.ensures.value c.body_reply-reply.ensures.said)
     tt
 
 pub returns-clause-sends : goal.returns-clause-sends
 returns-clause-sends c s of =
-    let m = message_in c.args.meaning.now.view in
-    subst (λ (given : Look). Sends (look_sent s m (Some given)) c.args.out.now c.args.out.now c.args.mids.now c.args.mids.now)
-    (given_held m c.args.tagged.octets c.args.tagged.tag.0 c.as_slice.result.now c.asked_block-asked.result c.is_long.result (c.asked_block-asked.ensures.asked m c.requires.meaning) c.as_slice.ensures.value c.is_long.ensures
+    let m = message_in c.args.request.now.meaning.view in
+    subst (λ (given : Look).
+    Sends (look_sent s m (Some given)) c.args.out.now c.args.out.now c.args.mids.now
+    c.args.mids.now)
+    (given_held m c.args.tagged.octets c.args.tagged.tag.0 c.as_slice.result.now
+    c.args.request.now.asked c.is_long.result c.args.request.now.asked_said
+    c.as_slice.ensures.value c.is_long.ensures
     c.if-not-is_long.false)
     (sends_nothing c.args.out.now c.args.mids.now)
 
 pub returns-clause-held : goal.returns-clause-held
 returns-clause-held c =
-    let m = message_in c.args.meaning.now.view in
-    subst (λ (given : Look). IsHeld c.args.peer c.args.datagram.now (body_held (Some given)) (ended.Held c.in-Ok.job))
-    (given_held m c.args.tagged.octets c.args.tagged.tag.0 c.as_slice.result.now c.asked_block-asked.result c.is_long.result (c.asked_block-asked.ensures.asked m c.requires.meaning) c.as_slice.ensures.value c.is_long.ensures
+    let m = message_in c.args.request.now.meaning.view in
+    subst (λ (given : Look).
+    IsHeld c.args.peer c.args.datagram.now (body_held (Some given))
+    (ended.Held c.in-Ok.job))
+    (given_held m c.args.tagged.octets c.args.tagged.tag.0 c.as_slice.result.now
+    c.args.request.now.asked c.is_long.result c.args.request.now.asked_said
+    c.as_slice.ensures.value c.is_long.ensures
     c.if-not-is_long.false)
     c.in-Ok.ensures

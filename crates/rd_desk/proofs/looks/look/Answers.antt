@@ -9,12 +9,17 @@ use Rattle.rd_desk.proofs.looks.look.Goals as goal
 
 pub returns-in_default-clause-sends : goal.returns-in_default-clause-sends
 returns-in_default-clause-sends c s history stands of =
-    let m = message_in c.look_meaning-meaning.result.view in
-    subst (λ (e : Effects). Sends e c.args.out.now c.answer_starved.new.out c.args.mids.now c.answer_starved.new.mids)
-    (looked_starved history c.args.now.0 s (reading c.args.datagram.now) m c.look_meaning-meaning.ensures.read) (c.answer_starved.ensures.sends s of)
+    let m = message_in c.look_request-request.result.meaning.view in
+    subst (λ (e : Effects).
+    Sends e c.args.out.now c.answer_starved.new.out c.args.mids.now
+    c.answer_starved.new.mids)
+    (looked_starved history c.args.now.0 s (reading c.args.datagram.now) m
+    c.look_request-request.ensures.read) (c.answer_starved.ensures.sends s of)
 
 pub returns-clause-sends : goal.returns-clause-sends
 returns-clause-sends c s history stands of =
-    let m = message_in c.look_meaning-meaning.result.view in
+    let m = message_in c.look_request-request.result.meaning.view in
     subst (λ (e : Effects). Sends e c.args.out.now c.give.new.out c.args.mids.now c.give.new.mids)
-    (looked_by (is_starved_look c.give.result) history c.args.now.0 s (reading c.args.datagram.now) m (look_found m c.in-Ok.found) c.look_meaning-meaning.ensures.read (c.in-Ok.ensures history stands)) (c.give.ensures.sends s of)
+    (looked_by (is_starved_look c.give.result) history c.args.now.0 s (reading c.args.datagram.now)
+    m (look_found m c.in-Ok.found) c.look_request-request.ensures.read
+    (c.in-Ok.ensures history stands)) (c.give.ensures.sends s of)

@@ -13,6 +13,6 @@ returns c = record {
       subst (λ (e : Effects). Sends e c.args.out.now c.answer_starved.new.out c.args.mids.now
       c.answer_starved.new.mids)
       (looked_starved history moment s (reading c.args.datagram.now)
-      (message_in c.look_meaning-meaning.result.view) c.look_meaning-meaning.ensures.read)
+      (message_in c.look_request-request.result.meaning.view) c.look_request-request.ensures.read)
       (c.answer_starved.ensures.sends s of);
 }

@@ -7,4 +7,6 @@ use Rattle.rd_desk.proofs.looks.names_tag.Given as goal
 
 -- the tag is among those that are left where it is among all
 abbrev pub invariant-tags : goal.invariant-tags
-invariant-tags l = list_any (bytes_eq l.tag.0) (etags_left l.named-iterator) ≡ list_any (bytes_eq l.tag.0) (etags_in (message_in l.meaning.view))
+invariant-tags l =
+    list_any (bytes_eq l.tag.0) (etags_left l.named-iterator)
+    ≡ list_any (bytes_eq l.tag.0) (etags_in (message_in l.meaning.view))

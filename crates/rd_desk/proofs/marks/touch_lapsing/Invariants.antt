@@ -8,7 +8,9 @@ abbrev pub invariant-records : goal.invariant-records
 invariant-records l = record {
   left : all_lapsed l.lapsing l.watches ≡ all_lapsed l.initial.lapsing l.initial.watches;
   none : l.lapses ≡ false → l.watches ≡ l.initial.watches;
-  watched : (standing : List Watcher) → AreWatched l.initial.watches standing → AreWatched l.watches standing;
+  watched : (standing : List Watcher)
+      → AreWatched l.initial.watches standing
+      → AreWatched l.watches standing;
 }
 
 abbrev pub decreases-records : goal.decreases-records

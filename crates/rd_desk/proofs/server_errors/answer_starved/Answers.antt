@@ -7,6 +7,9 @@ use Rattle.rd_desk.proofs.server_errors.answer_starved.Goals as goal
 pub returns : goal.returns
 returns c = record {
   sends = λ s of.
-      subst (λ (reply : Reply). Sends (answering s (message_in c.args.view.now) reply []) c.args.out.now c.answer.new.out c.args.mids.now c.answer.new.mids) c.internal_server_error.ensures.said
+      subst (λ (reply : Reply).
+      Sends (answering s (message_in c.args.view.now) reply []) c.args.out.now
+      c.answer.new.out c.args.mids.now c.answer.new.mids)
+      c.internal_server_error.ensures.said
       (c.answer.ensures.sends s [] of);
 }

@@ -21,7 +21,8 @@ returns-in_ok-shared-in-Ok-clause-stands g c = subst (StandsAtTurn [])
             ∙ c.in_ok-publisher.ensures.published;
         stands = subst (λ (h : List Entry). VersionStandsFor 0 h (arc_value c.in_ok-first.first))
             no-entries
-            (subst (VersionStandsFor 0 []) (sym c.in_ok-first.ensures.ok) c.in_ok-empty.ensures.stands);
+            (subst (VersionStandsFor 0 []) (sym c.in_ok-first.ensures.ok)
+            c.in_ok-empty.ensures.stands);
       };
       staged = ap (λ (p : PublisherSeen). p.staged) c.in-Ok.ensures.board
           ∙ c.in_ok-publisher.ensures.staged;

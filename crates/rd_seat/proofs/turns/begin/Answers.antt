@@ -20,7 +20,10 @@ returns g c =
       holding = c.take-shared.ensures.holding;
       number = c.take-shared.ensures.number;
       label = c.take-shared.ensures.label;
-      goes_on = record { further = c.take-shared.ensures.seen.0; whole = c.take-shared.ensures.seen.1 };
+      goes_on = record {
+        further = c.take-shared.ensures.seen.0;
+        whole = c.take-shared.ensures.seen.1;
+      };
       mine = c.take-shared.ensures.mine;
       by_others =
           ap (λ n. rows_of n (seen_of c.take-shared.new.pass)) (sym c.take-shared.ensures.number)

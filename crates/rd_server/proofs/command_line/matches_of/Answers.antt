@@ -11,6 +11,8 @@ returns c =
     let make_is : rule_of c.long-make.result ≡ make_rule = search rules in
     let bare_is : app_of c.disable_version_flag.result ≡ bare_app = search rules in
     let app_is : app_of c.in_ok-command.command ≡ app = c.in_ok-command.ensures.shape (search rules)
-    ∙ ap₂ with_rule (c.in_ok-arg.ensures.shape (search rules) ∙ ap₂ with_rule bare_is workers_is) make_is in
+    ∙ ap₂ with_rule (c.in_ok-arg.ensures.shape (search rules) ∙ ap₂ with_rule bare_is workers_is)
+    make_is in
     let parse = c.try_get_matches_from in
-    reads_asked _ (map string_bytes c.args.words.now) parse.result app_is parse.ensures.matches parse.ensures.passes
+    reads_asked _ (map string_bytes c.args.words.now) parse.result app_is parse.ensures.matches
+    parse.ensures.passes

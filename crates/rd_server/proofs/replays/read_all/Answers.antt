@@ -5,20 +5,31 @@ use Rattle.rd_server.proofs.ReplayLaws.{nothing_taken}
 use Rattle.rd_server.proofs.replays.read_all.Goals as goal
 
 pub pieces-init : goal.pieces-init
-pieces-init g c = (refl, refl, λ workers place at. ([], Consumes-nil _, begins workers place c.args.session.now _ at))
+pieces-init g c = (
+  refl,
+  refl,
+  λ workers place at. ([], Consumes-nil _, begins workers place c.args.session.now _ at),
+)
 
 pub feed-requires : goal.feed-requires
-feed-requires g c = let before = c.pieces.invariant.2 c.requires.0 c.requires.1 c.requires.2 in (c.requires.0, before.2.next, before.2.at)
+feed-requires g c =
+    let before = c.pieces.invariant.2 c.requires.0 c.requires.1 c.requires.2 in
+    (c.requires.0, before.2.next, before.2.at)
 
 pub returns-in-Failed-clause-read : goal.returns-in-Failed-clause-read
 returns-in-Failed-clause-read g c workers place at =
-    let before = c.pieces.invariant.2 workers place at in (before.0, Consumes-kept _ _ _ before.0 before.1 c.in-Failed.ensures.bytes, before.2)
+    let before = c.pieces.invariant.2 workers place at in
+    (before.0, Consumes-kept _ _ _ before.0 before.1 c.in-Failed.ensures.bytes, before.2)
 
 pub returns-then-n-eq0-clause-read : goal.returns-then-n-eq0-clause-read
 returns-then-n-eq0-clause-read g c workers place at =
     let before = c.pieces.invariant.2 workers place at in
-    let none : take c.in-Bytes.n c.read.new.into ≡ [] = ap (λ n. take n c.read.new.into) c.if-n-eq0.true in
-    (before.0, nothing_taken _ _ _ before.0 _ before.1 c.in-Bytes.ensures.bytes.0 none, (before.2, c.in-Bytes.ensures.bytes.1 c.if-n-eq0.true (omega arith)))
+    let none : take c.in-Bytes.n c.read.new.into ≡ [] =
+    ap (λ n. take n c.read.new.into) c.if-n-eq0.true in (
+      before.0,
+      nothing_taken _ _ _ before.0 _ before.1 c.in-Bytes.ensures.bytes.0 none,
+      (before.2, c.in-Bytes.ensures.bytes.1 c.if-n-eq0.true (omega arith)),
+    )
 
 pub returns-in-Some-clause-read : goal.returns-in-Some-clause-read
 returns-in-Some-clause-read g c workers place at =
@@ -26,7 +37,9 @@ returns-in-Some-clause-read g c workers place at =
     let piece = take c.in-Bytes.n c.read.new.into in (
       before.0 ++ piece,
       Consumes-trans _ _ _ before.0 piece before.1 c.in-Bytes.ensures.bytes.0,
-      feeds_more workers place before.0 piece (before.0 ++ piece) c.pieces.session c.feed.new.self _ _ _ (Some c.in-Some.stop) before.2 (c.in-Some.ensures.fed workers before.2.next before.2.at) refl,
+      feeds_more workers place before.0 piece (before.0 ++ piece) c.pieces.session c.feed.new.self _
+          _ _ (Some c.in-Some.stop) before.2
+          (c.in-Some.ensures.fed workers before.2.next before.2.at) refl,
     )
 
 pub pieces-preserved : goal.pieces-preserved
@@ -38,6 +51,7 @@ pieces-preserved g c = (
       let piece = take c.in-Bytes.n c.read.new.into in (
         before.0 ++ piece,
         Consumes-trans _ _ _ before.0 piece before.1 c.in-Bytes.ensures.bytes.0,
-        feeds_more workers place before.0 piece (before.0 ++ piece) c.pieces.session c.feed.new.self _ _ _ None before.2 (c.in_default.ensures.fed workers before.2.next before.2.at) refl,
+        feeds_more workers place before.0 piece (before.0 ++ piece) c.pieces.session c.feed.new.self
+            _ _ _ None before.2 (c.in_default.ensures.fed workers before.2.next before.2.at) refl,
       ),
 )

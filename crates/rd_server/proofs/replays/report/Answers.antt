@@ -6,7 +6,8 @@ pub returns-in-ReadFault : goal.returns-in-ReadFault
 returns-in-ReadFault g c = said _ status.ReadFault _ _ _ _ c.in-ReadFault.is c.say.ensures
 
 pub returns-in-WriteFault : goal.returns-in-WriteFault
-returns-in-WriteFault g c = said _ status.WriteFault _ _ _ _ c.in-WriteFault.is c.say-in-WriteFault.ensures
+returns-in-WriteFault g c =
+    said _ status.WriteFault _ _ _ _ c.in-WriteFault.is c.say-in-WriteFault.ensures
 
 pub returns-in-Usage : goal.returns-in-Usage
 returns-in-Usage g c = said _ status.Usage _ _ _ _ c.in-Usage.is c.say-in-Usage.ensures

@@ -6,6 +6,7 @@ use Rattle.rd_server.proofs.replays.say.Given as goal
 -- the texts so far were said, and no call failed
 abbrev pub invariant-texts : goal.invariant-texts
 invariant-texts g l = record {
-  said : Appends (g.E.Sink.holds l.fn.err) (g.E.Sink.holds l.err) (joined (take l.text-index l.texts));
+  said : Appends (g.E.Sink.holds l.fn.err) (g.E.Sink.holds l.err)
+      (joined (take l.text-index l.texts));
   counts : g.E.Sink.faults l.err ≡ g.E.Sink.faults l.fn.err;
 }

@@ -3,4 +3,8 @@ use Rattle.std.proofs.lemmas.Fmt.{length-decimal-le}
 use Rattle.rd_server.proofs.replays.write_number.Goals as goal
 
 pub write_digits-requires : goal.write_digits-requires
-write_digits-requires c = (length-decimal-le 20 c.args.number (omega arith) (omega arith) c.ranges.number.fits, omega arith)
+write_digits-requires c = (
+  length-decimal-le 20 c.args.number (omega arith) (omega arith) c.ranges.number.fits,
+  omega
+      arith,
+)

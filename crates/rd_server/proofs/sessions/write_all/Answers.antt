@@ -3,5 +3,10 @@ use Rattle.rd_server.proofs.WrittenPieces.{more_written}
 use Rattle.rd_server.proofs.sessions.write_all.Goals as goal
 
 pub pieces-preserved : goal.pieces-preserved
-pieces-preserved g c =
-    (omega (arith, c.in-Took.ensures.within), more_written _ _ _ c.pieces.at c.in-Took.n c.args.bytes.now c.pieces.invariant.1 c.in-Took.ensures.bytes, c.in-Took.ensures.cause ∙ c.pieces.invariant.2)
+pieces-preserved g c = (
+  omega (arith, c.in-Took.ensures.within),
+  more_written _ _ _ c.pieces.at c.in-Took.n
+      c.args.bytes.now c.pieces.invariant.1 c.in-Took.ensures.bytes,
+  c.in-Took.ensures.cause
+      ∙ c.pieces.invariant.2,
+)

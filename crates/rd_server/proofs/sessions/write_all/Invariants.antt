@@ -5,7 +5,9 @@ use Rattle.rd_server.proofs.sessions.write_all.Given as goal
 -- the first octets were written, and no call failed
 abbrev pub invariant-pieces : goal.invariant-pieces
 invariant-pieces g l =
-    (l.at ≤ length l.bytes) × Appends (g.K.Sink.holds l.fn.out) (g.K.Sink.holds l.out) (take l.at l.bytes) × (g.K.Sink.faults l.out ≡ g.K.Sink.faults l.fn.out)
+    (l.at ≤ length l.bytes)
+    × Appends (g.K.Sink.holds l.fn.out) (g.K.Sink.holds l.out) (take l.at l.bytes)
+    × (g.K.Sink.faults l.out ≡ g.K.Sink.faults l.fn.out)
 
 abbrev pub decreases-pieces : goal.decreases-pieces
 decreases-pieces g l = length l.bytes - l.at

@@ -7,4 +7,5 @@ use Rattle.rd_show.proofs.conversation.done.Goals as goal
 pub returns-in-Ok : goal.returns-in-Ok
 returns-in-Ok c =
     let (workers, rows, at) = c.requires.stands in
-    machine_after workers rows (step_of_line workers rows (Ok c.args.line)) c.perform.new.self c.in-Ok.field-0 (rw c.in-Ok.is at (c.perform.ensures workers rows at))
+    machine_after workers rows (step_of_line workers rows (Ok c.args.line)) c.perform.new.self
+    c.in-Ok.field-0 (rw c.in-Ok.is at (c.perform.ensures workers rows at))

@@ -16,5 +16,6 @@ pub returns : goal.returns
 returns c =
     let octets = c.args.payload.now in
     let fits : IsBytes octets = λ k. omega (arith, c.type_inv.payload k) in
-    let both = copied octets c.in_ok-datagram.datagram c.in_ok-datagram.ensures c.requires.payload fits in
+    let both =
+    copied octets c.in_ok-datagram.datagram c.in_ok-datagram.ensures c.requires.payload fits in
     come (omega arith) (omega arith) c.requires.peer both.0 both.1

@@ -7,8 +7,12 @@ use Rattle.ref_resolve.proofs.cuts.after_two_slashes.Goals as goal
 
 pub returns-in-Some : goal.returns-in-Some
 returns-in-Some c =
-    let first = strip_prefix_char slash c.args.text.now (Some c.in-Some.rest) c.in-Some.ensures.cases (omega arith) in
-    let second = strip_prefix_char slash c.in-Some.rest.now c.strip_prefix-in-Some.result c.strip_prefix-in-Some.ensures.cases (omega arith) in
+    let first =
+    strip_prefix_char slash c.args.text.now (Some c.in-Some.rest) c.in-Some.ensures.cases
+    (omega arith) in
+    let second =
+    strip_prefix_char slash c.in-Some.rest.now c.strip_prefix-in-Some.result
+    c.strip_prefix-in-Some.ensures.cases (omega arith) in
     after_one_slash c.args.text.now c.in-Some.rest.now c.strip_prefix-in-Some.result first second
 
 pub returns-in-None : goal.returns-in-None

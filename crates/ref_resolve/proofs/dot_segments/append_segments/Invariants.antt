@@ -17,5 +17,7 @@ invariant-segments l = record {
   slash : (is_empty l.rest || begins_with slash l.rest) ≡ true;
   within : l.start ≤ length (string_bytes l.text);
   front : take l.start (string_bytes l.text) ≡ take l.start (string_bytes l.initial.text);
-  path : fold path_with (drop l.start (string_bytes l.text)) (closed_segments l.rest) ≡ fold path_with (drop l.start (string_bytes l.initial.text)) (closed_segments l.path);
+  path :
+      fold path_with (drop l.start (string_bytes l.text)) (closed_segments l.rest)
+      ≡ fold path_with (drop l.start (string_bytes l.initial.text)) (closed_segments l.path);
 }

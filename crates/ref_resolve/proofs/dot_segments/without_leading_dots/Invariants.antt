@@ -10,5 +10,7 @@ decreases-segments l = length l.rest
 abbrev pub invariant-segments : goal.invariant-segments
 invariant-segments l = record {
   utf8 : IsUtf8 l.rest;
-  same : without_leading_dots (with_closing_slash (segments_of l.path)) ≡ without_leading_dots (with_closing_slash (segments_of l.rest));
+  same :
+      without_leading_dots (with_closing_slash (segments_of l.path))
+      ≡ without_leading_dots (with_closing_slash (segments_of l.rest));
 }

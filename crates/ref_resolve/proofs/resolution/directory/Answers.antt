@@ -8,8 +8,12 @@ use Rattle.ref_resolve.proofs.resolution.directory.Goals as goal
 
 pub returns-in-Some : goal.returns-in-Some
 returns-in-Some c =
-    let found = rfind_char slash c.args.path.now (Some c.in-Some.offset) c.in-Some.ensures.cases (omega arith) in
-    c.range.ensures.value ∙ front_range c.args.path.now c.in-Some.offset ∙ sym (up_to_offset c.args.path.now c.in-Some.offset (found.0) (found.1) (found.2))
+    let found =
+    rfind_char slash c.args.path.now (Some c.in-Some.offset) c.in-Some.ensures.cases
+    (omega arith) in
+    c.range.ensures.value
+    ∙ front_range c.args.path.now c.in-Some.offset
+    ∙ sym (up_to_offset c.args.path.now c.in-Some.offset (found.0) (found.1) (found.2))
 
 pub returns-in-None : goal.returns-in-None
 returns-in-None c =

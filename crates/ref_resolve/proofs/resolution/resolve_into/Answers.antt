@@ -17,15 +17,27 @@ returns-clause-value c =
     let t2 = string_bytes c.append_front.new.text in
     let t3 = string_bytes c.append_path.new.text in
     let t4 = string_bytes c.append_query.new.text in
-    appended (resolution base reference) reference.fragment t0 (t0 ++ scheme) t2 t3 t4 (string_bytes c.append_fragment.new.text) (c.in_ok-reserve.ensures.bytes ∙ c.clear.ensures.bytes)
+    appended (resolution base reference) reference.fragment t0 (t0 ++ scheme) t2 t3 t4
+    (string_bytes c.append_fragment.new.text)
+    (c.in_ok-reserve.ensures.bytes ∙ c.clear.ensures.bytes)
     refl
     (c.in_ok-append_front.ensures
-    ∙ ap (λ (s : Option (List ℕ)). t0 ++ (scheme_text s ++ authority_text (option_map (λ part. part.now) c.target_authority-authority.result))) c.target_scheme-scheme.ensures
-    ∙ ap (λ (a : Option (List ℕ)). t0 ++ (scheme ++ authority_text a)) c.target_authority-authority.ensures
+    ∙ ap (λ (s : Option (List ℕ)).
+    t0
+    ++ (scheme_text s
+    ++ authority_text
+    (option_map (λ part. part.now) c.target_authority-authority.result)))
+    c.target_scheme-scheme.ensures
+    ∙ ap (λ (a : Option (List ℕ)). t0 ++ (scheme ++ authority_text a))
+    c.target_authority-authority.ensures
     ∙ sym (append_assoc t0 scheme authority))
     c.in_ok-append_path.ensures
-    (c.in_ok-append_query.ensures ∙ ap (λ (q : Option (List ℕ)). t3 ++ query_text q) c.target_query-query.ensures)
+    (c.in_ok-append_query.ensures
+    ∙ ap (λ (q : Option (List ℕ)). t3 ++ query_text q) c.target_query-query.ensures)
     c.in_ok-append_fragment.ensures (sym (fragment_kept base reference))
 
 pub returns-clause-texts : goal.returns-clause-texts
-returns-clause-texts c = λ b r x y. resolved_of b r (components_of c.args.base.now) (components_of c.args.reference.now) (string_bytes c.append_fragment.new.text) x y (returns-clause-value c)
+returns-clause-texts c =
+    λ b r x y.
+    resolved_of b r (components_of c.args.base.now) (components_of c.args.reference.now)
+    (string_bytes c.append_fragment.new.text) x y (returns-clause-value c)

@@ -12,7 +12,10 @@ use Rattle.registration.proofs.links.read_links.Given as goal
 abbrev pub invariant-links : goal.invariant-links
 invariant-links l = record {
   same : fault_from l.start l.index l.unlimited l.left ≡ fault_from 0 0 None l.fn.links;
-  items : (spelled : List ℕ) → IsReference spelled (components_of l.base) → l.builder.links ++ items_of spelled (map submitted_link l.left) ≡ items_of spelled (map submitted_link l.fn.links);
+  items : (spelled : List ℕ)
+      → IsReference spelled (components_of l.base)
+      → l.builder.links ++ items_of spelled (map submitted_link l.left)
+      ≡ items_of spelled (map submitted_link l.fn.links);
   references : list_all has_references l.builder.links ≡ true;
   room : l.start + room_of l.left ≤ room_of l.fn.links;
   counted : l.index ≤ l.start;

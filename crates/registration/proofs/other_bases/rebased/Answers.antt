@@ -10,23 +10,34 @@ use Rattle.registration.proofs.LinksLaws.{one_more, all_more}
 use Rattle.registration.proofs.other_bases.rebased.Goals as goal
 
 pub unreachable-requires : goal.unreachable-requires
-unreachable-requires c = base_reads c.args.base.now c.requires.base (λ k h. c.in_default.ensures.only k (rw c.as_str.ensures h))
+unreachable-requires c =
+    base_reads c.args.base.now c.requires.base
+    (λ k h. c.in_default.ensures.only k (rw c.as_str.ensures h))
 
 pub links-preserved : goal.links-preserved
 links-preserved c =
     let first = c.in-Some.ensures.steps in
     let item = c.in-Some.link in
-    let parts = and_parts (has_references item) (list_all has_references c.next.new.self) (rw first at c.links.invariant.left) in
+    let parts =
+    and_parts (has_references item) (list_all has_references c.next.new.self)
+    (rw first at c.links.invariant.left) in
     let more = c.in_ok-builder.ensures in
     let longer = ap (λ (d : Drafted). d.links) more.builder in
     record {
       done = λ spelled s.
-          one_more c.links.builder.links c.in_ok-builder.builder.links (rebased spelled item) (map (rebased spelled) c.next.new.self) (map (rebased spelled) c.args.items.now)
-          (◌∙◌ {A = List Item} longer (ap (λ (x : Item). c.links.builder.links ++ x ∷ []) (more.rebased spelled s)))
-          (◌∙◌ {A = List Item} (ap (λ (ls : List Item). c.links.builder.links ++ map (rebased spelled) ls) (sym first)) (c.links.invariant.done spelled s));
+          one_more c.links.builder.links c.in_ok-builder.builder.links (rebased spelled item)
+          (map (rebased spelled) c.next.new.self) (map (rebased spelled) c.args.items.now)
+          (◌∙◌ {A = List Item} longer
+          (ap (λ (x : Item). c.links.builder.links ++ x ∷ []) (more.rebased spelled s)))
+          (◌∙◌ {A = List Item}
+          (ap (λ (ls : List Item). c.links.builder.links ++ map (rebased spelled) ls)
+          (sym first)) (c.links.invariant.done spelled s));
       left = parts.1;
       new =
-          all_more c.links.builder.links c.in_ok-builder.builder.links more.added longer c.links.invariant.new
-          (keeps_references c.as_str.result.now item more.added (more.rebased c.as_str.result.now c.in-Ok.ensures.found) parts.0);
-      waits = (ap (λ (d : Drafted). d.raw) more.builder, ap (λ (d : Drafted). d.pairs) more.builder);
+          all_more c.links.builder.links c.in_ok-builder.builder.links more.added longer
+          c.links.invariant.new
+          (keeps_references c.as_str.result.now item more.added
+          (more.rebased c.as_str.result.now c.in-Ok.ensures.found) parts.0);
+      waits =
+          (ap (λ (d : Drafted). d.raw) more.builder, ap (λ (d : Drafted). d.pairs) more.builder);
     }

@@ -9,7 +9,9 @@ use Rattle.registration.proofs.other_bases.rebased.Given as goal
 
 abbrev pub invariant-links : goal.invariant-links
 invariant-links l = record {
-  done : (spelled : List ℕ) → IsReference spelled (components_of l.base) → l.builder.links ++ map (rebased spelled) l.left ≡ map (rebased spelled) l.fn.items;
+  done : (spelled : List ℕ)
+      → IsReference spelled (components_of l.base)
+      → l.builder.links ++ map (rebased spelled) l.left ≡ map (rebased spelled) l.fn.items;
   left : list_all has_references l.left ≡ true;
   new : list_all has_references l.builder.links ≡ true;
   waits : WaitsForNone l.builder;

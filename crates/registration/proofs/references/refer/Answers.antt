@@ -11,20 +11,33 @@ pub returns-then-is_uri : goal.returns-then-is_uri
 returns-then-is_uri c =
     let text = c.args.text.now in
     let found = c.in-Ok.ensures.found in
-    let uri : is_uri text ≡ true = reads_uri text (components_of c.in-Ok.reference) found ∙ sym c.is_uri.ensures ∙ c.if-is_uri.true in
+    let uri : is_uri text ≡ true =
+    reads_uri text (components_of c.in-Ok.reference) found
+    ∙ sym c.is_uri.ensures
+    ∙ c.if-is_uri.true in
     record {
       reference = reads text (components_of c.in-Ok.reference) found;
       scheme = uri;
-      text = λ spelled h. c.in_ok-push_str.ensures.bytes ∙ ap (λ (t : List ℕ). t ++ text) c.clear.ensures.bytes ∙ sym (stays spelled text uri);
+      text =
+          λ spelled h.
+          c.in_ok-push_str.ensures.bytes
+          ∙ ap (λ (t : List ℕ). t ++ text) c.clear.ensures.bytes
+          ∙ sym (stays spelled text uri);
     }
 
 pub returns : goal.returns
 returns c =
     let text = c.args.text.now in
     let found = c.in-Ok.ensures.found in
-    let uri : is_uri text ≡ false = reads_uri text (components_of c.in-Ok.reference) found ∙ sym c.is_uri.ensures ∙ c.if-is_uri.false in
+    let uri : is_uri text ≡ false =
+    reads_uri text (components_of c.in-Ok.reference) found
+    ∙ sym c.is_uri.ensures
+    ∙ c.if-is_uri.false in
     record {
       reference = reads text (components_of c.in-Ok.reference) found;
       scheme = uri;
-      text = λ spelled h. c.in_ok-resolve_into.ensures.texts spelled text h found ∙ sym (is_resolved spelled text uri);
+      text =
+          λ spelled h.
+          c.in_ok-resolve_into.ensures.texts spelled text h found
+          ∙ sym (is_resolved spelled text uri);
     }

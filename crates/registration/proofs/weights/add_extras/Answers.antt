@@ -6,7 +6,9 @@ use Rattle.registration.proofs.weights.add_extras.Goals as goal
 
 pub returns : goal.returns
 returns c =
-    let rest = ap (λ (ps : List Pair). length (flat_map extra_attribute ps)) (drop_all c.pairs.pair-index c.args.pairs.now c.pairs-test.false) in
+    let rest =
+    ap (λ (ps : List Pair). length (flat_map extra_attribute ps))
+    (drop_all c.pairs.pair-index c.args.pairs.now c.pairs-test.false) in
     let same = c.pairs.invariant.same in
     let fits = c.pairs.invariant.fits in
     omega (arith, rest, same, fits)

@@ -8,4 +8,5 @@ use Rattle.simple_registration.proofs.running.sent_now.Goals as goal
 pub returns : goal.returns
 returns c =
     ap (λ (r : Retransmission). record { mid = c.args.mid; octets = c.args.bytes; resend = r })
-    (sent_is c.args.now.0 c.args.word c.start.result (c.start.ensures (event_at 0 c.args.now.0 c.args.word (note.Failed 0)) refl refl))
+    (sent_is c.args.now.0 c.args.word c.start.result
+    (c.start.ensures (event_at 0 c.args.now.0 c.args.word (note.Failed 0)) refl refl))

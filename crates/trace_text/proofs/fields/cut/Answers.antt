@@ -11,4 +11,6 @@ pub returns-in-Some : goal.returns-in-Some
 returns-in-Some c =
     let rest_of_text = drop (c.in-Some.at + 1) c.args.text.now in
     first_field c.args.text.now c.in-Some.at c.in-Some.ensures.value
-    ∙ ap (λ rest. take c.in-Some.at c.args.text.now ∷ fields rest) (sym (take_all _ rest_of_text (omega (arith, length-drop (c.in-Some.at + 1) c.args.text.now))))
+    ∙ ap (λ rest. take c.in-Some.at c.args.text.now ∷ fields rest)
+    (sym (take_all _ rest_of_text
+    (omega (arith, length-drop (c.in-Some.at + 1) c.args.text.now))))

@@ -7,5 +7,7 @@ use Rattle.trace_text.proofs.generator.begin.Goals as goal
 
 pub returns-clause-size : goal.returns-clause-size
 returns-clause-size c =
-    let size = ap (λ (m : Message). length (spelling m)) c.start.ensures ∙ begun_size Con c.args.code c.args.mid c.args.token.now in
-    omega (arith, size, c.requires.token)
+    let size =
+    ap (λ (m : Message). length (spelling m)) c.start.ensures
+    ∙ begun_size Con c.args.code c.args.mid c.args.token.octets.now in
+    omega (arith, size, c.args.token.short)

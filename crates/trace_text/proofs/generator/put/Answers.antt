@@ -6,11 +6,13 @@ use Rattle.trace_text.proofs.generator.put.Goals as goal
 
 pub unreachable-requires : goal.unreachable-requires
 unreachable-requires c =
-    let short = with_option_size c.args.writer.now (c.args.number, c.args.value.now) c.requires.open in
+    let short =
+    with_option_size c.args.writer.now (c.args.number, c.args.value.now) c.requires.open in
     absurd (omega (arith, short, c.in_default.ensures.too_long, c.requires.value, c.requires.room))
 
 pub returns-clause-size : goal.returns-clause-size
 returns-clause-size c =
-    let short = with_option_size c.args.writer.now (c.args.number, c.args.value.now) c.requires.open in
+    let short =
+    with_option_size c.args.writer.now (c.args.number, c.args.value.now) c.requires.open in
     let same = ap (λ (m : Message). length (spelling m)) c.in-Ok.ensures.ok in
     omega (arith, short, same, c.requires.value)

@@ -11,9 +11,14 @@ answers-preserved c =
     let left = ap length c.in-Some.ensures.steps.0 in
     record {
       answers =
-          ap (kept_each c.args.now.0 (into_iter_items c.next.new.self)) (c.in_ok-keep.ensures.answers ∙ ap (λ x. used x (values c.answers.cache.entries)) c.in_ok-kept.ensures)
-          ∙ (sym (kept_each-next c.args.now.0 c.in-Some.answer (into_iter_items c.next.new.self) (values c.answers.cache.entries))
-          ∙ (ap (λ more. kept_each c.args.now.0 more (values c.answers.cache.entries)) (sym c.in-Some.ensures.steps.0) ∙ before.answers));
+          ap (kept_each c.args.now.0 (into_iter_items c.next.new.self))
+          (c.in_ok-keep.ensures.answers
+          ∙ ap (λ x. used x (values c.answers.cache.entries)) c.in_ok-kept.ensures)
+          ∙ (sym (kept_each-next c.args.now.0 c.in-Some.answer (into_iter_items c.next.new.self)
+          (values c.answers.cache.entries))
+          ∙ (ap (λ more. kept_each c.args.now.0 more (values c.answers.cache.entries))
+          (sym c.in-Some.ensures.steps.0)
+          ∙ before.answers));
       numbers = c.in_ok-keep.ensures.numbers;
       counted = omega (arith, counted, left);
       room = c.in_ok-keep.ensures.room ∙ before.room;
@@ -23,4 +28,6 @@ pub returns-clause-answers : goal.returns-clause-answers
 returns-clause-answers c =
     let none = c.in-None.ensures.steps.0 in
     let ok = c.answers.answer-iterator.rest.ok.0 in
-    none_left c.args.now.0 (into_iter_items c.answers.answer-iterator) (values c.answers.cache.entries) (omega (arith, none, ok)) ∙ c.answers.invariant.answers
+    none_left c.args.now.0 (into_iter_items c.answers.answer-iterator)
+    (values c.answers.cache.entries) (omega (arith, none, ok))
+    ∙ c.answers.invariant.answers

@@ -5,4 +5,6 @@ use Rattle.transfers.specs.Uploading.{is_of}
 use Rattle.transfers.proofs.uploading.drop_upload.Goals as goal
 
 pub returns-clause-items : goal.returns-clause-items
-returns-clause-items c = filter_same _ (λ (u : Upload). not (is_of (c.args.peer, c.args.key.now) u)) _ (λ u b f k. search rules) _ _ c.retain.ensures.filtered
+returns-clause-items c =
+    filter_same _ (λ (u : Upload). not (is_of (c.args.peer, c.args.key.now) u)) _
+    (λ u b f k. search rules) _ _ c.retain.ensures.filtered

@@ -6,4 +6,7 @@ use Rattle.transfers.specs.Uploading.{is_of}
 use Rattle.transfers.proofs.uploading.keep_others.Goals as goal
 
 pub returns-clause-items : goal.returns-clause-items
-returns-clause-items c = filter_same _ (λ (u : Upload). is_young c.args.now.0 u.moment && not (is_of (c.args.peer, c.args.key.now) u)) _ (λ u b f k. search rules) _ _ c.retain.ensures.filtered
+returns-clause-items c =
+    filter_same _ (λ (u : Upload).
+    is_young c.args.now.0 u.moment && not (is_of (c.args.peer, c.args.key.now) u)) _
+    (λ u b f k. search rules) _ _ c.retain.ensures.filtered

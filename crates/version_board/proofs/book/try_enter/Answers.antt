@@ -11,5 +11,7 @@ compare_exchange-requires g c =
       sym (ap (λ w. w.book) head),
       pen.0 ∙ sym (ap (λ w. w.book) head),
       offer.0,
-      rw (ap (λ w. w.key) head, pen.1, offer.1, offer.3) (enters_moves c.args.front.now.log g.E.Entering.entered c.args.old c.args.new (sym c.requires.old) c.requires.new),
+      rw (ap (λ w. w.key) head, pen.1, offer.1, offer.3)
+          (enters_moves c.args.front.now.log g.E.Entering.entered c.args.old c.args.new
+          (sym c.requires.old) c.requires.new),
     )

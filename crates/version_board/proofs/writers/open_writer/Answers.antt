@@ -8,8 +8,10 @@ pub show_first-requires : goal.show_first-requires
 show_first-requires g c =
     let next = c.in_ok-next.next in
     let copied = c.in_ok-next.ensures in
-    let appended = at_ok c.append.result _ _ c.append.ensures.pending c.if-is_err.ensures.negation in
-    let shown = ap (λ desk. desk.shown.value) c.append.ensures.desk ∙ c.in_ok-writer.ensures.0 in record {
+    let appended =
+    at_ok c.append.result _ _ c.append.ensures.pending c.if-is_err.ensures.negation in
+    let shown = ap (λ desk. desk.shown.value) c.append.ensures.desk ∙ c.in_ok-writer.ensures.0 in
+    record {
       pending = (
         next,
         appended ∙ ap (λ xs. xs ++ next ∷ []) c.in_ok-writer.ensures.1,

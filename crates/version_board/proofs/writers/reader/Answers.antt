@@ -1,4 +1,17 @@
-use Rattle.std.proofs.Common.{◌≡◌, ◌≢◌, true, false, sym, ap, subst, ◌∙◌, ⊎_elim, true≢false, List, set}
+use Rattle.std.proofs.Common.{
+  ◌≡◌,
+  ◌≢◌,
+  true,
+  false,
+  sym,
+  ap,
+  subst,
+  ◌∙◌,
+  ⊎_elim,
+  true≢false,
+  List,
+  set,
+}
 use mathlib.Core.Option.{some}
 use lib.ListN.{get_elem?}
 use Rattle.atomic_table.proofs.Lists.{at_set, at_snoc, set_again}
@@ -22,7 +35,8 @@ tell-note-requires c x views h at seat v e k =
     let me = view c.args.writer.now.desk.place in
     let id = c.args.writer.now.desk.place.id in
     ⊎_elim
-    (λ t. h seat v (subst (λ (xs : List Known). get_elem? xs seat ≡ some v) (set_again views id me at) t) k)
+    (λ t. h seat v
+    (subst (λ (xs : List Known). get_elem? xs seat ≡ some v) (set_again views id me at) t) k)
     (λ (t : me ≡ v). sym t ∙ h id me at c.requires.known)
     (at_snoc (set views id me) me v seat e)
 
@@ -31,7 +45,8 @@ learn-requires-clause-rule c x views h at apart there seat v e k =
     let note = c.tell-note.result in
     let nv = view note in
     let id = c.in_ok-reader.reader.place.id in
-    let known : nv.known ≡ true = ap (λ (u : Known). u.known) c.tell-note.ensures.given.1 ∙ c.requires.known in
+    let known : nv.known ≡ true =
+    ap (λ (u : Known). u.known) c.tell-note.ensures.given.1 ∙ c.requires.known in
     let here : nv ≡ knowing (name_of x.front.book) = ⊎_elim
     (λ (t : (note.id ≡ id) × (nv ≡ nv)). absurd (apart t.0))
     (λ (t : (note.id ≢ id) × (get_elem? views note.id ≡ some nv)). h note.id nv t.1 known)

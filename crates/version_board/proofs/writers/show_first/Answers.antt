@@ -17,8 +17,13 @@ publish_as-next-requires g c next e views h at =
     let inv = c.tries.invariant in
     let pending = c.requires.pending in
     let me = knowing (name_of next.front.book) in
-    let content : content_of next ≡ content_of pending.0 = e ∙ ap (fold (λ (x : Content) (o : Published). content_of o) (content_of w.desk.shown.value)) (inv.3 ∙ pending.1) in
-    let shown : knowing (name_of w.desk.shown.value.front.book) ≡ me = ap (λ (x : Published). knowing (name_of x.front.book)) inv.2 ∙ ap (λ (x : Content). knowing x.name) (sym pending.2 ∙ sym content) in (
+    let content : content_of next ≡ content_of pending.0 =
+    e
+    ∙ ap (fold (λ (x : Content) (o : Published). content_of o) (content_of w.desk.shown.value))
+    (inv.3 ∙ pending.1) in
+    let shown : knowing (name_of w.desk.shown.value.front.book) ≡ me =
+    ap (λ (x : Published). knowing (name_of x.front.book)) inv.2
+    ∙ ap (λ (x : Content). knowing x.name) (sym pending.2 ∙ sym content) in (
       me,
       (λ j u q k. ⊎_elim
           (λ (t : (j ≡ w.desk.place.id) × (me ≡ u)). sym t.1)
@@ -30,6 +35,7 @@ publish_as-next-requires g c next e views h at =
 pub tries-preserved : goal.tries-preserved
 tries-preserved g c =
     let inv = c.tries.invariant in
-    let err : is_ok c.publish_as-next.result.1 ≡ false = sym c.is_ok.ensures.value ∙ c.if-is_ok.false in
+    let err : is_ok c.publish_as-next.result.1 ≡ false =
+    sym c.is_ok.ensures.value ∙ c.if-is_ok.false in
     let kept = at_err c.publish_as-next.result.1 _ _ c.publish_as-next.ensures.values err in
     (tt, tt, kept.0 ∙ inv.2, kept.1 ∙ inv.3)

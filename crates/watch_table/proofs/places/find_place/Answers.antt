@@ -5,10 +5,20 @@ use Rattle.watch_table.proofs.places.find_place.Goals.{in-Some+else-is_of, in_de
 use Rattle.watch_table.proofs.places.find_place.Goals as goal
 
 pub returns-then-is_of : goal.returns-then-is_of
-returns-then-is_of c = place-here c.args.query.now c.args.watches.now.entries c.watches.index (c.in-Some.place.now, c.in-Some.watch.now) c.in-Some.ensures.entry (sym c.is_of.ensures ∙ c.if-is_of.true) ∙ c.watches.invariant
+returns-then-is_of c =
+    place-here c.args.query.now c.args.watches.now.entries c.watches.index
+    (c.in-Some.place.now, c.in-Some.watch.now) c.in-Some.ensures.entry
+    (sym c.is_of.ensures ∙ c.if-is_of.true)
+    ∙ c.watches.invariant
 
 pub watches-preserved : goal.watches-preserved
 watches-preserved c = elim c.match-get_index.branch [
-  | in-Some+else-is_of w ↦ place-next c.args.query.now c.args.watches.now.entries c.watches.index (w.in-Some.place.now, w.in-Some.watch.now) w.in-Some.ensures.entry (sym w.is_of.ensures ∙ w.if-is_of.false) ∙ c.watches.invariant
-  | in_default w ↦ let end = c.len-index-end.ensures.len in let inside = c.watches-test.true in absurd (false≢true (w.in_default.ensures.found.1 (omega (arith, end, inside))))
+  | in-Some+else-is_of w ↦ place-next c.args.query.now c.args.watches.now.entries c.watches.index
+      (w.in-Some.place.now, w.in-Some.watch.now) w.in-Some.ensures.entry
+      (sym w.is_of.ensures ∙ w.if-is_of.false)
+      ∙ c.watches.invariant
+  | in_default w ↦ let end =
+      c.len-index-end.ensures.len in let inside =
+      c.watches-test.true in absurd
+      (false≢true (w.in_default.ensures.found.1 (omega (arith, end, inside))))
 ]

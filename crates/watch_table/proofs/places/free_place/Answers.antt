@@ -6,5 +6,7 @@ pub unreachable-requires : goal.unreachable-requires
 unreachable-requires c =
     let few = c.requires in
     let end = c.places-test.false in
-    let used = places_used 257 c.args.watches.now.entries (λ k below. c.places.invariant k (omega (arith, below, end))) in
+    let used =
+    places_used 257 c.args.watches.now.entries
+    (λ k below. c.places.invariant k (omega (arith, below, end))) in
     omega (arith, few, used)

@@ -6,6 +6,9 @@ use Rattle.watch_table.proofs.places.join.Goals as goal
 pub returns-in-Some-clause-joined : goal.returns-in-Some-clause-joined
 returns-in-Some-clause-joined c query =
     let at = sym c.in-Some.ensures.value in
-    let counts = each_found (λ w. w.watchers < 2 ^ 64 - 1) (nat_eq c.args.place) c.args.watches.now.entries c.in-Some.watch.now c.requires.counts at in
+    let counts =
+    each_found (λ w. w.watchers < 2 ^ 64 - 1) (nat_eq c.args.place) c.args.watches.now.entries
+    c.in-Some.watch.now c.requires.counts at in
     (c.get_mut.follows.holds c.count_up.new.self).0
-    ∙ (ap (set_value (nat_eq c.args.place) c.args.watches.now.entries) (c.count_up.ensures counts) ∙ more-counted c.args.place query c.args.watches.now.entries c.in-Some.watch.now at)
+    ∙ (ap (set_value (nat_eq c.args.place) c.args.watches.now.entries) (c.count_up.ensures counts)
+    ∙ more-counted c.args.place query c.args.watches.now.entries c.in-Some.watch.now at)

@@ -10,9 +10,18 @@ pub returns-clause-found : goal.returns-clause-found
 returns-clause-found g c =
     let inside = c.self.inside in
     let next = c.in_ok-pairs in
-    let old = flat_map chunk_pairs inside.chunks.now ++ (flat_map group_pairs inside.groups.now ++ (flat_map section_pairs inside.sections.now ++ flat_map division_pairs inside.divisions.now)) in
-    let new = flat_map chunk_pairs next.chunks.now ++ (flat_map group_pairs next.groups.now ++ (flat_map section_pairs next.sections.now ++ flat_map division_pairs next.divisions.now)) in
+    let old =
+    flat_map chunk_pairs inside.chunks.now
+    ++ (flat_map group_pairs inside.groups.now ++ (flat_map section_pairs
+    inside.sections.now ++ flat_map division_pairs inside.divisions.now)) in
+    let new =
+    flat_map chunk_pairs next.chunks.now
+    ++ (flat_map group_pairs next.groups.now ++ (flat_map section_pairs next.sections.now ++
+    flat_map division_pairs next.divisions.now)) in
     let short : length inside.pairs.now ≡ 0 = search rules in
     let none : inside.pairs.now ≡ [] = nil_from_length _ short in
-    let whole : next.pairs.now ++ new ≡ c.args.self.now = next.ensures.pairs ∙ ap (λ es. es ++ old) (sym none) ∙ c.self.view_is in
-    c.value_at-2.ensures ∙ sym (first_front g.K.Ord.cmp c.args.key.now next.pairs.now new next.ensures.any) ∙ ap (λ es. first_value g.K.Ord.cmp c.args.key.now es) whole
+    let whole : next.pairs.now ++ new ≡ c.args.self.now =
+    next.ensures.pairs ∙ ap (λ es. es ++ old) (sym none) ∙ c.self.view_is in
+    c.value_at-2.ensures
+    ∙ sym (first_front g.K.Ord.cmp c.args.key.now next.pairs.now new next.ensures.any)
+    ∙ ap (λ es. first_value g.K.Ord.cmp c.args.key.now es) whole

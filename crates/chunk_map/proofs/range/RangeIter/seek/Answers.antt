@@ -10,7 +10,12 @@ pub returns-clause-found : goal.returns-clause-found
 returns-clause-found g c =
     let inside = c.self.inside in
     let key = c.args.key.now in
-    let whole = nested_five inside.pairs.now (flat_map chunk_pairs inside.chunks.now) (flat_map group_pairs inside.groups.now) (flat_map section_pairs inside.sections.now) (flat_map division_pairs inside.divisions.now) ∙ c.self.view_is in
+    let whole =
+    nested_five inside.pairs.now (flat_map chunk_pairs inside.chunks.now)
+    (flat_map group_pairs inside.groups.now) (flat_map section_pairs inside.sections.now)
+    (flat_map division_pairs inside.divisions.now)
+    ∙ c.self.view_is in
     c.next_value.ensures.found
-    ∙ ap (λ es. first_value g.K.Ord.cmp key es) (c.from_divisions.ensures.pairs ∙ ap (λ es. entries_from (g.K.Ord.cmp key) es) whole)
+    ∙ ap (λ es. first_value g.K.Ord.cmp key es)
+    (c.from_divisions.ensures.pairs ∙ ap (λ es. entries_from (g.K.Ord.cmp key) es) whole)
     ∙ sym (lookup_first g.met.K.Ord.total key c.args.self.now c.requires)

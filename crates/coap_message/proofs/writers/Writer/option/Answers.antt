@@ -7,32 +7,76 @@ use Rattle.coap_message.specs.SpelledMessages.{IsWritten}
 use Rattle.coap_message.proofs.WriterLemmas.{option_size_is, writes_option}
 use Rattle.coap_message.proofs.writers.Writer.option.Goals as goal
 
-pub returns-then-option_size-self-clause-too_long : goal.returns-then-option_size-self-clause-too_long
+pub returns-then-option_size-self-clause-too_long :
+    goal.returns-then-option_size-self-clause-too_long
 returns-then-option_size-self-clause-too_long c =
-    let written = subst (λ (m : Message). IsWritten (take c.self.inside.length c.self.inside.octets) c.self.inside.last m) c.self.view_is c.self.invariant.written in
-    let size = option_size_is c.self.inside.octets c.self.inside.length c.self.inside.last c.args.self.now (c.args.number, c.args.value.now) (omega (arith, c.self.told, c.self.invariant.short)) c.requires.open written in
+    let written =
+    subst (λ (m : Message).
+    IsWritten (take c.self.inside.length c.self.inside.octets) c.self.inside.last m)
+    c.self.view_is c.self.invariant.written in
+    let size =
+    option_size_is c.self.inside.octets c.self.inside.length c.self.inside.last c.args.self.now
+    (c.args.number, c.args.value.now) (omega (arith, c.self.told, c.self.invariant.short))
+    c.requires.open written in
     omega (arith, size, c.option_size.ensures, c.if-option_size-self.true, c.self.invariant.short)
 
 pub invariant_of-self : goal.invariant_of-self
 invariant_of-self c =
-    let held = writes_option c.self.inside.octets c.put_option-self-inside.new.octets c.self.inside.length c.put_option-self-inside.result c.self.inside.last c.args.self.now (c.args.number, c.args.value.now)
-    c.put_option-self-inside.ensures.put c.self.view_is c.self.invariant.written c.requires.open c.requires.filled c.requires.ascends c.requires.number c.requires.value (AreBytes-from_Fits c.args.value.now c.type_inv.value) in
+    let held =
+    writes_option c.self.inside.octets c.put_option-self-inside.new.octets c.self.inside.length
+    c.put_option-self-inside.result c.self.inside.last c.args.self.now
+    (c.args.number, c.args.value.now)
+    c.put_option-self-inside.ensures.put c.self.view_is c.self.invariant.written c.requires.open
+    c.requires.filled c.requires.ascends c.requires.number c.requires.value
+    (AreBytes-from_Fits c.args.value.now c.type_inv.value) in
     record {
-      short = omega (arith, c.put_option-self-inside.ensures.end, c.option_size.ensures, c.if-option_size-self.false, c.self.invariant.short);
+      short =
+          omega (
+            arith,
+            c.put_option-self-inside.ensures.end,
+            c.option_size.ensures,
+            c.if-option_size-self.false,
+            c.self.invariant.short,
+          );
       written = held.written;
     }
 
 pub returns-clause-ok : goal.returns-clause-ok
 returns-clause-ok c =
-    let held = writes_option c.self.inside.octets c.put_option-self-inside.new.octets c.self.inside.length c.put_option-self-inside.result c.self.inside.last c.args.self.now (c.args.number, c.args.value.now)
-    c.put_option-self-inside.ensures.put c.self.view_is c.self.invariant.written c.requires.open c.requires.filled c.requires.ascends c.requires.number c.requires.value (AreBytes-from_Fits c.args.value.now c.type_inv.value) in
+    let held =
+    writes_option c.self.inside.octets c.put_option-self-inside.new.octets c.self.inside.length
+    c.put_option-self-inside.result c.self.inside.last c.args.self.now
+    (c.args.number, c.args.value.now)
+    c.put_option-self-inside.ensures.put c.self.view_is c.self.invariant.written c.requires.open
+    c.requires.filled c.requires.ascends c.requires.number c.requires.value
+    (AreBytes-from_Fits c.args.value.now c.type_inv.value) in
     held.shows
 
 pub returns-clause-short : goal.returns-clause-short
 returns-clause-short c =
-    let written = subst (λ (m : Message). IsWritten (take c.self.inside.length c.self.inside.octets) c.self.inside.last m) c.self.view_is c.self.invariant.written in
-    let size = option_size_is c.self.inside.octets c.self.inside.length c.self.inside.last c.args.self.now (c.args.number, c.args.value.now) (omega (arith, c.self.told, c.self.invariant.short)) c.requires.open written in
-    let held = writes_option c.self.inside.octets c.put_option-self-inside.new.octets c.self.inside.length c.put_option-self-inside.result c.self.inside.last c.args.self.now (c.args.number, c.args.value.now)
-    c.put_option-self-inside.ensures.put c.self.view_is c.self.invariant.written c.requires.open c.requires.filled c.requires.ascends c.requires.number c.requires.value (AreBytes-from_Fits c.args.value.now c.type_inv.value) in
-    let fits : length (spelling (with_last_option c.args.self.now (c.args.number, c.args.value.now))) ≤ longest_datagram = omega (arith, size, c.option_size.ensures, c.if-option_size-self.false, c.self.invariant.short) in
+    let written =
+    subst (λ (m : Message).
+    IsWritten (take c.self.inside.length c.self.inside.octets) c.self.inside.last m)
+    c.self.view_is c.self.invariant.written in
+    let size =
+    option_size_is c.self.inside.octets c.self.inside.length c.self.inside.last c.args.self.now
+    (c.args.number, c.args.value.now) (omega (arith, c.self.told, c.self.invariant.short))
+    c.requires.open written in
+    let held =
+    writes_option c.self.inside.octets c.put_option-self-inside.new.octets c.self.inside.length
+    c.put_option-self-inside.result c.self.inside.last c.args.self.now
+    (c.args.number, c.args.value.now)
+    c.put_option-self-inside.ensures.put c.self.view_is c.self.invariant.written c.requires.open
+    c.requires.filled c.requires.ascends c.requires.number c.requires.value
+    (AreBytes-from_Fits c.args.value.now c.type_inv.value) in
+    let fits : length
+    (spelling (with_last_option c.args.self.now (c.args.number, c.args.value.now))) ≤
+    longest_datagram =
+    omega (
+      arith,
+      size,
+      c.option_size.ensures,
+      c.if-option_size-self.false,
+      c.self.invariant.short,
+    ) in
     subst (λ (m : Message). length (spelling m) ≤ longest_datagram) (sym held.shows) fits

@@ -1,16 +1,24 @@
 use Rattle.std.proofs.Common.{arith}
-use Rattle.message_model.proofs.ByteLemmas.{AreBytes-from_Fits}
 use Rattle.coap_message.proofs.WriterLemmas.{writes_bare}
 use Rattle.coap_message.proofs.writers.Writer.start.Goals as goal
 
 pub invariant_of-result : goal.invariant_of-result
 invariant_of-result c =
-    let held = writes_bare c.put_header-length.new.octets c.put_header-length.result c.args.kind c.args.code c.args.mid c.args.token.now
-    c.put_header-length.ensures.put c.ranges.code.fits c.ranges.mid.fits (AreBytes-from_Fits c.args.token.now c.type_inv.token) c.requires.token c.requires.class c.requires.empty in
-    record { short = omega (arith, c.put_header-length.ensures.end, c.requires.token); written = held.written }
+    let held =
+    writes_bare c.put_header-length.new.octets c.put_header-length.result c.args.kind
+    c.args.code c.args.mid c.args.token.octets.now
+    c.put_header-length.ensures.put c.ranges.code.fits c.ranges.mid.fits
+    c.put_header-length.ensures.bytes c.args.token.short c.requires.class c.requires.empty in
+    record {
+      short = omega (arith, c.put_header-length.ensures.end, c.args.token.short);
+      written = held.written;
+    }
 
 pub returns : goal.returns
 returns c =
-    let held = writes_bare c.put_header-length.new.octets c.put_header-length.result c.args.kind c.args.code c.args.mid c.args.token.now
-    c.put_header-length.ensures.put c.ranges.code.fits c.ranges.mid.fits (AreBytes-from_Fits c.args.token.now c.type_inv.token) c.requires.token c.requires.class c.requires.empty in
+    let held =
+    writes_bare c.put_header-length.new.octets c.put_header-length.result c.args.kind
+    c.args.code c.args.mid c.args.token.octets.now
+    c.put_header-length.ensures.put c.ranges.code.fits c.ranges.mid.fits
+    c.put_header-length.ensures.bytes c.args.token.short c.requires.class c.requires.empty in
     held.shows

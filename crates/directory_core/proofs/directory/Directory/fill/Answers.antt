@@ -6,18 +6,34 @@ use Rattle.directory_core.proofs.directory.Directory.fill.Goals as goal
 
 pub returns-in_err-numbers-clause-counted : goal.returns-in_err-numbers-clause-counted
 returns-in_err-numbers-clause-counted g c entries criterion others among =
-    let same : c.self.inside.records ≡ c.args.self.now.records = ap (λ (v : Version). v.records) c.self.view_is in
-    few_by_records c.self.inside.records c.args.self.now.records c.self.inside.index entries c.as_slice.result.now c.args.query.now.criteria c.args.steps.now c.fewest_carriers.new.steps same c.self.invariant.1 c.as_slice.ensures c.fewest_carriers.ensures.counted criterion others among
+    let same : c.self.inside.records ≡ c.args.self.now.records =
+    ap (λ (v : Version). v.records) c.self.view_is in
+    few_by_records c.self.inside.records c.args.self.now.records c.self.inside.index entries
+    c.as_slice.result.now c.args.query.now.criteria c.args.steps.now c.fewest_carriers.new.steps
+    same c.self.invariant.1 c.as_slice.ensures c.fewest_carriers.ensures.counted criterion
+    others among
 
 pub returns-in-Some-clause-lines : goal.returns-in-Some-clause-lines
 returns-in-Some-clause-lines g c =
-    let same : c.self.inside.records ≡ c.args.self.now.records = ap (λ (v : Version). v.records) c.self.view_is in
+    let same : c.self.inside.records ≡ c.args.self.now.records =
+    ap (λ (v : Version). v.records) c.self.view_is in
     let rising = rw c.in-Some.is at c.in_ok-numbers.ensures.rising in
     let carriers = rw c.in-Some.is at c.in_ok-numbers.ensures.carriers in
-    let give = carriers_give c.args.query.now c.args.now.0 c.self.inside.records c.args.self.now.records c.self.inside.index c.as_slice.result.now c.in-Some.numbers.items c.as_slice-in-Some.result.now same c.self.invariant.0.rising c.self.invariant.1 c.as_slice.ensures c.as_slice-in-Some.ensures.value rising carriers in
-    subst (λ lines. OnOk c.add_numbered.result (finished c.add_numbered.new.self [] ≡ finished c.args.page.now lines)) give c.add_numbered.ensures
+    let give =
+    carriers_give c.args.query.now c.args.now.0 c.self.inside.records c.args.self.now.records
+    c.self.inside.index c.as_slice.result.now c.in-Some.numbers.items
+    c.as_slice-in-Some.result.now same c.self.invariant.0.rising c.self.invariant.1
+    c.as_slice.ensures c.as_slice-in-Some.ensures.value rising carriers in
+    subst (λ lines.
+    OnOk c.add_numbered.result
+    (finished c.add_numbered.new.self [] ≡ finished c.args.page.now lines)) give
+    c.add_numbered.ensures
 
 pub returns-in-Some-clause-counted : goal.returns-in-Some-clause-counted
 returns-in-Some-clause-counted g c entries criterion others among =
-    let same : c.self.inside.records ≡ c.args.self.now.records = ap (λ (v : Version). v.records) c.self.view_is in
-    few_by_records c.self.inside.records c.args.self.now.records c.self.inside.index entries c.as_slice.result.now c.args.query.now.criteria c.args.steps.now c.fewest_carriers.new.steps same c.self.invariant.1 c.as_slice.ensures c.fewest_carriers.ensures.counted criterion others among
+    let same : c.self.inside.records ≡ c.args.self.now.records =
+    ap (λ (v : Version). v.records) c.self.view_is in
+    few_by_records c.self.inside.records c.args.self.now.records c.self.inside.index entries
+    c.as_slice.result.now c.args.query.now.criteria c.args.steps.now c.fewest_carriers.new.steps
+    same c.self.invariant.1 c.as_slice.ensures c.fewest_carriers.ensures.counted criterion
+    others among

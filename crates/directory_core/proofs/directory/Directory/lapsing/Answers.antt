@@ -14,7 +14,8 @@ returns c first history stands =
     let i = c.self.inside in
     let from = c.args.from.0 in
     let to = c.args.to.0 in
-    let kept : IsKept v i.names i.leases i.live i.text = subst (λ w. IsKept w i.names i.leases i.live i.text) c.self.view_is c.self.invariant.0 in
+    let kept : IsKept v i.names i.leases i.live i.text =
+    subst (λ w. IsKept w i.names i.leases i.live i.text) c.self.view_is c.self.invariant.0 in
     ap (λ rs. lapsing_left from rs c.lapsed.result) (ap (λ (w : Version). w.records) c.self.view_is)
     ∙ ap (lapsing_left from v.records) (c.lapsed.ensures ∙ ap (lapsed_at to) kept.leased)
     ∙ lapsing-leases from to v.records kept.rising

@@ -16,31 +16,56 @@ returns-clause-value c =
     let i = c.self.inside in
     let name = c.args.name.now in
     let now = c.args.now.0 in
-    let kept : IsKept v i.names i.leases i.live i.text = subst (λ w. IsKept w i.names i.leases i.live i.text) c.self.view_is c.self.invariant.0 in
-    c.first_of_name.ensures ∙ ap (λ rs. first_live_named rs name now c.under.result) (ap (λ (w : Version). w.records) c.self.view_is)
-    ∙ ap (first_live_named v.records name now) (c.under.ensures ∙ ap (numbers_of_hash (hash_of name)) kept.named)
+    let kept : IsKept v i.names i.leases i.live i.text =
+    subst (λ w. IsKept w i.names i.leases i.live i.text) c.self.view_is c.self.invariant.0 in
+    c.first_of_name.ensures
+    ∙ ap (λ rs. first_live_named rs name now c.under.result)
+    (ap (λ (w : Version). w.records) c.self.view_is)
+    ∙ ap (first_live_named v.records name now)
+    (c.under.ensures ∙ ap (numbers_of_hash (hash_of name)) kept.named)
     ∙ first-slots v.records name now kept.rising
 
 pub returns-clause-stored : goal.returns-clause-stored
 returns-clause-stored c =
     let v = c.args.self.now in
     let i = c.self.inside in
-    let kept : IsKept v i.names i.leases i.live i.text = subst (λ w. IsKept w i.names i.leases i.live i.text) c.self.view_is c.self.invariant.0 in
-    let value : option_copied c.first_of_name.result ≡ find (is_live_named c.args.name.now c.args.now.0) v.records = returns-clause-value c in
-    some_so c.first_of_name.result (λ r. numbered r.number v.records ≡ Some r) (λ r found. (named_found c.args.name.now c.args.now.0 r v.records kept.rising (sym value ∙ found)).0)
+    let kept : IsKept v i.names i.leases i.live i.text =
+    subst (λ w. IsKept w i.names i.leases i.live i.text) c.self.view_is c.self.invariant.0 in
+    let value :
+    option_copied c.first_of_name.result
+    ≡ find (is_live_named c.args.name.now c.args.now.0) v.records =
+    returns-clause-value c in
+    some_so c.first_of_name.result (λ r. numbered r.number v.records ≡ Some r)
+    (λ r found.
+    (named_found c.args.name.now c.args.now.0 r v.records kept.rising
+    (sym value ∙ found)).0)
 
 pub returns-clause-live : goal.returns-clause-live
 returns-clause-live c =
     let v = c.args.self.now in
     let i = c.self.inside in
-    let kept : IsKept v i.names i.leases i.live i.text = subst (λ w. IsKept w i.names i.leases i.live i.text) c.self.view_is c.self.invariant.0 in
-    let value : option_copied c.first_of_name.result ≡ find (is_live_named c.args.name.now c.args.now.0) v.records = returns-clause-value c in
-    some_so c.first_of_name.result (λ r. is_live_at c.args.now.0 r ≡ true) (λ r found. (named_found c.args.name.now c.args.now.0 r v.records kept.rising (sym value ∙ found)).1)
+    let kept : IsKept v i.names i.leases i.live i.text =
+    subst (λ w. IsKept w i.names i.leases i.live i.text) c.self.view_is c.self.invariant.0 in
+    let value :
+    option_copied c.first_of_name.result
+    ≡ find (is_live_named c.args.name.now c.args.now.0) v.records =
+    returns-clause-value c in
+    some_so c.first_of_name.result (λ r. is_live_at c.args.now.0 r ≡ true)
+    (λ r found.
+    (named_found c.args.name.now c.args.now.0 r v.records kept.rising
+    (sym value ∙ found)).1)
 
 pub returns-clause-named : goal.returns-clause-named
 returns-clause-named c =
     let v = c.args.self.now in
     let i = c.self.inside in
-    let kept : IsKept v i.names i.leases i.live i.text = subst (λ w. IsKept w i.names i.leases i.live i.text) c.self.view_is c.self.invariant.0 in
-    let value : option_copied c.first_of_name.result ≡ find (is_live_named c.args.name.now c.args.now.0) v.records = returns-clause-value c in
-    some_so c.first_of_name.result (λ r. r.name ≡ c.args.name.now) (λ r found. (named_found c.args.name.now c.args.now.0 r v.records kept.rising (sym value ∙ found)).2)
+    let kept : IsKept v i.names i.leases i.live i.text =
+    subst (λ w. IsKept w i.names i.leases i.live i.text) c.self.view_is c.self.invariant.0 in
+    let value :
+    option_copied c.first_of_name.result
+    ≡ find (is_live_named c.args.name.now c.args.now.0) v.records =
+    returns-clause-value c in
+    some_so c.first_of_name.result (λ r. r.name ≡ c.args.name.now)
+    (λ r found.
+    (named_found c.args.name.now c.args.now.0 r v.records kept.rising
+    (sym value ∙ found)).2)

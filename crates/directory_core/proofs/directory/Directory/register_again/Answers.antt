@@ -11,6 +11,9 @@ pub returns-clause-answers : goal.returns-clause-answers
 returns-clause-answers c first history entry stands h =
     let v = c.args.self.now in
     let i = c.self.inside in
-    let kept : IsKept v i.names i.leases i.live i.text = subst (λ w. IsKept w i.names i.leases i.live i.text) c.self.view_is c.self.invariant.0 in
+    let kept : IsKept v i.names i.leases i.live i.text =
+    subst (λ w. IsKept w i.names i.leases i.live i.text) c.self.view_is c.self.invariant.0 in
     let r = c.requires in
-    again_answers first history v i.names i.leases i.live i.text c.args.now c.args.draft c.args.old.now entry kept r.after_at r.after_sweep stands r.draft r.name h c.renewed.result c.renewed.ensures
+    again_answers first history v i.names i.leases i.live i.text c.args.now c.args.draft
+    c.args.old.now entry kept r.after_at r.after_sweep stands r.draft r.name h c.renewed.result
+    c.renewed.ensures

@@ -8,5 +8,8 @@ use Rattle.directory_core.proofs.names.Names.put.Goals as goal
 pub returns : goal.returns
 returns c =
     let slot : NameSlot = record { hash = c.hash_of.result; number = c.args.number } in
-    ap keys_of c.in_ok-put.ensures.pairs ∙ keys-insert tt slot c.self.inside.slots ∙ ap (with_slot slot) c.self.view_is
-    ∙ ap (λ hash. with_slot (record { hash = hash; number = c.args.number }) c.args.self.now) c.hash_of.ensures
+    ap keys_of c.in_ok-put.ensures.pairs
+    ∙ keys-insert tt slot c.self.inside.slots
+    ∙ ap (with_slot slot) c.self.view_is
+    ∙ ap (λ hash. with_slot (record { hash = hash; number = c.args.number }) c.args.self.now)
+    c.hash_of.ensures

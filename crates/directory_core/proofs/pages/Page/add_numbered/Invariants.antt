@@ -9,7 +9,9 @@ use Rattle.directory_core.proofs.pages.Page.add_numbered.Given as goal
 abbrev pub invariant-numbers : goal.invariant-numbers
 invariant-numbers l =
     record {
-      lines : finished l.self (numbered_lines l.query l.now.0 l.records l.left) ≡ finished l.fn.self (numbered_lines l.query l.now.0 l.records l.numbers);
+      lines :
+          finished l.self (numbered_lines l.query l.now.0 l.records l.left)
+          ≡ finished l.fn.self (numbered_lines l.query l.now.0 l.records l.numbers);
       found : AreFound l.records l.seeker l.left;
       rising : PairsByRecursion (λ m n. m < n) l.left;
       ascends : IsAscending nat_cmp l.seeker;

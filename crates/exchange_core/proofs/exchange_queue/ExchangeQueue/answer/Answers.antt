@@ -12,6 +12,8 @@ invariant_of-self c =
       was.0,
       was.1,
       was.2,
-      AreFoundBy-set c.self.inside.chains.first c.self.inside.chains.latest.items c.self.inside.chains.older.items c.self.inside.rows.items c.args.index c.answer.new.self c.index_mut.result.now inside
+      AreFoundBy-set c.self.inside.chains.first c.self.inside.chains.latest.items
+          c.self.inside.chains.older.items c.self.inside.rows.items c.args.index c.answer.new.self
+          c.index_mut.result.now inside
           (ap bucket c.answer.ensures ∙ ap bucket c.index_mut.ensures.value) was.3,
     )

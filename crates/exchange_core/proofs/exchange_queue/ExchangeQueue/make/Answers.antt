@@ -12,5 +12,7 @@ invariant_of-result c =
       omega (arith, room),
       made.room,
       omega (arith, ok, none),
-      AreFoundBy-same made.first refl refl rows.items (AreFoundBy-none c.in_ok-chains.chains.latest.items c.in_ok-chains.chains.older.items made.buckets made.none made.empty),
+      AreFoundBy-same made.first refl refl rows.items
+          (AreFoundBy-none c.in_ok-chains.chains.latest.items c.in_ok-chains.chains.older.items
+          made.buckets made.none made.empty),
     )

@@ -1,17 +1,36 @@
-use Rattle.std.proofs.Common.{◌≡◌, ◌<◌, ◌+◌, ◌^◌, ◌∷◌, length, get_or, set, refl, sym, ap, subst, ◌∙◌, arith}
+use Rattle.std.proofs.Common.{
+  ◌≡◌,
+  ◌<◌,
+  ◌+◌,
+  ◌^◌,
+  ◌∷◌,
+  length,
+  get_or,
+  set,
+  refl,
+  sym,
+  ap,
+  subst,
+  ◌∙◌,
+  arith,
+}
 use Rattle.exchange_core.specs.Buckets.{buckets, bucket, AreFoundBy}
 use Rattle.exchange_core.proofs.ChainLaws.{AreLinked-length, AreFoundBy-same, AreFoundBy-pushed}
 use Rattle.exchange_core.proofs.exchange_queue.ExchangeQueue.push.Goals as goal
 
 pub push-requires-clause-counted : goal.push-requires-clause-counted
 push-requires-clause-counted c =
-    let many = AreLinked-length c.count_on.new.chains.first c.count_on.new.chains.older.items c.self.inside.rows.items c.count_on.ensures.found.links in
+    let many =
+    AreLinked-length c.count_on.new.chains.first c.count_on.new.chains.older.items
+    c.self.inside.rows.items c.count_on.ensures.found.links in
     let counted = c.count_on.ensures.counted in
     omega (arith, many, counted)
 
 pub push-requires-clause-room : goal.push-requires-clause-room
 push-requires-clause-room c =
-    let many = AreLinked-length c.count_on.new.chains.first c.count_on.new.chains.older.items c.self.inside.rows.items c.count_on.ensures.found.links in
+    let many =
+    AreLinked-length c.count_on.new.chains.first c.count_on.new.chains.older.items
+    c.self.inside.rows.items c.count_on.ensures.found.links in
     let room = c.count_on.ensures.room in
     let was = c.self.invariant.1 in
     let view = ap length c.self.view_is in
@@ -34,12 +53,21 @@ invariant_of-self c =
     let kept = c.count_on.ensures.room in
     let kept_more = c.push.ensures.room in
     let counted = c.count_on.ensures.counted in
-    let within : bucket c.args.exchange < buckets = (let at = c.bucket.ensures.bucket in let low = c.bucket.ensures.within in omega (arith, at, low)) in (
+    let within : bucket c.args.exchange < buckets =
+    (let at = c.bucket.ensures.bucket in let low = c.bucket.ensures.within in omega (
+      arith,
+      at,
+      low,
+    )) in (
       omega (arith, was.0, room),
       omega (arith, was.1, kept, kept_more),
       omega (arith, long, ok, view, asked),
       AreFoundBy-same c.push.ensures.first
-          (c.push.ensures.latest ∙ (ap (λ b. set latest b (first + length older)) c.bucket.ensures.bucket ∙ ap (λ n. set latest (bucket c.args.exchange) (first + n)) many))
-          (c.push.ensures.older ∙ ap (λ b. get_or latest b 0 ∷ older) c.bucket.ensures.bucket) c.push_front_reserved.ensures.items
-          (AreFoundBy-pushed first latest older c.args.exchange xs within (omega (arith, counted)) c.count_on.ensures.found),
+          (c.push.ensures.latest
+          ∙ (ap (λ b. set latest b (first + length older)) c.bucket.ensures.bucket
+          ∙ ap (λ n. set latest (bucket c.args.exchange) (first + n)) many))
+          (c.push.ensures.older ∙ ap (λ b. get_or latest b 0 ∷ older) c.bucket.ensures.bucket)
+          c.push_front_reserved.ensures.items
+          (AreFoundBy-pushed first latest older c.args.exchange xs within (omega (arith, counted))
+          c.count_on.ensures.found),
     )

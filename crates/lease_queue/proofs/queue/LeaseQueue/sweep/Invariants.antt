@@ -10,7 +10,9 @@ invariant-loop-lease g l =
       ascends : IsAscending (keys_of l.all);
       numbers : l.numbers.items ++ lapsed_at l.now.0 (keys_of l.all) ≡ lapsed_at l.now.0 l.fn.self;
       unlapsed : unlapsed_at l.now.0 (keys_of l.all) ≡ unlapsed_at l.now.0 l.fn.self;
-      counted : l.steps + length (lapsed_at l.now.0 (keys_of l.all)) ≡ l.fn.steps + length (lapsed_at l.now.0 l.fn.self);
+      counted :
+          l.steps + length (lapsed_at l.now.0 (keys_of l.all))
+          ≡ l.fn.steps + length (lapsed_at l.now.0 l.fn.self);
     }
 
 abbrev pub decreases-loop-lease : goal.decreases-loop-lease

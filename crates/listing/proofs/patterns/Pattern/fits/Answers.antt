@@ -5,4 +5,6 @@ use Rattle.listing.proofs.patterns.Pattern.fits.Goals as goal
 
 pub returns-in-Front : goal.returns-in-Front
 returns-in-Front c =
-    starts_text c.starts_with.result c.in-Front.front.now c.args.value.now c.starts_with.ensures.cases ∙ ap (λ pattern. fits pattern c.args.value.now) (sym c.in-Front.is)
+    starts_text c.starts_with.result c.in-Front.front.now c.args.value.now
+    c.starts_with.ensures.cases
+    ∙ ap (λ pattern. fits pattern c.args.value.now) (sym c.in-Front.is)

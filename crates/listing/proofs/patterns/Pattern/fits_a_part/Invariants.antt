@@ -9,7 +9,9 @@ use Rattle.listing.proofs.patterns.Pattern.fits_a_part.Given as goal
 abbrev pub invariant-parts : goal.invariant-parts
 invariant-parts l = record {
   text : shadow (Utf8 l.rest);
-  same : list_any (fits l.self) (model.parts_of l.value) ≡ list_any (fits l.self) (model.parts_of l.rest);
+  same :
+      list_any (fits l.self) (model.parts_of l.value)
+      ≡ list_any (fits l.self) (model.parts_of l.rest);
 }
 
 abbrev pub decreases-parts : goal.decreases-parts

@@ -10,4 +10,8 @@ pub returns : goal.returns
 returns c =
     let value = c.args.value.now in
     let some : value ≢ [] = search rules in
-    c.fits.ensures ∙ sym (or-false (fits c.args.self.now value)) ∙ ap (list_any (fits c.args.self.now)) (sym (one_part value (none_found value (sym c.has_space.ensures ∙ c.if-has_space.false)) some))
+    c.fits.ensures
+    ∙ sym (or-false (fits c.args.self.now value))
+    ∙ ap (list_any (fits c.args.self.now))
+    (sym (one_part value (none_found value (sym c.has_space.ensures ∙ c.if-has_space.false))
+    some))

@@ -10,8 +10,11 @@ use Rattle.observers.proofs.table.Observers.acked.Goals as goal
 
 pub returns-clause-stands : goal.returns-clause-stands
 returns-clause-stands c queries octets events transitions e is h =
-    subst (ObserversStandFor queries octets (e ∷ events) transitions) (sym (c.land_first-found.ensures.landed ∙ ap (changed_first (has_notice c.args.peer.now c.args.mid) landed) c.self.view_is))
-    (landed-StandsFor queries octets events transitions e c.args.peer.now c.args.mid c.args.self.now is h)
+    subst (ObserversStandFor queries octets (e ∷ events) transitions)
+    (sym (c.land_first-found.ensures.landed
+    ∙ ap (changed_first (has_notice c.args.peer.now c.args.mid) landed) c.self.view_is))
+    (landed-StandsFor queries octets events transitions e c.args.peer.now c.args.mid c.args.self.now
+    is h)
 
 pub invariant_of-self : goal.invariant_of-self
 invariant_of-self c =
@@ -24,5 +27,7 @@ invariant_of-self c =
       omega (arith, few, len),
       omega (arith, room, capacity),
       omega (arith, more, gathered),
-      subst (AreAwaited c.land_first-found.new.observers.items) (sym (c.gather.ensures.peers ∙ ap awaited_of c.as_slice.ensures.value)) (of-AreAwaited c.land_first-found.new.observers.items),
+      subst (AreAwaited c.land_first-found.new.observers.items)
+          (sym (c.gather.ensures.peers ∙ ap awaited_of c.as_slice.ensures.value))
+          (of-AreAwaited c.land_first-found.new.observers.items),
     )

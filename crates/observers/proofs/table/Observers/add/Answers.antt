@@ -9,7 +9,8 @@ use Rattle.std.proofs.lemmas.Bool.{false≢true}
 use Rattle.observers.proofs.StandLaws.{added-StandsFor, length-StandsFor}
 use Rattle.observers.proofs.table.Observers.add.Goals as goal
 
-pub returns-then-len-eq-MAX_OBSERVERS-clause-full_among : goal.returns-then-len-eq-MAX_OBSERVERS-clause-full_among
+pub returns-then-len-eq-MAX_OBSERVERS-clause-full_among :
+    goal.returns-then-len-eq-MAX_OBSERVERS-clause-full_among
 returns-then-len-eq-MAX_OBSERVERS-clause-full_among c queries octets events transitions h =
     let same = length-StandsFor queries octets events transitions c.args.self.now h in
     let full = c.if-len-eq-MAX_OBSERVERS.true in
@@ -28,8 +29,10 @@ returns-clause-full_among c queries octets events transitions h =
 
 pub returns-clause-stands : goal.returns-clause-stands
 returns-clause-stands c queries octets events transitions watched formed is forms calm low h =
-    subst (ObserversStandFor queries octets (formed ∷ watched ∷ events) transitions) (sym (c.push_reserved.ensures.items ∙ ap (λ ws. ws ++ c.args.observer ∷ []) c.self.view_is))
-    (added-StandsFor queries octets events transitions watched formed c.args.self.now c.args.observer c.requires.new c.requires.landed calm is forms low h)
+    subst (ObserversStandFor queries octets (formed ∷ watched ∷ events) transitions)
+    (sym (c.push_reserved.ensures.items ∙ ap (λ ws. ws ++ c.args.observer ∷ []) c.self.view_is))
+    (added-StandsFor queries octets events transitions watched formed c.args.self.now
+    c.args.observer c.requires.new c.requires.landed calm is forms low h)
 
 pub invariant_of-self : goal.invariant_of-self
 invariant_of-self c =
@@ -42,5 +45,7 @@ invariant_of-self c =
       omega (arith, few, other, same, len),
       omega (arith, room, capacity),
       c.self.invariant.2,
-      subst (λ ws. AreAwaited ws c.self.inside.awaited.items) (sym c.push_reserved.ensures.items) (pushed-AreAwaited c.self.inside.items.items c.self.inside.awaited.items c.args.observer c.requires.landed c.self.invariant.3),
+      subst (λ ws. AreAwaited ws c.self.inside.awaited.items) (sym c.push_reserved.ensures.items)
+          (pushed-AreAwaited c.self.inside.items.items c.self.inside.awaited.items c.args.observer
+          c.requires.landed c.self.invariant.3),
     )

@@ -12,8 +12,14 @@ use Rattle.observers.proofs.table.Observers.drop_one.Goals as goal
 
 pub returns-clause-stands : goal.returns-clause-stands
 returns-clause-stands c queries octets events transitions e is h =
-    subst (ObserversStandFor queries octets (e ∷ events) transitions) (sym (c.take-taken.ensures.left (is_named c.args.peer.now c.args.token.now) (c.index_of-index.ensures ∙ ap (position (is_named c.args.peer.now c.args.token.now)) c.as_slice.ensures.value) ∙ ap (without_first (is_named c.args.peer.now c.args.token.now)) c.self.view_is))
-    (dropped-StandsFor queries octets events transitions e c.args.peer.now c.args.token.now c.args.self.now is h)
+    subst (ObserversStandFor queries octets (e ∷ events) transitions)
+    (sym (c.take-taken.ensures.left (is_named c.args.peer.now c.args.token.now)
+    (c.index_of-index.ensures
+    ∙ ap (position (is_named c.args.peer.now c.args.token.now))
+    c.as_slice.ensures.value)
+    ∙ ap (without_first (is_named c.args.peer.now c.args.token.now)) c.self.view_is))
+    (dropped-StandsFor queries octets events transitions e c.args.peer.now c.args.token.now
+    c.args.self.now is h)
 
 pub invariant_of-self : goal.invariant_of-self
 invariant_of-self c =
@@ -26,11 +32,18 @@ invariant_of-self c =
       omega (arith, few, len),
       omega (arith, room, capacity),
       omega (arith, more, gathered),
-      subst (AreAwaited c.take-taken.new.observers.items) (sym (c.gather.ensures.peers ∙ ap awaited_of c.as_slice-2.ensures.value)) (of-AreAwaited c.take-taken.new.observers.items),
+      subst (AreAwaited c.take-taken.new.observers.items)
+          (sym (c.gather.ensures.peers ∙ ap awaited_of c.as_slice-2.ensures.value))
+          (of-AreAwaited c.take-taken.new.observers.items),
     )
 
 pub returns-clause-absent : goal.returns-clause-absent
 returns-clause-absent c =
-    absent-after (is_named c.args.peer.now c.args.token.now) c.self.inside.items.items c.take-taken.new.observers.items c.take-taken.result
-    (c.take-taken.ensures.found (is_named c.args.peer.now c.args.token.now) (c.index_of-index.ensures ∙ ap (position (is_named c.args.peer.now c.args.token.now)) c.as_slice.ensures.value))
-    (c.take-taken.ensures.left (is_named c.args.peer.now c.args.token.now) (c.index_of-index.ensures ∙ ap (position (is_named c.args.peer.now c.args.token.now)) c.as_slice.ensures.value))
+    absent-after (is_named c.args.peer.now c.args.token.now) c.self.inside.items.items
+    c.take-taken.new.observers.items c.take-taken.result
+    (c.take-taken.ensures.found (is_named c.args.peer.now c.args.token.now)
+    (c.index_of-index.ensures
+    ∙ ap (position (is_named c.args.peer.now c.args.token.now)) c.as_slice.ensures.value))
+    (c.take-taken.ensures.left (is_named c.args.peer.now c.args.token.now)
+    (c.index_of-index.ensures
+    ∙ ap (position (is_named c.args.peer.now c.args.token.now)) c.as_slice.ensures.value))

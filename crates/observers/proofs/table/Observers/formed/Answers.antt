@@ -12,15 +12,22 @@ use Rattle.observers.proofs.table.Observers.formed.Goals as goal
 
 pub returns-clause-stands : goal.returns-clause-stands
 returns-clause-stands c queries octets events transitions e w there is same fresh low h =
-    subst (ObserversStandFor queries octets (e ∷ events) transitions) (sym (c.notice_at.ensures.noticed ∙ ap (changed_at (noticed c.args.flight (arc_value c.args.body)) c.args.index) c.self.view_is))
-    (formed-StandsFor queries octets events transitions e c.args.self.now c.args.index w c.args.flight (arc_value c.args.body) there (c.requires.free w there) is same fresh low h)
+    subst (ObserversStandFor queries octets (e ∷ events) transitions)
+    (sym (c.notice_at.ensures.noticed
+    ∙ ap (changed_at (noticed c.args.flight (arc_value c.args.body)) c.args.index)
+    c.self.view_is))
+    (formed-StandsFor queries octets events transitions e c.args.self.now c.args.index w
+    c.args.flight (arc_value c.args.body) there (c.requires.free w there) is same fresh low h)
 
 pub await_peer-requires : goal.await_peer-requires
 await_peer-requires c =
     let few = c.self.invariant.0 in
     let len = c.as_slice.ensures.len in
     let value = ap length c.as_slice.ensures.value in
-    let room = formed-room c.self.inside.items.items c.args.self.now c.self.inside.awaited.items c.args.index c.self.view_is c.requires.within c.requires.free c.self.invariant.3 (omega (arith, few, len, value)) in
+    let room =
+    formed-room c.self.inside.items.items c.args.self.now c.self.inside.awaited.items
+    c.args.index c.self.view_is c.requires.within c.requires.free c.self.invariant.3
+    (omega (arith, few, len, value)) in
     let capacity = c.self.invariant.2 in
     omega (arith, room, capacity)
 
@@ -35,6 +42,12 @@ invariant_of-self c =
       omega (arith, few, len),
       omega (arith, room, capacity),
       omega (arith, more, pushed),
-      formed-AreAwaited c.args.flight (arc_value c.args.body) c.self.inside.items.items c.args.self.now c.notice_at.new.observers.items c.self.inside.awaited.items c.await_peer.new.awaited.items c.args.index c.peer_at-peer.result
-          c.self.view_is c.requires.within c.requires.free c.self.invariant.3 c.notice_at.ensures.noticed (λ w there. c.peer_at-peer.ensures w (ap (λ xs. slice_get xs c.args.index) c.as_slice.ensures.value ∙ there)) c.await_peer.ensures.awaited,
+      formed-AreAwaited c.args.flight (arc_value c.args.body) c.self.inside.items.items
+          c.args.self.now c.notice_at.new.observers.items c.self.inside.awaited.items
+          c.await_peer.new.awaited.items c.args.index c.peer_at-peer.result
+          c.self.view_is c.requires.within c.requires.free c.self.invariant.3
+          c.notice_at.ensures.noticed (λ w there.
+          c.peer_at-peer.ensures w
+          (ap (λ xs. slice_get xs c.args.index) c.as_slice.ensures.value ∙ there))
+          c.await_peer.ensures.awaited,
     )

@@ -1,6 +1,10 @@
 use Rattle.observers.specs.AwaitedPeers.{AreAwaited, awaited_of}
 use Rattle.std.proofs.Common.{sym, subst, arith}
-use Rattle.observers.specs.Watchers.{marked as marked_at_place, seen as seen_one, timed as timed_one}
+use Rattle.observers.specs.Watchers.{
+  marked as marked_at_place,
+  seen as seen_one,
+  timed as timed_one,
+}
 use Rattle.observers.proofs.AwaitedLaws.{map-AreAwaited, marked-LeavesFlights}
 use Rattle.observers.proofs.table.Observers.mark.Goals as goal
 
@@ -13,5 +17,7 @@ invariant_of-self c =
       omega (arith, few, len),
       omega (arith, room, capacity),
       c.self.invariant.2,
-      subst (λ ws. AreAwaited ws c.self.inside.awaited.items) (sym c.mark_all.ensures.marked) (map-AreAwaited (marked_at_place c.args.place) (marked-LeavesFlights c.args.place) c.self.inside.items.items c.self.inside.awaited.items c.self.invariant.3),
+      subst (λ ws. AreAwaited ws c.self.inside.awaited.items) (sym c.mark_all.ensures.marked)
+          (map-AreAwaited (marked_at_place c.args.place) (marked-LeavesFlights c.args.place)
+          c.self.inside.items.items c.self.inside.awaited.items c.self.invariant.3),
     )

@@ -12,8 +12,18 @@ use Rattle.observers.proofs.table.Observers.reset.Goals as goal
 
 pub returns-clause-stands : goal.returns-clause-stands
 returns-clause-stands c queries octets events transitions e w got is h =
-    subst (ObserversStandFor queries octets (e ∷ events) transitions) (sym (c.take-taken.ensures.left (has_notice c.args.peer.now c.args.mid) (c.index_of_notice-index.ensures ∙ ap (position (has_notice c.args.peer.now c.args.mid)) c.as_slice.ensures.value) ∙ ap (without_first (has_notice c.args.peer.now c.args.mid)) c.self.view_is))
-    (reset-StandsFor queries octets events transitions e c.args.peer.now c.args.mid c.args.self.now w (ap (find (has_notice c.args.peer.now c.args.mid)) (sym c.self.view_is) ∙ (sym (c.take-taken.ensures.found (has_notice c.args.peer.now c.args.mid) (c.index_of_notice-index.ensures ∙ ap (position (has_notice c.args.peer.now c.args.mid)) c.as_slice.ensures.value)) ∙ got)) is h)
+    subst (ObserversStandFor queries octets (e ∷ events) transitions)
+    (sym (c.take-taken.ensures.left (has_notice c.args.peer.now c.args.mid)
+    (c.index_of_notice-index.ensures
+    ∙ ap (position (has_notice c.args.peer.now c.args.mid)) c.as_slice.ensures.value)
+    ∙ ap (without_first (has_notice c.args.peer.now c.args.mid)) c.self.view_is))
+    (reset-StandsFor queries octets events transitions e c.args.peer.now c.args.mid c.args.self.now
+    w (ap (find (has_notice c.args.peer.now c.args.mid)) (sym c.self.view_is)
+    ∙ (sym (c.take-taken.ensures.found (has_notice c.args.peer.now c.args.mid)
+    (c.index_of_notice-index.ensures
+    ∙ ap (position (has_notice c.args.peer.now c.args.mid))
+    c.as_slice.ensures.value))
+    ∙ got)) is h)
 
 pub invariant_of-self : goal.invariant_of-self
 invariant_of-self c =
@@ -26,5 +36,7 @@ invariant_of-self c =
       omega (arith, few, len),
       omega (arith, room, capacity),
       omega (arith, more, gathered),
-      subst (AreAwaited c.take-taken.new.observers.items) (sym (c.gather.ensures.peers ∙ ap awaited_of c.as_slice-2.ensures.value)) (of-AreAwaited c.take-taken.new.observers.items),
+      subst (AreAwaited c.take-taken.new.observers.items)
+          (sym (c.gather.ensures.peers ∙ ap awaited_of c.as_slice-2.ensures.value))
+          (of-AreAwaited c.take-taken.new.observers.items),
     )

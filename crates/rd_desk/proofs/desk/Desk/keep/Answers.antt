@@ -5,4 +5,6 @@ use Rattle.rd_desk.proofs.desk.Desk.keep.Goals as goal
 
 pub returns-clause-made : goal.returns-clause-made
 returns-clause-made g c rows s kind peer datagram called =
-    c.keep.ensures.made rows s kind peer datagram (subst (λ (d : Seen). IsCalled rows s c.args.now c.args.mids.now d) (sym (ap (λ x. x.tables) c.self.view_is)) called)
+    c.keep.ensures.made rows s kind peer datagram
+    (subst (λ (d : Seen). IsCalled rows s c.args.now c.args.mids.now d)
+    (sym (ap (λ x. x.tables) c.self.view_is)) called)

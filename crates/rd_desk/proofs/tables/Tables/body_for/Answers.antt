@@ -13,7 +13,11 @@ returns-clause-stands c rows h =
     let within = c.requires in
     let shown = ap (λ (d : Seen). length d.watching.observers) c.self.view_is in
     let size = length-StandsFor rows c.self.inside.watching own.watching in
-    let found = got_inside (observers (events rows)) c.args.index (omega (arith, within, shown, size)) in
+    let found =
+    got_inside (observers (events rows)) c.args.index (omega (arith, within, shown, size)) in
     watched-StandsFor rows _ c.args.self.now c.keep_body.new.self c.self.view_is
     (λ stands. c.keep_body.ensures.stands rows found.0
-    (c.in_ok-kept.ensures ∙ c.in_ok-body.ensures rows found.0 own.moment stands (subst (λ (v : Version). VersionStandsFor 0 (entries rows) v) (sym c.deref.ensures) own.directory.history) found.1) found.1 stands) h
+    (c.in_ok-kept.ensures
+    ∙ c.in_ok-body.ensures rows found.0 own.moment stands
+    (subst (λ (v : Version). VersionStandsFor 0 (entries rows) v) (sym c.deref.ensures)
+    own.directory.history) found.1) found.1 stands) h

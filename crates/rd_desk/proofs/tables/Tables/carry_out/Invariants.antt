@@ -8,5 +8,10 @@ use Rattle.rd_desk.proofs.tables.Tables.carry_out.Given as goal
 
 -- what is planned for the observers before the index is done
 abbrev pub invariant-items : goal.invariant-items
-invariant-items l = (rows : List Row) (s : Step) (starved : Bool) (current : List ℕ) (whole : Effects) (ready : List KeptAnswer)
-    → CarryingOut rows s starved current whole ready l.initial.self l.initial.out l.initial.mids 0 l.initial.item-iterator.rest.items → CarryingOut rows s starved current whole ready l.self l.out l.mids l.from l.item-iterator.rest.items
+invariant-items l =
+    (rows : List Row) (s : Step) (starved : Bool) (current : List ℕ) (whole : Effects)
+    (ready : List KeptAnswer)
+    → CarryingOut rows s starved current whole ready l.initial.self l.initial.out l.initial.mids 0
+    l.initial.item-iterator.rest.items
+    → CarryingOut rows s starved current whole ready l.self l.out l.mids l.from
+    l.item-iterator.rest.items

@@ -9,7 +9,10 @@ use Rattle.rd_desk.proofs.tables.Tables.carry_out_one.Goals as goal
 pub returns-in-Unchanged : goal.returns-in-Unchanged
 returns-in-Unchanged c rows s starved current whole ready from rest next h =
     let shown = ap (λ (d : Seen). d.watching) c.self.view_is in
-    carries_unchanged rows s starved current whole ready _ c.args.self.now c.unchanged.new.self c.args.out.now c.args.mids.now from c.args.index rest c.self.view_is
+    carries_unchanged rows s starved current whole ready _ c.args.self.now c.unchanged.new.self
+    c.args.out.now c.args.mids.now from c.args.index rest c.self.view_is
     (λ past stands. next past (subst (WatchingStandsFor past) shown stands))
     (λ done x there stands. c.unchanged.ensures.stands rows s starved done x there stands)
-    (subst (λ (p : Planned). CarryingOut rows s starved current whole ready c.args.self.now c.args.out.now c.args.mids.now from (p ∷ rest)) c.in-Unchanged.is h)
+    (subst (λ (p : Planned).
+    CarryingOut rows s starved current whole ready c.args.self.now c.args.out.now
+    c.args.mids.now from (p ∷ rest)) c.in-Unchanged.is h)

@@ -13,51 +13,75 @@ use Rattle.rd_desk.specs.Desks.{Seen}
 use Rattle.rd_desk.specs.Outcomes.{IsPlanned, IsTimely}
 use Rattle.rd_desk.specs.Replies.{IsReply}
 use Rattle.rd_desk.specs.Staging.{IsNextOf}
-use Rattle.rd_desk.proofs.changes.StagingLaws.{next_told, swept_planned, of_laid, laid_planned, laid_kept}
+use Rattle.rd_desk.proofs.changes.StagingLaws.{
+  next_told,
+  swept_planned,
+  of_laid,
+  laid_planned,
+  laid_kept,
+}
 use Rattle.rd_desk.proofs.changes.UploadLaws.{registration_enters, planned_here}
 use Rattle.rd_desk.proofs.tables.Tables.commit_body.Goals as goal
 
 pub staged-requires-clause-next : goal.staged-requires-clause-next
 staged-requires-clause-next g c =
     next_told _ c.args.self.now.version c.body_outcome-planned.result c.requires.told
-    (λ history stands. c.body_outcome-planned.ensures.next history (subst (VersionStandsFor 0 history) (sym (c.deref.ensures ∙ ap (λ (d : Seen). d.version) c.self.view_is)) stands))
+    (λ history stands. c.body_outcome-planned.ensures.next history
+    (subst (VersionStandsFor 0 history)
+    (sym (c.deref.ensures ∙ ap (λ (d : Seen). d.version) c.self.view_is)) stands))
 
 pub staged-requires-clause-swept : goal.staged-requires-clause-swept
-staged-requires-clause-swept g c = swept_planned c.body_outcome-planned.result _ c.body_outcome-planned.ensures.moments
+staged-requires-clause-swept g c =
+    swept_planned c.body_outcome-planned.result _ c.body_outcome-planned.ensures.moments
 
 pub settle_upload-requires-clause-timely : goal.settle_upload-requires-clause-timely
 settle_upload-requires-clause-timely g c =
-    subst (λ (d : Seen). IsTimely d.moment c.in-Ok.outcome) c.self.view_is (of_laid (IsTimely _) c.body_outcome-planned.result c.in-Ok.outcome c.in-Ok.ensures.same c.body_outcome-planned.ensures.moments)
+    subst (λ (d : Seen). IsTimely d.moment c.in-Ok.outcome) c.self.view_is
+    (of_laid (IsTimely _) c.body_outcome-planned.result c.in-Ok.outcome c.in-Ok.ensures.same
+    c.body_outcome-planned.ensures.moments)
 
 pub settle_upload-requires-clause-reply : goal.settle_upload-requires-clause-reply
-settle_upload-requires-clause-reply g c = of_laid (λ o. IsReply o.reply) c.body_outcome-planned.result c.in-Ok.outcome c.in-Ok.ensures.same c.body_outcome-planned.ensures.reply
+settle_upload-requires-clause-reply g c =
+    of_laid (λ o. IsReply o.reply) c.body_outcome-planned.result c.in-Ok.outcome
+    c.in-Ok.ensures.same c.body_outcome-planned.ensures.reply
 
 pub settle_upload-requires-clause-short : goal.settle_upload-requires-clause-short
-settle_upload-requires-clause-short g c = of_laid (λ o. IsShort o.reply) c.body_outcome-planned.result c.in-Ok.outcome c.in-Ok.ensures.same c.body_outcome-planned.ensures.short
+settle_upload-requires-clause-short g c =
+    of_laid (λ o. IsShort o.reply) c.body_outcome-planned.result c.in-Ok.outcome
+    c.in-Ok.ensures.same c.body_outcome-planned.ensures.short
 
 pub returns-in-Ok-clause-way : goal.returns-in-Ok-clause-way
 returns-in-Ok-clause-way g c =
     λ rows s place of opened way.
-    let params = registration_values (queries_in (message_in c.args.meaning.now.view)) in
+    let params = registration_values (queries_in (message_in c.args.request.now.meaning.view)) in
     let options = block1_option c.args.block.now in
     let further = note.Finished s.peer c.args.key.now ∷ [] in
-    c.settle_upload.ensures.way rows s false place (registration (entries rows) (row_moment rows s) s params c.args.body.now options further) of opened
-    (λ entry more noted. registration_enters (entries rows) (row_moment rows s) s params c.args.body.now options further entry more noted)
-    (planned_here rows s false _ c.args.self.now c.deref.result.now c.args.out.now c.args.mids.now params c.args.body.now options further c.in-Ok.outcome c.self.view_is c.deref.ensures
-    (λ history h. of_laid (λ o. IsPlanned history _ further _ o) c.body_outcome-planned.result c.in-Ok.outcome c.in-Ok.ensures.same (c.body_outcome-planned.ensures.planned history s further h of)) way) way
+    c.settle_upload.ensures.way rows s false place
+    (registration (entries rows) (row_moment rows s) s params c.args.body.now options further)
+    of opened
+    (λ entry more noted. registration_enters (entries rows) (row_moment rows s) s params
+    c.args.body.now options further entry more noted)
+    (planned_here rows s false _ c.args.self.now c.deref.result.now c.args.out.now c.args.mids.now
+    params c.args.body.now options further c.in-Ok.outcome c.self.view_is c.deref.ensures
+    (λ history h.
+    of_laid (λ o. IsPlanned history _ further _ o) c.body_outcome-planned.result c.in-Ok.outcome
+    c.in-Ok.ensures.same (c.body_outcome-planned.ensures.planned history s further h of))
+    way) way
 
 pub returns-in-Ok-clause-laid : goal.returns-in-Ok-clause-laid
 returns-in-Ok-clause-laid g c =
     laid_planned c.args.self.now.version _ c.in-Ok.outcome.entering _ _ _ c.in-Ok.ensures.laid
     c.settle_upload.ensures.version
-    (λ history stands. of_laid (IsNextOf history) c.body_outcome-planned.result c.in-Ok.outcome c.in-Ok.ensures.same
+    (λ history stands. of_laid (IsNextOf history) c.body_outcome-planned.result c.in-Ok.outcome
+    c.in-Ok.ensures.same
     (c.body_outcome-planned.ensures.next history
     (subst (VersionStandsFor 0 history)
     (sym (c.deref.ensures ∙ ap (λ (d : Seen). d.version) c.self.view_is)) stands)))
     c.in-Ok.ensures.none_laid
 
 pub returns-in-Err-clause-way : goal.returns-in-Err-clause-way
-returns-in-Err-clause-way g c = λ rows s place of opened way. c.fail.ensures.way rows s true place of opened way
+returns-in-Err-clause-way g c =
+    λ rows s place of opened way. c.fail.ensures.way rows s true place of opened way
 
 pub returns-in-Err-clause-laid : goal.returns-in-Err-clause-laid
 returns-in-Err-clause-laid g c =

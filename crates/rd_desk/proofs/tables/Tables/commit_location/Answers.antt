@@ -11,6 +11,10 @@ use Rattle.rd_desk.proofs.tables.Tables.commit_location.Goals as goal
 pub returns-clause-way : goal.returns-clause-way
 returns-clause-way g c =
     λ rows s place of opened way.
-    let m = message_in c.args.meaning.now.view in
-    subst (λ (e : Effects). UnderWay rows s (is_starved_step c.commit_removal.result) (unless_failing (is_starved_step c.commit_removal.result) place s m e) c.commit_removal.new.self c.commit_removal.new.out c.commit_removal.new.mids)
-    (location_removes rows (row_moment rows s) place s m c.args.number c.if-meaning-eq-POST.false) (c.commit_removal.ensures.way rows s place of opened way)
+    let m = message_in c.args.request.now.meaning.view in
+    subst (λ (e : Effects).
+    UnderWay rows s (is_starved_step c.commit_removal.result)
+    (unless_failing (is_starved_step c.commit_removal.result) place s m e)
+    c.commit_removal.new.self c.commit_removal.new.out c.commit_removal.new.mids)
+    (location_removes rows (row_moment rows s) place s m c.args.number c.if-request-eq-POST.false)
+    (c.commit_removal.ensures.way rows s place of opened way)

@@ -3,7 +3,13 @@ use Rattle.rd_desk.specs.Committing.{IsShort}
 use Rattle.rd_desk.specs.Outcomes.{IsTimely}
 use Rattle.rd_desk.specs.Replies.{IsReply}
 use Rattle.rd_desk.specs.Staging.{IsNextOf}
-use Rattle.rd_desk.proofs.changes.StagingLaws.{next_told, swept_planned, of_laid, laid_planned, laid_kept}
+use Rattle.rd_desk.proofs.changes.StagingLaws.{
+  next_told,
+  swept_planned,
+  of_laid,
+  laid_planned,
+  laid_kept,
+}
 use Rattle.rd_base.specs.declared.peers.Peer.{Peer}
 use Rattle.event_model.specs.AdmissionOrder.{IsOpen}
 use Rattle.journal_model.specs.Journal.{events, entries}
@@ -14,27 +20,41 @@ use Rattle.rd_desk.proofs.tables.Tables.finish.Goals as goal
 pub returns-in-Ok-clause-way : goal.returns-in-Ok-clause-way
 returns-in-Ok-clause-way g c =
     λ rows s place meant of opened at planned way.
-    c.conclude.ensures.way rows s false place meant of (subst (λ (p : Peer). IsOpen place p c.args.view.now.mid c.args.admitted.0 (events rows)) of opened) at (planned_ok c.args.planned c.in-Ok.outcome (IsPlanned (entries rows) c.args.self.now.version.swept [] meant) c.in-Ok.ensures.same planned) way
+    c.conclude.ensures.way rows s false place meant of
+    (subst (λ (p : Peer). IsOpen place p c.args.view.now.mid c.args.admitted.0 (events rows)) of
+    opened) at (planned_ok c.args.planned c.in-Ok.outcome
+    (IsPlanned (entries rows) c.args.self.now.version.swept [] meant) c.in-Ok.ensures.same
+    planned) way
 
 pub returns-in-Err-clause-way : goal.returns-in-Err-clause-way
 returns-in-Err-clause-way g c =
     λ rows s place meant of opened at planned way.
-    c.fail.ensures.way rows s true place of (subst (λ (p : Peer). IsOpen place p c.args.view.now.mid c.args.admitted.0 (events rows)) of opened) way
+    c.fail.ensures.way rows s true place of
+    (subst (λ (p : Peer). IsOpen place p c.args.view.now.mid c.args.admitted.0 (events rows)) of
+    opened) way
 
 pub staged-requires-clause-next : goal.staged-requires-clause-next
-staged-requires-clause-next g c = next_told _ c.args.self.now.version c.args.planned c.requires.told c.requires.next
+staged-requires-clause-next g c =
+    next_told _ c.args.self.now.version c.args.planned c.requires.told c.requires.next
 
 pub staged-requires-clause-swept : goal.staged-requires-clause-swept
-staged-requires-clause-swept g c = swept_planned c.args.planned c.args.self.now.moment c.requires.timely
+staged-requires-clause-swept g c =
+    swept_planned c.args.planned c.args.self.now.moment c.requires.timely
 
 pub conclude-requires-clause-reply : goal.conclude-requires-clause-reply
-conclude-requires-clause-reply g c = of_laid (λ o. IsReply o.reply) c.args.planned c.in-Ok.outcome c.in-Ok.ensures.same c.requires.reply
+conclude-requires-clause-reply g c =
+    of_laid (λ o. IsReply o.reply) c.args.planned c.in-Ok.outcome c.in-Ok.ensures.same
+    c.requires.reply
 
 pub conclude-requires-clause-short : goal.conclude-requires-clause-short
-conclude-requires-clause-short g c = of_laid (λ o. IsShort o.reply) c.args.planned c.in-Ok.outcome c.in-Ok.ensures.same c.requires.short
+conclude-requires-clause-short g c =
+    of_laid (λ o. IsShort o.reply) c.args.planned c.in-Ok.outcome c.in-Ok.ensures.same
+    c.requires.short
 
 pub conclude-requires-clause-timely : goal.conclude-requires-clause-timely
-conclude-requires-clause-timely g c = of_laid (IsTimely c.args.self.now.moment) c.args.planned c.in-Ok.outcome c.in-Ok.ensures.same c.requires.timely
+conclude-requires-clause-timely g c =
+    of_laid (IsTimely c.args.self.now.moment) c.args.planned c.in-Ok.outcome c.in-Ok.ensures.same
+    c.requires.timely
 
 pub returns-in-Ok-clause-laid : goal.returns-in-Ok-clause-laid
 returns-in-Ok-clause-laid g c =

@@ -6,6 +6,10 @@ use Rattle.rd_desk.proofs.tables.Tables.form_first.Goals as goal
 
 pub returns-clause-formed : goal.returns-clause-formed
 returns-clause-formed c history stands =
-    let m = message_in c.args.meaning.now.view in
-    formed_now is_long c.is_long-keep.result c.asked_block.result c.as_slice.result.now c.in_ok-listed.listed m c.form.result history _ c.args.self.now c.deref.result.now c.args.query.now c.args.query.now
-    c.is_long-keep.ensures (c.asked_block.ensures.asked m c.requires.meaning) (c.as_slice.ensures.value ∙ c.deref-2.ensures) c.self.view_is c.deref.ensures refl (c.in_ok-listed.ensures history) stands c.form.ensures.formed
+    let m = message_in c.args.request.now.meaning.view in
+    formed_now is_long c.is_long-keep.result c.args.request.now.asked c.as_slice.result.now
+    c.in_ok-listed.listed m c.form.result history _ c.args.self.now c.deref.result.now
+    c.args.query.now c.args.query.now
+    c.is_long-keep.ensures c.args.request.now.asked_said
+    (c.as_slice.ensures.value ∙ c.deref-2.ensures) c.self.view_is c.deref.ensures refl
+    (c.in_ok-listed.ensures history) stands c.form.ensures.formed

@@ -1,104 +1,281 @@
-use Rattle.std.proofs.Common.{false, refl, sym, ap, subst, ◌∙◌}
-use Rattle.message_model.specs.declared.messages.Role.{Role}
+use Rattle.std.proofs.Common.{false, refl, ap, subst, sym, ◌∙◌}
+use Rattle.std.specs.List.{list_any}
 use Rattle.message_model.specs.declared.messages.Role.TheVariants as role
+use Rattle.message_model.specs.OptionTable.{first_bad_option}
+use Rattle.message_model.specs.Reading.{reading}
 use Rattle.coap_message.specs.Views.{message_in}
-use Rattle.journal_model.specs.Effects.{resetting}
-use Rattle.journal_model.specs.Rows.{message_effects, row_moment}
-use Rattle.rd_desk.specs.Admitting.{is_starved_admission, IsHeldFor}
+use Rattle.event_model.specs.Repeats.{is_admitting}
+use Rattle.journal_model.specs.Effects.{Effects, nothing, resetting}
+use Rattle.journal_model.specs.Requests.{refusal_of_request}
+use Rattle.journal_model.specs.Rows.{
+  heard,
+  message_effects,
+  refusal_answered,
+  unread_answered,
+  row_moment,
+}
+use Rattle.journal_model.proofs.notes.SilentSteps.{refusal_notes, unread_notes}
+use Rattle.rd_desk.specs.Accepted.{message_of}
+use Rattle.rd_desk.specs.Admitting.{is_starved_admission, IsHeldFor, write_heard}
+use Rattle.rd_desk.specs.Asking.{refused_with}
+use Rattle.rd_desk.specs.Lookups.{lookup_heard}
 use Rattle.rd_desk.specs.Responding.{response_heard}
-use Rattle.rd_desk.proofs.parts.HearingLaws.{hears_as, held_as, takes_as, other_as, response_is, response_admits, acknowledged_admits, reset_admits, jobless_starved, jobless_way, jobless_held}
-use Rattle.rd_desk.proofs.changes.StagingLaws.{laid_none}
+use Rattle.rd_desk.specs.UnderWay.{UnderWay}
+use Rattle.rd_desk.proofs.answers.LookLaws.{none_there}
+use Rattle.rd_desk.proofs.parts.AdmissionLaws.{request_refused, request_writes}
+use Rattle.rd_desk.proofs.parts.HearingLaws.{
+  served_lookup,
+  served_admits,
+  takes_lookup,
+  takes_write,
+  response_is,
+  response_admits,
+  acknowledged_admits,
+  reset_admits,
+  refusal_admits,
+  unread_admits,
+  jobless_starved,
+  jobless_way,
+  jobless_held,
+}
+use Rattle.rd_desk.proofs.parts.IncomingLaws.{heard_for, admits_for, takes_for, look_left}
 use Rattle.rd_desk.proofs.parts.PartLaws.{only_silent}
+use Rattle.rd_desk.proofs.parts.WayLaws.{step_of}
+use Rattle.rd_desk.proofs.parts.WriteJobLaws.{write_datagram}
+use Rattle.rd_desk.proofs.changes.StagingLaws.{laid_none}
 use Rattle.rd_desk.proofs.tables.Tables.hear.Goals as goal
+
+pub returns-in-Unread-clause-way : goal.returns-in-Unread-clause-way
+returns-in-Unread-clause-way g c rows s of worded way =
+    subst
+    (λ (e : Effects). UnderWay rows s false e c.args.self.now c.reject.new.out c.args.mids.now)
+    (ap (heard false rows (row_moment rows s) s) (sym c.in-Unread.ensures))
+    (only_silent rows s false (unread_answered s c.in-Unread.fault) c.args.self.now c.args.out.now
+    c.reject.new.out c.args.mids.now c.args.mids.now (unread_notes s c.in-Unread.fault)
+    (c.reject.ensures s c.args.mids.now of) way)
+
+pub returns-in-Unread-clause-held : goal.returns-in-Unread-clause-held
+returns-in-Unread-clause-held g c rows s of datagram way =
+    ap (λ (e : Effects). list_any is_admitting e.notes)
+    (ap (heard false rows (row_moment rows s) s) c.in-Unread.ensures)
+    ∙ unread_admits s c.in-Unread.fault
+
+pub returns-in-Unread-clause-laid : goal.returns-in-Unread-clause-laid
+returns-in-Unread-clause-laid g c = laid_none c.args.self.now.version _ _ _ refl c.requires.free
 
 pub returns-in-Ping-clause-way : goal.returns-in-Ping-clause-way
 returns-in-Ping-clause-way g c rows s of worded way =
-    let m = message_in c.args.view.now in
-    hears_as rows s false role.Ping m c.args.self.now c.send_empty.new.out c.args.mids.now (sym (c.role_of.ensures) ∙ c.in-Ping.is)
-    (only_silent rows s false (resetting s m.mid) c.args.self.now c.args.out.now c.send_empty.new.out c.args.mids.now c.args.mids.now refl (c.send_empty.ensures.sends s c.args.mids.now of) way)
+    let m = message_in c.in-Ping.view in
+    subst (λ (e : Effects).
+    UnderWay rows s false e c.args.self.now c.send_empty.new.out c.args.mids.now)
+    (heard_for rows s false role.Ping c.args.datagram.now m c.in-Ping.ensures)
+    (only_silent rows s false (resetting s m.mid) c.args.self.now c.args.out.now
+    c.send_empty.new.out c.args.mids.now c.args.mids.now refl
+    (c.send_empty.ensures.sends s c.args.mids.now of) way)
 
 pub returns-in-Ping-clause-held : goal.returns-in-Ping-clause-held
 returns-in-Ping-clause-held g c rows s of datagram way =
-    held_as rows s false role.Ping (message_in c.args.view.now) (sym (c.role_of.ensures) ∙ c.in-Ping.is) refl
-
-pub returns-in-Acknowledgement-clause-way : goal.returns-in-Acknowledgement-clause-way
-returns-in-Acknowledgement-clause-way g c rows s of worded way =
-    hears_as rows s false role.Acknowledgement (message_in c.args.view.now) c.acknowledge.new.self c.args.out.now c.args.mids.now (sym (c.role_of.ensures) ∙ c.in-Acknowledgement.is) (c.acknowledge.ensures.way rows s false c.args.out.now c.args.mids.now of way)
-
-pub returns-in-Acknowledgement-clause-held : goal.returns-in-Acknowledgement-clause-held
-returns-in-Acknowledgement-clause-held g c rows s of datagram way =
-    held_as rows s false role.Acknowledgement (message_in c.args.view.now) (sym (c.role_of.ensures) ∙ c.in-Acknowledgement.is) (acknowledged_admits rows s (message_in c.args.view.now))
-
-pub returns-in-Reset-clause-way : goal.returns-in-Reset-clause-way
-returns-in-Reset-clause-way g c rows s of worded way =
-    hears_as rows s false role.Reset (message_in c.args.view.now) c.reset.new.self c.args.out.now c.args.mids.now (sym (c.role_of.ensures) ∙ c.in-Reset.is) (c.reset.ensures.way rows s false c.args.out.now c.args.mids.now of way)
-
-pub returns-in-Reset-clause-held : goal.returns-in-Reset-clause-held
-returns-in-Reset-clause-held g c rows s of datagram way =
-    held_as rows s false role.Reset (message_in c.args.view.now) (sym (c.role_of.ensures) ∙ c.in-Reset.is) (reset_admits rows s (message_in c.args.view.now))
-
-pub hear_request-requires-clause-other : goal.hear_request-requires-clause-other
-hear_request-requires-clause-other g c = other_as (message_in c.args.view.now) (sym (c.role_of.ensures) ∙ c.in-Request.is) c.requires.other
-
-pub hear_request-requires-clause-asks : goal.hear_request-requires-clause-asks
-hear_request-requires-clause-asks g c = sym (c.role_of.ensures) ∙ c.in-Request.is
-
-pub returns-in-Request-clause-way : goal.returns-in-Request-clause-way
-returns-in-Request-clause-way g c rows s of worded way =
-    hears_as rows s (is_starved_admission c.hear_request.result) role.Request (message_in c.args.view.now) c.hear_request.new.self c.hear_request.new.out c.hear_request.new.mids (sym (c.role_of.ensures) ∙ c.in-Request.is)
-    (c.hear_request.ensures.way rows s of way)
-
-pub returns-in-Request-clause-held : goal.returns-in-Request-clause-held
-returns-in-Request-clause-held g c rows s of datagram way =
-    subst (λ (r : Role). IsHeldFor c.hear_request.result (message_effects r (is_starved_admission c.hear_request.result) rows (row_moment rows s) s (message_in c.args.view.now)).notes s (row_moment rows s))
-    (sym (sym (c.role_of.ensures) ∙ c.in-Request.is)) (c.hear_request.ensures.held rows s of datagram way)
-
-pub returns-in-Request-clause-unstarved : goal.returns-in-Request-clause-unstarved
-returns-in-Request-clause-unstarved g c rows s of way silent =
-    c.hear_request.ensures.unstarved rows s of way (takes_as rows s role.Request (message_in c.args.view.now) (sym (c.role_of.ensures) ∙ c.in-Request.is) silent)
-
-pub returns-in-Response-clause-way : goal.returns-in-Response-clause-way
-returns-in-Response-clause-way g c rows s of worded way =
-    let m = message_in c.args.view.now in
-    hears_as rows s (is_starved_admission c.without_job.result) role.Response m c.hear_response.new.self c.hear_response.new.out c.hear_response.new.mids (sym (c.role_of.ensures) ∙ c.in-Response.is)
-    (jobless_way rows s c.hear_response.result c.without_job.result c.args.self.now c.hear_response.new.self c.args.out.now c.hear_response.new.out c.args.mids.now c.hear_response.new.mids
-    (λ b. response_heard b rows s m) (λ b. message_effects role.Response b rows (row_moment rows s) s m) c.without_job.ensures (λ b. response_is rows s b m) (c.hear_response.ensures.way rows s of worded) way)
-
-pub returns-in-Response-clause-held : goal.returns-in-Response-clause-held
-returns-in-Response-clause-held g c rows s of datagram way =
-    let m = message_in c.args.view.now in
-    subst (λ (r : Role). IsHeldFor c.without_job.result (message_effects r (is_starved_admission c.without_job.result) rows (row_moment rows s) s m).notes s (row_moment rows s)) (sym (sym (c.role_of.ensures) ∙ c.in-Response.is))
-    (jobless_held c.hear_response.result c.without_job.result (λ b. message_effects role.Response b rows (row_moment rows s) s m) s (row_moment rows s) c.without_job.ensures (λ b. response_admits rows s b m))
-
-pub returns-in-Response-clause-unstarved : goal.returns-in-Response-clause-unstarved
-returns-in-Response-clause-unstarved g c rows s of way silent =
-    ap is_starved_admission c.without_job.ensures
-    ∙ (jobless_starved c.hear_response.result ∙ c.hear_response.ensures.unstarved rows s of way (takes_as rows s role.Response (message_in c.args.view.now) (sym (c.role_of.ensures) ∙ c.in-Response.is) silent))
-
-pub returns-in-Ignored-clause-way : goal.returns-in-Ignored-clause-way
-returns-in-Ignored-clause-way g c rows s of worded way =
-    hears_as rows s false role.Ignored (message_in c.args.view.now) c.args.self.now c.args.out.now c.args.mids.now (sym (c.role_of.ensures) ∙ c.in-Ignored.is) way
-
-pub returns-in-Ignored-clause-held : goal.returns-in-Ignored-clause-held
-returns-in-Ignored-clause-held g c rows s of datagram way =
-    held_as rows s false role.Ignored (message_in c.args.view.now) (sym (c.role_of.ensures) ∙ c.in-Ignored.is) refl
-
--- what is laid: only a response can enter anything
+    admits_for rows s false role.Ping c.args.datagram.now (message_in c.in-Ping.view)
+    c.in-Ping.ensures refl
 
 pub returns-in-Ping-clause-laid : goal.returns-in-Ping-clause-laid
 returns-in-Ping-clause-laid g c = laid_none c.args.self.now.version _ _ _ refl c.requires.free
+
+pub returns-in-Acknowledgement-clause-way : goal.returns-in-Acknowledgement-clause-way
+returns-in-Acknowledgement-clause-way g c rows s of worded way =
+    subst (λ (e : Effects).
+    UnderWay rows s false e c.acknowledge.new.self c.args.out.now c.args.mids.now)
+    (heard_for rows s false role.Acknowledgement c.args.datagram.now
+    (message_in c.in-Acknowledgement.view) c.in-Acknowledgement.ensures)
+    (c.acknowledge.ensures.way rows s false c.args.out.now c.args.mids.now of way)
+
+pub returns-in-Acknowledgement-clause-held : goal.returns-in-Acknowledgement-clause-held
+returns-in-Acknowledgement-clause-held g c rows s of datagram way =
+    let m = message_in c.in-Acknowledgement.view in
+    admits_for rows s false role.Acknowledgement c.args.datagram.now m c.in-Acknowledgement.ensures
+    (acknowledged_admits rows s m)
 
 pub returns-in-Acknowledgement-clause-laid : goal.returns-in-Acknowledgement-clause-laid
 returns-in-Acknowledgement-clause-laid g c =
     laid_none c.args.self.now.version _ _ _ c.acknowledge.ensures.version c.requires.free
 
+pub returns-in-Reset-clause-way : goal.returns-in-Reset-clause-way
+returns-in-Reset-clause-way g c rows s of worded way =
+    subst (λ (e : Effects). UnderWay rows s false e c.reset.new.self c.args.out.now c.args.mids.now)
+    (heard_for rows s false role.Reset c.args.datagram.now (message_in c.in-Reset.view)
+    c.in-Reset.ensures)
+    (c.reset.ensures.way rows s false c.args.out.now c.args.mids.now of way)
+
+pub returns-in-Reset-clause-held : goal.returns-in-Reset-clause-held
+returns-in-Reset-clause-held g c rows s of datagram way =
+    let m = message_in c.in-Reset.view in
+    admits_for rows s false role.Reset c.args.datagram.now m c.in-Reset.ensures
+    (reset_admits rows s m)
+
 pub returns-in-Reset-clause-laid : goal.returns-in-Reset-clause-laid
 returns-in-Reset-clause-laid g c =
     laid_none c.args.self.now.version _ _ _ c.reset.ensures.version c.requires.free
 
-pub returns-in-Request-clause-laid : goal.returns-in-Request-clause-laid
-returns-in-Request-clause-laid g c =
-    laid_none c.args.self.now.version _ _ _ c.hear_request.ensures.version c.requires.free
+pub returns-in-Response-clause-way : goal.returns-in-Response-clause-way
+returns-in-Response-clause-way g c rows s of worded way =
+    let m = message_in c.in-Response.view in
+    let starved = is_starved_admission c.without_job.result in
+    subst (λ (e : Effects).
+    UnderWay rows s starved e c.hear_response.new.self c.hear_response.new.out
+    c.hear_response.new.mids)
+    (heard_for rows s starved role.Response c.args.datagram.now m c.in-Response.ensures)
+    (jobless_way rows s c.hear_response.result c.without_job.result c.args.self.now
+    c.hear_response.new.self c.args.out.now c.hear_response.new.out c.args.mids.now
+    c.hear_response.new.mids
+    (λ b. response_heard b rows s m)
+    (λ b. message_effects role.Response b rows (row_moment rows s) s m) c.without_job.ensures
+    (λ b. response_is rows s b m) (c.hear_response.ensures.way rows s of worded) way)
 
-pub returns-in-Ignored-clause-laid : goal.returns-in-Ignored-clause-laid
-returns-in-Ignored-clause-laid g c = laid_none c.args.self.now.version _ _ _ refl c.requires.free
+pub returns-in-Response-clause-held : goal.returns-in-Response-clause-held
+returns-in-Response-clause-held g c rows s of datagram way =
+    let m = message_in c.in-Response.view in
+    jobless_held c.hear_response.result c.without_job.result
+    (λ b. heard b rows (row_moment rows s) s (reading c.args.datagram.now)) s
+    (row_moment rows s) c.without_job.ensures
+    (λ b. admits_for rows s b role.Response c.args.datagram.now m c.in-Response.ensures
+    (response_admits rows s b m))
+
+pub returns-in-Response-clause-unstarved : goal.returns-in-Response-clause-unstarved
+returns-in-Response-clause-unstarved g c rows s of way silent =
+    ap is_starved_admission c.without_job.ensures
+    ∙ (jobless_starved c.hear_response.result
+    ∙ c.hear_response.ensures.unstarved rows s of way
+    (takes_for rows s role.Response c.args.datagram.now (message_in c.in-Response.view)
+    c.in-Response.ensures silent))
+
+pub returns-in-Refused-clause-way : goal.returns-in-Refused-clause-way
+returns-in-Refused-clause-way g c rows s of worded way =
+    let m = message_in c.in-Refused.view in
+    let is = c.in-Refused.ensures in
+    let e =
+    refusal_answered m.kind (first_bad_option m.options) s m
+    (refused_with c.in-Refused.refused) in
+    subst (λ (f : Effects).
+    UnderWay rows s false f c.args.self.now c.refuse.new.out c.refuse.new.mids)
+    (request_refused rows s m (refused_with c.in-Refused.refused) is.answer
+    ∙ heard_for rows s false role.Request c.args.datagram.now m is.request)
+    (only_silent rows s false e c.args.self.now c.args.out.now c.refuse.new.out c.args.mids.now
+    c.refuse.new.mids
+    (refusal_notes m.kind (first_bad_option m.options) s m (refused_with c.in-Refused.refused))
+    (c.refuse.ensures.sends s
+    (step_of rows s false nothing c.args.self.now c.args.out.now c.args.mids.now c.args.peer of
+    refl way)) way)
+
+pub returns-in-Refused-clause-held : goal.returns-in-Refused-clause-held
+returns-in-Refused-clause-held g c rows s of datagram way =
+    let m = message_in c.in-Refused.view in
+    let is = c.in-Refused.ensures in
+    admits_for rows s false role.Request c.args.datagram.now m is.request
+    (ap (λ (e : Effects). list_any is_admitting e.notes)
+    (sym (request_refused rows s m (refused_with c.in-Refused.refused) is.answer))
+    ∙ refusal_admits s m (refused_with c.in-Refused.refused))
+
+pub returns-in-Refused-clause-laid : goal.returns-in-Refused-clause-laid
+returns-in-Refused-clause-laid g c = laid_none c.args.self.now.version _ _ _ refl c.requires.free
+
+pub returns-in-Lookup-clause-way : goal.returns-in-Lookup-clause-way
+returns-in-Lookup-clause-way g c rows s of worded way =
+    let m = message_of c.in-Lookup.request in
+    let is = c.in-Lookup.ensures in
+    let starved = is_starved_admission c.without_job-in-Lookup.result in
+    let none = none_there (refusal_of_request m) c.in-Lookup.request.accepted in
+    subst (λ (e : Effects).
+    UnderWay rows s starved e c.hear_lookup.new.self c.hear_lookup.new.out
+    c.hear_lookup.new.mids)
+    (heard_for rows s starved role.Request c.args.datagram.now m is.0)
+    (jobless_way rows s c.hear_lookup.result c.without_job-in-Lookup.result c.args.self.now
+    c.hear_lookup.new.self c.args.out.now c.hear_lookup.new.out c.args.mids.now
+    c.hear_lookup.new.mids
+    (λ b. lookup_heard b rows s m)
+    (λ b. message_effects role.Request b rows (row_moment rows s) s m)
+    c.without_job-in-Lookup.ensures (λ b. served_lookup rows s b m none is.2)
+    (c.hear_lookup.ensures.way rows s of) way)
+
+pub returns-in-Lookup-clause-held : goal.returns-in-Lookup-clause-held
+returns-in-Lookup-clause-held g c rows s of datagram way =
+    let m = message_of c.in-Lookup.request in
+    let is = c.in-Lookup.ensures in
+    let none = none_there (refusal_of_request m) c.in-Lookup.request.accepted in
+    jobless_held c.hear_lookup.result c.without_job-in-Lookup.result
+    (λ b. heard b rows (row_moment rows s) s (reading c.args.datagram.now)) s
+    (row_moment rows s) c.without_job-in-Lookup.ensures
+    (λ b. admits_for rows s b role.Request c.args.datagram.now m is.0
+    (served_admits rows s b m none is.2))
+
+pub returns-in-Lookup-clause-unstarved : goal.returns-in-Lookup-clause-unstarved
+returns-in-Lookup-clause-unstarved g c rows s of way silent =
+    let m = message_of c.in-Lookup.request in
+    let is = c.in-Lookup.ensures in
+    takes_lookup rows s m (is_starved_admission c.without_job-in-Lookup.result)
+    (none_there (refusal_of_request m) c.in-Lookup.request.accepted) is.2
+    (takes_for rows s role.Request c.args.datagram.now m is.0 silent)
+
+pub returns-in-Lookup-clause-laid : goal.returns-in-Lookup-clause-laid
+returns-in-Lookup-clause-laid g c =
+    laid_none c.args.self.now.version _ _ _ c.hear_lookup.ensures.version c.requires.free
+
+pub hear_write-requires-clause-write : goal.hear_write-requires-clause-write
+hear_write-requires-clause-write g c =
+    let m = message_of c.in-Write.request in
+    let is = c.in-Write.ensures in
+    write_datagram c.args.datagram.now m is.0.read is.0.role_is
+    (none_there (refusal_of_request m) c.in-Write.request.accepted) is.1
+
+pub returns-in-Write-clause-way : goal.returns-in-Write-clause-way
+returns-in-Write-clause-way g c rows s of worded way =
+    let m = message_of c.in-Write.request in
+    let is = c.in-Write.ensures in
+    let starved = is_starved_admission c.hear_write.result in
+    subst (λ (e : Effects).
+    UnderWay rows s starved e c.hear_write.new.self c.hear_write.new.out
+    c.hear_write.new.mids)
+    (request_writes rows s starved m (none_there (refusal_of_request m) c.in-Write.request.accepted)
+    is.1
+    ∙ heard_for rows s starved role.Request c.args.datagram.now m is.0)
+    (c.hear_write.ensures.way rows s of way)
+
+pub returns-in-Write-clause-held : goal.returns-in-Write-clause-held
+returns-in-Write-clause-held g c rows s of datagram way =
+    let m = message_of c.in-Write.request in
+    let is = c.in-Write.ensures in
+    let starved = is_starved_admission c.hear_write.result in
+    subst (λ (e : Effects). IsHeldFor c.hear_write.result e.notes s (row_moment rows s))
+    (request_writes rows s starved m (none_there (refusal_of_request m) c.in-Write.request.accepted)
+    is.1
+    ∙ heard_for rows s starved role.Request c.args.datagram.now m is.0)
+    (c.hear_write.ensures.held rows s of datagram way)
+
+pub returns-in-Write-clause-unstarved : goal.returns-in-Write-clause-unstarved
+returns-in-Write-clause-unstarved g c rows s of way silent =
+    let m = message_of c.in-Write.request in
+    let is = c.in-Write.ensures in
+    c.hear_write.ensures.unstarved rows s of way
+    (takes_write rows s m (none_there (refusal_of_request m) c.in-Write.request.accepted) is.1
+    (takes_for rows s role.Request c.args.datagram.now m is.0 silent))
+
+pub returns-in-Write-clause-laid : goal.returns-in-Write-clause-laid
+returns-in-Write-clause-laid g c =
+    laid_none c.args.self.now.version _ _ _ c.hear_write.ensures.version c.requires.free
+
+pub returns-in-Nothing-clause-way : goal.returns-in-Nothing-clause-way
+returns-in-Nothing-clause-way g c rows s of worded way =
+    subst (λ (e : Effects). UnderWay rows s false e c.args.self.now c.args.out.now c.args.mids.now)
+    (heard_for rows s false role.Ignored c.args.datagram.now c.in-Nothing.ensures.0
+    c.in-Nothing.ensures.1) way
+
+pub returns-in-Nothing-clause-held : goal.returns-in-Nothing-clause-held
+returns-in-Nothing-clause-held g c rows s of datagram way =
+    admits_for rows s false role.Ignored c.args.datagram.now c.in-Nothing.ensures.0
+    c.in-Nothing.ensures.1 refl
+
+pub returns-in-Nothing-clause-laid : goal.returns-in-Nothing-clause-laid
+returns-in-Nothing-clause-laid g c = laid_none c.args.self.now.version _ _ _ refl c.requires.free
+
+pub unreachable-requires : goal.unreachable-requires
+unreachable-requires g c =
+    look_left c.args.datagram.now c.in-Look.field-0 c.in-Look.ensures c.requires.other

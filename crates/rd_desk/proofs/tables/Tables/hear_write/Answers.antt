@@ -11,27 +11,38 @@ use Rattle.rd_desk.proofs.tables.Tables.hear_write.Goals as goal
 
 pub returns-then-not-admit_write-clause-held : goal.returns-then-not-admit_write-clause-held
 returns-then-not-admit_write-clause-held c rows s of datagram way =
-    let notes = rw c.if-not-admit_write.true at c.admit_write.ensures.admitted rows s false of way in
+    let notes =
+    rw c.if-not-admit_write.true at c.admit_write.ensures.admitted rows s false of way in
     ap (list_any is_admitting) notes
 
 pub returns-in_default-clause-way : goal.returns-in_default-clause-way
 returns-in_default-clause-way c rows s of way =
     let m = message_in c.args.view.now in
     let unsent = c.admit_write.ensures.unsent c.if-not-admit_write.false in
-    let notes = rw c.if-not-admit_write.false at c.admit_write.ensures.admitted rows s true of way in
-    way_forgotten rows s m c.args.peer _ c.args.self.now c.admit_write.new.self c.forget.new.self c.args.out.now c.admit_write.new.out c.answer_starved.new.out c.args.mids.now c.admit_write.new.mids c.answer_starved.new.mids
-    c.self.view_is c.admit_write.ensures.alone of unsent.0 unsent.1 notes (c.admit_write.ensures.way rows s true of way) c.forget.ensures.stands c.answer_starved.ensures.sends way
+    let notes =
+    rw c.if-not-admit_write.false at c.admit_write.ensures.admitted rows s true of way in
+    way_forgotten rows s m c.args.peer _ c.args.self.now c.admit_write.new.self c.forget.new.self
+    c.args.out.now c.admit_write.new.out c.answer_starved.new.out c.args.mids.now
+    c.admit_write.new.mids c.answer_starved.new.mids
+    c.self.view_is c.admit_write.ensures.alone of unsent.0 unsent.1 notes
+    (c.admit_write.ensures.way rows s true of way) c.forget.ensures.stands
+    c.answer_starved.ensures.sends way
 
 pub returns-in_default-clause-held : goal.returns-in_default-clause-held
-returns-in_default-clause-held c rows s of datagram way = ap (list_any is_admitting) (without_memory-notes s (message_in c.args.view.now))
+returns-in_default-clause-held c rows s of datagram way =
+    ap (list_any is_admitting) (without_memory-notes s (message_in c.args.view.now))
 
 pub returns-in_default-clause-unstarved : goal.returns-in_default-clause-unstarved
 returns-in_default-clause-unstarved c rows s of way silent =
-    let notes = rw c.if-not-admit_write.false at c.admit_write.ensures.admitted rows s false of way in
+    let notes =
+    rw c.if-not-admit_write.false at c.admit_write.ensures.admitted rows s false of way in
     absurd (let no : true ≡ false = sym (ap (list_any is_admitting) notes) ∙ silent in cc)
 
 pub returns-clause-held : goal.returns-clause-held
 returns-clause-held c rows s of datagram way =
-    let moment = ap (λ (d : Seen). d.moment) (c.self.view_is ∙ c.admit_write.ensures.alone) ∙ way_moment rows s false nothing c.args.self.now c.args.out.now c.args.mids.now way in
-    let notes = rw c.if-not-admit_write.false at c.admit_write.ensures.admitted rows s false of way in
+    let moment =
+    ap (λ (d : Seen). d.moment) (c.self.view_is ∙ c.admit_write.ensures.alone)
+    ∙ way_moment rows s false nothing c.args.self.now c.args.out.now c.args.mids.now way in
+    let notes =
+    rw c.if-not-admit_write.false at c.admit_write.ensures.admitted rows s false of way in
     (c.args.view.now.mid, notes, job_same _ _ (sym of) (c.in-Ok.ensures ∙ sym datagram) moment)

@@ -9,19 +9,27 @@ use Rattle.rd_desk.proofs.tables.Tables.keep_listing.Goals as goal
 pub returns-in_default : goal.returns-in_default
 returns-in_default c = record {
   way = λ rows s of way.
-      let m = message_in c.look_meaning-meaning.result.view in
-      let read : reading c.job.inside.datagram ≡ Ok m = ap reading (sym c.as_slice.ensures.value) ∙ c.look_meaning-meaning.ensures.read in
-      way_starved rows s c.args.self.now c.args.out.now c.answer_starved.new.out c.args.mids.now c.answer_starved.new.mids c.job.inside.peer c.job.inside.datagram
-      (record { body = arc_value c.job.inside.body; tag = c.job.inside.tag.0 }) c.args.job m c.job.view_is of read (c.answer_starved.ensures.sends s) way;
+      let m = message_in c.look_request-request.result.meaning.view in
+      let read : reading c.job.inside.datagram ≡ Ok m =
+      ap reading (sym c.as_slice.ensures.value) ∙ c.look_request-request.ensures.read in
+      way_starved rows s c.args.self.now c.args.out.now c.answer_starved.new.out c.args.mids.now
+      c.answer_starved.new.mids c.job.inside.peer c.job.inside.datagram
+      (record { body = arc_value c.job.inside.body; tag = c.job.inside.tag.0 }) c.args.job m
+      c.job.view_is of read (c.answer_starved.ensures.sends s) way;
 }
 
 pub returns : goal.returns
 returns c = record {
   way = λ rows s of way.
-      let m = message_in c.look_meaning-meaning.result.view in
-      let read : reading c.job.inside.datagram ≡ Ok m = ap reading (sym c.as_slice.ensures.value) ∙ c.look_meaning-meaning.ensures.read in
-      way_kept rows s _ c.args.self.now c.adopt.new.self c.in-Ok.ready c.args.out.now c.answer.new.out c.args.mids.now c.answer.new.mids c.job.inside.peer c.job.inside.datagram
-      (record { body = arc_value c.job.inside.body; tag = c.job.inside.tag.0 }) c.args.job m c.as_slice-2.result.now c.asked_block-asked.result (reply_said c.body_reply-reply.result) c.self.view_is c.job.view_is of read
-      (c.asked_block-asked.ensures.asked m c.look_meaning-meaning.ensures.meaning) (c.as_slice-2.ensures.value ∙ c.deref.ensures) c.body_reply-reply.ensures.said
+      let m = message_in c.look_request-request.result.meaning.view in
+      let read : reading c.job.inside.datagram ≡ Ok m =
+      ap reading (sym c.as_slice.ensures.value) ∙ c.look_request-request.ensures.read in
+      way_kept rows s _ c.args.self.now c.adopt.new.self c.in-Ok.ready c.args.out.now
+      c.answer.new.out c.args.mids.now c.answer.new.mids c.job.inside.peer c.job.inside.datagram
+      (record { body = arc_value c.job.inside.body; tag = c.job.inside.tag.0 }) c.args.job m
+      c.as_slice-2.result.now c.look_request-request.result.asked
+      (reply_said c.body_reply-reply.result) c.self.view_is c.job.view_is of read
+      c.look_request-request.result.asked_said (c.as_slice-2.ensures.value ∙ c.deref.ensures)
+      c.body_reply-reply.ensures.said
       c.in-Ok.ensures c.adopt.ensures.stands c.answer.ensures.sends way;
 }

@@ -6,31 +6,45 @@ use Rattle.rd_desk.proofs.ticking.AgainWalk.{again_begins, again_goes, again_end
 use Rattle.rd_desk.proofs.tables.Tables.notices_again.Goals as goal
 
 pub observers-init : goal.observers-init
-observers-init c rows s starved mids way = again_begins rows s starved c.args.self.now c.args.out.now mids way
+observers-init c rows s starved mids way =
+    again_begins rows s starved c.args.self.now c.args.out.now mids way
 
 pub observers-preserved-then-notice_again : goal.observers-preserved-then-notice_again
 observers-preserved-then-notice_again c rows s starved mids way =
     let shown = ap (λ (d : Seen). length d.watching.observers) c.self.view_is in
     let size = c.len.ensures in
     let within = c.observers-test.true in
-    let found = got_inside c.observers.self.watching.observers c.observers.index (omega (arith, shown, size, within)) in
-    again_goes rows s starved c.observers.self c.notice_again.new.self c.observers.out c.notice_again.new.out mids c.observers.index (c.observers.index + 1) found.0 found.1
-    (λ room short done h. c.notice_again.ensures.way rows s starved done mids found.0 found.1 room short h)
-    (ap (λ b. drop (index_after b c.observers.index) c.notice_again.new.self.watching.observers) (sym c.if-notice_again.true) ∙ c.notice_again.ensures.rest) (c.observers.invariant rows s starved mids way)
+    let found =
+    got_inside c.observers.self.watching.observers c.observers.index
+    (omega (arith, shown, size, within)) in
+    again_goes rows s starved c.observers.self c.notice_again.new.self c.observers.out
+    c.notice_again.new.out mids c.observers.index (c.observers.index + 1) found.0 found.1
+    (λ room short done h. c.notice_again.ensures.way rows s starved done mids found.0 found.1 room
+    short h)
+    (ap (λ b. drop (index_after b c.observers.index) c.notice_again.new.self.watching.observers)
+    (sym c.if-notice_again.true)
+    ∙ c.notice_again.ensures.rest) (c.observers.invariant rows s starved mids way)
 
 pub observers-preserved : goal.observers-preserved
 observers-preserved c rows s starved mids way =
     let shown = ap (λ (d : Seen). length d.watching.observers) c.self.view_is in
     let size = c.len.ensures in
     let within = c.observers-test.true in
-    let found = got_inside c.observers.self.watching.observers c.observers.index (omega (arith, shown, size, within)) in
-    again_goes rows s starved c.observers.self c.notice_again.new.self c.observers.out c.notice_again.new.out mids c.observers.index c.observers.index found.0 found.1
-    (λ room short done h. c.notice_again.ensures.way rows s starved done mids found.0 found.1 room short h)
-    (ap (λ b. drop (index_after b c.observers.index) c.notice_again.new.self.watching.observers) (sym c.if-notice_again.false) ∙ c.notice_again.ensures.rest) (c.observers.invariant rows s starved mids way)
+    let found =
+    got_inside c.observers.self.watching.observers c.observers.index
+    (omega (arith, shown, size, within)) in
+    again_goes rows s starved c.observers.self c.notice_again.new.self c.observers.out
+    c.notice_again.new.out mids c.observers.index c.observers.index found.0 found.1
+    (λ room short done h. c.notice_again.ensures.way rows s starved done mids found.0 found.1 room
+    short h)
+    (ap (λ b. drop (index_after b c.observers.index) c.notice_again.new.self.watching.observers)
+    (sym c.if-notice_again.false)
+    ∙ c.notice_again.ensures.rest) (c.observers.invariant rows s starved mids way)
 
 pub returns : goal.returns
 returns c rows s starved mids way =
     let shown = ap (λ (d : Seen). length d.watching.observers) c.self.view_is in
     let size = c.len.ensures in
     let past = c.observers-test.false in
-    again_ends rows s starved c.observers.self c.observers.out mids c.observers.index (omega (arith, shown, size, past)) (c.observers.invariant rows s starved mids way)
+    again_ends rows s starved c.observers.self c.observers.out mids c.observers.index
+    (omega (arith, shown, size, past)) (c.observers.invariant rows s starved mids way)

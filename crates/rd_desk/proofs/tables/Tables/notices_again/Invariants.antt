@@ -9,7 +9,10 @@ use Rattle.rd_desk.proofs.tables.Tables.notices_again.Given as goal
 
 -- the notices of the observers before the index are done with
 abbrev pub invariant-observers : goal.invariant-observers
-invariant-observers l = (rows : List Row) (s : Step) (starved : Bool) (mids : Mids) → UnderWay rows s starved nothing l.initial.self l.initial.out mids → AgainUpTo rows s starved l.self l.out mids l.index
+invariant-observers l =
+    (rows : List Row) (s : Step) (starved : Bool) (mids : Mids)
+    → UnderWay rows s starved nothing l.initial.self l.initial.out mids
+    → AgainUpTo rows s starved l.self l.out mids l.index
 
 abbrev pub decreases-observers : goal.decreases-observers
 decreases-observers l = length (drop l.index l.self.watching.observers)

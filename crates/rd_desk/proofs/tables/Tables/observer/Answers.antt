@@ -7,4 +7,5 @@ pub returns-in-Some-clause-observer : goal.returns-in-Some-clause-observer
 returns-in-Some-clause-observer c rows o stands at =
     let here = subst (λ (d : Seen). StandsFor rows d) (sym c.self.view_is) stands in
     let there = sym c.at.ensures ∙ ap (option_map (λ x. x.now)) c.in-Some.is in
-    shown-IsObserverAfter rows _ c.args.index o _ c.shown.result here.watching at there c.shown.ensures
+    shown-IsObserverAfter rows _ c.args.index o _ c.shown.result here.watching at there
+    c.shown.ensures

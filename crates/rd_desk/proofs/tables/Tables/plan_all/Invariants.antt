@@ -14,9 +14,18 @@ use Rattle.rd_desk.proofs.tables.Tables.plan_all.Given as goal
 -- the plan is made up to the index, and nothing changed but bodies that are kept
 abbrev pub invariant-due : goal.invariant-due
 invariant-due l =
-    ((rows : List Row) (s : Step) (starved : Bool) (whole first : Effects) (out : List (Peer × List ℕ)) → s.word ≡ l.word → UnderWay rows s starved first l.initial.self out l.mids → l.tag.0 ≡ tag (entries rows) (row_moment rows s)
-    → PlannedUpTo rows s starved l.tag.0 whole first l.initial.self.watching.observers l.initial.self.observed l.initial.plan 0 → PlannedUpTo rows s starved l.tag.0 whole first l.initial.self.watching.observers l.initial.self.observed l.plan l.from)
-    × ((rows : List Row) → StandsFor rows l.initial.self → StandsFor rows l.self) × (l.self ≡ record l.initial.self { watching = l.self.watching }) × (l.self.watching.observers ≡ l.initial.self.watching.observers)
+    ((rows : List Row) (s : Step) (starved : Bool) (whole first : Effects)
+    (out : List (Peer × List ℕ))
+    → s.word ≡ l.word
+    → UnderWay rows s starved first l.initial.self out l.mids
+    → l.tag.0 ≡ tag (entries rows) (row_moment rows s)
+    → PlannedUpTo rows s starved l.tag.0 whole first l.initial.self.watching.observers
+    l.initial.self.observed l.initial.plan 0
+    → PlannedUpTo rows s starved l.tag.0 whole first l.initial.self.watching.observers
+    l.initial.self.observed l.plan l.from)
+    × ((rows : List Row) → StandsFor rows l.initial.self → StandsFor rows l.self)
+    × (l.self ≡ record l.initial.self { watching = l.self.watching })
+    × (l.self.watching.observers ≡ l.initial.self.watching.observers)
 
 abbrev pub decreases-due : goal.decreases-due
 decreases-due l = length l.self.watching.observers - l.from

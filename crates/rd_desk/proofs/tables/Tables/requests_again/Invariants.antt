@@ -12,5 +12,9 @@ use Rattle.rd_desk.proofs.tables.Tables.requests_again.Given as goal
 
 -- the requests of the fetches before the index are done with, and no more are left than steps
 abbrev pub invariant-fetches : goal.invariant-fetches
-invariant-fetches l = (rows : List Row) (s : Step) (starved : Bool) (done : Effects) (mids : Mids) → LeavesFetches rows s starved done → length done.sent + length (fetches (events rows)) ≤ most_datagrams
-    → UnderWay rows s starved done l.initial.self l.initial.out mids → Resending rows s starved done l.self l.out mids l.index (l.count - l.step)
+invariant-fetches l =
+    (rows : List Row) (s : Step) (starved : Bool) (done : Effects) (mids : Mids)
+    → LeavesFetches rows s starved done
+    → length done.sent + length (fetches (events rows)) ≤ most_datagrams
+    → UnderWay rows s starved done l.initial.self l.initial.out mids
+    → Resending rows s starved done l.self l.out mids l.index (l.count - l.step)

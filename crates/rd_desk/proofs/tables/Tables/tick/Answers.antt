@@ -12,15 +12,24 @@ returns c = record {
   made = λ rows s kind word call.
       let starved = is_starved_step c.notices-stepped.result in
       let whole = joined (notices_done starved rows s) (requests_again rows (row_moment rows s)) in
-      let passed = c.pass.ensures.way rows s starved c.args.out.now c.args.mids.now c.requires.empty call in
+      let passed =
+      c.pass.ensures.way rows s starved c.args.out.now c.args.mids.now c.requires.empty call in
       let again = c.notices_again.ensures rows s starved c.args.mids.now passed in
       let noticed = c.notices-stepped.ensures.way rows s word again in
-      let asked = c.requests_again.ensures rows s starved (notices_done starved rows s) c.notices-stepped.new.mids (notices_leave starved rows s) (requests_room starved rows s call.journal) noticed in
-      let aged = c.drop_old_exchanges.ensures rows s starved whole c.requests_again.new.out c.notices-stepped.new.mids asked in
-      tick_made rows s starved c.args.now c.args.self.now c.sweep.new.self c.requests_again.new.out c.args.mids.now c.notices-stepped.new.mids kind call
-      (c.sweep.ensures rows s starved whole c.requests_again.new.out c.notices-stepped.new.mids aged);
+      let asked =
+      c.requests_again.ensures rows s starved (notices_done starved rows s)
+      c.notices-stepped.new.mids (notices_leave starved rows s)
+      (requests_room starved rows s call.journal) noticed in
+      let aged =
+      c.drop_old_exchanges.ensures rows s starved whole c.requests_again.new.out
+      c.notices-stepped.new.mids asked in
+      tick_made rows s starved c.args.now c.args.self.now c.sweep.new.self c.requests_again.new.out
+      c.args.mids.now c.notices-stepped.new.mids kind call
+      (c.sweep.ensures rows s starved whole c.requests_again.new.out c.notices-stepped.new.mids
+      aged);
   unstarved = λ rows s kind call silent.
-      let passed = c.pass.ensures.way rows s false c.args.out.now c.args.mids.now c.requires.empty call in
+      let passed =
+      c.pass.ensures.way rows s false c.args.out.now c.args.mids.now c.requires.empty call in
       let again = c.notices_again.ensures rows s false c.args.mids.now passed in
       c.notices-stepped.ensures.unstarved rows s false again silent;
 }

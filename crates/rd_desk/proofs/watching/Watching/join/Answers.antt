@@ -6,20 +6,32 @@ use Rattle.rd_desk.proofs.observers.WatchedLaws.{apart_absent}
 use Rattle.rd_desk.proofs.watching.Watching.join.Goals as goal
 
 pub join-requires : goal.join-requires
-join-requires c = record { new = apart_absent c.args.joining.peer c.args.joining.token c.self.inside.observers c.self.invariant.apart }
+join-requires c = record {
+  new =
+      apart_absent c.args.joining.peer c.args.joining.token c.self.inside.observers
+      c.self.invariant.apart;
+}
 
 pub invariant_of-self : goal.invariant_of-self
 invariant_of-self c =
-    joined-AreWatched c.args.query.now c.args.joining c.join.result (record { watches = c.self.inside.watches; observers = c.self.inside.observers }) (record { watches = c.join.new.watches; observers = c.join.new.observers })
-    (apart_absent c.args.joining.peer c.args.joining.token c.self.inside.observers c.self.invariant.apart) c.join.ensures.outcome c.self.invariant
+    joined-AreWatched c.args.query.now c.args.joining c.join.result
+    (record { watches = c.self.inside.watches; observers = c.self.inside.observers })
+    (record { watches = c.join.new.watches; observers = c.join.new.observers })
+    (apart_absent c.args.joining.peer c.args.joining.token c.self.inside.observers
+    c.self.invariant.apart) c.join.ensures.outcome c.self.invariant
 
 pub returns-clause-room : goal.returns-clause-room
 returns-clause-room c rows h =
-    room-IfOk rows (record { watches = c.self.inside.watches; observers = c.self.inside.observers }) c.args.query.now c.args.joining.peer c.args.joining.token c.join.result (subst (WatchingStandsFor rows) (sym c.self.view_is) h)
+    room-IfOk rows (record { watches = c.self.inside.watches; observers = c.self.inside.observers })
+    c.args.query.now c.args.joining.peer c.args.joining.token c.join.result
+    (subst (WatchingStandsFor rows) (sym c.self.view_is) h)
     c.join.ensures.room
 
 pub returns-clause-stands : goal.returns-clause-stands
 returns-clause-stands c rows s starved done h =
-    joined-IfOk rows s starved done c.args.query.now c.args.joining c.join.result (record { watches = c.self.inside.watches; observers = c.self.inside.observers })
-    (record { watches = c.join.new.watches; observers = c.join.new.observers }) (apart_absent c.args.joining.peer c.args.joining.token c.self.inside.observers c.self.invariant.apart) c.join.ensures.outcome
+    joined-IfOk rows s starved done c.args.query.now c.args.joining c.join.result
+    (record { watches = c.self.inside.watches; observers = c.self.inside.observers })
+    (record { watches = c.join.new.watches; observers = c.join.new.observers })
+    (apart_absent c.args.joining.peer c.args.joining.token c.self.inside.observers
+    c.self.invariant.apart) c.join.ensures.outcome
     (subst (WatchingStandsFor (making rows s starved done)) (sym c.self.view_is) h)

@@ -13,14 +13,24 @@ use Rattle.rd_desk.proofs.watching.Watching.leave.Goals as goal
 
 pub invariant_of-self : goal.invariant_of-self
 invariant_of-self c =
-    both-AreWatched (sym c.leave.ensures.watches) (sym c.leave.ensures.observers) (left-AreWatched (is_named c.args.peer.now c.args.token.now) c.self.inside.watches c.self.inside.observers c.self.invariant)
+    both-AreWatched (sym c.leave.ensures.watches) (sym c.leave.ensures.observers)
+    (left-AreWatched (is_named c.args.peer.now c.args.token.now) c.self.inside.watches
+    c.self.inside.observers c.self.invariant)
 
 pub returns-clause-found : goal.returns-clause-found
 returns-clause-found c rows h =
-    c.leave.ensures.found ∙ is_observer-StandsFor rows (record { watches = c.self.inside.watches; observers = c.self.inside.observers }) c.args.peer.now c.args.token.now (subst (WatchingStandsFor rows) (sym c.self.view_is) h)
+    c.leave.ensures.found
+    ∙ is_observer-StandsFor rows
+    (record { watches = c.self.inside.watches; observers = c.self.inside.observers })
+    c.args.peer.now c.args.token.now (subst (WatchingStandsFor rows) (sym c.self.view_is) h)
 
 pub returns-clause-stands : goal.returns-clause-stands
 returns-clause-stands c rows s starved done h =
-    subst (WatchingStandsFor (making rows s starved (joined done (noting (removal (c.args.peer.now, c.args.token.now) (observers (events (making rows s starved done))))))))
-    (ap₂ (λ t ws. record { watches = t; observers = ws }) (sym c.leave.ensures.watches) (sym c.leave.ensures.observers))
-    (WatchingStandsFor-left rows s starved done c.args.peer.now c.args.token.now (record { watches = c.self.inside.watches; observers = c.self.inside.observers }) (subst (WatchingStandsFor (making rows s starved done)) (sym c.self.view_is) h))
+    subst (WatchingStandsFor
+    (making rows s starved (joined done (noting (removal (c.args.peer.now, c.args.token.now)
+    (observers (events (making rows s starved done))))))))
+    (ap₂ (λ t ws. record { watches = t; observers = ws }) (sym c.leave.ensures.watches)
+    (sym c.leave.ensures.observers))
+    (WatchingStandsFor-left rows s starved done c.args.peer.now c.args.token.now
+    (record { watches = c.self.inside.watches; observers = c.self.inside.observers })
+    (subst (WatchingStandsFor (making rows s starved done)) (sym c.self.view_is) h))

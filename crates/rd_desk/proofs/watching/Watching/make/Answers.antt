@@ -6,9 +6,13 @@ use Rattle.rd_desk.proofs.watching.Watching.make.Goals as goal
 
 pub invariant_of-result : goal.invariant_of-result
 invariant_of-result c =
-    subst (λ t. AreWatched t c.in_ok-observers.observers) (sym c.in_ok-watches.ensures.empty) (subst (λ ws. AreWatched [] ws) (sym c.in_ok-observers.ensures.empty) empty-AreWatched)
+    subst (λ t. AreWatched t c.in_ok-observers.observers) (sym c.in_ok-watches.ensures.empty)
+    (subst (λ ws. AreWatched [] ws) (sym c.in_ok-observers.ensures.empty) empty-AreWatched)
 
 pub returns : goal.returns
 returns c =
-    subst (λ t. WatchingStandsFor [] (record { watches = t; observers = c.in_ok-observers.observers })) (sym c.in_ok-watches.ensures.empty)
-    (subst (λ ws. WatchingStandsFor [] (record { watches = []; observers = ws })) (sym c.in_ok-observers.ensures.empty) WatchingStandsFor-empty)
+    subst (λ t.
+    WatchingStandsFor [] (record { watches = t; observers = c.in_ok-observers.observers }))
+    (sym c.in_ok-watches.ensures.empty)
+    (subst (λ ws. WatchingStandsFor [] (record { watches = []; observers = ws }))
+    (sym c.in_ok-observers.ensures.empty) WatchingStandsFor-empty)

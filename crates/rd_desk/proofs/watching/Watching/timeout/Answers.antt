@@ -11,15 +11,24 @@ use Rattle.rd_desk.proofs.watching.Watching.timeout.Goals as goal
 
 pub invariant_of-self : goal.invariant_of-self
 invariant_of-self c =
-    subst (AreWatched c.self.inside.watches) (sym c.timeout.ensures.kept) (changed_at-AreWatched (timed c.args.now.0) (λ w. refl) c.args.index c.self.inside.watches c.self.inside.observers c.self.invariant)
+    subst (AreWatched c.self.inside.watches) (sym c.timeout.ensures.kept)
+    (changed_at-AreWatched (timed c.args.now.0) (λ w. refl) c.args.index c.self.inside.watches
+    c.self.inside.observers c.self.invariant)
 
 pub returns-clause-stands : goal.returns-clause-stands
 returns-clause-stands c rows s starved done x sent sends there flies at h =
     let here = ap (λ (w : Watching). slice_get w.observers c.args.index) c.self.view_is ∙ there in
-    subst (λ ws. WatchingStandsFor (making rows s starved (joined done (sending_again x sent))) (record { watches = c.self.inside.watches; observers = ws })) (sym c.timeout.ensures.kept)
-    (WatchingStandsFor-again rows s starved done c.args.now.0 c.args.index x sent (record { watches = c.self.inside.watches; observers = c.self.inside.observers }) here flies
-    (ap (due_of c.args.now.0) (sym flies) ∙ (sym (c.timeout.ensures.due x here) ∙ sends)) at (subst (WatchingStandsFor (making rows s starved done)) (sym c.self.view_is) h))
+    subst (λ ws.
+    WatchingStandsFor (making rows s starved (joined done (sending_again x sent)))
+    (record { watches = c.self.inside.watches; observers = ws }))
+    (sym c.timeout.ensures.kept)
+    (WatchingStandsFor-again rows s starved done c.args.now.0 c.args.index x sent
+    (record { watches = c.self.inside.watches; observers = c.self.inside.observers }) here flies
+    (ap (due_of c.args.now.0) (sym flies) ∙ (sym (c.timeout.ensures.due x here) ∙ sends)) at
+    (subst (WatchingStandsFor (making rows s starved done)) (sym c.self.view_is) h))
 
 pub returns-clause-len : goal.returns-clause-len
 returns-clause-len c =
-    ap length c.timeout.ensures.kept ∙ (length-changed_at (timed c.args.now.0) c.args.index c.self.inside.observers ∙ ap (λ (w : Watching). length w.observers) c.self.view_is)
+    ap length c.timeout.ensures.kept
+    ∙ (length-changed_at (timed c.args.now.0) c.args.index c.self.inside.observers
+    ∙ ap (λ (w : Watching). length w.observers) c.self.view_is)

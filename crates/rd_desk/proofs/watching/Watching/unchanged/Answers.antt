@@ -11,14 +11,24 @@ use Rattle.rd_desk.proofs.watching.Watching.unchanged.Goals as goal
 
 pub invariant_of-self : goal.invariant_of-self
 invariant_of-self c =
-    subst (AreWatched c.self.inside.watches) (sym c.unchanged.ensures.seen) (changed_at-AreWatched seen (λ w. refl) c.args.index c.self.inside.watches c.self.inside.observers c.self.invariant)
+    subst (AreWatched c.self.inside.watches) (sym c.unchanged.ensures.seen)
+    (changed_at-AreWatched seen (λ w. refl) c.args.index c.self.inside.watches
+    c.self.inside.observers c.self.invariant)
 
 pub returns-clause-stands : goal.returns-clause-stands
 returns-clause-stands c rows s starved done x there h =
     let here = ap (λ (w : Watching). slice_get w.observers c.args.index) c.self.view_is ∙ there in
-    subst (λ ws. WatchingStandsFor (making rows s starved (joined done (noting (note.Unchanged x.peer x.token ∷ [])))) (record { watches = c.self.inside.watches; observers = ws })) (sym c.unchanged.ensures.seen)
-    (WatchingStandsFor-unchanged rows s starved done c.args.index x (record { watches = c.self.inside.watches; observers = c.self.inside.observers }) here (subst (WatchingStandsFor (making rows s starved done)) (sym c.self.view_is) h))
+    subst (λ ws.
+    WatchingStandsFor
+    (making rows s starved (joined done (noting (note.Unchanged x.peer x.token ∷ []))))
+    (record { watches = c.self.inside.watches; observers = ws }))
+    (sym c.unchanged.ensures.seen)
+    (WatchingStandsFor-unchanged rows s starved done c.args.index x
+    (record { watches = c.self.inside.watches; observers = c.self.inside.observers }) here
+    (subst (WatchingStandsFor (making rows s starved done)) (sym c.self.view_is) h))
 
 pub returns-clause-len : goal.returns-clause-len
 returns-clause-len c =
-    ap length c.unchanged.ensures.seen ∙ (length-changed_at seen c.args.index c.self.inside.observers ∙ ap (λ (w : Watching). length w.observers) c.self.view_is)
+    ap length c.unchanged.ensures.seen
+    ∙ (length-changed_at seen c.args.index c.self.inside.observers
+    ∙ ap (λ (w : Watching). length w.observers) c.self.view_is)

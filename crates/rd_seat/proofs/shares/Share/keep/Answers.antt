@@ -110,7 +110,8 @@ returns g c =
       has_ended = c.end.ensures;
       later_is = let m : c.moment.result.0 ≡ c.keep-stepped.new.self.tables.moment =
           c.moment.ensures.value
-          ∙ ap (λ (d : Shown PublisherSeen). d.tables.moment) c.deref.ensures in let l : c.later-self.result.0
+          ∙ ap (λ (d : Shown PublisherSeen). d.tables.moment) c.deref.ensures in let l :
+          c.later-self.result.0
           ≡ max c.moment.result.0 c.args.self.now.last.0 = c.later-self.ensures in
           omega (arith, m, l);
     } in

@@ -6,7 +6,11 @@ use Rattle.rd_server.proofs.sessions.Session.feed.Given as goal
 abbrev pub invariant-lines : goal.invariant-lines
 invariant-lines g l =
     (g.K.Sink.faults l.out ≡ g.K.Sink.faults l.fn.out)
-    × ((workers : ℕ) (place : Place) → IsAt workers place l.fn.self → (fed : List ℕ) × (l.piece ≡ fed ++ l.rest) × Goes workers place fed l.self (g.K.Sink.holds l.fn.out) (g.K.Sink.holds l.out))
+    × ((workers : ℕ) (place : Place)
+    → IsAt workers place l.fn.self
+    → (fed : List ℕ)
+    × (l.piece ≡ fed ++ l.rest)
+    × Goes workers place fed l.self (g.K.Sink.holds l.fn.out) (g.K.Sink.holds l.out))
 
 abbrev pub decreases-lines : goal.decreases-lines
 decreases-lines g l = length l.rest

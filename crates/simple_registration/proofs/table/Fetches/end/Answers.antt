@@ -17,4 +17,6 @@ invariant_of-self c =
 
 pub returns : goal.returns
 returns c octets events e stands is =
-    ends octets events c.self.inside.rows.items c.drop_first.new.rows.items c.self.inside.started c.args.peer.now e c.drop_first.ensures.items is (subst (FetchesStandFor octets events) (sym c.self.view_is) stands)
+    ends octets events c.self.inside.rows.items c.drop_first.new.rows.items c.self.inside.started
+    c.args.peer.now e c.drop_first.ensures.items is
+    (subst (FetchesStandFor octets events) (sym c.self.view_is) stands)

@@ -7,13 +7,21 @@ use Rattle.simple_registration.proofs.table.Fetches.reset.Goals as goal
 
 pub returns-in_default-clause-answer : goal.returns-in_default-clause-answer
 returns-in_default-clause-answer c octets events stands =
-    c.in_default.ensures.answer ∙ last_request_is octets events c.self.inside.rows.items c.self.inside.started c.args.peer.now c.args.mid (subst (FetchesStandFor octets events) (sym c.self.view_is) stands)
+    c.in_default.ensures.answer
+    ∙ last_request_is octets events c.self.inside.rows.items c.self.inside.started c.args.peer.now
+    c.args.mid (subst (FetchesStandFor octets events) (sym c.self.view_is) stands)
 
 pub returns-clause-answer : goal.returns-clause-answer
 returns-clause-answer c octets events stands =
-    c.in-Some.ensures.answer ∙ last_request_is octets events c.self.inside.rows.items c.self.inside.started c.args.peer.now c.args.mid (subst (FetchesStandFor octets events) (sym c.self.view_is) stands)
+    c.in-Some.ensures.answer
+    ∙ last_request_is octets events c.self.inside.rows.items c.self.inside.started c.args.peer.now
+    c.args.mid (subst (FetchesStandFor octets events) (sym c.self.view_is) stands)
 
 pub returns-clause-ended : goal.returns-clause-ended
 returns-clause-ended c octets events e stands sure is =
-    ends octets events c.self.inside.rows.items c.remove.new.self.items c.self.inside.started c.args.peer.now e
-    (c.remove.ensures.items ∙ without_first-at (is_of c.args.peer.now) c.self.inside.rows.items c.in-Some.index c.in-Some.ensures.index) is (subst (FetchesStandFor octets events) (sym c.self.view_is) stands)
+    ends octets events c.self.inside.rows.items c.remove.new.self.items c.self.inside.started
+    c.args.peer.now e
+    (c.remove.ensures.items
+    ∙ without_first-at (is_of c.args.peer.now) c.self.inside.rows.items c.in-Some.index
+    c.in-Some.ensures.index) is
+    (subst (FetchesStandFor octets events) (sym c.self.view_is) stands)

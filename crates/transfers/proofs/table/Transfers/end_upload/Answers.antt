@@ -20,6 +20,11 @@ pub returns-clause-stands : goal.returns-clause-stands
 returns-clause-stands c at events e is stands =
     let before = subst (TransfersStandFor at events) (sym c.self.view_is) stands in
     record {
-      uploads = subst (UploadsStandFor at (e ∷ events)) (sym c.drop_upload.ensures.items) (UploadsStandFor-ended at c.args.peer c.args.key.now e events c.self.inside.uploads.items is before.uploads);
-      answers = AnswersStandFor-aside e events (values c.self.inside.answers.entries) (rw is refl) before.answers;
+      uploads =
+          subst (UploadsStandFor at (e ∷ events)) (sym c.drop_upload.ensures.items)
+          (UploadsStandFor-ended at c.args.peer c.args.key.now e events
+          c.self.inside.uploads.items is before.uploads);
+      answers =
+          AnswersStandFor-aside e events (values c.self.inside.answers.entries) (rw is refl)
+          before.answers;
     }

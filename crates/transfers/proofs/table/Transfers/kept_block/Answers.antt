@@ -11,26 +11,40 @@ use Rattle.transfers.proofs.table.Transfers.kept_block.Goals as goal
 pub returns-in_err-number : goal.returns-in_err-number
 returns-in_err-number c =
     let old = values c.self.inside.answers.entries in
-    let none = is_none (live_kept c.args.now.0 (c.args.peer, c.args.key.now) old) c.in_err-number.ensures.found in
+    let none =
+    is_none (live_kept c.args.now.0 (c.args.peer, c.args.key.now) old)
+    c.in_err-number.ensures.found in
     let same = c.in_err-number.ensures.answers ∙ ap (λ o. after_reading c.args.now.0 o old) none in
     let residual : c.from_residual.result ≡ None = c.from_residual.ensures in
     rw residual (
-      (refl, λ _. tt, ap (λ xs. record { uploads = c.self.inside.uploads.items; answers = xs }) same ∙ c.self.view_is),
+      (
+        refl,
+        λ _.
+            tt,
+        ap (λ xs. record { uploads = c.self.inside.uploads.items; answers = xs }) same
+            ∙ c.self.view_is,
+      ),
       record {
         ends = tt;
         answer = λ at events stands.
             let before = subst (TransfersStandFor at events) (sym c.self.view_is) stands in
-            ap (option_map (λ (x : KeptAnswer). x.answer)) (sym none) ∙ kept-is c.args.now.0 (c.args.peer, c.args.key.now) events old before.answers;
+            ap (option_map (λ (x : KeptAnswer). x.answer)) (sym none)
+            ∙ kept-is c.args.now.0 (c.args.peer, c.args.key.now) events old before.answers;
       },
     )
 
 pub returns : goal.returns
 returns c =
     let old = values c.self.inside.answers.entries in
-    let lives = is_present (live_kept c.args.now.0 (c.args.peer, c.args.key.now) old) c.in_ok-number.ensures.found in
+    let lives =
+    is_present (live_kept c.args.now.0 (c.args.peer, c.args.key.now) old)
+    c.in_ok-number.ensures.found in
     let x = lives.0 in
-    let answers = c.in_ok-number.ensures.answers ∙ ap (λ o. after_reading c.args.now.0 o old) lives.1 in
-    let kept = some_same (c.in_ok-kept.ensures ∙ (c.in_ok-number.ensures.value ∙ ap (option_map (used_at c.args.now.0)) lives.1)) in
+    let answers =
+    c.in_ok-number.ensures.answers ∙ ap (λ o. after_reading c.args.now.0 o old) lives.1 in
+    let kept =
+    some_same (c.in_ok-kept.ensures ∙ (c.in_ok-number.ensures.value ∙ ap (option_map (used_at
+    c.args.now.0)) lives.1)) in
     let body = c.body.ensures ∙ ap (λ (k : KeptAnswer). k.answer.body) kept in
     let tag = c.tag.ensures ∙ ap (λ (k : KeptAnswer). k.answer.tag) kept in (
       (
@@ -39,8 +53,13 @@ returns c =
         λ at events e is moment stands.
             let before = subst (TransfersStandFor at events) (sym c.self.view_is) stands in
             record {
-              uploads = UploadsStandFor-aside at e events c.self.inside.uploads.items (rw is refl) before.uploads;
-              answers = subst (AnswersStandFor (e ∷ events)) (sym answers) (AnswersStandFor-read c.args.now.0 c.args.peer c.args.key.now e events old x is moment lives.1 before.answers);
+              uploads =
+                  UploadsStandFor-aside at e events c.self.inside.uploads.items (rw is refl)
+                  before.uploads;
+              answers =
+                  subst (AnswersStandFor (e ∷ events)) (sym answers)
+                  (AnswersStandFor-read c.args.now.0 c.args.peer c.args.key.now e events old x
+                  is moment lives.1 before.answers);
             },
       ),
       record {
@@ -48,6 +67,7 @@ returns c =
         answer = λ at events stands.
             let before = subst (TransfersStandFor at events) (sym c.self.view_is) stands in
             ap₂ (λ octets bytes. Some (record { body = octets; tag = bytes })) body tag
-            ∙ (ap (option_map (λ (k : KeptAnswer). k.answer)) (sym lives.1) ∙ kept-is c.args.now.0 (c.args.peer, c.args.key.now) events old before.answers);
+            ∙ (ap (option_map (λ (k : KeptAnswer). k.answer)) (sym lives.1)
+            ∙ kept-is c.args.now.0 (c.args.peer, c.args.key.now) events old before.answers);
       },
     )

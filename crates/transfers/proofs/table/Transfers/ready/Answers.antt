@@ -7,6 +7,10 @@ use Rattle.transfers.proofs.table.Transfers.ready.Goals as goal
 
 pub returns : goal.returns
 returns c = λ events place word stands.
-    let before = subst (AnswersStandFor events) (sym (ap (λ (t : Table). t.answers) c.self.view_is)) stands in
-    subst (AnswersStandFor (noted place c.args.now.0 word (map kept_note c.args.more) events)) (sym c.in_ok-answers.ensures.answers)
-    (AnswersStandFor-kept_each place c.args.now.0 word c.args.more events (values c.self.inside.answers.entries) before)
+    let before =
+    subst (AnswersStandFor events) (sym (ap (λ (t : Table). t.answers) c.self.view_is))
+    stands in
+    subst (AnswersStandFor (noted place c.args.now.0 word (map kept_note c.args.more) events))
+    (sym c.in_ok-answers.ensures.answers)
+    (AnswersStandFor-kept_each place c.args.now.0 word c.args.more events
+    (values c.self.inside.answers.entries) before)

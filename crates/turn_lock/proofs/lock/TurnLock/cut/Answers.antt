@@ -1,4 +1,20 @@
-use Rattle.std.proofs.Common.{rules, ◌≡◌, ℕ, ◌+◌, [], ◌∷◌, length, slice_get, sym, ap, ◌∙◌, subst, ⊎_elim, arith, length-append}
+use Rattle.std.proofs.Common.{
+  rules,
+  ◌≡◌,
+  ℕ,
+  ◌+◌,
+  [],
+  ◌∷◌,
+  length,
+  slice_get,
+  sym,
+  ap,
+  ◌∙◌,
+  subst,
+  ⊎_elim,
+  arith,
+  length-append,
+}
 use Rattle.turn_lock.specs.Passes.{IsFresh}
 use Rattle.turn_lock.specs.Shown.{seat_of, lock_of}
 use Rattle.turn_lock.proofs.NewPasses.{get_end, fresh_kept, fresh_next}
@@ -12,8 +28,11 @@ loop-preserved g c =
     let items = c.loop.passes.items in
     let one = c.new_pass.result in
     let split = c.next-next.ensures.split in
-    let long : length c.push_reserved.new.self.items ≡ length items + 1 = ap length c.push_reserved.ensures.items ∙ length-append items (one ∷ []) in
-    let mine : IsFresh lab (length items) c.next-next.new.last.me = subst (IsFresh lab (length items)) (sym split.kept) (fresh_kept lab (length items) c.loop.last.me inv.last) in
+    let long : length c.push_reserved.new.self.items ≡ length items + 1 =
+    ap length c.push_reserved.ensures.items ∙ length-append items (one ∷ []) in
+    let mine : IsFresh lab (length items) c.next-next.new.last.me =
+    subst (IsFresh lab (length items)) (sym split.kept)
+    (fresh_kept lab (length items) c.loop.last.me inv.last) in
     let passed : IsFresh lab (length items) (seat_of one).me
     = subst (λ x. IsFresh lab (length items) x.me) (sym c.new_pass.ensures) mine in
     let of_lock : lock_of one ≡ tid
@@ -27,8 +46,12 @@ loop-preserved g c =
           (λ (t : (i ≡ length items) × (one ≡ p)).
           subst (λ q. IsFresh lab i (seat_of q).me × (lock_of q ≡ tid)) t.1
           (subst (λ (n : ℕ). IsFresh lab n (seat_of one).me) (sym t.0) passed, of_lock))
-          (get_end items one p i (ap (λ xs. slice_get xs i) (sym c.push_reserved.ensures.items) ∙ e));
-      last = subst (λ (n : ℕ). IsFresh lab n c.next-next.result.me) (sym long) (subst (IsFresh lab (length items + 1)) (sym split.next) (fresh_next lab (length items) c.loop.last.me inv.last));
+          (get_end items one p i
+          (ap (λ xs. slice_get xs i) (sym c.push_reserved.ensures.items) ∙ e));
+      last =
+          subst (λ (n : ℕ). IsFresh lab n c.next-next.result.me) (sym long)
+          (subst (IsFresh lab (length items + 1)) (sym split.next)
+          (fresh_next lab (length items) c.loop.last.me inv.last));
       table = c.next-next.ensures.lock.1 ∙ inv.table;
       mark = ap (λ m. m.0.last) split.next;
     }

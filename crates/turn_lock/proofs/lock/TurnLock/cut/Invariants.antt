@@ -11,7 +11,8 @@ invariant-loop g l = record {
   room : l.fn.seats ≤ vec_capacity l.passes;
   each : (i : ℕ) (p : _) → slice_get l.passes.items i ≡ Some p
       → IsNew (g.T.Replays.label l.self.table.shared.key.value) i p × (lock_of p ≡ id_of l.self);
-  last : IsFresh (g.T.Replays.label l.self.table.shared.key.value) (length l.passes.items) l.last.me;
+  last : IsFresh (g.T.Replays.label l.self.table.shared.key.value) (length l.passes.items)
+      l.last.me;
   table : l.last.table_id ≡ l.self.table.shared.table_id;
   mark : l.last.me.0.last ≡ true;
 }

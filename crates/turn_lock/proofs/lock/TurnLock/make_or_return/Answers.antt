@@ -9,10 +9,16 @@ use Rattle.turn_lock.proofs.lock.TurnLock.make_or_return.Goals as goal
 
 pub new-requires : goal.new-requires
 new-requires g c =
-    let items = c.push_reserved.ensures.items ∙ ap (λ xs. xs ++ Some c.args.value ∷ []) c.in-Ok-with_capacity.ensures.items in
-    subst (λ v. Kept g.T.Replays.stands g.T.Replays.number g.T.Replays.label (g.T.Replays.label v) (opening (0 ∷ []) c.push_reserved.new.self.items (first_view (g.T.Replays.label v))))
+    let items =
+    c.push_reserved.ensures.items
+    ∙ ap (λ xs. xs ++ Some c.args.value ∷ []) c.in-Ok-with_capacity.ensures.items in
+    subst (λ v.
+    Kept g.T.Replays.stands g.T.Replays.number g.T.Replays.label (g.T.Replays.label v)
+    (opening (0 ∷ []) c.push_reserved.new.self.items
+    (first_view (g.T.Replays.label v))))
     (sym c.of-about.ensures)
-    (opens g.T.Replays.stands g.T.Replays.number g.T.Replays.label c.args.value c.push_reserved.new.self.items items c.requires.value)
+    (opens g.T.Replays.stands g.T.Replays.number g.T.Replays.label c.args.value
+    c.push_reserved.new.self.items items c.requires.value)
 
 pub returns-clause-fresh : goal.returns-clause-fresh
 returns-clause-fresh g c i d e =
@@ -21,9 +27,11 @@ returns-clause-fresh g c i d e =
     let p = get_or items i d in
     subst (λ l. IsFresh l i (seat_of p).me)
     (ap g.T.Replays.label (ap (λ k. k.value) made.5 ∙ c.of-about.ensures))
-    (c.cut-passes.ensures.passes i p (ap (λ xs. slice_get xs i) (sym c.of.ensures) ∙ slice_get-get_or items i d e)).0
+    (c.cut-passes.ensures.passes i p
+    (ap (λ xs. slice_get xs i) (sym c.of.ensures) ∙ slice_get-get_or items i d e)).0
 
 pub returns-clause-lock : goal.returns-clause-lock
 returns-clause-lock g c i d e =
     let items = c.of.result.passes.items in
-    (c.cut-passes.ensures.passes i (get_or items i d) (ap (λ xs. slice_get xs i) (sym c.of.ensures) ∙ slice_get-get_or items i d e)).1
+    (c.cut-passes.ensures.passes i (get_or items i d)
+    (ap (λ xs. slice_get xs i) (sym c.of.ensures) ∙ slice_get-get_or items i d e)).1

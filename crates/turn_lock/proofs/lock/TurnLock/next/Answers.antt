@@ -6,5 +6,7 @@ pub split_seat-requires : goal.split_seat-requires
 split_seat-requires g c = (
   c.requires.lock,
   omega (arith, c.args.self.now.words),
-  splits g.T.Replays.stands g.T.Replays.number g.T.Replays.label (g.T.Replays.label c.args.self.now.table.shared.key.value) c.args.last.now.id c.args.last.now.me.0 c.requires.last c.requires.idle,
+  splits g.T.Replays.stands g.T.Replays.number g.T.Replays.label
+      (g.T.Replays.label c.args.self.now.table.shared.key.value) c.args.last.now.id
+      c.args.last.now.me.0 c.requires.last c.requires.idle,
 )

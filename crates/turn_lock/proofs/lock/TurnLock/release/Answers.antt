@@ -16,6 +16,12 @@ swap-requires g c =
     let added = g.S.Added.added in (
       c.requires.lock,
       omega (arith, lock.words),
-      subst (λ (n : ℕ). Allows (Kept g.T.Replays.stands g.T.Replays.number g.T.Replays.label lab) n seat.id seat.me 0 (λ _. w) (Gives g.T.Replays.stands g.T.Replays.number g.T.Replays.label added (step n 0 w 0 none) seat.me))
-          (sym lock.slots) (gives_allowed g.T.Replays.stands g.T.Replays.number g.T.Replays.label lab seat.id seat.me ready.0 w ready.2 c.requires.word added ready.1),
+      subst (λ (n : ℕ).
+          Allows (Kept g.T.Replays.stands g.T.Replays.number g.T.Replays.label lab) n seat.id
+          seat.me 0 (λ _. w)
+          (Gives g.T.Replays.stands g.T.Replays.number g.T.Replays.label added
+          (step n 0 w 0 none) seat.me))
+          (sym lock.slots)
+          (gives_allowed g.T.Replays.stands g.T.Replays.number g.T.Replays.label lab seat.id
+          seat.me ready.0 w ready.2 c.requires.word added ready.1),
     )

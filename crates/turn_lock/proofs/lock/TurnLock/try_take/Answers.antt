@@ -15,6 +15,12 @@ compare_exchange-requires g c =
     let w = c.args.word in (
       c.requires.lock,
       omega (arith, lock.words),
-      subst (λ (n : ℕ). Allows (Kept g.T.Replays.stands g.T.Replays.number g.T.Replays.label lab) n seat.id seat.me 0 (λ x. either (x == w) (w + 1) x) (Takes g.T.Replays.stands g.T.Replays.number g.T.Replays.label (step n 0 w (w + 1) none) seat.me))
-          (sym lock.slots) (takes_allowed g.T.Replays.stands g.T.Replays.number g.T.Replays.label lab seat.id seat.me w c.requires.free c.requires.bare),
+      subst (λ (n : ℕ).
+          Allows (Kept g.T.Replays.stands g.T.Replays.number g.T.Replays.label lab) n seat.id
+          seat.me 0 (λ x. either (x == w) (w + 1) x)
+          (Takes g.T.Replays.stands g.T.Replays.number g.T.Replays.label
+          (step n 0 w (w + 1) none) seat.me))
+          (sym lock.slots)
+          (takes_allowed g.T.Replays.stands g.T.Replays.number g.T.Replays.label lab seat.id
+          seat.me w c.requires.free c.requires.bare),
     )

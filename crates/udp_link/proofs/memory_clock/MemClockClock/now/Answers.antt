@@ -8,5 +8,7 @@ pub returns-clause-early : goal.returns-clause-early
 returns-clause-early c =
     let clock = c.args.self.now in
     let none : Moment = record { 0 = 0 } in
-    let early : All IsHandedIn c.as_slice.result.now = subst (All IsHandedIn) (sym c.as_slice.ensures) clock.early in
-    subst IsHandedIn (sym c.next_of.ensures.value) (first_left IsHandedIn none c.as_slice.result.now clock.moments_passed (omega arith) early)
+    let early : All IsHandedIn c.as_slice.result.now =
+    subst (All IsHandedIn) (sym c.as_slice.ensures) clock.early in
+    subst IsHandedIn (sym c.next_of.ensures.value)
+    (first_left IsHandedIn none c.as_slice.result.now clock.moments_passed (omega arith) early)

@@ -9,7 +9,10 @@ use Rattle.watch_table.proofs.table.WatchTable.clear.Goals as goal
 
 pub watches-preserved : goal.watches-preserved
 watches-preserved c = record {
-  changed = c.unmark_at.ensures.unmarked ∙ (ap (changed_at unmarked c.watches.index) c.watches.invariant.changed ∙ changed-more unmarked c.self.inside.watches.entries c.watches.index);
+  changed =
+      c.unmark_at.ensures.unmarked
+      ∙ (ap (changed_at unmarked c.watches.index) c.watches.invariant.changed
+      ∙ changed-more unmarked c.self.inside.watches.entries c.watches.index);
   len = c.unmark_at.ensures.len ∙ c.watches.invariant.len;
 }
 
@@ -18,5 +21,8 @@ returns-clause-stands c standing h =
     let end = c.len-index-end.ensures.len in
     let past = c.watches-test.false in
     subst (WatchesStandFor standing)
-    (sym (c.watches.invariant.changed ∙ (changed-all unmarked c.self.inside.watches.entries c.watches.index (omega (arith, end, past)) ∙ ap all_unmarked c.self.view_is)))
+    (sym (c.watches.invariant.changed
+    ∙ (changed-all unmarked c.self.inside.watches.entries c.watches.index
+    (omega (arith, end, past))
+    ∙ ap all_unmarked c.self.view_is)))
     (unmarked-StandsFor standing c.args.self.now h)

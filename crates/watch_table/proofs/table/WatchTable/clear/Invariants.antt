@@ -6,6 +6,8 @@ use Rattle.watch_table.proofs.table.WatchTable.clear.Given as goal
 
 abbrev pub invariant-watches : goal.invariant-watches
 invariant-watches l = record {
-  changed : l.self-inside.watches.entries ≡ changed_before unmarked l.index l.initial.self-inside.watches.entries;
+  changed :
+      l.self-inside.watches.entries
+      ≡ changed_before unmarked l.index l.initial.self-inside.watches.entries;
   len : length l.self-inside.watches.entries ≡ length l.initial.self-inside.watches.entries;
 }

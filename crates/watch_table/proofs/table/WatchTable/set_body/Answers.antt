@@ -7,4 +7,6 @@ use Rattle.watch_table.proofs.table.WatchTable.set_body.Goals as goal
 
 pub returns-clause-stands : goal.returns-clause-stands
 returns-clause-stands c standing h =
-    subst (WatchesStandFor standing) (sym (c.set_body.ensures.set ∙ ap (with_body c.args.place (arc_value c.args.body)) c.self.view_is)) (with_body-StandsFor c.args.place (arc_value c.args.body) standing c.args.self.now h)
+    subst (WatchesStandFor standing) (sym (c.set_body.ensures.set
+    ∙ ap (with_body c.args.place (arc_value c.args.body)) c.self.view_is))
+    (with_body-StandsFor c.args.place (arc_value c.args.body) standing c.args.self.now h)

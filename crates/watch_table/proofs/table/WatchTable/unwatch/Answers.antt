@@ -6,4 +6,6 @@ use Rattle.watch_table.proofs.table.WatchTable.unwatch.Goals as goal
 
 pub returns-clause-stands : goal.returns-clause-stands
 returns-clause-stands c front back o is h =
-    subst (WatchesStandFor (front ++ back)) (sym (c.leave.ensures.left ∙ ap (one_fewer c.args.place) c.self.view_is)) (fewer-StandsFor front back o c.args.place c.args.self.now is h)
+    subst (WatchesStandFor (front ++ back))
+    (sym (c.leave.ensures.left ∙ ap (one_fewer c.args.place) c.self.view_is))
+    (fewer-StandsFor front back o c.args.place c.args.self.now is h)
