@@ -1,3 +1,4 @@
+pub mod CodeExamples
 pub mod BlockExamples
 pub mod ReadingExamples
 pub mod RequestExamples

@@ -28,12 +28,13 @@ use Rattle.std.specs.Prelude.{
   nat_le,
   if◌then◌else◌,
 }
+use Rattle.message_model.specs.declared.blocks.TheConstants.{RESERVED_SZX}
 use Rattle.message_model.specs.declared.blocks.Block.{Block}
 use Rattle.message_model.specs.Numbers.{uint_of, uint_bytes}
 
 -- The exponent that is reserved (RFC 7959 section 2.2).
 abbrev pub reserved_szx : ℕ
-reserved_szx = 7
+reserved_szx = RESERVED_SZX
 
 -- The size of a block (RFC 7959 section 2.2).
 abbrev pub block_size : ℕ → ℕ

@@ -1,5 +1,7 @@
--- The codes of requests and responses (RFC 7252 section 12.1, RFC 7959 section 2.9).
+-- The codes of requests and responses (RFC 7252 section 12.1, RFC 7959 section 2.9). Their numbers
+-- are those of src/codes.rt.
 use Rattle.std.specs.Prelude.{ℕ, ◌+◌, ◌*◌, ◌/◌, Bool, ◌&&◌, ◌||◌, ◌==◌, nat_lt, nat_le}
+use Rattle.message_model.specs.declared.codes.TheConstants as numbers
 
 -- The byte of a code that is written class.detail: three bits of class, five of detail (RFC 7252
 -- section 3).
@@ -12,74 +14,74 @@ class_of byte = byte / 32
 
 -- The code of an empty message, 0.00 (RFC 7252 section 4.1).
 abbrev pub empty : ℕ
-empty = code 0 0
+empty = numbers.EMPTY
 
 -- The methods (RFC 7252 section 5.8).
 abbrev pub get : ℕ
-get = code 0 1
+get = numbers.GET
 
 abbrev pub post : ℕ
-post = code 0 2
+post = numbers.POST
 
 abbrev pub put : ℕ
-put = code 0 3
+put = numbers.PUT
 
 abbrev pub delete : ℕ
-delete = code 0 4
+delete = numbers.DELETE
 
 -- Success (RFC 7252 section 5.9.1; 2.31 is of RFC 7959 section 2.9).
 abbrev pub created : ℕ
-created = code 2 1
+created = numbers.CREATED
 
 abbrev pub deleted : ℕ
-deleted = code 2 2
+deleted = numbers.DELETED
 
 abbrev pub valid : ℕ
-valid = code 2 3
+valid = numbers.VALID
 
 abbrev pub changed : ℕ
-changed = code 2 4
+changed = numbers.CHANGED
 
 abbrev pub content : ℕ
-content = code 2 5
+content = numbers.CONTENT
 
 abbrev pub continue : ℕ
-continue = code 2 31
+continue = numbers.CONTINUE
 
 -- Errors of the client (RFC 7252 section 5.9.2; 4.08 is of RFC 7959 section 2.9).
 abbrev pub bad_request : ℕ
-bad_request = code 4 0
+bad_request = numbers.BAD_REQUEST
 
 abbrev pub bad_option : ℕ
-bad_option = code 4 2
+bad_option = numbers.BAD_OPTION
 
 abbrev pub not_found : ℕ
-not_found = code 4 4
+not_found = numbers.NOT_FOUND
 
 abbrev pub method_not_allowed : ℕ
-method_not_allowed = code 4 5
+method_not_allowed = numbers.METHOD_NOT_ALLOWED
 
 abbrev pub not_acceptable : ℕ
-not_acceptable = code 4 6
+not_acceptable = numbers.NOT_ACCEPTABLE
 
 abbrev pub request_entity_incomplete : ℕ
-request_entity_incomplete = code 4 8
+request_entity_incomplete = numbers.REQUEST_ENTITY_INCOMPLETE
 
 abbrev pub request_entity_too_large : ℕ
-request_entity_too_large = code 4 13
+request_entity_too_large = numbers.REQUEST_ENTITY_TOO_LARGE
 
 abbrev pub unsupported_content_format : ℕ
-unsupported_content_format = code 4 15
+unsupported_content_format = numbers.UNSUPPORTED_CONTENT_FORMAT
 
 -- Errors of the server (RFC 7252 section 5.9.3).
 abbrev pub internal_server_error : ℕ
-internal_server_error = code 5 0
+internal_server_error = numbers.INTERNAL_SERVER_ERROR
 
 abbrev pub service_unavailable : ℕ
-service_unavailable = code 5 3
+service_unavailable = numbers.SERVICE_UNAVAILABLE
 
 abbrev pub proxying_not_supported : ℕ
-proxying_not_supported = code 5 5
+proxying_not_supported = numbers.PROXYING_NOT_SUPPORTED
 
 -- No message has a code of class 1, 6 or 7: they are reserved (RFC 7252 section 3).
 abbrev pub is_reserved : ℕ → Bool

@@ -17,6 +17,11 @@ use Rattle.std.specs.Prelude.{
 }
 use Rattle.message_model.specs.declared.messages.Kind4.{Kind4}
 use Rattle.message_model.specs.declared.messages.Kind4.TheVariants.{Con, Non, Ack, Rst}
+use Rattle.message_model.specs.declared.messages.TheConstants.{
+  MAX_TOKEN,
+  MAX_OPTION_NUMBER,
+  MAX_OPTION_VALUE,
+}
 use Rattle.message_model.specs.declared.messages.Role.{Role}
 use Rattle.message_model.specs.declared.messages.Role.TheVariants as role
 use Rattle.message_model.specs.Numbers.{IsByte, AreBytes}
@@ -37,15 +42,15 @@ pub record Message : Type 0 where
 
 -- The greatest length of a token (RFC 7252 section 3).
 abbrev pub longest_token : ℕ
-longest_token = 8
+longest_token = MAX_TOKEN
 
 -- The greatest number of an option (RFC 7252 section 3.1).
 abbrev pub last_number : ℕ
-last_number = 65535
+last_number = MAX_OPTION_NUMBER
 
 -- The greatest length of a value: 269 and what two more bytes say (RFC 7252 section 3.1).
 abbrev pub longest_value : ℕ
-longest_value = 65804
+longest_value = MAX_OPTION_VALUE
 
 -- Options that can stand after an option of this number: none falls, and each can be written (RFC
 -- 7252 section 3.1).

@@ -25,53 +25,55 @@ use Rattle.std.specs.Prelude.{
   if◌then◌else◌,
 }
 use Rattle.std.specs.List.{list_any}
+use Rattle.message_model.specs.declared.options.TheConstants as number_of
 use Rattle.message_model.specs.Message.{Opt}
 
--- The numbers of the options (RFC 7252 section 12.2, RFC 7641 section 2, RFC 7959 section 6).
+-- The numbers of the options (RFC 7252 section 12.2, RFC 7641 section 2, RFC 7959 section 6), which
+-- are those of src/options.rt.
 abbrev pub uri_host : ℕ
-uri_host = 3
+uri_host = number_of.URI_HOST
 
 abbrev pub etag : ℕ
-etag = 4
+etag = number_of.ETAG
 
 abbrev pub observe : ℕ
-observe = 6
+observe = number_of.OBSERVE
 
 abbrev pub uri_port : ℕ
-uri_port = 7
+uri_port = number_of.URI_PORT
 
 abbrev pub location_path : ℕ
-location_path = 8
+location_path = number_of.LOCATION_PATH
 
 abbrev pub uri_path : ℕ
-uri_path = 11
+uri_path = number_of.URI_PATH
 
 abbrev pub content_format : ℕ
-content_format = 12
+content_format = number_of.CONTENT_FORMAT
 
 abbrev pub uri_query : ℕ
-uri_query = 15
+uri_query = number_of.URI_QUERY
 
 abbrev pub accept : ℕ
-accept = 17
+accept = number_of.ACCEPT
 
 abbrev pub block2 : ℕ
-block2 = 23
+block2 = number_of.BLOCK2
 
 abbrev pub block1 : ℕ
-block1 = 27
+block1 = number_of.BLOCK1
 
 abbrev pub size2 : ℕ
-size2 = 28
+size2 = number_of.SIZE2
 
 abbrev pub proxy_uri : ℕ
-proxy_uri = 35
+proxy_uri = number_of.PROXY_URI
 
 abbrev pub proxy_scheme : ℕ
-proxy_scheme = 39
+proxy_scheme = number_of.PROXY_SCHEME
 
 abbrev pub size1 : ℕ
-size1 = 60
+size1 = number_of.SIZE1
 
 -- Of an option: the least and greatest length of its value, and whether it may be repeated (RFC
 -- 7252 section 5.10).

@@ -17,6 +17,7 @@ use Rattle.std.specs.Prelude.{
   ◌==◌,
   if◌then◌else◌,
 }
+use Rattle.message_model.specs.declared.formats.TheConstants.{LINK_FORMAT}
 use Rattle.message_model.specs.declared.blocks.Block.{Block}
 use Rattle.message_model.specs.declared.requests.Path.{Path}
 use Rattle.message_model.specs.declared.requests.Path.TheVariants as path
@@ -38,7 +39,7 @@ use Rattle.message_model.specs.Request.{
 
 -- The number of the format of link documents (RFC 7252 section 12.3).
 abbrev pub link_format : ℕ
-link_format = 40
+link_format = LINK_FORMAT
 
 -- A path that names no resource.
 abbrev pub is_nowhere : Path → Bool

@@ -24,6 +24,7 @@ use Rattle.std.specs.Prelude.{
 }
 use Rattle.std.specs.List.{list_all}
 use Rattle.std.specs.Char.{is_ascii_digit}
+use Rattle.message_model.specs.declared.requests.TheConstants.{MAX_LOCATION_DIGITS}
 use Rattle.message_model.specs.declared.requests.Path.{Path}
 use Rattle.message_model.specs.declared.requests.Path.TheVariants as path
 use Rattle.message_model.specs.Numbers.{uint_of}
@@ -44,7 +45,7 @@ has_leading_zero (b ∷ others) = b == digit_zero
 
 -- The most digits of a registration's number.
 abbrev pub most_digits : ℕ
-most_digits = 15
+most_digits = MAX_LOCATION_DIGITS
 
 -- A decimal number of 1 to 15 digits without leading zero.
 abbrev pub is_location : List ℕ → Bool

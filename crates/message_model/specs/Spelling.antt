@@ -14,6 +14,7 @@ use Rattle.std.specs.Prelude.{
   nat_lt,
   if◌then◌else◌,
 }
+use Rattle.message_model.specs.declared.messages.TheConstants.{PAYLOAD_MARKER}
 use Rattle.message_model.specs.declared.messages.Kind4.{Kind4}
 use Rattle.message_model.specs.declared.messages.Kind4.TheVariants.{Con, Non, Ack, Rst}
 use Rattle.message_model.specs.Numbers.{byte_values}
@@ -25,7 +26,7 @@ version = 1
 
 -- The byte before a payload (RFC 7252 section 3).
 abbrev pub marker : ℕ
-marker = 255
+marker = PAYLOAD_MARKER
 
 -- The first number that one more byte extends, and the nibble that says so (RFC 7252 section 3.1).
 abbrev pub first_extended : ℕ

@@ -1,5 +1,11 @@
 //! The value of a Block option.
 
+/// The exponent of a size that is reserved (RFC 7959 section 2.2).
+pub const RESERVED_SZX: u8 = 7;
+
+/// The greatest exponent of a size, of blocks of 1,024 octets (RFC 7959 section 2.2).
+pub const MAX_SZX: u8 = RESERVED_SZX - 1;
+
 /// A block's number, whether more follow, and the exponent of its size (RFC 7959 section 2.2).
 #[derive(Clone, Copy, Debug, PartialEq, Eq)]
 pub struct Block {

@@ -3,9 +3,14 @@
 #![tactic(auto)]
 
 mod blocks;
+pub mod codes;
+pub mod formats;
 mod messages;
+pub mod options;
 mod requests;
 
-pub use blocks::Block;
-pub use messages::{Kind4, Role, Unread};
-pub use requests::{Path, Refusal};
+pub use blocks::{Block, MAX_SZX, RESERVED_SZX};
+pub use messages::{
+    Kind4, MAX_OPTION_NUMBER, MAX_OPTION_VALUE, MAX_TOKEN, PAYLOAD_MARKER, Role, Unread,
+};
+pub use requests::{MAX_LOCATION_DIGITS, Path, Refusal};

@@ -1,4 +1,17 @@
-//! The types of a message, what a message is for, and why bytes are no message.
+//! The parts of a message, what a message is for, and why bytes are no message.
+
+/// The most octets of a token (RFC 7252 section 3).
+pub const MAX_TOKEN: usize = 8;
+
+/// The octet before a payload (RFC 7252 section 3).
+pub const PAYLOAD_MARKER: u8 = 0xff;
+
+/// The greatest number of an option (RFC 7252 section 3.1).
+pub const MAX_OPTION_NUMBER: u32 = 65_535;
+
+/// The most octets of the value of an option: 269, and what two octets more say (RFC 7252 section
+/// 3.1).
+pub const MAX_OPTION_VALUE: usize = 65_804;
 
 /// The type of a message (RFC 7252 section 3).
 #[derive(Clone, Copy, Debug, PartialEq, Eq)]

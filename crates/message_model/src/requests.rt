@@ -1,5 +1,8 @@
 //! The resources of the directory, and the refusals that a request alone decides.
 
+/// The most digits of a registration's number in its location.
+pub const MAX_LOCATION_DIGITS: usize = 15;
+
 /// The resource that a request names by its path.
 #[derive(Clone, Copy, Debug, PartialEq, Eq)]
 pub enum Path {
