@@ -13,10 +13,7 @@ ghost use Rattle.coap_message.specs.Headers.{header_in};
 use super::headers::{Header, header_at, is_bad_header};
 use super::prefixes::{byte_at, bytes_at, option_at};
 use super::views::{TokenRef, View};
-use message_model::Unread;
-
-/// The octet before a payload (RFC 7252 section 3).
-const MARKER: u8 = 255;
+use message_model::{PAYLOAD_MARKER, Unread};
 
 /// The octets of `whole` before those that it ends with.
 fn before_end<'a>(whole: &'a [u8], end: &[u8]) -> &'a [u8]
@@ -44,7 +41,7 @@ fn tail_at(bytes: &[u8]) -> Option<(&[u8], &[u8])>
     let mut before = 0u16;
     let mut rest = bytes;
     'options: while let Some((first, following)) = byte_at(rest) {
-        if first == MARKER {
+        if first == PAYLOAD_MARKER {
             let payload = payload_at(following)?;
             return Some((before_end(bytes, rest), payload));
         }

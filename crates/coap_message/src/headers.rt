@@ -6,6 +6,7 @@ ghost use Rattle.message_model.specs.Codes as codes_of;
 ghost use Rattle.message_model.specs.Reading as reading;
 ghost use Rattle.coap_message.specs.Headers.{header_in};
 
+use message_model::codes::EMPTY;
 use message_model::{Kind4, Unread};
 
 /// What a header says.
@@ -74,5 +75,5 @@ pub(crate) fn is_bad_header(header: &Header, bytes: &[u8]) -> bool
 {
     is_reserved(header.code)
         || header.token_length > 8
-        || (header.code == 0 && is_filled(header, bytes))
+        || (header.code == EMPTY && is_filled(header, bytes))
 }

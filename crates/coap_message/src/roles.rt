@@ -5,13 +5,14 @@ ghost use Rattle.message_model.specs.Codes as codes_of;
 ghost use Rattle.message_model.specs.Message as model;
 
 use crate::views::View;
+use message_model::codes::EMPTY;
 use message_model::{Kind4, Role};
 
 /// Whether a code is that of a request: class 0, but not 0.00 (RFC 7252 section 12.1.1).
 fn is_request_code(code: u8) -> bool
     ensures { result ≡ codes_of.is_request_code code }
 {
-    code > 0 && code / 32 == 0
+    code > EMPTY && code / 32 == 0
 }
 
 /// Whether a code is that of a response: classes 2 to 5 (RFC 7252 section 12.1.2).
@@ -58,7 +59,7 @@ pub fn role_of(view: &View<'_>) -> Role
     ensures { result ≡ model.role_of view.now.kind view.now.code }
 {
     let View { kind, code, .. } = *view;
-    if code == 0 {
+    if code == EMPTY {
         return empty_role(kind);
     }
     if is_request_code(code) {

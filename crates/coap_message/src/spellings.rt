@@ -6,8 +6,7 @@ ghost use Rattle.message_model.specs.Numbers.{AreBytes};
 ghost use Rattle.message_model.specs.Message.{last_number, longest_value};
 ghost use Rattle.message_model.specs.Spelling as spelling_of;
 
-/// The octet before a payload (RFC 7252 section 3).
-const MARKER: u8 = 255;
+use message_model::PAYLOAD_MARKER;
 
 /// One octet.
 pub(crate) fn put_byte(octets: &mut [u8], at: usize, byte: u8) -> usize
@@ -139,7 +138,7 @@ pub(crate) fn put_payload(octets: &mut [u8], at: usize, payload: &[u8]) -> usize
     match payload {
         [] => at,
         [_, ..] => {
-            let first = put_byte(octets, at, MARKER);
+            let first = put_byte(octets, at, PAYLOAD_MARKER);
             put_bytes(octets, first, payload)
         }
     }

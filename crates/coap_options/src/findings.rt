@@ -11,11 +11,11 @@ ghost use Rattle.coap_options.specs.Segments.{AreSegments};
 ghost use Rattle.coap_options.specs.Findings.{is_last, IsFound, IsFoundWith};
 
 use crate::segments::{Segments, with_segment};
-use crate::table::{
-    ACCEPT, BLOCK1, BLOCK2, CONTENT_FORMAT, OBSERVE, PROXY_SCHEME, PROXY_URI, URI_PATH,
-    is_critical, is_recognized,
-};
+use crate::table::{is_critical, is_recognized};
 use coap_message::Opt;
+use message_model::options::{
+    ACCEPT, BLOCK1, BLOCK2, CONTENT_FORMAT, OBSERVE, PROXY_SCHEME, PROXY_URI, URI_PATH,
+};
 
 /// What recognized options say, and the number of the last option, whether or not that one is
 /// recognized.

@@ -4,15 +4,7 @@ ghost use Rattle.std.specs.Prelude.{◌≡◌};
 ghost use Rattle.message_model.specs.Request as request;
 
 use message_model::Path;
-
-/// The code of GET (RFC 7252 section 12.1.1).
-pub(crate) const GET: u8 = 1;
-
-/// The code of POST (RFC 7252 section 12.1.1).
-pub(crate) const POST: u8 = 2;
-
-/// The code of DELETE (RFC 7252 section 12.1.1).
-const DELETE: u8 = 4;
+use message_model::codes::{DELETE, GET, POST};
 
 /// Whether a resource has the method with this code (RFC 9176 sections 4.3, 5, 5.1, 5.3 and 6): GET
 /// at the discovery and the lookups, POST at both registrations, POST and DELETE at a

@@ -7,10 +7,7 @@ ghost use Rattle.std.specs.Char.{is_ascii_digit};
 ghost use Rattle.message_model.specs.Request as request;
 ghost use Rattle.message_model.specs.declared.requests.Path.TheVariants as path;
 
-use message_model::Path;
-
-/// The most digits of a registration's number.
-const MOST_DIGITS: usize = 15;
+use message_model::{MAX_LOCATION_DIGITS, Path};
 
 /// Whether all of them are decimal digits.
 fn are_digits(text: &[u8]) -> bool
@@ -34,7 +31,7 @@ fn has_good_length(text: &[u8]) -> bool
     ensures { result
         ≡ (nat_le 1 (length text.now) && nat_le (length text.now) request.most_digits) }
 {
-    1 <= text.len() && text.len() <= MOST_DIGITS
+    1 <= text.len() && text.len() <= MAX_LOCATION_DIGITS
 }
 
 /// A decimal number of 1 to 15 digits without leading zero.

@@ -11,14 +11,13 @@ ghost use Rattle.coap_options.specs.PartRefusals.{registers, has_bad_block, refu
 
 use crate::findings::BadOption;
 use crate::meanings::Meaning;
-use crate::methods::{GET, POST, allowed};
+use crate::methods::allowed;
 use crate::option_walks::meaning;
 use block_wise::{Block, block_read, block_size};
 use coap_message::View;
+use message_model::codes::{GET, POST};
+use message_model::formats::LINK_FORMAT;
 use message_model::{Path, Refusal};
-
-/// The format of link documents (RFC 7252 section 12.3).
-const LINK_FORMAT: u16 = 40;
 
 /// A path that names no resource.
 fn is_nowhere(path: &Path) -> bool

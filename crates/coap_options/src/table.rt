@@ -5,50 +5,10 @@ ghost use Rattle.std.specs.Option.{option_map};
 ghost use Rattle.message_model.specs.OptionTable as table;
 ghost use Rattle.coap_options.specs.Definitions.{definition_in};
 
-/// The number of Uri-Host (RFC 7252 section 5.10).
-pub(crate) const URI_HOST: u32 = 3;
-
-/// The number of ETag (RFC 7252 section 5.10).
-pub(crate) const ETAG: u32 = 4;
-
-/// The number of Observe (RFC 7641 section 2).
-pub(crate) const OBSERVE: u32 = 6;
-
-/// The number of Uri-Port (RFC 7252 section 5.10).
-pub(crate) const URI_PORT: u32 = 7;
-
-/// The number of Location-Path (RFC 7252 section 5.10).
-pub(crate) const LOCATION_PATH: u32 = 8;
-
-/// The number of Uri-Path (RFC 7252 section 5.10).
-pub(crate) const URI_PATH: u32 = 11;
-
-/// The number of Content-Format (RFC 7252 section 5.10).
-pub(crate) const CONTENT_FORMAT: u32 = 12;
-
-/// The number of Uri-Query (RFC 7252 section 5.10).
-pub(crate) const URI_QUERY: u32 = 15;
-
-/// The number of Accept (RFC 7252 section 5.10).
-pub(crate) const ACCEPT: u32 = 17;
-
-/// The number of Block2 (RFC 7959 section 2.1).
-pub(crate) const BLOCK2: u32 = 23;
-
-/// The number of Block1 (RFC 7959 section 2.1).
-pub(crate) const BLOCK1: u32 = 27;
-
-/// The number of Size2 (RFC 7959 section 4).
-pub(crate) const SIZE2: u32 = 28;
-
-/// The number of Proxy-Uri (RFC 7252 section 5.10).
-pub(crate) const PROXY_URI: u32 = 35;
-
-/// The number of Proxy-Scheme (RFC 7252 section 5.10).
-pub(crate) const PROXY_SCHEME: u32 = 39;
-
-/// The number of Size1 (RFC 7959 section 4).
-pub(crate) const SIZE1: u32 = 60;
+use message_model::options::{
+    ACCEPT, BLOCK1, BLOCK2, CONTENT_FORMAT, ETAG, LOCATION_PATH, OBSERVE, PROXY_SCHEME, PROXY_URI,
+    SIZE1, SIZE2, URI_HOST, URI_PATH, URI_PORT, URI_QUERY,
+};
 
 /// Of an option: the least and greatest length of its value, and whether it may be repeated.
 #[derive(Clone, Copy)]

@@ -9,8 +9,9 @@ ghost use Rattle.coap_message.specs.OptionsLeft.{options_left};
 ghost use Rattle.coap_options.specs.ValuesLeft.{values_left, queries_left, etags_left};
 
 use crate::meanings::Meaning;
-use crate::table::{ETAG, URI_QUERY, is_recognized};
+use crate::table::is_recognized;
 use coap_message::{Opt, OptionsIter, options_of};
+use message_model::options::{ETAG, URI_QUERY};
 use rd_base::Pieces;
 
 /// The query options that are left, in order (RFC 7252 section 5.10.1): a contract sees them by
