@@ -18,6 +18,7 @@ use Rattle.std.specs.Prelude.{
   if◌then◌else◌,
 }
 use Rattle.std.specs.List.{list_any}
+use Rattle.event_model.specs.declared.transmission.TheConstants.{EXCHANGE_LIFETIME}
 use Rattle.event_model.specs.declared.notes.Note.{Note}
 
 -- a note with its place, which is the number of the rows before its own, and with the moment and
@@ -64,7 +65,7 @@ event_moment e = unwrap_or (option_map (λ e. e.moment) e) 0
 -- how long an exchange, an upload and a kept answer live, in milliseconds (RFC 7252 section 4.8.2,
 -- EXCHANGE_LIFETIME)
 abbrev pub exchange_lifetime : ℕ
-exchange_lifetime = 247_000
+exchange_lifetime = EXCHANGE_LIFETIME
 
 -- what happened at a moment is not older than that at another
 abbrev pub is_young : ℕ → ℕ → Bool

@@ -30,6 +30,8 @@ use Rattle.std.specs.List.{list_any}
 use Rattle.std.specs.Int.{bytes_high_first}
 use Rattle.rd_base.specs.declared.peers.Peer.{Peer}
 use Rattle.rd_base.specs.declared.parameters.RegParams.{RegParams}
+use Rattle.event_model.specs.declared.limits.TheConstants.{MAX_FETCHES}
+use Rattle.event_model.specs.declared.transmission.TheConstants.{MAX_TRANSMIT_WAIT}
 use Rattle.event_model.specs.declared.notes.Note.{Note}
 use Rattle.event_model.specs.declared.notes.Note.TheVariants as note
 use Rattle.event_model.specs.Same.{is_same_peer}
@@ -38,12 +40,12 @@ use Rattle.event_model.specs.Flights.{deadline, Sent, OctetsSent, retransmission
 
 -- the most fetches that run
 abbrev pub max_fetches : ℕ
-max_fetches = 64
+max_fetches = MAX_FETCHES
 
 -- how long a fetch waits for a response that comes apart, in milliseconds (RFC 7252 section 4.8.2,
 -- MAX_TRANSMIT_WAIT)
 abbrev pub response_wait : ℕ
-response_wait = 93_000
+response_wait = MAX_TRANSMIT_WAIT
 
 -- a fetch starts: it asks for the block of number 0
 abbrev pub is_start : Note → Bool

@@ -24,6 +24,7 @@ use Rattle.std.specs.Prelude.{
 }
 use Rattle.std.specs.List.{list_any}
 use Rattle.rd_base.specs.declared.peers.Peer.{Peer}
+use Rattle.event_model.specs.declared.transmission.TheConstants.{MAX_RETRANSMIT, ACK_TIMEOUT, ACK_TIMEOUTS}
 use Rattle.event_model.specs.declared.notes.Note.{Note}
 use Rattle.event_model.specs.declared.notes.Note.TheVariants as note
 use Rattle.event_model.specs.declared.notes.Observer.{Observer}
@@ -33,12 +34,12 @@ use Rattle.event_model.specs.Observers.{name_of, observers}
 
 -- how often a message is sent again (RFC 7252 section 4.8, MAX_RETRANSMIT)
 abbrev pub max_again : ℕ
-max_again = 4
+max_again = MAX_RETRANSMIT
 
 -- the first wait for an acknowledgement, in milliseconds: from 2,000 to 3,000 (RFC 7252 section
 -- 4.8, ACK_TIMEOUT, ACK_RANDOM_FACTOR)
 abbrev pub first_wait : ℕ → ℕ
-first_wait word = 2_000 + word % 1_001
+first_wait word = ACK_TIMEOUT + word % ACK_TIMEOUTS
 
 -- the moment of the last of these events, or another where there is none
 abbrev pub moment_of_last : List Event → ℕ → ℕ

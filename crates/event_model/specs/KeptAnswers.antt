@@ -20,6 +20,7 @@ use Rattle.std.specs.Prelude.{
   if◌then◌else◌,
 }
 use Rattle.std.specs.List.{list_any}
+use Rattle.event_model.specs.declared.limits.TheConstants.{MAX_ANSWERS}
 use Rattle.event_model.specs.declared.notes.Note.{Note}
 use Rattle.event_model.specs.declared.notes.Note.TheVariants as note
 use Rattle.event_model.specs.Same.{RequestName, is_same_request}
@@ -27,7 +28,7 @@ use Rattle.event_model.specs.Events.{Event, last_event, event_moment, last_said,
 
 -- the most answers that are kept
 abbrev pub max_answers : ℕ
-max_answers = 64
+max_answers = MAX_ANSWERS
 
 -- an answer that is kept: its body, and its entity tag
 pub record Answer : Type 0 where

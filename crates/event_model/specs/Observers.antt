@@ -25,6 +25,7 @@ use Rattle.std.specs.Prelude.{
 }
 use Rattle.std.specs.List.{list_any}
 use Rattle.rd_base.specs.declared.queries.Query.{Query}
+use Rattle.event_model.specs.declared.limits.TheConstants.{MAX_OBSERVERS, MAX_WATCHED}
 use Rattle.event_model.specs.declared.notes.Observer.{Observer}
 use Rattle.event_model.specs.declared.notes.Note.{Note}
 use Rattle.event_model.specs.declared.notes.Note.TheVariants as note
@@ -33,11 +34,11 @@ use Rattle.event_model.specs.Events.{Event, last_said}
 
 -- the most observers
 abbrev pub max_observers : ℕ
-max_observers = 1_024
+max_observers = MAX_OBSERVERS
 
 -- the most queries that are observed
 abbrev pub max_watched : ℕ
-max_watched = 256
+max_watched = MAX_WATCHED
 
 -- an observer is known by its peer and its token (RFC 7641 section 4.1)
 abbrev pub name_of : Observer → RequestName

@@ -23,6 +23,7 @@ use Rattle.std.specs.Prelude.{
 }
 use Rattle.std.specs.List.{filter_map, list_any}
 use Rattle.rd_base.specs.declared.peers.Peer.{Peer}
+use Rattle.event_model.specs.declared.limits.TheConstants.{MAX_EXCHANGES}
 use Rattle.event_model.specs.declared.notes.Note.{Note}
 use Rattle.event_model.specs.declared.notes.Note.TheVariants as note
 use Rattle.event_model.specs.Same.{is_same_peer}
@@ -30,7 +31,7 @@ use Rattle.event_model.specs.Events.{Event, last_event, last_said, is_young}
 
 -- the most exchanges that are kept
 abbrev pub max_exchanges : ℕ
-max_exchanges = 4_096
+max_exchanges = MAX_EXCHANGES
 
 -- the admission of a peer and a Message ID
 abbrev pub is_admission_of : Peer → ℕ → Note → Bool

@@ -2,6 +2,8 @@
 //! Definitions and their laws; no function.
 #![tactic(auto)]
 
+pub mod limits;
 mod notes;
+pub mod transmission;
 
 pub use notes::{Note, Observer};

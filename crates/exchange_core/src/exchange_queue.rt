@@ -11,13 +11,11 @@ ghost use Rattle.exchange_core.specs.Buckets.{AreFoundBy};
 use crate::buckets::bucket_of;
 use crate::chains::Chains;
 use crate::{Exchange, Reply};
+use event_model::limits::MAX_EXCHANGES;
 use rd_base::{Moment, Peer, Starved};
 use std::alloc::Global;
 use std::collections::VecDeque;
 use std::marker::Model;
-
-/// How many exchanges are kept at most.
-pub(crate) const MAX_EXCHANGES: usize = 4_096;
 
 /// Exchanges in the order of their admission, the latest first.
 #[derive(Drop)]

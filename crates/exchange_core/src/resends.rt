@@ -3,17 +3,9 @@ ghost use Rattle.std.specs.Prelude.{◌≡◌, []};
 ghost use Rattle.event_model.specs.Events.{Event};
 ghost use Rattle.exchange_core.specs.Retransmissions.{Resends, kept_due, kept_after};
 
+use event_model::transmission::{ACK_TIMEOUT, ACK_TIMEOUTS, MAX_RETRANSMIT};
 use rd_base::{Bytes, Moment};
 use std::marker::Model;
-
-/// The first wait is at least so long, in milliseconds (RFC 7252 section 4.8, ACK_TIMEOUT).
-const LEAST_WAIT: u32 = 2_000;
-
-/// So many first waits there are, one millisecond apart (RFC 7252 section 4.8, ACK_RANDOM_FACTOR).
-const WAITS: u32 = 1_001;
-
-/// How often a message is sent again (RFC 7252 section 4.8, MAX_RETRANSMIT).
-const MAX_AGAIN: u8 = 4;
 
 /// What is due of a message that waits for its acknowledgement.
 #[derive(Clone, Copy, Debug, PartialEq, Eq)]
@@ -59,7 +51,7 @@ impl Resend {
     {
         Resend {
             sent: now,
-            wait: LEAST_WAIT + word % WAITS,
+            wait: ACK_TIMEOUT + word % ACK_TIMEOUTS,
             again: 0,
         }
     }
@@ -72,7 +64,7 @@ impl Resend {
         if now.0.saturating_sub(self.sent.0) < u64::from(self.wait) {
             return Again::Wait;
         }
-        if self.again == MAX_AGAIN {
+        if self.again == MAX_RETRANSMIT {
             return Again::GaveUp;
         }
         self.sent = now;

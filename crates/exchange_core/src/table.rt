@@ -9,8 +9,9 @@ ghost use Rattle.exchange_core.specs.Table.{answered};
 ghost use Rattle.event_model.specs.AdmissionOrder.{IsOpen};
 ghost use Rattle.exchange_core.specs.ExchangeEvents.{ExchangesStandFor, IsKeyedAt};
 
-use crate::exchange_queue::{ExchangeQueue, MAX_EXCHANGES};
+use crate::exchange_queue::ExchangeQueue;
 use crate::{Exchange, Keyed, Reply};
+use event_model::limits::MAX_EXCHANGES;
 use rd_base::{Moment, Peer, Starved};
 use std::alloc::Global;
 use std::marker::Model;

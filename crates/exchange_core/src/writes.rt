@@ -7,11 +7,9 @@ ghost use Rattle.exchange_core.specs.Buckets.{bucket};
 
 use crate::Reply;
 use crate::buckets::bucket_of;
+use event_model::transmission::EXCHANGE_LIFETIME;
 use rd_base::{Moment, Peer};
 use std::marker::Model;
-
-/// How long an exchange lives, in milliseconds (RFC 7252 section 4.8.2, EXCHANGE_LIFETIME).
-const EXCHANGE_LIFETIME: u64 = 247_000;
 
 /// What a write is, by the exchanges that are kept (RFC 7252 section 4.5).
 #[derive(Debug, Drop, PartialEq, Eq)]

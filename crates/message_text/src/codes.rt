@@ -1,6 +1,7 @@
 //! The names of types and codes.
 
 use message_model::Kind4;
+use message_model::codes::{EMPTY, LAST_REQUEST};
 
 /// The name of a type (RFC 7252 section 1.2).
 pub(crate) fn kind_name(kind: Kind4) -> &'static str {
@@ -14,7 +15,7 @@ pub(crate) fn kind_name(kind: Kind4) -> &'static str {
 
 /// Whether a code is that of a request (RFC 7252 section 12.1).
 pub(crate) fn is_request(code: u8) -> bool {
-    (1..32).contains(&code)
+    EMPTY < code && code <= LAST_REQUEST
 }
 
 /// The method of a request, and `Empty` of a message with the code 0.00; none of a method without a

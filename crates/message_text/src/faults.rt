@@ -1,14 +1,8 @@
 //! Which rule of the form of a message octets break.
 ghost use Rattle.std.specs.Prelude.{◌≤◌, IfOk, length};
 
-/// The greatest number of an option (RFC 7252 section 3.1).
-const LAST_NUMBER: usize = 65_535;
-
-/// The octet before a payload (RFC 7252 section 3).
-const MARKER: u8 = 255;
-
-/// The most octets of a token (RFC 7252 section 3).
-const LONGEST_TOKEN: usize = 8;
+use message_model::codes::EMPTY;
+use message_model::{MAX_OPTION_NUMBER, MAX_TOKEN, PAYLOAD_MARKER};
 
 /// The rule that octets with the header of a message break (RFC 7252 sections 3, 3.1 and 4.1).
 #[derive(Clone, Copy, Debug, PartialEq, Eq)]
@@ -73,7 +67,7 @@ fn option_after(before: usize, first: u8, octets: &[u8]) -> Result<(usize, &[u8]
         return Err(FormatFault::OptionEnd);
     }
     let number = before.saturating_add(delta);
-    if number > LAST_NUMBER {
+    if number > MAX_OPTION_NUMBER as usize {
         return Err(FormatFault::Number);
     }
     Ok((number, &rest[size..]))
@@ -84,10 +78,10 @@ fn tail_read(octets: &[u8]) -> Result<(), FormatFault> {
     let mut number = 0;
     let mut rest = octets;
     'options: while let Some((first, following)) = rest.split_first() {
-        if *first == MARKER && following.is_empty() {
+        if *first == PAYLOAD_MARKER && following.is_empty() {
             return Err(FormatFault::Payload);
         }
-        if *first == MARKER {
+        if *first == PAYLOAD_MARKER {
             return Ok(());
         }
         (number, rest) = option_after(number, *first, following)?;
@@ -100,10 +94,10 @@ fn body_read(code: u8, token_length: usize, octets: &[u8]) -> Result<(), FormatF
     if matches!(code / 32, 1 | 6 | 7) {
         return Err(FormatFault::Class);
     }
-    if token_length > LONGEST_TOKEN {
+    if token_length > MAX_TOKEN {
         return Err(FormatFault::TokenLength);
     }
-    if code == 0 && (token_length > 0 || !octets.is_empty()) {
+    if code == EMPTY && (token_length > 0 || !octets.is_empty()) {
         return Err(FormatFault::Filled);
     }
     if octets.len() < token_length {

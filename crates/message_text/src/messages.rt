@@ -4,9 +4,10 @@ use super::codes::{kind_name, method_name, response_name};
 use super::faults::format_fault;
 use super::octets::{Place, write_hexadecimal, write_text};
 use super::options::{holds, write_joined, write_options};
-use super::table::{LOCATION_PATH, LOCATION_QUERY, URI_PATH, URI_QUERY};
+use super::table::LOCATION_QUERY;
 use coap_message::{View, view};
 use message_model::Unread;
+use message_model::options::{LOCATION_PATH, URI_PATH, URI_QUERY};
 use rd_base::Starved;
 
 /// Writes the type and the Message ID.

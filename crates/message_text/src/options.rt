@@ -5,6 +5,7 @@ use super::octets::{Place, write_hexadecimal, write_octets};
 use super::table::{Form, named};
 use block_wise::{block_read, block_size};
 use coap_message::{Opt, View, options_of};
+use message_model::formats::LINK_FORMAT;
 use rd_base::Starved;
 
 /// What stands before a part: `first` before the first, `next` before each other.
@@ -43,9 +44,6 @@ pub(crate) fn write_joined(
 /// The most octets of a number (RFC 7252 section 5.10, RFC 7959 section 4).
 const LONGEST_NUMBER: usize = 4;
 
-/// The Content-Format of a list of links (RFC 7252 section 12.3).
-const LINK_FORMAT: u32 = 40;
-
 /// The number of a value, most significant octet first (RFC 7252 section 3.2); none where the value
 /// is longer than that of any option that is a number.
 fn number_of(value: &[u8]) -> Option<u32> {
@@ -61,7 +59,7 @@ fn number_of(value: &[u8]) -> Option<u32> {
 /// an observation (RFC 7641 section 2).
 fn name_of(code: u8, form: Form, number: u32) -> Option<&'static str> {
     match (form, number) {
-        (Form::ContentFormat, LINK_FORMAT) => Some("link-format"),
+        (Form::ContentFormat, _) if number == u32::from(LINK_FORMAT) => Some("link-format"),
         (Form::Observe, 0) if is_request(code) => Some("register"),
         (Form::Observe, 1) if is_request(code) => Some("deregister"),
         _ => None,

@@ -1,5 +1,10 @@
 //! The options that are shown by name, and how the value of each is written.
 
+use message_model::options::{
+    ACCEPT, BLOCK1, BLOCK2, CONTENT_FORMAT, ETAG, LOCATION_PATH, OBSERVE, PROXY_SCHEME, PROXY_URI,
+    SIZE1, SIZE2, URI_HOST, URI_PATH, URI_PORT, URI_QUERY,
+};
+
 /// What the value of an option is (RFC 7252 section 5.10).
 #[derive(Clone, Copy, Debug, PartialEq, Eq)]
 pub(crate) enum Form {
@@ -19,15 +24,6 @@ pub(crate) enum Form {
     Observe,
 }
 
-/// The number of Location-Path (RFC 7252 section 12.2).
-pub(crate) const LOCATION_PATH: u32 = 8;
-
-/// The number of Uri-Path (RFC 7252 section 12.2).
-pub(crate) const URI_PATH: u32 = 11;
-
-/// The number of Uri-Query (RFC 7252 section 12.2).
-pub(crate) const URI_QUERY: u32 = 15;
-
 /// The number of Location-Query (RFC 7252 section 12.2).
 pub(crate) const LOCATION_QUERY: u32 = 20;
 
@@ -37,26 +33,26 @@ pub(crate) const LOCATION_QUERY: u32 = 20;
 pub(crate) fn named(number: u32) -> Option<(&'static str, Form)> {
     Some(match number {
         1 => ("If-Match", Form::Opaque),
-        3 => ("Uri-Host", Form::Text),
-        4 => ("ETag", Form::Opaque),
+        URI_HOST => ("Uri-Host", Form::Text),
+        ETAG => ("ETag", Form::Opaque),
         5 => ("If-None-Match", Form::Opaque),
-        6 => ("Observe", Form::Observe),
-        7 => ("Uri-Port", Form::Number),
+        OBSERVE => ("Observe", Form::Observe),
+        URI_PORT => ("Uri-Port", Form::Number),
         LOCATION_PATH => ("Location-Path", Form::Part),
         9 => ("OSCORE", Form::Opaque),
         URI_PATH => ("Uri-Path", Form::Part),
-        12 => ("Content-Format", Form::ContentFormat),
+        CONTENT_FORMAT => ("Content-Format", Form::ContentFormat),
         14 => ("Max-Age", Form::Number),
         URI_QUERY => ("Uri-Query", Form::Part),
         16 => ("Hop-Limit", Form::Number),
-        17 => ("Accept", Form::ContentFormat),
+        ACCEPT => ("Accept", Form::ContentFormat),
         LOCATION_QUERY => ("Location-Query", Form::Part),
-        23 => ("Block2", Form::Block),
-        27 => ("Block1", Form::Block),
-        28 => ("Size2", Form::Number),
-        35 => ("Proxy-Uri", Form::Text),
-        39 => ("Proxy-Scheme", Form::Text),
-        60 => ("Size1", Form::Number),
+        BLOCK2 => ("Block2", Form::Block),
+        BLOCK1 => ("Block1", Form::Block),
+        SIZE2 => ("Size2", Form::Number),
+        PROXY_URI => ("Proxy-Uri", Form::Text),
+        PROXY_SCHEME => ("Proxy-Scheme", Form::Text),
+        SIZE1 => ("Size1", Form::Number),
         252 => ("Echo", Form::Opaque),
         258 => ("No-Response", Form::Number),
         292 => ("Request-Tag", Form::Opaque),

@@ -24,14 +24,12 @@ use crate::walks::{
     await_peer, gather, index_of, index_of_notice, land_first, mark_all, next_in, notice_at,
     peer_at, see_at, take, time_at,
 };
+use event_model::limits::MAX_OBSERVERS;
 use exchange_core::{Again, Sent, Token};
 use rd_base::{Bytes, Moment, Peer, Starved};
 use std::alloc::Global;
 use std::marker::Model;
 use std::sync::Arc;
-
-/// How many observers there are at most.
-const MAX_OBSERVERS: usize = 1_024;
 
 /// As many observers stand as there is room for, 1,024.
 #[derive(Clone, Copy, Debug, PartialEq, Eq)]

@@ -9,12 +9,9 @@ ghost use Rattle.rd_desk.specs.Replies.{IsReply, reply_said, tag_octets};
 
 use crate::replies::Reply;
 use block_wise::slice_of;
-use message_model::Block;
+use message_model::codes::CONTENT;
+use message_model::{Block, MAX_SZX};
 use rd_base::Tag;
-
-/// The exponent of the greatest block size, 1,024 octets, which is taken where none is asked for
-/// (RFC 7959 section 2.2).
-const GREATEST_SZX: u8 = 6;
 
 /// The number of the block that is asked for, 0 where none is.
 fn number_of(asked: &Option<Block>) -> u32
@@ -33,7 +30,7 @@ pub(crate) fn szx_of(asked: &Option<Block>) -> u8
     ensures short { result < 7 }
 {
     match asked {
-        None => GREATEST_SZX,
+        None => MAX_SZX,
         Some(block) => block.szx,
     }
 }
@@ -68,7 +65,7 @@ fn first_block(more: bool) -> Option<Block>
     Some(Block {
         num: 0,
         more: true,
-        szx: GREATEST_SZX,
+        szx: MAX_SZX,
     })
 }
 
@@ -91,7 +88,7 @@ pub(crate) fn body_reply<'a>(
         return Reply::plain(128, b"block");
     };
     Reply {
-        code: 69,
+        code: CONTENT,
         tag,
         observe,
         location: None,

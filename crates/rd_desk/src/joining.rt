@@ -12,15 +12,13 @@ ghost use Rattle.watch_table.specs.Watchers.{WatchesStandFor};
 ghost use Rattle.observers.specs.Watchers.{Watcher, is_named, has_notice};
 ghost use Rattle.rd_desk.specs.Joining.{Joins, has_room, watcher_joining};
 
+use event_model::limits::MAX_OBSERVERS;
 use exchange_core::Token;
 use observers::{FullObservers, Observer, Observers};
 use rd_base::{Bytes, Key, Peer, Query, Starved};
 use std::alloc::Global;
 use std::sync::Arc;
 use watch_table::{WatchFault, WatchTable};
-
-/// How many observers there are at most.
-const MAX_OBSERVERS: usize = 1_024;
 
 /// Who asks to observe a lookup: all that is kept of it but the place of its query.
 #[derive(Drop)]

@@ -34,12 +34,10 @@ use crate::tables::Tables;
 use crate::{Mids, Outbox, Stepped};
 use coap_options::{Meaning, queries};
 use directory_core::{Board, Directory};
+use message_model::codes::POST;
 use query_text::{QueryBad, update_params};
 use rd_base::{Moment, Peer, Starved, UpdateParams};
 use std::alloc::Global;
-
-/// POST (RFC 7252 section 5.8.2).
-const POST: u8 = 2;
 
 /// What an update gives whose query options are not refused. `Starved`: out of memory.
 fn given_change(alloc: Global, meaning: &Meaning<'_>) -> Result<UpdateParams, Starved>

@@ -28,6 +28,7 @@ use crate::{KeepJob, Mids, Outbox};
 use coap_options::{Meaning, etags, queries};
 use directory_core::Directory;
 use listing::discovery;
+use message_model::codes::VALID;
 use query_text::{QueryBad, lookup_query};
 use rd_base::{Bytes, Moment, Peer, Query, Starved, Steps, Tag};
 use std::alloc::Global;
@@ -164,7 +165,7 @@ fn still_valid(tag: Tag) -> Reply<'static>
     ensures reply { IsReply result }
 {
     Reply {
-        code: 67,
+        code: VALID,
         tag: Some(tag),
         observe: None,
         location: None,

@@ -30,6 +30,7 @@ use crate::change_kinds::ChangeKind;
 use crate::replies::Reply;
 use directory_core::{Directory, Refusal};
 use message_model::Block;
+use message_model::codes::CREATED;
 use rd_base::{Moment, Peer, RegParams, Starved, UpdateParams};
 use registration::{Draft, DraftFault, build};
 use std::alloc::Global;
@@ -99,7 +100,7 @@ fn created(number: u64, block1: Option<Block>) -> Reply<'static>
     ensures short { IsShort result }
 {
     Reply {
-        code: 65,
+        code: CREATED,
         tag: None,
         observe: None,
         location: Some(number),

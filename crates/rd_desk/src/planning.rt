@@ -36,7 +36,7 @@ use crate::watching::Watching;
 use coap_message::TokenRef;
 use directory_core::Directory;
 use exchange_core::{Resend, Sent};
-use message_model::Block;
+use message_model::{Block, MAX_SZX};
 use observers::Observer;
 use rd_base::{Bytes, Moment, Peer, Starved, Tag};
 use std::alloc::Global;
@@ -47,9 +47,6 @@ use transfers::Answer;
 
 /// The most notices that one tick forms.
 pub(crate) const MAX_NOTICES: usize = 64;
-
-/// The exponent of the greatest block size, 1,024 octets (RFC 7959 section 2.2).
-const GREATEST_SZX: u8 = 6;
 
 /// What is planned for an observer whose listing is looked at.
 #[derive(Drop)]
@@ -92,11 +89,7 @@ fn block_of_notice(szx: u8) -> Option<Block>
     Some(Block {
         num: 0,
         more: false,
-        szx: if szx < GREATEST_SZX {
-            szx
-        } else {
-            GREATEST_SZX
-        },
+        szx: if szx < MAX_SZX { szx } else { MAX_SZX },
     })
 }
 

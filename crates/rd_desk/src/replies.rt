@@ -29,11 +29,10 @@ use block_wise::{block_write, uint_write};
 use coap_message::{Kind4, TokenRef, View, Writer};
 use itoa::Buffer;
 use message_model::Block;
+use message_model::formats::LINK_FORMAT;
+use message_model::options::{BLOCK1, BLOCK2, CONTENT_FORMAT, ETAG, LOCATION_PATH, OBSERVE};
 use rd_base::{Bytes, Peer, Starved, Tag};
 use std::alloc::Global;
-
-/// Content-Format 40: link documents (RFC 7252 section 12.3).
-const LINK_FORMAT: u32 = 40;
 
 /// What a response says: its code, the options that answers of a directory have, and its payload.
 #[derive(Clone, Copy)]
@@ -131,7 +130,7 @@ fn put_tag(writer: &mut Writer, tag: Option<Tag>)
         None => return,
         Some(tag) => {
             let octets = tag.0;
-            return put(writer, 4, &octets);
+            return put(writer, ETAG, &octets);
         }
     }
 }
@@ -147,7 +146,7 @@ fn put_observe(writer: &mut Writer, observe: Option<u32>)
 {
     match observe {
         None => return,
-        Some(value) => return put_uint(writer, 6, value),
+        Some(value) => return put_uint(writer, OBSERVE, value),
     }
 }
 
@@ -174,8 +173,8 @@ fn put_place(writer: &mut Writer, number: u64)
     ensures size { length (spelling writer.new) ≤ length (spelling writer.old) + 50 }
 {
     let mut digits = Buffer::new();
-    put(writer, 8, b"rd");
-    put(writer, 8, digits.format(number).as_bytes());
+    put(writer, LOCATION_PATH, b"rd");
+    put(writer, LOCATION_PATH, digits.format(number).as_bytes());
 }
 
 /// The format of link documents, where it is named (RFC 7252 section 12.3).
@@ -189,7 +188,7 @@ fn put_format(writer: &mut Writer, format: bool)
     if !format {
         return;
     }
-    put_uint(writer, 12, LINK_FORMAT);
+    put_uint(writer, CONTENT_FORMAT, u32::from(LINK_FORMAT));
 }
 
 /// The block that the payload is, where it is one.
@@ -203,7 +202,7 @@ fn put_block2(writer: &mut Writer, block: &Option<Block>)
 {
     match block {
         None => return,
-        Some(block) => return put_block(writer, 23, block),
+        Some(block) => return put_block(writer, BLOCK2, block),
     }
 }
 
@@ -218,7 +217,7 @@ fn put_block1(writer: &mut Writer, block: &Option<Block>)
 {
     match block {
         None => return,
-        Some(block) => return put_block(writer, 27, block),
+        Some(block) => return put_block(writer, BLOCK1, block),
     }
 }
 

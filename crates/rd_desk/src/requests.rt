@@ -15,10 +15,8 @@ use block_wise::block_read;
 use coap_message::View;
 use coap_options::{Meaning, Path, Refusal, queries, request};
 use message_model::Block;
+use message_model::codes::POST;
 use query_text::{Reading, fault};
-
-/// POST (RFC 7252 section 5.8.2).
-const POST: u8 = 2;
 
 /// As what the query options of a request are read: those of a lookup, a registration or an update.
 fn reading_of(path: &Path, code: u8) -> Option<Reading>

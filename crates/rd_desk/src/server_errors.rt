@@ -12,13 +12,8 @@ ghost use Rattle.rd_desk.specs.Sendings.{IsStepOf, Sends};
 use crate::replies::{Reply, answer};
 use crate::{Mids, Outbox};
 use coap_message::View;
+use message_model::codes::{INTERNAL_SERVER_ERROR, SERVICE_UNAVAILABLE};
 use rd_base::Peer;
-
-/// 5.00 (RFC 7252 section 5.9.3.1).
-const INTERNAL_SERVER_ERROR: u8 = 160;
-
-/// 5.03 (RFC 7252 section 5.9.3.4).
-const SERVICE_UNAVAILABLE: u8 = 163;
 
 /// 5.00 alone.
 pub(crate) fn internal_server_error() -> Reply<'static>

@@ -29,15 +29,10 @@ use crate::settling::answer_short;
 use crate::tables::Tables;
 use crate::{Mids, Outbox, Stepped};
 use coap_message::{Kind4, View};
+use message_model::codes::{CHANGED, SERVICE_UNAVAILABLE};
 use rd_base::{Moment, Peer};
 use simple_registration::StartFault;
 use std::alloc::Global;
-
-/// 2.04 (RFC 7252 section 5.9.1.4).
-const CHANGED: u8 = 68;
-
-/// 5.03 (RFC 7252 section 5.9.3.4).
-const SERVICE_UNAVAILABLE: u8 = 163;
 
 /// 2.04 alone.
 fn changed() -> Reply<'static>

@@ -46,22 +46,12 @@ use coap_message::View;
 use coap_options::request_key;
 use directory_core::{Board, Directory};
 use message_model::Block;
+use message_model::codes::{
+    CONTINUE, REQUEST_ENTITY_INCOMPLETE, REQUEST_ENTITY_TOO_LARGE, SERVICE_UNAVAILABLE,
+};
 use rd_base::{Key, Moment, Peer, Starved};
 use std::alloc::Global;
 use transfers::Upload;
-
-/// 2.31, to a block that is collected (RFC 7959 section 2.9.1).
-const CONTINUE: u8 = 95;
-
-/// 4.08, to a block that does not begin where what is collected ends (RFC 7959 section 2.9.2).
-const REQUEST_ENTITY_INCOMPLETE: u8 = 136;
-
-/// 4.13, to a block with which more would be collected than a body may have (RFC 7959 section
-/// 2.9.3).
-const REQUEST_ENTITY_TOO_LARGE: u8 = 141;
-
-/// 5.03, to a first block where as many other uploads live as may (RFC 7252 section 5.9.3.4).
-const SERVICE_UNAVAILABLE: u8 = 163;
 
 /// 2.31 to a block that is collected, and more follow.
 fn continued(block: Block) -> Reply<'static>

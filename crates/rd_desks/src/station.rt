@@ -6,17 +6,12 @@ ghost use Rattle.journal_model.specs.Machine.{is_look_datagram};
 use coap_message::{View, view};
 use directory_core::{Board, Directory};
 use hex::FromHexError;
+use message_model::codes::{EMPTY, INTERNAL_SERVER_ERROR, LAST_REQUEST};
 use rd_base::{Host, Moment, Peer, Starved};
 use rd_desk::{Admitted, Desk, Job, Looked, Mids, Outbox, Stepped, Watcher, is_look, look};
 use std::alloc::Global;
 use std::mem;
 use std::sync::Arc;
-
-/// The greatest code of a request (RFC 7252 section 12.1.1).
-const LAST_REQUEST: u8 = 31;
-
-/// 5.00 (RFC 7252 section 5.9.3.1).
-const INTERNAL_SERVER_ERROR: u8 = 160;
 
 /// The latest moment that a desk is handed.
 const LATEST: u64 = 1_000_000_000_000_000;
@@ -225,7 +220,7 @@ impl Station {
             Some((to, answer)) => {
                 self.out.len() == 1 && to == self.peer && is_server_error(&heard, answer)
             }
-            None => heard.code == 0 || heard.code > LAST_REQUEST,
+            None => heard.code == EMPTY || heard.code > LAST_REQUEST,
         }
     }
 

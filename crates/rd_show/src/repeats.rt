@@ -2,17 +2,12 @@
 
 use super::changes::Change;
 use super::names::{MessageName, confirmable_to};
+use event_model::limits::MAX_EXCHANGES;
+use event_model::transmission::EXCHANGE_LIFETIME;
 use lru::LruCache;
 use rd_base::{Bytes, Moment, Peer, Starved};
 use std::alloc::Global;
 use std::num::NonZeroUsize;
-
-/// How long a message with the Message ID of an earlier one of the same peer is a repeat of it, in
-/// milliseconds: EXCHANGE_LIFETIME (RFC 7252 sections 4.4, 4.5 and 4.8.2).
-const EXCHANGE_LIFETIME: u64 = 247_000;
-
-/// How many messages are remembered, the latest ones.
-const MOST_MESSAGES: usize = 4_096;
 
 /// The messages that came, each with the moment at which it came first.
 #[derive(Drop)]
@@ -32,7 +27,7 @@ pub(crate) struct Sendings {
 
 /// How many messages have room.
 fn room() -> NonZeroUsize {
-    NonZeroUsize::new(MOST_MESSAGES).unwrap_or(NonZeroUsize::MIN)
+    NonZeroUsize::new(MAX_EXCHANGES).unwrap_or(NonZeroUsize::MIN)
 }
 
 impl Arrivals {

@@ -3,6 +3,7 @@ ghost use Rattle.std.specs.Prelude.{◌≤◌, length, IfOk};
 ghost use Rattle.rd_base.specs.Peers.{IsPeer};
 ghost use Rattle.line_model.specs.Lines.{IsLine};
 
+use message_model::codes::{EMPTY, LAST_REQUEST};
 use rd_base::{Bytes, Moment, Peer, Starved};
 use std::alloc::Global;
 use trace_text::Line;
@@ -15,12 +16,6 @@ pub(crate) const LAST_MOMENT: u64 = 999_999_999_999_999;
 
 /// The most octets of a datagram that stands in a line.
 pub(crate) const MAX_DATAGRAM: usize = 4_096;
-
-/// The first code of a request (RFC 7252 section 12.1.1).
-const FIRST_REQUEST: u8 = 1;
-
-/// The last code of a request.
-const LAST_REQUEST: u8 = 31;
 
 /// The line of a datagram that comes.
 pub(crate) fn come_line(
@@ -66,7 +61,7 @@ pub(crate) fn go_line(moment: Moment) -> Line
 /// Whether a datagram is a request by its code, so that it may leave a job (RFC 7252 section 3).
 pub(crate) fn is_request(payload: &[u8]) -> bool {
     match payload {
-        [_, code, ..] => *code >= FIRST_REQUEST && *code <= LAST_REQUEST,
+        [_, code, ..] => *code > EMPTY && *code <= LAST_REQUEST,
         _ => false,
     }
 }

@@ -9,17 +9,10 @@ ghost use Rattle.journal_model.specs.Commits.{fetch_request};
 
 use block_wise::{Block, block_write};
 use coap_message::{Kind4, TokenRef, TooLong, Writer};
+use message_model::codes::GET;
+use message_model::options::{BLOCK2, URI_PATH};
 use rd_base::{Bytes, Peer, Starved};
 use std::alloc::Global;
-
-/// The code of a GET, 0.01 (RFC 7252 section 5.8.1).
-const GET: u8 = 1;
-
-/// The number of the option Uri-Path (RFC 7252 section 5.10.1).
-const URI_PATH: u32 = 11;
-
-/// The number of the option Block2 (RFC 7959 section 2.1).
-const BLOCK2: u32 = 23;
 
 /// A request of a fetch that is to be sent.
 #[derive(Debug, Drop, PartialEq, Eq)]

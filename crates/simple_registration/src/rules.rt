@@ -11,9 +11,7 @@ use crate::running::EntityTag;
 use block_wise::{Block, block_read, block_size};
 use coap_message::{Kind4, View};
 use coap_options::{Meaning, etags};
-
-/// The format of link documents (RFC 7252 section 12.3).
-const LINK_FORMAT: u16 = 40;
+use message_model::formats::LINK_FORMAT;
 
 /// Whether a message has a token and, where it is an acknowledgement, a Message ID (RFC 7252
 /// section 5.3.2).

@@ -22,20 +22,13 @@ use crate::rules::{
 use block_wise::Block;
 use coap_message::{TokenRef, View};
 use coap_options::Meaning;
+use event_model::limits::MAX_BODY;
+use event_model::transmission::MAX_TRANSMIT_WAIT;
 use exchange_core::{Again, Octets, Resend, Sent, Token};
+use message_model::codes::CONTENT;
 use rd_base::{Bytes, Moment, Peer, RegParams, Starved};
 use std::alloc::Global;
 use std::marker::Model;
-
-/// The most octets of a body.
-const MAX_BODY: usize = 8_192;
-
-/// How long a fetch waits for a response that comes apart, in milliseconds (RFC 7252 section 4.8.2,
-/// MAX_TRANSMIT_WAIT).
-const RESPONSE_WAIT: u64 = 93_000;
-
-/// The code of a response with content, 2.05 (RFC 7252 section 5.9.1.5).
-const CONTENT: u8 = 0x45;
 
 /// An entity tag, of at most eight octets (RFC 7252 section 5.10.6).
 pub(crate) type EntityTag = Octets<8>;
@@ -203,7 +196,7 @@ impl Fetch {
         if !self.acknowledged {
             return self.waits.resend.at_tick(now);
         }
-        if now.0.saturating_sub(self.asked.0) < RESPONSE_WAIT {
+        if now.0.saturating_sub(self.asked.0) < MAX_TRANSMIT_WAIT {
             return Again::Wait;
         }
         Again::GaveUp

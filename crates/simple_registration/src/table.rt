@@ -24,13 +24,11 @@ use crate::running::Fetch;
 use crate::{Ask, Heard, StartFault};
 use coap_message::View;
 use coap_options::Meaning;
+use event_model::limits::MAX_FETCHES;
 use exchange_core::{Again, Token};
 use rd_base::{Moment, Peer, RegParams, Starved};
 use std::alloc::Global;
 use std::marker::Model;
-
-/// The most fetches that run.
-const MAX_FETCHES: usize = 64;
 
 /// The fetches that run, at most one of a peer and 64 in all, and how many were started (RFC 9176
 /// section 5.1).

@@ -16,26 +16,13 @@ ghost use Rattle.line_model.specs.Generator as generator;
 
 use crate::line_printer::{come_print, go_print, tick_print};
 use coap_message::{Kind4, TokenRef, Writer};
+use message_model::codes::{GET, POST};
+use message_model::options::{OBSERVE, URI_PATH, URI_QUERY};
 use rd_base::{Bytes, Host, Moment, Peer, Starved};
 use std::alloc::Global;
 
 /// The milliseconds from one device to the next.
 const PACE: u64 = 200;
-
-/// The code of GET (RFC 7252 section 12.1.1).
-const GET: u8 = 1;
-
-/// The code of POST (RFC 7252 section 12.1.1).
-const POST: u8 = 2;
-
-/// The number of the option Observe (RFC 7641 section 2).
-const OBSERVE: u32 = 6;
-
-/// The number of the option Uri-Path (RFC 7252 section 5.10).
-const URI_PATH: u32 = 11;
-
-/// The number of the option Uri-Query (RFC 7252 section 5.10).
-const URI_QUERY: u32 = 15;
 
 /// Where a device is: 10.0, and its number in two octets, at the port of CoAP.
 fn device(i: u16) -> Peer

@@ -11,13 +11,11 @@ ghost use Rattle.transfers.specs.Keeping.{is_kept_as, live_kept, used, used_at, 
 ghost use Rattle.transfers.specs.Keeping.{after_reading, AreBelow, number_for};
 
 use crate::{Answers, Kept};
+use event_model::limits::MAX_ANSWERS;
 use lru::LruCache;
 use rd_base::{Key, Moment, Peer, Starved};
 use std::alloc::Global;
 use std::num::NonZeroUsize;
-
-/// How many answers are kept at most.
-const MAX_ANSWERS: usize = 64;
 
 /// Kept answers by their numbers.
 pub(crate) type Cache = LruCache<u64, Kept>;

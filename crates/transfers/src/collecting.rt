@@ -4,14 +4,11 @@ ghost use Rattle.message_model.specs.Blocks.{block_size};
 ghost use Rattle.event_model.specs.Events.{is_young};
 ghost use Rattle.transfers.specs.Uploading.{is_of, is_live_as, first_block, with_block};
 
+use event_model::transmission::EXCHANGE_LIFETIME;
 use message_model::Block;
 use rd_base::{Bytes, Key, Moment, Peer, Starved};
 use std::alloc::Global;
 use std::marker::Model;
-
-/// How long an upload lives after its last block, in milliseconds (RFC 7252 section 4.8.2,
-/// EXCHANGE_LIFETIME).
-const UPLOAD_LIFETIME: u64 = 247_000;
 
 /// How a block of an upload is answered (RFC 7959 section 2.9).
 #[derive(Debug, Drop, PartialEq, Eq)]
@@ -84,7 +81,7 @@ impl Collected {
     pub(crate) fn is_young(&self, now: Moment) -> bool
         ensures { result ≡ is_young now.0 self.now.moment }
     {
-        now.0.saturating_sub(self.last.0) < UPLOAD_LIFETIME
+        now.0.saturating_sub(self.last.0) < EXCHANGE_LIFETIME
     }
 
     /// Whether it is the upload of this peer and request key, and lives.

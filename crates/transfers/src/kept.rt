@@ -4,14 +4,11 @@ ghost use Rattle.event_model.specs.Events.{is_young};
 ghost use Rattle.transfers.specs.Keeping.{is_kept_as, kept_at, used_at};
 
 use crate::Answer;
+use event_model::transmission::EXCHANGE_LIFETIME;
 use rd_base::{Bytes, Key, Moment, Peer, Starved, Tag};
 use std::alloc::Global;
 use std::marker::Model;
 use std::sync::Arc;
-
-/// How long a kept answer lives after its last use, in milliseconds (RFC 7252 section 4.8.2,
-/// EXCHANGE_LIFETIME).
-const ANSWER_LIFETIME: u64 = 247_000;
 
 /// An answer that is kept, and when it was last used. Copies of it share the answer.
 #[derive(Drop)]
@@ -83,7 +80,7 @@ impl Kept {
     pub(crate) fn is_young(&self, now: Moment) -> bool
         ensures { result ≡ is_young now.0 self.now.moment }
     {
-        now.0.saturating_sub(self.last.0) < ANSWER_LIFETIME
+        now.0.saturating_sub(self.last.0) < EXCHANGE_LIFETIME
     }
 
     /// The whole body.

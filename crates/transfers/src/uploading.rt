@@ -13,15 +13,10 @@ ghost use Rattle.transfers.specs.BlockAnswers.{answer_to};
 
 use crate::collecting::begins_at;
 use crate::{Collected, Upload};
+use event_model::limits::{MAX_BODY, MAX_UPLOADS};
 use message_model::Block;
 use rd_base::{Bytes, Key, Moment, Peer, Starved};
 use std::alloc::Global;
-
-/// How many uploads live at most.
-pub(crate) const MAX_UPLOADS: usize = 64;
-
-/// How many octets a body has at most.
-const MAX_BODY: usize = 8_192;
 
 /// The index of the upload of this peer and request key, where it lives.
 fn live_index(uploads: &Vec<Collected>, now: Moment, peer: Peer, key: &Key) -> Option<usize>

@@ -15,12 +15,10 @@ ghost use Rattle.watch_table.specs.Outcomes.{Watches};
 
 use crate::WatchFault;
 use crate::watch::Watch;
+use event_model::limits::MAX_WATCHED;
 use indexmap::IndexMap;
 use rd_base::{Bytes, Query, Record};
 use std::sync::Arc;
-
-/// How many queries are watched at most.
-pub(crate) const MAX_WATCHED: usize = 256;
 
 /// The place where a query is watched.
 fn find_place(watches: &IndexMap<u32, Watch>, query: &Query) -> Option<u32>

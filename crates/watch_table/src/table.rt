@@ -11,8 +11,9 @@ ghost use Rattle.watch_table.specs.WatchedQueries.{with_body};
 ghost use Rattle.watch_table.specs.Watchers.{WatchesStandFor, IsFullAmong};
 
 use crate::WatchFault;
-use crate::places::{MAX_WATCHED, leave, set_body, touch_at, unmark_at, watch_instead};
+use crate::places::{leave, set_body, touch_at, unmark_at, watch_instead};
 use crate::watch::Watch;
+use event_model::limits::MAX_WATCHED;
 use indexmap::IndexMap;
 use rd_base::{Bytes, Query, Record, Starved};
 use std::alloc::Global;

@@ -2,15 +2,13 @@
 ghost use Rattle.std.specs.Prelude.{◌≤◌, length, IfOk};
 
 use block_wise::{Block, block_read, block_size, block_write, slice_of, uint_of, uint_write};
+use message_model::MAX_SZX;
 use rd_base::Bytes;
 use std::alloc::Global;
 use vector_words::{NoAnswer, cut, datagram_of, number_of, octets_of, put_datagram, put_octets};
 
 /// The greatest number of a block (RFC 7959 section 2.2).
 const LAST_BLOCK: u64 = 1_048_575;
-
-/// The greatest exponent of a size (RFC 7959 section 2.2).
-const LAST_EXPONENT: u64 = 6;
 
 /// The greatest number of three octets.
 const LAST_NUMBER: u64 = 16_777_215;
@@ -79,7 +77,7 @@ fn block_octets(alloc: Global, said: &str) -> Result<String, NoAnswer> {
     let block = Block {
         num: number_of(num, LAST_BLOCK)? as u32,
         more: is_more(more)?,
-        szx: number_of(szx, LAST_EXPONENT)? as u8,
+        szx: number_of(szx, u64::from(MAX_SZX))? as u8,
     };
     let mut octets = [0u8; 3];
     let size = block_write(&block, &mut octets);
@@ -90,7 +88,7 @@ fn block_octets(alloc: Global, said: &str) -> Result<String, NoAnswer> {
 
 /// `block_size EXPONENT`: how many octets a block has.
 fn size(alloc: Global, said: &str) -> Result<String, NoAnswer> {
-    let szx = number_of(said, LAST_EXPONENT)? as u8;
+    let szx = number_of(said, u64::from(MAX_SZX))? as u8;
     let size = block_size(szx);
     Ok(format!(in alloc; "{size}")?)
 }
@@ -100,7 +98,7 @@ fn slice(alloc: Global, said: &str) -> Result<String, NoAnswer> {
     let (num, rest) = cut(said);
     let (szx, body) = cut(rest);
     let num = number_of(num, LAST_BLOCK)? as u32;
-    let szx = number_of(szx, LAST_EXPONENT)? as u8;
+    let szx = number_of(szx, u64::from(MAX_SZX))? as u8;
     let body = octets_of(alloc, body)?;
     let mut page = String::new(alloc);
     let Some((piece, more)) = slice_of(body.as_slice(), num, szx) else {

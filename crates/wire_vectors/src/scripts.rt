@@ -5,18 +5,11 @@ ghost use Rattle.message_model.specs.Message.{end_number};
 
 use crate::kinds::{code_of, is_reserved, kind_of};
 use coap_message::{Kind4, TokenRef, Writer};
+use message_model::codes::EMPTY;
+use message_model::{MAX_OPTION_NUMBER, MAX_OPTION_VALUE, MAX_TOKEN};
 use rd_base::Bytes;
 use std::alloc::Global;
 use vector_words::{NoAnswer, cut, datagram_of, number_of, octets_of};
-
-/// The greatest number of an option (RFC 7252 section 3.1).
-const LAST_NUMBER: u64 = 65_535;
-
-/// The most octets of the value of an option (RFC 7252 section 3.1).
-const LONGEST_VALUE: usize = 65_804;
-
-/// The most octets of a token (RFC 7252 section 3).
-const LONGEST_TOKEN: usize = 8;
 
 /// What a message begins with.
 #[derive(Drop)]
@@ -89,13 +82,13 @@ impl Script {
     /// A message that is not empty, with neither options nor payload.
     fn begin(head: &Head) -> Result<Script, NoAnswer> {
         let octets = head.token.as_slice();
-        if octets.len() > LONGEST_TOKEN {
+        if octets.len() > MAX_TOKEN {
             return Err(NoAnswer::Form);
         }
         if is_reserved(head.code) {
             return Err(NoAnswer::Form);
         }
-        if head.code == 0 {
+        if head.code == EMPTY {
             return Err(NoAnswer::Form);
         }
         Ok(Script {
@@ -111,7 +104,7 @@ impl Script {
         if number < self.last {
             return Err(NoAnswer::Form);
         }
-        if value.len() > LONGEST_VALUE {
+        if value.len() > MAX_OPTION_VALUE {
             return Err(NoAnswer::Form);
         }
         let Ok(()) = self.writer.option(number, value) else {
@@ -127,7 +120,7 @@ impl Script {
             return Err(NoAnswer::Form);
         };
         let (number, value) = cut(said);
-        let number = number_of(number, LAST_NUMBER)? as u32;
+        let number = number_of(number, u64::from(MAX_OPTION_NUMBER))? as u32;
         let value = octets_of(alloc, value)?;
         self.put(number, value.as_slice())
     }
@@ -176,7 +169,7 @@ fn written_parts(
     payload: &str,
 ) -> Result<Option<Bytes>, NoAnswer> {
     let payload = octets_of(alloc, payload)?;
-    if head.code == 0 && head.token.is_empty() && options.is_empty() && payload.is_empty() {
+    if head.code == EMPTY && head.token.is_empty() && options.is_empty() && payload.is_empty() {
         return written_empty(alloc, head.kind, head.mid);
     }
     let mut script = Script::begin(head)?;
