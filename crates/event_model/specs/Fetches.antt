@@ -112,9 +112,29 @@ request_noted (note.Asked p token mid params number) =
     Some (record { token = token; mid = mid; params = params; number = number })
 request_noted _ = None
 
+-- the request of an event, where there is one
+abbrev pub request_of : Option Event → Option Request
+request_of None = None
+request_of (Some e) = request_noted e.note
+
 -- the last request of the fetch of a peer, as an event
 abbrev pub last_request : Peer → List Event → Option Event
 last_request peer events = last_event (is_request_to peer) events
+
+-- the request has this Message ID
+abbrev pub is_request_of : ℕ → Option Request → Bool
+is_request_of mid None = false
+is_request_of mid (Some request) = request.mid == mid
+
+-- the event made a request with this Message ID
+abbrev pub made_request : ℕ → Option Event → Bool
+made_request mid None = false
+made_request mid (Some e) = is_request_of mid (request_noted e.note)
+
+-- the last request of a running fetch of the peer has this Message ID
+abbrev pub is_last_request : Peer → ℕ → List Event → Bool
+is_last_request peer mid events =
+    is_fetching peer events && made_request mid (last_request peer events)
 
 -- the events since the last request of the fetch of a peer
 abbrev pub since_request : Peer → List Event → List Event

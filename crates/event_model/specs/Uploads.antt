@@ -22,19 +22,10 @@ use Rattle.std.specs.Prelude.{
   option_and_then,
   if◌then◌else◌,
 }
-use Rattle.event_model.specs.declared.limits.TheConstants.{MAX_UPLOADS, MAX_BODY}
 use Rattle.event_model.specs.declared.notes.Note.{Note}
 use Rattle.event_model.specs.declared.notes.Note.TheVariants as note
 use Rattle.event_model.specs.Same.{RequestName, is_same_request}
 use Rattle.event_model.specs.Events.{Event, last_event, event_moment, is_young}
-
--- the most uploads that live
-abbrev pub max_uploads : ℕ
-max_uploads = MAX_UPLOADS
-
--- the most octets of a body
-abbrev pub max_body : ℕ
-max_body = MAX_BODY
 
 -- what a note makes of what is collected under a name: its first block begins anew, a further one
 -- goes on, its end leaves nothing

@@ -1,13 +1,7 @@
 //! How much the tables of the directory hold.
 
-/// The most octets of a body that comes in blocks.
-pub const MAX_BODY: usize = 8_192;
-
 /// The most exchanges that are kept.
 pub const MAX_EXCHANGES: usize = 4_096;
-
-/// The most uploads that live.
-pub const MAX_UPLOADS: usize = 64;
 
 /// The most answers that are kept for their further blocks.
 pub const MAX_ANSWERS: usize = 64;

@@ -43,7 +43,7 @@ use Rattle.event_model.specs.Observers.{
   last_body_formed,
 }
 use Rattle.event_model.specs.Flights.{flight}
-use Rattle.event_model.specs.Fetches.{last_request, fetches}
+use Rattle.event_model.specs.Fetches.{last_request, fetches, is_last_request}
 use Rattle.journal_model.specs.Journal.{events, entries}
 use Rattle.journal_model.specs.Requests.{asked_block, query_of, register, deregister}
 use Rattle.journal_model.specs.Bodies.{is_long}
@@ -75,7 +75,7 @@ use Rattle.journal_model.specs.Lookups.{
   lookup_effects,
 }
 use Rattle.journal_model.specs.Writes.{again_answered, admitted_unless, write_unless, write_effects}
-use Rattle.journal_model.specs.EmptyMessages.{waited_for, is_last_request, acknowledged, reset}
+use Rattle.journal_model.specs.EmptyMessages.{waited_for, acknowledged, reset}
 use Rattle.journal_model.specs.Ticks.{
   first_block,
   is_unchanged,

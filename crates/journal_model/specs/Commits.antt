@@ -14,20 +14,18 @@ use Rattle.std.specs.Prelude.{
   length,
   codes,
   Option,
-  Some,
   None,
 }
 use Rattle.rd_base.specs.declared.parameters.RegParams.{RegParams}
 use Rattle.message_model.specs.declared.blocks.Block.{Block}
-use Rattle.message_model.specs.declared.messages.Kind4.TheVariants.{Con}
 use Rattle.message_model.specs.declared.requests.Path.{Path}
 use Rattle.message_model.specs.declared.requests.Path.TheVariants as path
-use Rattle.message_model.specs.Message.{Message, Opt}
+use Rattle.message_model.specs.Message.{Message}
 use Rattle.message_model.specs.Codes as codes_of
 use Rattle.message_model.specs.OptionTable as table
-use Rattle.message_model.specs.Blocks.{block_value}
 use Rattle.message_model.specs.Request.{path_in, queries_in}
 use Rattle.message_model.specs.Spelling.{spelling}
+use Rattle.message_model.specs.FetchRequests.{fetch_request}
 use Rattle.record_model.specs.Parameters.{registration_values, update_values}
 use Rattle.history_model.specs.declared.entries.Change.TheVariants as change
 use Rattle.event_model.specs.declared.notes.Note.TheVariants as note
@@ -68,24 +66,6 @@ abbrev pub removing : List Row → ℕ → Step → ℕ → Outcome
 removing rows moment s number =
     change_made (entries rows) (entry_of_step moment s (change.Remove number))
     (record { reply = bare codes_of.deleted; notes = [] })
-
--- the block that a fetch asks for, where it is not the first
-abbrev pub fetched_block : Option Block → List Opt
-fetched_block None = []
-fetched_block (Some b) = (table.block2, block_value b) ∷ []
-
--- the request of a fetch: a confirmable GET of /.well-known/core, with no other option (RFC 9176
--- section 5.1)
-abbrev pub fetch_request : ℕ → List ℕ → Option Block → Message
-fetch_request mid token b = record {
-  kind = Con;
-  code = codes_of.get;
-  mid = mid;
-  token = token;
-  options =
-      (table.uri_path, codes ".well-known") ∷ (table.uri_path, codes "core") ∷ fetched_block b;
-  payload = [];
-}
 
 -- a fetch asks its peer for a block, with the Message ID that is drawn after so many others
 abbrev pub asking : Step → ℕ → List ℕ → RegParams → ℕ → Option Block → Effects

@@ -24,7 +24,7 @@ use Rattle.event_model.specs.Same.{is_same_peer}
 use Rattle.event_model.specs.Events.{Event}
 use Rattle.event_model.specs.Observers.{observers}
 use Rattle.event_model.specs.Flights.{Flight, flight}
-use Rattle.event_model.specs.Fetches.{is_fetching, last_request, request_noted, Request}
+use Rattle.event_model.specs.Fetches.{is_last_request}
 use Rattle.journal_model.specs.Effects.{Effects, noting}
 
 -- the notice has this Message ID
@@ -36,21 +36,6 @@ is_flight_of mid (Some f) = f.mid == mid
 abbrev pub waited_for : Peer → ℕ → List Event → List Observer
 waited_for peer mid events =
     filter (λ o. is_same_peer o.peer peer && is_flight_of mid (flight o events)) (observers events)
-
--- the request has this Message ID
-abbrev pub is_request_of : ℕ → Option Request → Bool
-is_request_of mid None = false
-is_request_of mid (Some request) = request.mid == mid
-
--- the event made a request with this Message ID
-abbrev pub made_request : ℕ → Option Event → Bool
-made_request mid None = false
-made_request mid (Some e) = is_request_of mid (request_noted e.note)
-
--- the last request of a running fetch of the peer has this Message ID
-abbrev pub is_last_request : Peer → ℕ → List Event → Bool
-is_last_request peer mid events =
-    is_fetching peer events && made_request mid (last_request peer events)
 
 -- an acknowledgement ends the flight of a notice, and makes a fetch wait for a response that comes
 -- apart

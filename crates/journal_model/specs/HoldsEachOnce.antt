@@ -38,6 +38,8 @@ use Rattle.message_model.specs.Codes as codes_of
 use Rattle.message_model.specs.Reading.{reading}
 use Rattle.message_model.specs.Request.{path_in, queries_in}
 use Rattle.message_model.specs.RequestKey.{key_in}
+use Rattle.message_model.specs.Uploads.{collected_before}
+use Rattle.message_model.specs.Responses.{block_in, is_elsewhere}
 use Rattle.record_model.specs.Parameters.{registration_values, update_values}
 use Rattle.history_model.specs.declared.entries.Change.{Change}
 use Rattle.history_model.specs.declared.entries.Change.TheVariants as change
@@ -57,8 +59,7 @@ use Rattle.journal_model.specs.declared.rows.Row.{Row}
 use Rattle.journal_model.specs.Journal.{events, entries, entries_of}
 use Rattle.journal_model.specs.Requests.{is_location, sent_block}
 use Rattle.journal_model.specs.Changes.{entry_of_step, good_body, body_read}
-use Rattle.journal_model.specs.Registrations.{collected_before}
-use Rattle.journal_model.specs.Responses.{fetch_of, block_in, is_elsewhere, more_follow, ends_fetch}
+use Rattle.journal_model.specs.Responses.{fetch_of, more_follow, ends_fetch}
 use Rattle.journal_model.specs.PlacedRows.{Within, Commits, admits, code_sent}
 
 -- the row ends the fetch of its peer

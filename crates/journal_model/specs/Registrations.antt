@@ -2,14 +2,10 @@
 use Rattle.std.specs.Prelude.{
   ℕ,
   ◌+◌,
-  ◌*◌,
   Bool,
   true,
   false,
-  ◌&&◌,
-  ◌==◌,
   nat_lt,
-  nat_le,
   List,
   [],
   ◌∷◌,
@@ -19,40 +15,23 @@ use Rattle.std.specs.Prelude.{
   Option,
   Some,
   None,
-  is_none,
-  option_and_then,
-  if◌then◌else◌,
 }
 use Rattle.message_model.specs.declared.blocks.Block.{Block}
 use Rattle.message_model.specs.Message.{Message, Opt}
 use Rattle.message_model.specs.Codes as codes_of
 use Rattle.message_model.specs.OptionTable as table
-use Rattle.message_model.specs.Blocks.{block_size, block_value}
+use Rattle.message_model.specs.Blocks.{block_value}
 use Rattle.message_model.specs.Request.{queries_in}
 use Rattle.message_model.specs.RequestKey.{key_in}
+use Rattle.message_model.specs.Uploads.{max_body, collected_before, is_one_too_many}
 use Rattle.record_model.specs.Parameters.{registration_values}
 use Rattle.event_model.specs.declared.notes.Note.TheVariants as note
-use Rattle.event_model.specs.Uploads.{max_uploads, max_body, live_upload, live_uploads}
+use Rattle.event_model.specs.Uploads.{live_upload, live_uploads}
 use Rattle.journal_model.specs.declared.steps.Step.{Step}
 use Rattle.journal_model.specs.declared.rows.Row.{Row}
 use Rattle.journal_model.specs.Journal.{events, entries}
 use Rattle.journal_model.specs.Requests.{sent_block}
 use Rattle.journal_model.specs.Changes.{Outcome, refused, registration}
-
--- a body goes on at a block where what is collected ends there
-abbrev pub continues_at : ℕ → List ℕ → Option (List ℕ)
-continues_at offset body = if length body == offset then Some body else None
-
--- what is collected before a block: nothing before the first, and else the live upload, where it
--- ends there
-abbrev pub collected_before : Block → Option (List ℕ) → Option (List ℕ)
-collected_before b upload =
-    if b.num == 0 then Some [] else option_and_then (continues_at (b.num * block_size b.szx)) upload
-
--- the block begins an upload that more follows, and there are as many live ones as may be beside
--- the upload of its name
-abbrev pub is_one_too_many : Block → Option (List ℕ) → ℕ → Bool
-is_one_too_many b upload live = b.num == 0 && b.more && is_none upload && nat_le max_uploads live
 
 -- Block1 in the answer to a block (RFC 7959 section 2.3)
 abbrev pub block1_option : Block → List Opt

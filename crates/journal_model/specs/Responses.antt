@@ -3,15 +3,10 @@
 use Rattle.std.specs.Prelude.{
   ℕ,
   ◌+◌,
-  ◌*◌,
   Bool,
   true,
   false,
-  not,
   ◌&&◌,
-  ◌||◌,
-  ◌==◌,
-  nat_lt,
   List,
   [],
   ◌∷◌,
@@ -20,28 +15,24 @@ use Rattle.std.specs.Prelude.{
   Option,
   Some,
   None,
-  is_some,
   is_none,
   bytes_eq,
   if◌then◌else◌,
 }
 use Rattle.message_model.specs.declared.blocks.Block.{Block}
 use Rattle.message_model.specs.declared.messages.Kind4.{Kind4}
-use Rattle.message_model.specs.declared.messages.Kind4.TheVariants.{Con, Ack}
+use Rattle.message_model.specs.declared.messages.Kind4.TheVariants.{Con}
 use Rattle.message_model.specs.Message.{Message}
 use Rattle.message_model.specs.Codes as codes_of
-use Rattle.message_model.specs.OptionTable.{first_bad_option, first_of}
-use Rattle.message_model.specs.Blocks.{block_size, block_read}
-use Rattle.message_model.specs.Request.{format_in, block2_in, etags_in}
-use Rattle.message_model.specs.Refusals.{is_other_format, says_no_block}
+use Rattle.message_model.specs.OptionTable.{first_bad_option}
+use Rattle.message_model.specs.Responses.{has_mid_of, block_in, is_elsewhere, tag_in, ends_by}
 use Rattle.event_model.specs.declared.notes.Note.TheVariants as note
 use Rattle.event_model.specs.Events.{Event}
-use Rattle.event_model.specs.Uploads.{max_body}
 use Rattle.event_model.specs.Fetches.{
   Request,
   is_fetching,
   last_request,
-  request_noted,
+  request_of,
   gathered,
   collected,
   tag_of_first,
@@ -52,12 +43,6 @@ use Rattle.journal_model.specs.Journal.{events, entries}
 use Rattle.journal_model.specs.Effects.{Effects, nothing, joined, noting, acknowledging, resetting}
 use Rattle.journal_model.specs.Changes.{registration}
 use Rattle.journal_model.specs.Commits.{asking}
-
--- a piggybacked response has the Message ID of the last request; another one may have any (RFC 7252
--- section 5.2)
-abbrev pub has_mid_of : Kind4 → ℕ → ℕ → Bool
-has_mid_of Ack mid asked = mid == asked
-has_mid_of _ mid asked = true
 
 -- the response is to this request, and has no unrecognized critical option (RFC 7252 section 5.3.2)
 abbrev pub is_response_to : Message → Request → Bool
@@ -70,11 +55,6 @@ is_response_to m request =
 abbrev pub answered_request : Message → Option Request → Option Request
 answered_request m None = None
 answered_request m (Some request) = if is_response_to m request then Some request else None
-
--- the request of an event, where there is one
-abbrev pub request_of : Option Event → Option Request
-request_of None = None
-request_of (Some e) = request_noted e.note
 
 -- the last request of the running fetch with the sender, where the response is to it
 abbrev pub fetch_of : Step → Message → List Event → Option Request
@@ -94,51 +74,10 @@ abbrev pub acknowledgement : Step → Message → Kind4 → Effects
 acknowledgement s m Con = acknowledging s m.mid
 acknowledgement s m _ = nothing
 
--- the block that a response is, where it is one
-abbrev pub block_in : Message → Option Block
-block_in m = answered_block (block2_in m)
-  where
-    answered_block : Option (List ℕ) → Option Block
-    answered_block None = None
-    answered_block (Some value) = block_read value
-
--- the block does not begin where what is collected ends, and is passed over
-abbrev pub is_elsewhere : Option Block → ℕ → Bool
-is_elsewhere None size = false
-is_elsewhere (Some b) size = not (b.num * block_size b.szx == size)
-
--- more blocks follow this one, and it has not the block size
-abbrev pub is_cut_short : Option Block → ℕ → Bool
-is_cut_short None size = false
-is_cut_short (Some b) size = b.more && not (size == block_size b.szx)
-
--- two tags are the same; to have none counts as a value
-abbrev pub is_same_tag : Option (List ℕ) → Option (List ℕ) → Bool
-is_same_tag None None = true
-is_same_tag (Some tag) (Some other) = bytes_eq tag other
-is_same_tag _ _ = false
-
--- the tag differs from that of the first block, where one came
-abbrev pub is_other_tag : Option (Option (List ℕ)) → Option (List ℕ) → Bool
-is_other_tag None tag = false
-is_other_tag (Some first) tag = not (is_same_tag first tag)
-
--- the entity tag of a response: the first that is recognized
-abbrev pub tag_in : Message → Option (List ℕ)
-tag_in m = first_of (etags_in m)
-
--- the response ends the fetch without a registration: it is no 2.05, has another format, says no
--- block or one that is cut short, is no block after a first one, has another tag than that, or the
--- body would be too long
+-- the response ends the fetch without a registration, by the blocks that came and by how much is
+-- collected
 abbrev pub ends_fetch : Message → List (List ℕ × Option (List ℕ)) → ℕ → Bool
-ends_fetch m blocks size =
-    not (m.code == codes_of.content)
-    || is_other_format (format_in m)
-    || says_no_block (block2_in m)
-    || is_cut_short (block_in m) (length m.payload)
-    || (is_none (block2_in m) && is_some (tag_of_first blocks))
-    || is_other_tag (tag_of_first blocks) (tag_in m)
-    || nat_lt max_body (size + length m.payload)
+ends_fetch m blocks size = ends_by m (tag_of_first blocks) size
 
 -- the next block is asked for, with the size of the one that came
 abbrev pub next_asked : Step → Request → Block → Effects

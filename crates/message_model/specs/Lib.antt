@@ -8,3 +8,6 @@ pub mod Blocks
 pub mod Request
 pub mod Refusals
 pub mod RequestKey
+pub mod Uploads
+pub mod FetchRequests
+pub mod Responses

@@ -1,2 +1,3 @@
+pub mod FetchStepLaws
 pub mod FetchingLaws
 pub mod ResponseLaws

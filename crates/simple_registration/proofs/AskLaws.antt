@@ -37,8 +37,8 @@ use Rattle.message_model.specs.Spelling.{
   payload_spelling,
   spelling,
 }
+use Rattle.message_model.specs.FetchRequests.{fetch_request}
 use Rattle.coap_message.specs.PartialMessages.{longest_datagram}
-use Rattle.journal_model.specs.Commits.{fetch_request}
 
 -- a request with these options
 request_with : ℕ → List ℕ → List Opt → Message

@@ -43,6 +43,7 @@ use Rattle.rd_base.specs.declared.peers.Peer.{Peer}
 use Rattle.rd_base.specs.declared.parameters.RegParams.{RegParams}
 use Rattle.message_model.specs.declared.blocks.Block.{Block}
 use Rattle.message_model.specs.Message.{Message}
+use Rattle.message_model.specs.Responses.{block_in, tag_in, is_elsewhere, ends_by}
 use Rattle.event_model.specs.declared.notes.Note.TheVariants as note
 use Rattle.event_model.specs.Events.{Event}
 use Rattle.event_model.specs.Flights.{OctetsSent}
@@ -59,22 +60,16 @@ use Rattle.event_model.specs.Fetches.{
   Fetch,
   fetch_asked,
   fetch_of,
+  request_of,
+  is_last_request,
 }
-use Rattle.journal_model.specs.Responses.{request_of, block_in, tag_in, is_elsewhere}
-use Rattle.journal_model.specs.EmptyMessages.{is_last_request}
 use Rattle.exchange_core.specs.declared.resends.Again.{Again}
 use Rattle.exchange_core.specs.declared.resends.Again.TheVariants as again
 use Rattle.simple_registration.specs.declared.asks.Ask.{Ask}
 use Rattle.simple_registration.specs.declared.hearing.Heard.{Heard}
 use Rattle.simple_registration.specs.declared.hearing.Heard.TheVariants as heard
 use Rattle.simple_registration.specs.declared.starts.StartFault.TheVariants as fault
-use Rattle.simple_registration.specs.Responses.{
-  ends_by,
-  request_after,
-  heard_part,
-  heard_block,
-  heard_by,
-}
+use Rattle.simple_registration.specs.Responses.{request_after, heard_part, heard_block, heard_by}
 use Rattle.simple_registration.specs.Running.{
   is_answered_by,
   heard_of,

@@ -5,10 +5,7 @@ use Rattle.std.proofs.Common.{
   ◌≡◌,
   ℕ,
   ◌+◌,
-  ◌<◌,
-  ◌==◌,
   ◌&&◌,
-  ◌||◌,
   Bool,
   true,
   false,
@@ -18,7 +15,6 @@ use Rattle.std.proofs.Common.{
   [],
   ◌∷◌,
   ◌++◌,
-  length,
   filter,
   Option,
   Some,
@@ -30,18 +26,16 @@ use Rattle.std.proofs.Common.{
   ap,
   subst,
   ◌∙◌,
-  arith,
 }
 use Rattle.std.specs.List.{cons_option, filter_map, list_any, AllByRecursion}
-use Rattle.std.proofs.lemmas.Bool.{false≢true, ne_eqb}
+use Rattle.std.proofs.lemmas.Bool.{false≢true}
 use Rattle.std.proofs.lemmas.List.Elements.{filter-append}
 use Rattle.rd_base.specs.declared.peers.Peer.{Peer}
-use Rattle.rd_base.proofs.lemmas.Filters.{filter_all}
 use Rattle.event_model.specs.declared.notes.Note.{Note}
 use Rattle.event_model.specs.declared.notes.Note.TheVariants as note
 use Rattle.event_model.specs.Same.{is_same_peer}
-use Rattle.event_model.specs.Events.{Event, noted, events_since, last_event}
-use Rattle.event_model.specs.Flights.{OctetsSent, deadline}
+use Rattle.event_model.specs.Events.{Event, noted, events_since}
+use Rattle.event_model.specs.Flights.{OctetsSent}
 use Rattle.event_model.specs.Fetches.{
   fetches,
   is_fetching,
@@ -55,19 +49,15 @@ use Rattle.event_model.specs.Fetches.{
   fetch_asked,
   fetch_of,
   fetches_running,
-  fetches_started,
   is_waiting,
   resendings,
   fetch_deadline,
+  made_request,
+  is_last_request,
 }
 use Rattle.event_model.proofs.SameLaws.{is_same_peer-refl}
 use Rattle.event_model.proofs.AsideLaws.{notes_aside}
 use Rattle.event_model.proofs.AsideTables.{about_fetches, fetches_running-noted}
-use Rattle.journal_model.specs.declared.rows.Row.{Row}
-use Rattle.journal_model.specs.Journal.{events, row_at}
-use Rattle.journal_model.specs.Ticks.{octets_sent, confirmable_sent}
-use Rattle.journal_model.specs.EmptyMessages.{made_request, is_last_request}
-use Rattle.journal_model.proofs.EventRows.{row_of}
 use Rattle.simple_registration.specs.Table.{Table}
 use Rattle.simple_registration.specs.FetchEvents.{FetchesStandFor, fetch_due}
 use Rattle.simple_registration.proofs.NoteLaws.{IsAside}
@@ -181,24 +171,6 @@ FetchesStandFor-octets octets others past t same stands = record {
         rw (shown_octets octets others q past (last_request q past)
         (λ e last mid. same q e last mid))
         (ap (λ fs. cons_option (fetch_of octets past q) fs) (found peers))
-
--- so it does while a row is made after the rows of those events
-pub FetchesStandFor-row : (rows : List Row) (r : Row) (t : Table)
-    → FetchesStandFor (octets_sent rows) (events rows) t
-    → FetchesStandFor (octets_sent (r ∷ rows)) (events rows) t
-unfolding octets_sent row_at
-FetchesStandFor-row rows r t stands =
-    FetchesStandFor-octets (octets_sent rows) (octets_sent (r ∷ rows)) (events rows) t same stands
-  where
-    same : (q : Peer) (e : Event)
-        → last_request q (events rows) ≡ Some e
-        → (mid : ℕ)
-        → octets_sent (r ∷ rows) e.place q mid ≡ octets_sent rows e.place q mid
-    same q e last mid =
-        let below = (row_of (is_request_to q) rows e last).below in
-        let before : (e.place == length rows) ≡ false =
-        ne_eqb e.place (length rows) (λ at. absurd (omega (arith, below, at))) in
-        rw before refl
 
 -- ---- the fetch of a peer, while notes of others come
 

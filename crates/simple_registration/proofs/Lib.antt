@@ -10,5 +10,4 @@ pub mod RuleLaws
 pub mod TableLaws
 pub mod CallLaws
 pub mod DeskLaws
-pub mod StepLaws
 mod examples

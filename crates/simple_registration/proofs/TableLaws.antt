@@ -58,11 +58,12 @@ use Rattle.event_model.specs.Fetches.{
   fetches_running,
   is_start,
   fetches_started,
+  request_of,
+  is_request_of,
+  made_request,
 }
 use Rattle.event_model.proofs.SameLaws.{is_same_peer-refl}
 use Rattle.event_model.proofs.NotedLaws.{event_at}
-use Rattle.journal_model.specs.Responses.{request_of}
-use Rattle.journal_model.specs.EmptyMessages.{is_request_of, made_request}
 use Rattle.exchange_core.specs.declared.resends.Again.TheVariants as again
 use Rattle.simple_registration.specs.Running.{
   is_answered_by,

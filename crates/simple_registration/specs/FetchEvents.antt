@@ -5,7 +5,6 @@ use Rattle.std.specs.Prelude.{
   ℕ,
   ◌+◌,
   Bool,
-  true,
   false,
   ◌&&◌,
   ◌||◌,
@@ -20,8 +19,8 @@ use Rattle.std.specs.Prelude.{
 }
 use Rattle.std.specs.Prelude.{Result, Ok, Err}
 use Rattle.rd_base.specs.declared.peers.Peer.{Peer}
-use Rattle.message_model.specs.declared.blocks.Block.{Block}
 use Rattle.message_model.specs.Message.{Message}
+use Rattle.message_model.specs.Responses.{block_in, is_elsewhere, ends_by}
 use Rattle.event_model.specs.declared.notes.Note.TheVariants as note
 use Rattle.event_model.specs.Events.{Event}
 use Rattle.event_model.specs.Flights.{OctetsSent, max_again}
@@ -31,16 +30,16 @@ use Rattle.event_model.specs.Fetches.{
   fetches,
   is_fetching,
   last_request,
-  request_noted,
+  request_of,
   gathered,
   collected,
+  tag_of_first,
   fetches_started,
   fetches_running,
   is_waiting,
   resendings,
   fetch_deadline,
 }
-use Rattle.journal_model.specs.Responses.{request_of, block_in, is_elsewhere, ends_fetch}
 use Rattle.exchange_core.specs.declared.resends.Again.{Again}
 use Rattle.exchange_core.specs.declared.resends.Again.TheVariants as again
 use Rattle.simple_registration.specs.declared.asks.Ask.{Ask}
@@ -84,7 +83,7 @@ belongs_after peer m events =
 abbrev pub heard_after : ℕ → Peer → Message → Request → List Event → Heard
 heard_after mid peer m request events =
     heard_by (is_elsewhere (block_in m) (length (collected peer events)))
-    (ends_fetch m (gathered peer events) (length (collected peer events)))
+    (ends_by m (tag_of_first (gathered peer events)) (length (collected peer events)))
     (heard_block (block_in m) mid peer request.token request.params
     (collected peer events ++ m.payload))
 

@@ -1,62 +1,21 @@
 -- What a response to a fetch says, by what is known of the fetch (RFC 9176 section 5.1, RFC 7959
 -- section 2.4).
-use Rattle.std.specs.Prelude.{
-  ℕ,
-  ◌+◌,
-  Bool,
-  true,
-  false,
-  not,
-  ◌&&◌,
-  ◌||◌,
-  ◌==◌,
-  nat_lt,
-  List,
-  ◌++◌,
-  length,
-  Option,
-  Some,
-  None,
-  is_some,
-  is_none,
-  bytes_eq,
-}
+use Rattle.std.specs.Prelude.{ℕ, ◌+◌, Bool, true, false, ◌&&◌, List, Option, Some, None, bytes_eq}
 use Rattle.rd_base.specs.declared.peers.Peer.{Peer}
 use Rattle.rd_base.specs.declared.parameters.RegParams.{RegParams}
 use Rattle.message_model.specs.declared.blocks.Block.{Block}
 use Rattle.message_model.specs.Message.{Message}
 use Rattle.message_model.specs.Codes as codes_of
-use Rattle.message_model.specs.Blocks.{block_read}
 use Rattle.message_model.specs.Spelling.{spelling}
-use Rattle.message_model.specs.Request.{format_in, block2_in}
-use Rattle.message_model.specs.Refusals.{is_other_format, says_no_block}
-use Rattle.event_model.specs.Uploads.{max_body}
-use Rattle.journal_model.specs.Commits.{fetch_request}
-use Rattle.journal_model.specs.Responses.{has_mid_of, block_in, is_cut_short, is_other_tag, tag_in}
+use Rattle.message_model.specs.FetchRequests.{fetch_request}
+use Rattle.message_model.specs.Responses.{has_mid_of}
 use Rattle.simple_registration.specs.declared.hearing.Heard.{Heard}
 use Rattle.simple_registration.specs.declared.hearing.Heard.TheVariants as heard
-
--- the block that the value of a Block2 option says, where there is one
-abbrev pub block_said : Option (List ℕ) → Option Block
-block_said None = None
-block_said (Some value) = block_read value
 
 -- the response has the token of a request and, where it is piggybacked, its Message ID (RFC 7252
 -- section 5.3.2)
 abbrev pub has_names_of : Message → List ℕ → ℕ → Bool
 has_names_of m token mid = bytes_eq m.token token && has_mid_of m.kind m.mid mid
-
--- the response ends a fetch with this tag of the first block, where one came, and with so much
--- collected: the endings of the definition
-abbrev pub ends_by : Message → Option (Option (List ℕ)) → ℕ → Bool
-ends_by m first size =
-    not (m.code == codes_of.content)
-    || is_other_format (format_in m)
-    || says_no_block (block2_in m)
-    || is_cut_short (block_in m) (length m.payload)
-    || (is_none (block2_in m) && is_some first)
-    || is_other_tag first (tag_in m)
-    || nat_lt max_body (size + length m.payload)
 
 -- the block after one, of the same size, as it is asked for
 abbrev pub block_after : Block → Block

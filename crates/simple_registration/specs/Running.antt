@@ -16,20 +16,14 @@ use Rattle.std.specs.Prelude.{
 }
 use Rattle.message_model.specs.declared.blocks.Block.{Block}
 use Rattle.message_model.specs.Message.{Message}
+use Rattle.message_model.specs.Responses.{block_in, is_elsewhere, tag_in, ends_by}
 use Rattle.event_model.specs.Flights.{Retransmission, Sent, first_wait}
 use Rattle.event_model.specs.Fetches.{Fetch, response_wait}
-use Rattle.journal_model.specs.Responses.{block_in, is_elsewhere, tag_in}
 use Rattle.exchange_core.specs.declared.resends.Again.{Again}
 use Rattle.exchange_core.specs.declared.resends.Again.TheVariants as again
 use Rattle.exchange_core.specs.Retransmissions.{kept_due, kept_after}
 use Rattle.simple_registration.specs.declared.hearing.Heard.{Heard}
-use Rattle.simple_registration.specs.Responses.{
-  has_names_of,
-  ends_by,
-  request_after,
-  heard_block,
-  heard_by,
-}
+use Rattle.simple_registration.specs.Responses.{has_names_of, request_after, heard_block, heard_by}
 
 -- a response is to its last request
 abbrev pub is_answered_by : Message → Fetch → Bool

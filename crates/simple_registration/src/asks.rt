@@ -4,8 +4,8 @@ ghost use Rattle.message_model.specs.Codes as codes_of;
 ghost use Rattle.message_model.specs.Message.{last_number, longest_value, end_number};
 ghost use Rattle.message_model.specs.Blocks.{IsBlock};
 ghost use Rattle.message_model.specs.Spelling.{spelling};
+ghost use Rattle.message_model.specs.FetchRequests.{fetch_request};
 ghost use Rattle.coap_message.specs.PartialMessages.{longest_datagram, with_last_option};
-ghost use Rattle.journal_model.specs.Commits.{fetch_request};
 
 use block_wise::{Block, block_write};
 use coap_message::{Kind4, TokenRef, TooLong, Writer};

@@ -3,9 +3,10 @@ ghost use Rattle.std.specs.Prelude.{◌≡◌, ◌≤◌, length, option_map, If
 ghost use Rattle.std.specs.Option.{ForSome};
 ghost use Rattle.message_model.specs.Blocks.{IsBlock};
 ghost use Rattle.message_model.specs.Refusals as refusals;
+ghost use Rattle.message_model.specs.Responses.{block_said};
 ghost use Rattle.coap_message.specs.Views.{message_in};
-ghost use Rattle.journal_model.specs.Responses as responses;
-ghost use Rattle.simple_registration.specs.Responses.{has_names_of, block_said};
+ghost use Rattle.message_model.specs.Responses as responses;
+ghost use Rattle.simple_registration.specs.Responses.{has_names_of};
 
 use crate::running::EntityTag;
 use block_wise::{Block, block_read, block_size};

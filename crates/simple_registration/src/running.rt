@@ -5,12 +5,13 @@ ghost use Rattle.std.specs.Option.{ForSome};
 ghost use Rattle.rd_base.specs.declared.peers.Peer.{Peer};
 ghost use Rattle.message_model.specs.Blocks.{IsBlock};
 ghost use Rattle.message_model.specs.Spelling.{spelling};
+ghost use Rattle.message_model.specs.Uploads.{max_body};
+ghost use Rattle.message_model.specs.FetchRequests.{fetch_request};
+ghost use Rattle.message_model.specs.Responses.{ends_by};
 ghost use Rattle.coap_message.specs.Views.{message_in};
 ghost use Rattle.event_model.specs.Same.{is_same_peer};
-ghost use Rattle.event_model.specs.Uploads.{max_body};
-ghost use Rattle.journal_model.specs.Commits.{fetch_request};
-ghost use Rattle.journal_model.specs.Responses as responses;
-ghost use Rattle.simple_registration.specs.Responses.{ends_by, request_after};
+ghost use Rattle.message_model.specs.Responses as responses;
+ghost use Rattle.simple_registration.specs.Responses.{request_after};
 ghost use Rattle.simple_registration.specs.Running as running;
 ghost use Rattle.simple_registration.specs.Hearing.{fetch_started, first_ask, IsLeftBy};
 
@@ -22,9 +23,9 @@ use crate::rules::{
 use block_wise::Block;
 use coap_message::{TokenRef, View};
 use coap_options::Meaning;
-use event_model::limits::MAX_BODY;
 use event_model::transmission::MAX_TRANSMIT_WAIT;
 use exchange_core::{Again, Octets, Resend, Sent, Token};
+use message_model::MAX_BODY;
 use message_model::codes::CONTENT;
 use rd_base::{Bytes, Moment, Peer, RegParams, Starved};
 use std::alloc::Global;
@@ -58,7 +59,7 @@ pub(crate) struct Fetch {
 
 impl Model for Fetch {
     ghost use Rattle.std.specs.Prelude.{◌≤◌, ◌<◌, length};
-    ghost use Rattle.event_model.specs.Uploads.{max_body};
+    ghost use Rattle.message_model.specs.Uploads.{max_body};
     ghost use Rattle.event_model.specs.Fetches.{Fetch as Running};
 
     ghost Value = { Running };

@@ -28,7 +28,8 @@ use Rattle.std.proofs.Common.{
   arith,
 }
 use Rattle.message_model.specs.declared.blocks.Block.{Block}
-use Rattle.event_model.specs.Uploads.{Upload, max_body}
+use Rattle.message_model.specs.Uploads.{max_body}
+use Rattle.event_model.specs.Uploads.{Upload}
 use Rattle.event_model.specs.Same.{RequestName}
 use Rattle.transfers.specs.Uploading.{live_body, young_uploads, other_uploads}
 use Rattle.transfers.specs.declared.collecting.Upload.TheVariants as upload

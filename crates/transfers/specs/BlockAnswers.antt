@@ -14,8 +14,7 @@ use Rattle.std.specs.Prelude.{
   None,
 }
 use Rattle.message_model.specs.declared.blocks.Block.{Block}
-use Rattle.event_model.specs.Uploads.{max_body}
-use Rattle.journal_model.specs.Registrations.{collected_before, is_one_too_many}
+use Rattle.message_model.specs.Uploads.{max_body, collected_before, is_one_too_many}
 use Rattle.transfers.specs.declared.collecting.Upload.{Upload}
 use Rattle.transfers.specs.declared.collecting.Upload.TheVariants as upload
 

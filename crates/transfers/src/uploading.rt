@@ -3,8 +3,8 @@ ghost use Rattle.std.specs.Prelude.{◌≡◌, ◌≢◌, ◌<◌, ◌≤◌, �
 ghost use Rattle.std.specs.Prelude.{filter, find, option_map, IfOk, OnOk, OnErr};
 ghost use Rattle.std.specs.List.{position};
 ghost use Rattle.std.specs.Vec.{vec_len, vec_capacity};
-ghost use Rattle.journal_model.specs.Registrations.{collected_before, is_one_too_many};
 ghost use Rattle.rd_base.specs.Firsts.{changed_first};
+ghost use Rattle.message_model.specs.Uploads.{collected_before, is_one_too_many};
 ghost use Rattle.event_model.specs.Uploads.{Upload as LiveUpload};
 ghost use Rattle.transfers.specs.Uploading.{is_of, is_live_as, live_body, young_uploads};
 ghost use Rattle.transfers.specs.Uploading.{other_uploads, with_block, begun, taken};
@@ -13,8 +13,7 @@ ghost use Rattle.transfers.specs.BlockAnswers.{answer_to};
 
 use crate::collecting::begins_at;
 use crate::{Collected, Upload};
-use event_model::limits::{MAX_BODY, MAX_UPLOADS};
-use message_model::Block;
+use message_model::{Block, MAX_BODY, MAX_UPLOADS};
 use rd_base::{Bytes, Key, Moment, Peer, Starved};
 use std::alloc::Global;
 

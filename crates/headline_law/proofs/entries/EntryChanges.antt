@@ -17,6 +17,8 @@ use Rattle.message_model.specs.Message.{Message, Opt}
 use Rattle.message_model.specs.Reading.{reading}
 use Rattle.message_model.specs.Request.{path_in, queries_in}
 use Rattle.message_model.specs.RequestKey.{key_in}
+use Rattle.message_model.specs.Uploads.{max_body, collected_before, is_one_too_many}
+use Rattle.message_model.specs.Responses.{block_in, is_elsewhere}
 use Rattle.record_model.specs.Parameters.{registration_values}
 use Rattle.history_model.specs.declared.entries.Change.TheVariants as change
 use Rattle.history_model.specs.declared.entries.Entry.{Entry}
@@ -25,7 +27,7 @@ use Rattle.history_model.specs.declared.refusals.Refusal.TheVariants as refusal
 use Rattle.history_model.specs.Refusals.{change_refusal}
 use Rattle.event_model.specs.declared.notes.Note.{Note}
 use Rattle.event_model.specs.declared.notes.Note.TheVariants as note
-use Rattle.event_model.specs.Uploads.{max_body, live_upload, live_uploads}
+use Rattle.event_model.specs.Uploads.{live_upload, live_uploads}
 use Rattle.event_model.specs.Fetches.{
   Request,
   gathered,
@@ -64,8 +66,6 @@ use Rattle.journal_model.specs.Changes.{
   entry_of_step,
 }
 use Rattle.journal_model.specs.Registrations.{
-  collected_before,
-  is_one_too_many,
   block_taken,
   block_unless,
   block_after,
@@ -87,8 +87,6 @@ use Rattle.journal_model.specs.Responses.{
   strange,
   acknowledgement,
   more_follow,
-  block_in,
-  is_elsewhere,
   ends_fetch,
   completed,
   gathering,

@@ -24,6 +24,7 @@ use Rattle.message_model.specs.declared.requests.Path.TheVariants as path
 use Rattle.message_model.specs.Message.{Message}
 use Rattle.message_model.specs.Spelling.{header_spelling, spelling}
 use Rattle.message_model.specs.Request.{path_in}
+use Rattle.message_model.specs.Responses.{block_in, is_elsewhere}
 use Rattle.event_model.specs.declared.notes.Note.{Note}
 use Rattle.event_model.specs.declared.notes.Note.TheVariants as note
 use Rattle.event_model.specs.Fetches.{
@@ -55,8 +56,6 @@ use Rattle.journal_model.specs.Responses.{
   strange,
   acknowledgement,
   more_follow,
-  block_in,
-  is_elsewhere,
   ends_fetch,
   gathering,
   response_taken,

@@ -52,6 +52,7 @@ use Rattle.message_model.specs.Refusals.{refusal_of, refusal_code, refusal_word,
 use Rattle.message_model.specs.Request.{queries_in}
 use Rattle.message_model.specs.RequestKey.{key_in}
 use Rattle.message_model.specs.Spelling.{spelling}
+use Rattle.message_model.specs.Uploads.{max_body, collected_before, is_one_too_many}
 use Rattle.message_model.proofs.MessageLaws.{reading_in_order}
 use Rattle.message_model.proofs.TailLemmas.{AreInOrder}
 use Rattle.record_model.specs.Parameters.{registration_values}
@@ -69,7 +70,7 @@ use Rattle.history_model.proofs.NumberLaws.{
 }
 use Rattle.event_model.specs.declared.notes.Note.{Note}
 use Rattle.event_model.specs.declared.notes.Note.TheVariants as note
-use Rattle.event_model.specs.Uploads.{max_body, live_upload, live_uploads}
+use Rattle.event_model.specs.Uploads.{live_upload, live_uploads}
 use Rattle.journal_model.specs.declared.steps.Step.{Step}
 use Rattle.journal_model.specs.declared.rows.Row.{Row}
 use Rattle.journal_model.specs.Journal.{events, entries}
@@ -101,8 +102,6 @@ use Rattle.journal_model.specs.Changes.{
   entry_of_step,
 }
 use Rattle.journal_model.specs.Registrations.{
-  collected_before,
-  is_one_too_many,
   block1_option,
   block_taken,
   block_unless,

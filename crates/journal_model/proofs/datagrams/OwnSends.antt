@@ -59,6 +59,8 @@ use Rattle.message_model.specs.Reading.{reading}
 use Rattle.message_model.specs.Request.{path_in, observe_in}
 use Rattle.message_model.specs.RequestKey.{key_in}
 use Rattle.message_model.specs.Spelling.{header_spelling, spelling}
+use Rattle.message_model.specs.FetchRequests.{fetch_request}
+use Rattle.message_model.specs.Responses.{has_mid_of, block_in, is_elsewhere}
 use Rattle.message_model.proofs.MessageLaws.{reading_in_order}
 use Rattle.message_model.proofs.ReadingLaws.{header_read}
 use Rattle.record_model.specs.Discovery.{discovery}
@@ -80,6 +82,7 @@ use Rattle.event_model.specs.Fetches.{
   last_request,
   gathered,
   collected,
+  request_of,
 }
 use Rattle.journal_model.specs.declared.steps.Step.{Step}
 use Rattle.journal_model.specs.declared.steps.StepKind.{StepKind}
@@ -149,7 +152,6 @@ use Rattle.journal_model.specs.Commits.{
   settling,
   updating,
   removing,
-  fetch_request,
   simple_unless,
   on_location,
   write_done,
@@ -157,16 +159,12 @@ use Rattle.journal_model.specs.Commits.{
 }
 use Rattle.journal_model.specs.EmptyMessages.{acknowledged, reset}
 use Rattle.journal_model.specs.Responses.{
-  has_mid_of,
   is_response_to,
   answered_request,
-  request_of,
   fetch_of,
   strange,
   acknowledgement,
   more_follow,
-  block_in,
-  is_elsewhere,
   ends_fetch,
   gathering,
   response_taken,

@@ -36,6 +36,7 @@ use Rattle.message_model.specs.declared.requests.Path.TheVariants as path
 use Rattle.message_model.specs.Message.{Message, Opt}
 use Rattle.message_model.specs.Request.{path_in, queries_in}
 use Rattle.message_model.specs.RequestKey.{key_in}
+use Rattle.message_model.specs.Uploads.{max_body, collected_before, is_one_too_many}
 use Rattle.record_model.specs.Bodies.{linked_references}
 use Rattle.record_model.specs.Parameters.{registration_values}
 use Rattle.record_model.specs.Refusals.{first_unlimited, is_refused_as_limited}
@@ -47,7 +48,7 @@ use Rattle.history_model.specs.Legal.{HasGoodBody}
 use Rattle.history_model.specs.Refusals.{change_refusal}
 use Rattle.event_model.specs.declared.notes.Note.{Note}
 use Rattle.event_model.specs.declared.notes.Note.TheVariants as note
-use Rattle.event_model.specs.Uploads.{max_body, live_upload, live_uploads}
+use Rattle.event_model.specs.Uploads.{live_upload, live_uploads}
 use Rattle.event_model.specs.Fetches.{max_fetches, fetches, is_fetching}
 use Rattle.journal_model.specs.declared.steps.Step.{Step}
 use Rattle.journal_model.specs.declared.rows.Row.{Row}
@@ -82,8 +83,6 @@ use Rattle.journal_model.specs.Changes.{
   entry_of_step,
 }
 use Rattle.journal_model.specs.Registrations.{
-  collected_before,
-  is_one_too_many,
   block_taken,
   block_unless,
   block_after,

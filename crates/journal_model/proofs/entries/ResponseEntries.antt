@@ -30,6 +30,7 @@ use Rattle.message_model.specs.declared.messages.Kind4.{Kind4}
 use Rattle.message_model.specs.declared.messages.Kind4.TheVariants.{Con, Non, Ack, Rst}
 use Rattle.message_model.specs.Message.{Message}
 use Rattle.message_model.specs.Codes as codes_of
+use Rattle.message_model.specs.Responses.{block_in, is_elsewhere}
 use Rattle.event_model.specs.declared.notes.Note.{Note}
 use Rattle.event_model.specs.declared.notes.Note.TheVariants as note
 use Rattle.event_model.specs.Fetches.{Request, gathered, collected}
@@ -43,8 +44,6 @@ use Rattle.journal_model.specs.Responses.{
   strange,
   acknowledgement,
   more_follow,
-  block_in,
-  is_elsewhere,
   ends_fetch,
   completed,
   gathering,

@@ -41,6 +41,7 @@ use Rattle.message_model.specs.Spelling.{header_spelling, spelling}
 use Rattle.message_model.specs.Refusals.{refusal_of, refusal_code}
 use Rattle.message_model.specs.Request.{queries_in}
 use Rattle.message_model.specs.RequestKey.{key_in}
+use Rattle.message_model.specs.Uploads.{max_body, collected_before, is_one_too_many}
 use Rattle.record_model.specs.Parameters.{registration_values}
 use Rattle.history_model.specs.declared.entries.Change.TheVariants as change
 use Rattle.history_model.specs.declared.entries.Entry.{Entry}
@@ -51,7 +52,7 @@ use Rattle.event_model.specs.declared.notes.Note.{Note}
 use Rattle.event_model.specs.declared.notes.Note.TheVariants as note
 use Rattle.event_model.specs.Events.{Event}
 use Rattle.event_model.specs.Repeats.{repeated, settled, is_full_of_exchanges}
-use Rattle.event_model.specs.Uploads.{max_body, live_upload, live_uploads}
+use Rattle.event_model.specs.Uploads.{live_upload, live_uploads}
 use Rattle.journal_model.specs.declared.steps.Step.{Step}
 use Rattle.journal_model.specs.declared.rows.Row.{Row}
 use Rattle.journal_model.specs.Journal.{events, entries}
@@ -79,8 +80,6 @@ use Rattle.journal_model.specs.Changes.{
   entry_of_step,
 }
 use Rattle.journal_model.specs.Registrations.{
-  collected_before,
-  is_one_too_many,
   block_taken,
   block_unless,
   block_after,

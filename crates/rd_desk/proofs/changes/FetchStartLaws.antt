@@ -35,6 +35,7 @@ use Rattle.message_model.specs.Codes as codes_of
 use Rattle.message_model.specs.Message.{Message, longest_token}
 use Rattle.message_model.specs.Request.{queries_in}
 use Rattle.message_model.specs.Spelling.{spelling}
+use Rattle.message_model.specs.FetchRequests.{fetch_request}
 use Rattle.record_model.specs.Parameters.{registration_values}
 use Rattle.event_model.specs.declared.notes.Note.{Note}
 use Rattle.event_model.specs.declared.notes.Note.TheVariants as note
@@ -49,7 +50,7 @@ use Rattle.journal_model.specs.declared.steps.Step.{Step}
 use Rattle.journal_model.specs.declared.steps.StepKind.TheVariants as step
 use Rattle.journal_model.specs.declared.rows.Row.{Row}
 use Rattle.journal_model.specs.Changes.{refused}
-use Rattle.journal_model.specs.Commits.{settling, fetch_request, asking, registering_simply}
+use Rattle.journal_model.specs.Commits.{settling, asking, registering_simply}
 use Rattle.journal_model.specs.Effects.{
   Effects,
   Reply,
@@ -71,7 +72,7 @@ use Rattle.simple_registration.specs.declared.asks.Ask.{Ask}
 use Rattle.simple_registration.specs.declared.starts.StartFault.TheVariants as fault
 use Rattle.simple_registration.specs.FetchEvents.{FetchesStandFor, start_refusal}
 use Rattle.simple_registration.specs.Table.{Table}
-use Rattle.simple_registration.proofs.StepLaws.{
+use Rattle.rd_desk.proofs.responses.FetchStepLaws.{
   registering_simply-starts,
   registering_simply-fetching,
   registering_simply-full,

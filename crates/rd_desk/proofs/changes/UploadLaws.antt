@@ -33,6 +33,7 @@ use Rattle.message_model.specs.Codes as codes_of
 use Rattle.message_model.specs.Message.{Message, Opt}
 use Rattle.message_model.specs.Request.{queries_in}
 use Rattle.message_model.specs.RequestKey.{key_in}
+use Rattle.message_model.specs.Uploads.{max_body, collected_before, is_one_too_many}
 use Rattle.record_model.specs.Parameters.{registration_values}
 use Rattle.history_model.specs.declared.entries.Entry.{Entry}
 use Rattle.history_model.specs.declared.refusals.Refusal.{Refusal}
@@ -44,7 +45,7 @@ use Rattle.event_model.specs.declared.notes.Note.{Note}
 use Rattle.event_model.specs.declared.notes.Note.TheVariants as note
 use Rattle.event_model.specs.AdmissionOrder.{IsOpen}
 use Rattle.event_model.specs.Events.{Event}
-use Rattle.event_model.specs.Uploads.{max_body, live_upload, live_uploads}
+use Rattle.event_model.specs.Uploads.{live_upload, live_uploads}
 use Rattle.event_model.proofs.NotedLaws.{event_at}
 use Rattle.journal_model.specs.declared.steps.Step.{Step}
 use Rattle.journal_model.specs.declared.rows.Row.{Row}
@@ -65,8 +66,6 @@ use Rattle.journal_model.specs.Commits.{settling}
 use Rattle.journal_model.specs.Effects.{Effects, Reply, nothing, joined, noting}
 use Rattle.journal_model.specs.Journal.{events, entries}
 use Rattle.journal_model.specs.Registrations.{
-  collected_before,
-  is_one_too_many,
   block1_option,
   block_taken,
   block_unless,

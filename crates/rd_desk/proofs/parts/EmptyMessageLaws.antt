@@ -27,11 +27,12 @@ use Rattle.event_model.specs.declared.notes.Observer.{Observer}
 use Rattle.event_model.specs.Events.{Event}
 use Rattle.event_model.specs.Flights.{OctetsSent}
 use Rattle.event_model.specs.Observers.{is_forming}
+use Rattle.event_model.specs.Fetches.{is_last_request}
 use Rattle.event_model.proofs.NotedLaws.{event_at}
 use Rattle.journal_model.specs.declared.steps.Step.{Step}
 use Rattle.journal_model.specs.declared.rows.Row.{Row}
 use Rattle.journal_model.specs.Effects.{Effects, nothing, joined, noting}
-use Rattle.journal_model.specs.EmptyMessages.{waited_for, is_last_request, acknowledged, reset}
+use Rattle.journal_model.specs.EmptyMessages.{waited_for, acknowledged, reset}
 use Rattle.journal_model.specs.Journal.{events}
 use Rattle.journal_model.specs.Rows.{row_moment}
 use Rattle.journal_model.specs.Ticks.{octets_sent}

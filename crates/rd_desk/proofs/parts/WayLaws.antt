@@ -42,7 +42,6 @@ use Rattle.exchange_core.proofs.TableLaws.{ExchangesStandFor-later}
 use Rattle.transfers.specs.TransferEvents.{TransfersStandFor}
 use Rattle.transfers.proofs.TransferLaws.{TransfersStandFor-later}
 use Rattle.simple_registration.specs.FetchEvents.{FetchesStandFor}
-use Rattle.simple_registration.proofs.DeskLaws.{FetchesStandFor-row}
 use Rattle.rd_desk.specs.declared.mids.Mids.{Mids}
 use Rattle.rd_desk.specs.Desks.{Seen, DirectoryStandsFor, StandsFor}
 use Rattle.rd_desk.specs.Sendings.{IsStepOf, Sends, AreRequestsSent}
@@ -55,6 +54,7 @@ use Rattle.rd_desk.proofs.parts.MakingLaws.{
   now-making_joined,
   requests-joined,
 }
+use Rattle.rd_desk.proofs.responses.FetchStepLaws.{FetchesStandFor-row}
 
 -- ---- it begins
 

@@ -50,6 +50,8 @@ use Rattle.message_model.specs.Blocks.{block_value}
 use Rattle.message_model.specs.Message.{Message, longest_token}
 use Rattle.message_model.specs.OptionTable.{first_bad_option}
 use Rattle.message_model.specs.Spelling.{spelling}
+use Rattle.message_model.specs.FetchRequests.{fetch_request}
+use Rattle.message_model.specs.Responses.{block_in, tag_in, is_elsewhere}
 use Rattle.coap_message.specs.PartialMessages.{longest_datagram}
 use Rattle.record_model.specs.AllowedParameters.{AreAllowed}
 use Rattle.event_model.specs.declared.notes.Note.{Note}
@@ -71,14 +73,14 @@ use Rattle.event_model.specs.Fetches.{
   fetch_asked,
   fetch_of,
   fetches_running,
+  request_of,
 }
 use Rattle.event_model.proofs.NotedLaws.{event_at}
 use Rattle.event_model.proofs.SameLaws.{is_same_peer-Decides}
 use Rattle.exchange_core.specs.declared.resends.Again.{Again}
 use Rattle.exchange_core.specs.declared.resends.Again.TheVariants as again
 use Rattle.journal_model.specs.declared.steps.Step.{Step}
-use Rattle.journal_model.specs.Commits.{fetch_request}
-use Rattle.journal_model.specs.Responses.{request_of, block_in, tag_in, is_elsewhere, ends_fetch}
+use Rattle.journal_model.specs.Responses.{ends_fetch}
 use Rattle.journal_model.specs.Responses as responses
 use Rattle.journal_model.proofs.sends.BodyAnswers.{block_value-length}
 use Rattle.simple_registration.specs.declared.asks.Ask.{Ask}
@@ -101,7 +103,7 @@ use Rattle.simple_registration.specs.FetchEvents.{
 }
 use Rattle.simple_registration.proofs.AskLaws.{short_core, short_block}
 use Rattle.simple_registration.proofs.DeskLaws.{FetchesStandFor-octets}
-use Rattle.simple_registration.proofs.StepLaws.{request_confirmable, fetch_of-belongs}
+use Rattle.rd_desk.proofs.responses.FetchStepLaws.{request_confirmable, fetch_of-belongs}
 use Rattle.simple_registration.proofs.TableLaws.{running_length}
 use Rattle.rd_desk.specs.Fetching.{
   IsSendable,

@@ -36,6 +36,7 @@ use Rattle.message_model.specs.declared.messages.Kind4.{Kind4}
 use Rattle.message_model.specs.declared.messages.Kind4.TheVariants.{Con, Non, Ack, Rst}
 use Rattle.message_model.specs.Message.{Message, Opt}
 use Rattle.message_model.specs.Spelling.{spelling}
+use Rattle.message_model.specs.Responses.{block_in, tag_in, is_elsewhere}
 use Rattle.history_model.specs.declared.entries.Entry.{Entry}
 use Rattle.history_model.specs.declared.refusals.Refusal.{Refusal}
 use Rattle.history_model.specs.declared.refusals.Refusal.TheVariants as refusal
@@ -47,7 +48,14 @@ use Rattle.event_model.specs.declared.notes.Note.TheVariants as note
 use Rattle.event_model.specs.Same.{is_same_peer}
 use Rattle.event_model.specs.Events.{Event, noted}
 use Rattle.event_model.specs.Flights.{OctetsSent}
-use Rattle.event_model.specs.Fetches.{Request, is_fetching, last_request, gathered, collected}
+use Rattle.event_model.specs.Fetches.{
+  Request,
+  is_fetching,
+  last_request,
+  gathered,
+  collected,
+  request_of,
+}
 use Rattle.event_model.proofs.NotedLaws.{event_at}
 use Rattle.event_model.proofs.SameLaws.{is_same_peer-refl}
 use Rattle.journal_model.specs.declared.steps.Step.{Step}
@@ -71,10 +79,6 @@ use Rattle.journal_model.specs.Journal.{events, entries}
 use Rattle.journal_model.specs.Responses.{
   strange,
   acknowledgement,
-  request_of,
-  block_in,
-  tag_in,
-  is_elsewhere,
   ends_fetch,
   completed,
   more_follow,
@@ -101,7 +105,7 @@ use Rattle.simple_registration.specs.FetchEvents.{
   heard_after,
 }
 use Rattle.simple_registration.proofs.CallLaws.{belongs}
-use Rattle.simple_registration.proofs.StepLaws.{other_kind, octets_sent-here}
+use Rattle.rd_desk.proofs.responses.FetchStepLaws.{other_kind, octets_sent-here}
 use Rattle.rd_desk.specs.declared.mids.Mids.{Mids}
 use Rattle.rd_desk.specs.declared.outcomes.Outcome.{Outcome as Planned}
 use Rattle.rd_desk.specs.Desks.{Seen}

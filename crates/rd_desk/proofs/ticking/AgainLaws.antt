@@ -68,7 +68,7 @@ use Rattle.journal_model.proofs.observers.SentOctets.{waiting_notice-row}
 use Rattle.exchange_core.specs.declared.resends.Again.{Again}
 use Rattle.exchange_core.specs.declared.resends.Again.TheVariants as again
 use Rattle.exchange_core.specs.Retransmissions.{kept_due}
-use Rattle.simple_registration.proofs.StepLaws.{repeating-octets}
+use Rattle.rd_desk.proofs.responses.FetchStepLaws.{repeating-octets}
 use Rattle.observers.specs.Watchers.{Watcher, due_of}
 use Rattle.observers.specs.ObserverEvents.{shown}
 use Rattle.rd_desk.specs.Noticing.{sending_again, again_as, again_done}

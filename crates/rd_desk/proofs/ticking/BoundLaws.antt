@@ -53,6 +53,7 @@ use Rattle.message_model.specs.Reading.{reading}
 use Rattle.message_model.specs.Request.{path_in, queries_in, observe_in}
 use Rattle.message_model.specs.RequestKey.{key_in}
 use Rattle.message_model.specs.Spelling.{spelling}
+use Rattle.message_model.specs.Responses.{block_in, is_elsewhere}
 use Rattle.message_model.proofs.ReadingLaws.{header_read}
 use Rattle.record_model.specs.Parameters.{registration_values}
 use Rattle.history_model.specs.declared.entries.Change.TheVariants as change
@@ -154,8 +155,6 @@ use Rattle.journal_model.specs.Responses.{
   strange,
   acknowledgement,
   more_follow,
-  block_in,
-  is_elsewhere,
   ends_fetch,
   completed,
   gathering,

@@ -54,6 +54,8 @@ use Rattle.message_model.specs.Reading.{reading}
 use Rattle.message_model.specs.Request.{path_in, observe_in}
 use Rattle.message_model.specs.RequestKey.{key_in}
 use Rattle.message_model.specs.Spelling.{header_spelling, spelling}
+use Rattle.message_model.specs.FetchRequests.{fetch_request}
+use Rattle.message_model.specs.Responses.{block_in, is_elsewhere}
 use Rattle.message_model.proofs.MessageLaws.{reading_in_order}
 use Rattle.message_model.proofs.ReadingLaws.{header_read}
 use Rattle.history_model.specs.declared.entries.Entry.{Entry}
@@ -72,6 +74,7 @@ use Rattle.event_model.specs.Fetches.{
   last_request,
   gathered,
   collected,
+  request_of,
 }
 use Rattle.event_model.proofs.AsideLaws.{each_noted}
 use Rattle.journal_model.specs.declared.steps.Step.{Step}
@@ -126,7 +129,6 @@ use Rattle.journal_model.specs.Commits.{
   settling,
   updating,
   removing,
-  fetch_request,
   simple_unless,
   on_location,
   write_done,
@@ -160,13 +162,10 @@ use Rattle.journal_model.specs.Lookups.{
 use Rattle.journal_model.specs.Responses.{
   is_response_to,
   answered_request,
-  request_of,
   fetch_of,
   strange,
   acknowledgement,
   more_follow,
-  block_in,
-  is_elsewhere,
   ends_fetch,
   gathering,
   response_taken,

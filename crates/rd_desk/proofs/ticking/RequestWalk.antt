@@ -94,7 +94,7 @@ use Rattle.simple_registration.proofs.PeerLaws.{
   requested,
 }
 use Rattle.simple_registration.proofs.RunningLaws.{running-at, running-peers}
-use Rattle.simple_registration.proofs.StepLaws.{repeating-octets}
+use Rattle.rd_desk.proofs.responses.FetchStepLaws.{repeating-octets}
 use Rattle.simple_registration.proofs.TableLaws.{running_length}
 use Rattle.rd_desk.specs.declared.mids.Mids.{Mids}
 use Rattle.rd_desk.specs.Desks.{Seen}

@@ -23,11 +23,12 @@ use Rattle.rd_base.specs.declared.peers.Peer.{Peer}
 use Rattle.rd_base.specs.declared.parameters.RegParams.{RegParams}
 use Rattle.message_model.specs.declared.messages.Kind4.TheVariants.{Con, Ack}
 use Rattle.message_model.specs.Message.{Message, Opt}
+use Rattle.message_model.proofs.OnLiterals.{messages_on_literals}
 use Rattle.event_model.specs.declared.notes.Note.{Note}
 use Rattle.event_model.specs.declared.notes.Note.TheVariants as note
 use Rattle.event_model.specs.Events.{Event}
 use Rattle.event_model.specs.Fetches.{Request}
-use Rattle.journal_model.proofs.OnLiterals.{machine_on_literals}
+use Rattle.event_model.proofs.OnLiterals.{events_on_literals}
 use Rattle.exchange_core.specs.declared.resends.Again.TheVariants as again
 use Rattle.simple_registration.specs.declared.hearing.Heard.{Heard}
 use Rattle.simple_registration.specs.declared.hearing.Heard.TheVariants as heard
@@ -67,30 +68,30 @@ abbrev others : ℕ → List Event
 others n = map (λ k. asks 0 (k + 100) 0) (range_with_len 0 n)
 
 idle : start_refusal (device 10) [] ≡ None
-unfolding machine_on_literals
+unfolding messages_on_literals events_on_literals
 idle = refl
 
 runs : start_refusal (device 10) (asks 0 10 0 ∷ []) ≡ Some (fault.Fetching (device 10))
-unfolding machine_on_literals
+unfolding messages_on_literals events_on_literals
 runs = refl
 
 other_port :
     start_refusal (record { host = host.V4 (192 ∷ 0 ∷ 2 ∷ 10 ∷ []); port = 5684 })
     (asks 0 10 0 ∷ [])
     ≡ None
-unfolding machine_on_literals
+unfolding messages_on_literals events_on_literals
 other_port = refl
 
 ended : start_refusal (device 10) (at 1 (note.Ceased (device 10)) ∷ asks 0 10 0 ∷ []) ≡ None
-unfolding machine_on_literals
+unfolding messages_on_literals events_on_literals
 ended = refl
 
 room_for_one : start_refusal (device 10) (others 63) ≡ None
-unfolding machine_on_literals
+unfolding messages_on_literals events_on_literals
 room_for_one = refl
 
 full : start_refusal (device 10) (others 64) ≡ Some fault.FullFetches
-unfolding machine_on_literals
+unfolding messages_on_literals events_on_literals
 full = refl
 
 -- ---- what is due
@@ -108,19 +109,19 @@ resent =
     ∷ []
 
 before_first : fetch_due 2_999 (device 10) first (first ∷ []) ≡ again.Wait
-unfolding machine_on_literals fetch_due
+unfolding messages_on_literals events_on_literals fetch_due
 before_first = refl
 
 at_first : fetch_due 3_000 (device 10) first (first ∷ []) ≡ again.Send
-unfolding machine_on_literals fetch_due
+unfolding messages_on_literals events_on_literals fetch_due
 at_first = refl
 
 before_last : fetch_due 62_999 (device 10) first (resent ++ first ∷ []) ≡ again.Wait
-unfolding machine_on_literals fetch_due
+unfolding messages_on_literals events_on_literals fetch_due
 before_last = refl
 
 at_last : fetch_due 63_000 (device 10) first (resent ++ first ∷ []) ≡ again.GaveUp
-unfolding machine_on_literals fetch_due
+unfolding messages_on_literals events_on_literals fetch_due
 at_last = refl
 
 -- acknowledged after a retransmission: the wait counts from the first sending
@@ -128,11 +129,11 @@ abbrev awaited : List Event
 awaited = at 3_500 (note.Waiting (device 10)) ∷ at 3_000 (note.Resent (device 10)) ∷ first ∷ []
 
 awaited_before : fetch_due 93_999 (device 10) first awaited ≡ again.Wait
-unfolding machine_on_literals fetch_due
+unfolding messages_on_literals events_on_literals fetch_due
 awaited_before = refl
 
 awaited_at : fetch_due 94_000 (device 10) first awaited ≡ again.GaveUp
-unfolding machine_on_literals fetch_due
+unfolding messages_on_literals events_on_literals fetch_due
 awaited_at = refl
 
 -- ---- what a response says
@@ -156,15 +157,15 @@ sixteen : List ℕ
 sixteen = codes "</a>;rt=\"0123456"
 
 belongs_to : belongs_after (device 10) (response (1 ∷ []) [] [] []) (first ∷ []) ≡ true
-unfolding machine_on_literals
+unfolding messages_on_literals events_on_literals
 belongs_to = refl
 
 other_token : belongs_after (device 10) (response (2 ∷ []) [] [] []) (first ∷ []) ≡ false
-unfolding machine_on_literals
+unfolding messages_on_literals events_on_literals
 other_token = refl
 
 other_device : belongs_after (device 20) (response (1 ∷ []) [] [] []) (first ∷ []) ≡ false
-unfolding machine_on_literals
+unfolding messages_on_literals events_on_literals
 other_device = refl
 
 -- the first block, and more follow
@@ -175,7 +176,7 @@ next : heard_after 8 (device 10) (response (1 ∷ []) ((4, 170 ∷ []) ∷ []) (
       bytes = request_after 8 (1 ∷ [])
           (record { num = 0; more = true; szx = 0 });
     })
-unfolding machine_on_literals sixteen
+unfolding messages_on_literals events_on_literals sixteen
 next = refl
 
 -- after it, under its tag
@@ -190,46 +191,46 @@ whole :
     heard_after 8 (device 10) (response (1 ∷ []) ((4, 170 ∷ []) ∷ []) (16 ∷ []) (codes "x")) request
     second
     ≡ heard.Whole params (codes "0123456789abcdefx")
-unfolding machine_on_literals
+unfolding messages_on_literals events_on_literals
 whole = refl
 
 other_tag :
     heard_after 8 (device 10) (response (1 ∷ []) ((4, 187 ∷ []) ∷ []) (16 ∷ []) (codes "x")) request
     second
     ≡ heard.Ended
-unfolding machine_on_literals
+unfolding messages_on_literals events_on_literals
 other_tag = refl
 
 no_tag :
     heard_after 8 (device 10) (response (1 ∷ []) [] (16 ∷ []) (codes "x")) request second
     ≡ heard.Ended
-unfolding machine_on_literals
+unfolding messages_on_literals events_on_literals
 no_tag = refl
 
 gap :
     heard_after 8 (device 10) (response (1 ∷ []) ((4, 170 ∷ []) ∷ []) (32 ∷ []) (codes "x")) request
     second
     ≡ heard.Passed
-unfolding machine_on_literals
+unfolding messages_on_literals events_on_literals
 gap = refl
 
 repeated :
     heard_after 8 (device 10) (response (1 ∷ []) ((4, 170 ∷ []) ∷ []) (8 ∷ []) sixteen) request
     second
     ≡ heard.Passed
-unfolding machine_on_literals sixteen
+unfolding messages_on_literals events_on_literals sixteen
 repeated = refl
 
 reserved :
     heard_after 8 (device 10) (response (1 ∷ []) ((4, 170 ∷ []) ∷ []) (23 ∷ []) (codes "x")) request
     second
     ≡ heard.Ended
-unfolding machine_on_literals
+unfolding messages_on_literals events_on_literals
 reserved = refl
 
 short :
     heard_after 8 (device 10) (response (1 ∷ []) ((4, 170 ∷ []) ∷ []) (24 ∷ []) (codes "x")) request
     second
     ≡ heard.Ended
-unfolding machine_on_literals
+unfolding messages_on_literals events_on_literals
 short = refl

@@ -1,5 +1,5 @@
 -- The steps of the machine, as a table of fetches answers them: responses, the start of a fetch,
--- and requests that are sent again. End theorems, for a desk above: nothing here cites them.
+-- and requests that are sent again; and a row more.
 use Rattle.std.proofs.Common.{
   ◌≡◌,
   ◌≢◌,
@@ -29,18 +29,14 @@ use Rattle.std.proofs.Common.{
   None,
   option_map,
   refl,
-  sym,
   ap,
-  subst,
-  ◌∙◌,
   eq-eqb,
   arith,
 }
 use Rattle.std.specs.Prelude.{is_none, nat_le, unwrap_or}
 use Rattle.std.specs.List.{AllByRecursion}
-use Rattle.std.proofs.lemmas.Bool.{false≢true, and_parts, ne_eqb}
+use Rattle.std.proofs.lemmas.Bool.{and_parts, ne_eqb}
 use Rattle.rd_base.specs.declared.peers.Peer.{Peer}
-use Rattle.rd_base.specs.declared.parameters.RegParams.{RegParams}
 use Rattle.rd_base.proofs.lemmas.Numbers.{eqb-refl}
 use Rattle.message_model.specs.declared.blocks.Block.{Block}
 use Rattle.message_model.specs.declared.messages.Kind4.{Kind4}
@@ -50,6 +46,8 @@ use Rattle.message_model.specs.Message.{Message, longest_token}
 use Rattle.message_model.specs.OptionTable.{first_bad_option}
 use Rattle.message_model.specs.Request.{queries_in}
 use Rattle.message_model.specs.Spelling.{spelling, header_spelling, kind_number}
+use Rattle.message_model.specs.FetchRequests.{fetch_request}
+use Rattle.message_model.specs.Responses.{block_in, tag_in, is_elsewhere}
 use Rattle.record_model.specs.Parameters.{registration_values}
 use Rattle.event_model.specs.declared.notes.Note.{Note}
 use Rattle.event_model.specs.declared.notes.Note.TheVariants as note
@@ -64,11 +62,13 @@ use Rattle.event_model.specs.Fetches.{
   Request,
   request_noted,
   last_request,
+  is_request_to,
   gathered,
   collected,
   is_waiting,
   resendings,
   fetch_deadline,
+  request_of,
 }
 use Rattle.event_model.proofs.SameLaws.{is_same_peer-Decides, is_same_peer-refl}
 use Rattle.journal_model.specs.declared.steps.Step.{Step}
@@ -76,14 +76,9 @@ use Rattle.journal_model.specs.declared.rows.Row.{Row}
 use Rattle.journal_model.specs.Journal.{events, row_at}
 use Rattle.journal_model.specs.Effects.{Effects, nothing, joined, bare, noting, mid_of, drawn_for}
 use Rattle.journal_model.specs.Changes.{refused}
-use Rattle.journal_model.specs.Commits.{settling, fetch_request, asking, registering_simply}
+use Rattle.journal_model.specs.Commits.{settling, asking, registering_simply}
 use Rattle.journal_model.specs.Responses.{
-  is_response_to,
   answered_request,
-  request_of,
-  block_in,
-  tag_in,
-  is_elsewhere,
   ends_fetch,
   more_follow,
   completed,
@@ -101,27 +96,23 @@ use Rattle.journal_model.specs.Ticks.{
   request_again,
   fetch_again,
 }
+use Rattle.journal_model.proofs.EventRows.{row_of}
 use Rattle.exchange_core.specs.declared.resends.Again.{Again}
 use Rattle.exchange_core.specs.declared.resends.Again.TheVariants as again
-use Rattle.simple_registration.specs.declared.asks.Ask.{Ask}
 use Rattle.simple_registration.specs.declared.hearing.Heard.{Heard}
 use Rattle.simple_registration.specs.declared.hearing.Heard.TheVariants as heard
-use Rattle.simple_registration.specs.declared.starts.StartFault.{StartFault}
 use Rattle.simple_registration.specs.declared.starts.StartFault.TheVariants as fault
-use Rattle.simple_registration.specs.Responses.{
-  has_names_of,
-  request_after,
-  heard_part,
-  heard_block,
-  heard_by,
-}
+use Rattle.simple_registration.specs.Responses.{heard_part, heard_block, heard_by}
+use Rattle.simple_registration.specs.Table.{Table}
 use Rattle.simple_registration.specs.FetchEvents.{
+  FetchesStandFor,
   start_refusal,
   has_names_of_request,
   belongs_after,
   heard_after,
   fetch_due,
 }
+use Rattle.simple_registration.proofs.DeskLaws.{FetchesStandFor-octets}
 
 -- ---- responses
 
@@ -391,3 +382,23 @@ fetch_again-due rows moment peer e request last made =
     by false over = refl
     by true true = refl
     by true false = refl
+
+-- ---- a row more
+
+-- a table of fetches stands for the same events while a row is made after the rows of these
+pub FetchesStandFor-row : (rows : List Row) (r : Row) (t : Table)
+    → FetchesStandFor (octets_sent rows) (events rows) t
+    → FetchesStandFor (octets_sent (r ∷ rows)) (events rows) t
+unfolding octets_sent row_at
+FetchesStandFor-row rows r t stands =
+    FetchesStandFor-octets (octets_sent rows) (octets_sent (r ∷ rows)) (events rows) t same stands
+  where
+    same : (q : Peer) (e : Event)
+        → last_request q (events rows) ≡ Some e
+        → (mid : ℕ)
+        → octets_sent (r ∷ rows) e.place q mid ≡ octets_sent rows e.place q mid
+    same q e last mid =
+        let below = (row_of (is_request_to q) rows e last).below in
+        let before : (e.place == length rows) ≡ false =
+        ne_eqb e.place (length rows) (λ at. absurd (omega (arith, below, at))) in
+        rw before refl

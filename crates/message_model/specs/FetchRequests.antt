@@ -1,0 +1,26 @@
+-- The request by which the directory fetches a device's links (RFC 9176 section 5.1).
+use Rattle.std.specs.Prelude.{ℕ, List, [], ◌∷◌, Option, Some, None, codes}
+use Rattle.message_model.specs.declared.blocks.Block.{Block}
+use Rattle.message_model.specs.declared.messages.Kind4.TheVariants.{Con}
+use Rattle.message_model.specs.Codes as codes_of
+use Rattle.message_model.specs.Message.{Message, Opt}
+use Rattle.message_model.specs.OptionTable as table
+use Rattle.message_model.specs.Blocks.{block_value}
+
+-- The block that a fetch asks for, where it is not the first.
+abbrev pub fetched_block : Option Block → List Opt
+fetched_block None = []
+fetched_block (Some b) = (table.block2, block_value b) ∷ []
+
+-- The request of a fetch: a confirmable GET of /.well-known/core, with no other option (RFC 9176
+-- section 5.1).
+abbrev pub fetch_request : ℕ → List ℕ → Option Block → Message
+fetch_request mid token b = record {
+  kind = Con;
+  code = codes_of.get;
+  mid = mid;
+  token = token;
+  options =
+      (table.uri_path, codes ".well-known") ∷ (table.uri_path, codes "core") ∷ fetched_block b;
+  payload = [];
+}
