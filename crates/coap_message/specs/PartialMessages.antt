@@ -1,11 +1,12 @@
 -- The message that is being written.
 use Rattle.std.specs.Prelude.{ℕ, List, [], ◌∷◌, ◌++◌}
+use Rattle.message_model.specs.declared.messages.TheConstants.{MAX_MESSAGE_SIZE}
 use Rattle.message_model.specs.declared.messages.Kind4.{Kind4}
 use Rattle.message_model.specs.Message.{Message, Opt}
 
 -- The longest datagram that is written.
 abbrev pub longest_datagram : ℕ
-longest_datagram = 1280
+longest_datagram = MAX_MESSAGE_SIZE
 
 -- A message with neither options nor payload (RFC 7252 section 3).
 abbrev pub bare_message : Kind4 → ℕ → ℕ → List ℕ → Message

@@ -15,7 +15,7 @@ ghost use Rattle.std.specs.Borrow.{sem};
 
 use super::spellings::{option_size, payload_size, put_byte, put_bytes, put_option, put_payload};
 use super::views::TokenRef;
-use message_model::Kind4;
+use message_model::{Kind4, MAX_MESSAGE_SIZE};
 use std::marker::Model;
 
 /// The message is longer than 1,280 octets.
@@ -26,7 +26,7 @@ pub struct TooLong;
 /// message.
 #[derive(Drop)]
 pub struct Writer {
-    octets: [u8; 1280],
+    octets: [u8; MAX_MESSAGE_SIZE],
     /// How many of them are written.
     length: usize,
     /// The number of the last option, or 0 where there is none.
@@ -89,7 +89,7 @@ impl Writer {
         requires empty { code ≡ codes_of.empty → token.octets.now ≡ [] }
         ensures { result ≡ bare_message kind code mid token.entry.octets.now }
     {
-        let mut octets = [0u8; 1280];
+        let mut octets = [0u8; MAX_MESSAGE_SIZE];
         let length = put_header(&mut octets, kind, code, mid, token);
         Writer {
             octets,
@@ -115,7 +115,7 @@ impl Writer {
             (longest_datagram < length (spelling (with_last_option self.old (number, value.now)))) }
         ensures kept { OnErr result (self.new ≡ self.old) }
     {
-        if option_size(self.last, number, value) > 1280 - self.length {
+        if option_size(self.last, number, value) > MAX_MESSAGE_SIZE - self.length {
             return Err(TooLong);
         }
         self.length = put_option(&mut self.octets, self.length, self.last, number, value);
@@ -133,7 +133,7 @@ impl Writer {
             (longest_datagram < length (spelling (with_payload self.old payload.now))) }
         ensures kept { OnErr result (self.new ≡ self.old) }
     {
-        if payload_size(payload) > 1280 - self.length {
+        if payload_size(payload) > MAX_MESSAGE_SIZE - self.length {
             return Err(TooLong);
         }
         self.length = put_payload(&mut self.octets, self.length, payload);

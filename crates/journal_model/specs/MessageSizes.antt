@@ -1,12 +1,13 @@
 -- How many octets spell a message (RFC 7252 section 3), and how many a datagram has at most.
 use Rattle.std.specs.Prelude.{ℕ, ◌+◌, ◌-◌, List, [], ◌∷◌, length, nat_lt, if◌then◌else◌}
+use Rattle.message_model.specs.declared.messages.TheConstants.{MAX_MESSAGE_SIZE}
 use Rattle.message_model.specs.Message.{Message, Opt}
 use Rattle.message_model.specs.Spelling.{first_extended, first_long}
 
 -- the most octets of a datagram that the directory sends: what a link carries at least (RFC 7252
 -- section 4.6, RFC 8200 section 5)
 abbrev pub longest_datagram : ℕ
-longest_datagram = 1_280
+longest_datagram = MAX_MESSAGE_SIZE
 
 -- how many octets extend the nibble of an option's delta or length
 unfoldable pub extension_size : ℕ → ℕ

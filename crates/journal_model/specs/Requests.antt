@@ -22,6 +22,7 @@ use Rattle.std.specs.Prelude.{
 use Rattle.rd_base.specs.declared.queries.Kind.{Kind}
 use Rattle.rd_base.specs.declared.queries.Kind.TheVariants as kind
 use Rattle.rd_base.specs.declared.queries.Query.{Query}
+use Rattle.message_model.specs.declared.blocks.TheConstants.{MAX_SZX}
 use Rattle.message_model.specs.declared.blocks.Block.{Block}
 use Rattle.message_model.specs.declared.requests.Path.{Path}
 use Rattle.message_model.specs.declared.requests.Path.TheVariants as path
@@ -173,7 +174,7 @@ sent_block m = option_and_then block_read (block1_in m)
 -- the exponent of the greatest block size, 1,024 octets, which is taken where none is asked for
 -- (RFC 7959 section 2.2)
 abbrev pub greatest_szx : ℕ
-greatest_szx = 6
+greatest_szx = MAX_SZX
 
 -- the number of a block that is asked for
 abbrev pub number_of : Option Block → ℕ

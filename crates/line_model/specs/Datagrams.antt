@@ -22,10 +22,11 @@ use Rattle.std.specs.Prelude.{
 }
 use Rattle.hex.specs.Hex.{decode_of, encode_lower}
 use Rattle.hex.specs.declared.error.FromHexError.{FromHexError}
+use Rattle.line_model.specs.declared.limits.TheConstants.{MAX_DATAGRAM}
 
 -- the most octets of a datagram
 abbrev pub max_datagram : ℕ
-max_datagram = 4096
+max_datagram = MAX_DATAGRAM
 
 -- how the empty datagram is written
 abbrev pub no_octets : List ℕ

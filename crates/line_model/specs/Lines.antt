@@ -25,6 +25,7 @@ use Rattle.std.specs.List.{slice_split, join_with_byte}
 use Rattle.rd_base.specs.declared.moments.Moment.{Moment}
 use Rattle.rd_base.specs.declared.peers.Peer.{Peer}
 use Rattle.hex.specs.Hex.{IsBytes}
+use Rattle.line_model.specs.declared.limits.TheConstants.{MAX_LINE}
 use Rattle.line_model.specs.declared.lines.Line.{Line}
 use Rattle.line_model.specs.declared.lines.Line.TheVariants as line
 use Rattle.line_model.specs.declared.lines.Reason.{Reason}
@@ -39,7 +40,7 @@ space = 32
 
 -- the most bytes of a line, its line feed apart
 abbrev pub max_line : ℕ
-max_line = 8600
+max_line = MAX_LINE
 
 -- the fields of a line, which single spaces part
 abbrev pub fields : List ℕ → List (List ℕ)

@@ -14,18 +14,19 @@ use Rattle.std.specs.Prelude.{
   decimal,
 }
 use Rattle.std.specs.Str.Parse.{digits_value}
+use Rattle.line_model.specs.declared.limits.TheConstants.{MAX_WORKER, MAX_MOMENT, MAX_WORD}
 
 -- the greatest number of a worker
 abbrev pub max_worker : ℕ
-max_worker = 255
+max_worker = MAX_WORKER
 
 -- the greatest moment of a line, in milliseconds
 abbrev pub max_moment : ℕ
-max_moment = 999_999_999_999_999
+max_moment = MAX_MOMENT
 
 -- the greatest word of a tick
 abbrev pub max_word : ℕ
-max_word = 4_294_967_295
+max_word = MAX_WORD
 
 -- the text prints n in decimal, and n is within the limit
 pub record IsNumber (limit : ℕ) (text : List ℕ) (n : ℕ) : Type 0 where

@@ -1,5 +1,9 @@
 //! The parts of a message, what a message is for, and why bytes are no message.
 
+/// The most octets of a message that is sent: what a link carries at least (RFC 7252 section 4.6,
+/// RFC 8200 section 5).
+pub const MAX_MESSAGE_SIZE: usize = 1_280;
+
 /// The most octets of a token (RFC 7252 section 3).
 pub const MAX_TOKEN: usize = 8;
 

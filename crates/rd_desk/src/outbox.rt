@@ -4,15 +4,13 @@ ghost use Rattle.std.specs.Prelude.{option_map, slice_get};
 ghost use Rattle.coap_message.specs.PartialMessages.{longest_datagram};
 ghost use Rattle.rd_desk.specs.Outboxes.{most_datagrams};
 
+use message_model::MAX_MESSAGE_SIZE;
 use rd_base::{Peer, Starved};
 use std::alloc::Global;
 use std::marker::Model;
 
 /// How many datagrams one step sends at most.
 const MOST: usize = 1_152;
-
-/// How many octets a datagram has at most (RFC 7252 section 4.6).
-const LONGEST: usize = 1_280;
 
 /// How many octets they have at most together: 1,280 each.
 const OCTETS: usize = 1_474_560;
@@ -81,7 +79,7 @@ impl Outbox {
             → length datagram.now ≤ longest_datagram
             → self.new ≡ self.old ++ (peer, datagram.now) ∷ [] }
     {
-        if self.len() < MOST && datagram.len() <= LONGEST {
+        if self.len() < MOST && datagram.len() <= MAX_MESSAGE_SIZE {
             self.push(peer, datagram);
         }
     }

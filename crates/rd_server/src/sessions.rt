@@ -17,6 +17,7 @@ use crate::endings::Stop;
 use crate::fields::cut;
 use crate::machine::Machine;
 use crate::troubles::Trouble;
+use line_model::limits::MAX_LINE;
 use rd_base::{Bytes, Put, Sink, Starved};
 use std::alloc::Global;
 use std::mem;
@@ -43,9 +44,6 @@ fn worker_of(line: &Line) -> u8
         Line::Tick { worker, .. } => *worker,
     }
 }
-
-/// No line is longer, its line feed apart.
-const LONGEST_LINE: usize = 8600;
 
 /// Does what a line says, and answers which worker it names. Where the line is bad the machine is
 /// as before, and after memory ran out it is not to be used any more.
@@ -158,7 +156,7 @@ impl Session {
             → Feeds workers place rest.now self.new held held result }
         ensures cause { (count : ℕ) → CountsUnwritten count count result }
     {
-        if self.pending.len() + rest.len() > LONGEST_LINE {
+        if self.pending.len() + rest.len() > MAX_LINE {
             return Some(Stop::Bad(LineBad {
                 line: self.line,
                 why: Reason::Long,

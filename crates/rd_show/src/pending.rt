@@ -1,11 +1,9 @@
 //! A line of the trace of which not all has come yet.
 
+use line_model::limits::MAX_LINE;
 use rd_base::{Bytes, Starved};
 use std::alloc::Global;
 use std::mem;
-
-/// The most octets of a line, its line feed apart.
-const LONGEST_LINE: usize = 8600;
 
 /// What has come of a line.
 #[derive(Drop)]
@@ -31,7 +29,7 @@ impl Pending {
         if self.is_long {
             return Ok(false);
         }
-        if self.octets.len() + part.len() > LONGEST_LINE {
+        if self.octets.len() + part.len() > MAX_LINE {
             self.octets.truncate(0);
             self.is_long = true;
             return Ok(true);

@@ -3,6 +3,7 @@ ghost use Rattle.std.specs.Prelude.{◌≤◌, length, IfOk};
 ghost use Rattle.rd_base.specs.Peers.{IsPeer};
 ghost use Rattle.line_model.specs.Lines.{IsLine};
 
+use line_model::limits::{MAX_DATAGRAM, MAX_MOMENT};
 use message_model::codes::{EMPTY, LAST_REQUEST};
 use rd_base::{Bytes, Moment, Peer, Starved};
 use std::alloc::Global;
@@ -11,12 +12,6 @@ use trace_text::Line;
 /// The one worker of a recording.
 pub(crate) const WORKER: u8 = 0;
 
-/// The greatest moment of a line, in milliseconds.
-pub(crate) const LAST_MOMENT: u64 = 999_999_999_999_999;
-
-/// The most octets of a datagram that stands in a line.
-pub(crate) const MAX_DATAGRAM: usize = 4_096;
-
 /// The line of a datagram that comes.
 pub(crate) fn come_line(
     alloc: Global,
@@ -24,7 +19,7 @@ pub(crate) fn come_line(
     peer: Peer,
     payload: &[u8],
 ) -> Result<Line, Starved>
-    requires moment { moment.0 ≤ LAST_MOMENT }
+    requires moment { moment.0 ≤ MAX_MOMENT }
     requires peer { IsPeer peer }
     requires payload { length payload.now ≤ MAX_DATAGRAM }
     ensures { IfOk result IsLine }
@@ -40,7 +35,7 @@ pub(crate) fn come_line(
 
 /// The line of time that passes.
 pub(crate) fn tick_line(moment: Moment) -> Line
-    requires { moment.0 ≤ LAST_MOMENT }
+    requires { moment.0 ≤ MAX_MOMENT }
     ensures { IsLine result }
 {
     Line::Tick {
@@ -52,7 +47,7 @@ pub(crate) fn tick_line(moment: Moment) -> Line
 
 /// The line of a job that is done.
 pub(crate) fn go_line(moment: Moment) -> Line
-    requires { moment.0 ≤ LAST_MOMENT }
+    requires { moment.0 ≤ MAX_MOMENT }
     ensures { IsLine result }
 {
     Line::Go(WORKER, moment)

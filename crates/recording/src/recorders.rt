@@ -3,7 +3,7 @@ ghost use Rattle.std.specs.Prelude.{◌≤◌, length};
 ghost use Rattle.rd_base.specs.Peers.{IsPeer};
 
 use crate::endings::Stop;
-use crate::lines::{MAX_DATAGRAM, WORKER, come_line, go_line, is_request};
+use crate::lines::{WORKER, come_line, go_line, is_request};
 use crate::pages::Pages;
 use crate::peers::peer_of;
 use crate::servers::{Server, Way};
@@ -11,6 +11,7 @@ use crate::timelines::Timeline;
 use capture_file::{
     CaptureFault, Datagram, Found, MAX_PART, Packet, PacketFault, Reader, datagram_of,
 };
+use line_model::limits::MAX_DATAGRAM;
 use rd_base::{Bytes, Moment, Peer, Starved};
 use std::alloc::Global;
 use std::mem;

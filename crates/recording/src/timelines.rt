@@ -1,8 +1,9 @@
 //! The time of a recording, and its ticks.
 ghost use Rattle.std.specs.Prelude.{◌≤◌, IfOk};
 
-use crate::lines::{LAST_MOMENT, tick_line};
+use crate::lines::tick_line;
 use crate::pages::Pages;
+use line_model::limits::MAX_MOMENT;
 use rd_base::{Moment, Starved};
 use std::alloc::Global;
 use trace_text::line_print;
@@ -45,7 +46,7 @@ impl Timeline {
 
     /// Writes a tick, unless the last one was at that moment.
     fn tick(&mut self, moment: Moment, pages: &mut Pages) -> Result<(), Starved>
-        requires { moment.0 ≤ LAST_MOMENT }
+        requires { moment.0 ≤ MAX_MOMENT }
     {
         if self.ticked == Some(moment) {
             return Ok(());
@@ -57,7 +58,7 @@ impl Timeline {
 
     /// Lets time pass up to a moment, with a tick at each whole second.
     fn pass(&mut self, until: Moment, pages: &mut Pages) -> Result<(), Starved>
-        requires { until.0 ≤ LAST_MOMENT }
+        requires { until.0 ≤ MAX_MOMENT }
     {
         let last = until.0 / SECOND;
         let first = (self.now.0 / SECOND).max(last.saturating_sub(LONGEST_GAP));
@@ -70,7 +71,7 @@ impl Timeline {
 
     /// Lets time pass up to a moment, with a tick where the server has waited for long enough.
     fn pass_pause(&mut self, until: Moment, pages: &mut Pages) -> Result<(), Starved>
-        requires { until.0 ≤ LAST_MOMENT }
+        requires { until.0 ≤ MAX_MOMENT }
     {
         if let Some(pause) = self.pause {
             if pause.0 <= until.0 {
@@ -84,9 +85,9 @@ impl Timeline {
 
     /// Time passes up to a moment, or none where that is past. Answers how far it has passed.
     pub(crate) fn reach(&mut self, moment: Moment, pages: &mut Pages) -> Result<Moment, Starved>
-        ensures { IfOk result (λ now. now.0 ≤ LAST_MOMENT) }
+        ensures { IfOk result (λ now. now.0 ≤ MAX_MOMENT) }
     {
-        let until = Moment(moment.later(self.now).0.min(LAST_MOMENT));
+        let until = Moment(moment.later(self.now).0.min(MAX_MOMENT));
         if !self.is_begun {
             self.is_begun = true;
             self.now = until;
@@ -98,7 +99,7 @@ impl Timeline {
 
     /// Time passes up to a moment, as by [`Timeline::reach`], and a datagram comes to the server.
     pub(crate) fn hear(&mut self, moment: Moment, pages: &mut Pages) -> Result<Moment, Starved>
-        ensures { IfOk result (λ now. now.0 ≤ LAST_MOMENT) }
+        ensures { IfOk result (λ now. now.0 ≤ MAX_MOMENT) }
     {
         let now = self.reach(moment, pages)?;
         self.pause = Some(Moment(now.0 + PAUSE));

@@ -6,6 +6,7 @@ use crate::endings::Stop;
 use crate::fields::cut;
 use crate::pages::Pages;
 use capture_file::{FILE_HEADER, MAX_PAYLOAD, Ports, Route, packet_record};
+use line_model::limits::MAX_LINE;
 use rd_base::{Bytes, Host, Moment, Peer, Starved};
 use std::alloc::Global;
 use std::mem;
@@ -18,9 +19,6 @@ const SERVER_V4: [u8; 4] = [192, 0, 2, 1];
 /// The address of the server of a capture that is written, where its peers have IPv6 addresses
 /// (RFC 3849).
 const SERVER_V6: [u16; 8] = [0x2001, 0xdb8, 0, 0, 0, 0, 0, 1];
-
-/// No line is longer, its line feed apart.
-const LONGEST_LINE: usize = 8_600;
 
 /// What a line of the output begins with.
 const OUT: &[u8] = b"out ";
@@ -254,7 +252,7 @@ impl Transcript {
 
     /// Keeps the beginning of a line, if no line is longer.
     fn keep(&mut self, rest: &[u8]) -> Result<(), Stop> {
-        if self.pending.len() + rest.len() > LONGEST_LINE {
+        if self.pending.len() + rest.len() > MAX_LINE {
             self.lines = self.lines.saturating_add(1);
             return Err(self.bad(Reason::Long));
         }

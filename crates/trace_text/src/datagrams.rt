@@ -5,11 +5,9 @@ ghost use Rattle.line_model.specs.Datagrams as datagrams;
 ghost use Rattle.trace_text.specs.LineResults.{IsSaid};
 
 use crate::faults::FieldFault;
+use line_model::limits::MAX_DATAGRAM;
 use rd_base::{Bytes, Starved};
 use std::alloc::Global;
-
-/// The most octets of a datagram.
-const MAX_DATAGRAM: usize = 4096;
 
 /// The datagram that a text writes: `-` for the empty one, or 1 to 4,096 octets in digits of either
 /// case. `Starved`: out of memory;

@@ -9,20 +9,9 @@ use crate::faults::{FieldFault, LineFault};
 use crate::fields::cut;
 use crate::numbers::number_read;
 use line_model::Line;
+use line_model::limits::{MAX_LINE, MAX_MOMENT, MAX_WORD, MAX_WORKER};
 use rd_base::{Moment, Peer, peer_read_ascii};
 use std::alloc::Global;
-
-/// The most bytes of a line, its line feed apart.
-const MAX_LINE: usize = 8600;
-
-/// The greatest number of a worker.
-const MAX_WORKER: u64 = 255;
-
-/// The greatest moment of a line, in milliseconds.
-const MAX_MOMENT: u64 = 999_999_999_999_999;
-
-/// The greatest word of a tick.
-const MAX_WORD: u64 = 4_294_967_295;
 
 /// What the fields of a datagram that comes say.
 #[tactic(auto, unfolding(line_model::specs::Lines::come_of))]

@@ -1,0 +1,16 @@
+//! The bounds of a line of a trace.
+
+/// The most octets of a line, its line feed apart.
+pub const MAX_LINE: usize = 8_600;
+
+/// The most octets of a datagram.
+pub const MAX_DATAGRAM: usize = 4_096;
+
+/// The greatest number of a worker.
+pub const MAX_WORKER: u64 = 255;
+
+/// The greatest moment, in milliseconds.
+pub const MAX_MOMENT: u64 = 999_999_999_999_999;
+
+/// The greatest word of a tick.
+pub const MAX_WORD: u64 = 4_294_967_295;
