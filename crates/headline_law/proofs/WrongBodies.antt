@@ -24,10 +24,11 @@ use Rattle.journal_model.specs.declared.rows.Row.{Row}
 use Rattle.journal_model.specs.Journal.{entries}
 use Rattle.journal_model.specs.Requests.{query_of, asked_block}
 use Rattle.journal_model.specs.PlacedRows.{Within, Placed}
-use Rattle.journal_model.specs.AnswersAsFormed.{Asked, IsBlockOf, FormedAs, Sent}
 use Rattle.journal_model.specs.TagsDecideStates.{AreBlocksOfOne, TagsDecideStates}
 use Rattle.journal_model.specs.SentDatagrams.{IsAnswer, IsForRequest, AreForRequests}
 use Rattle.journal_model.specs.Headline.{Headline, DeskHeadline}
+use Rattle.journal_model.specs.AskedListings.{Asked}
+use Rattle.journal_model.specs.CarriedBlocks.{IsBlockOf, FormedAs, Sent}
 use Rattle.journal_model.proofs.OnLiterals.{machine_on_literals}
 use Rattle.headline_law.proofs.entries.FailedLaws.{within_cases, nothing_within}
 use Rattle.headline_law.proofs.WrongRows.{row_of, lookup, answer, sent_first}

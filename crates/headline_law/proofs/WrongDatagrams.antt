@@ -49,10 +49,10 @@ use Rattle.journal_model.specs.declared.rows.Row.{Row}
 use Rattle.journal_model.specs.Journal.{events}
 use Rattle.journal_model.specs.Effects.{empty_message}
 use Rattle.journal_model.specs.Requests.{asked_block}
-use Rattle.journal_model.specs.HoldsEachOnce.{AdmittedAt}
-use Rattle.journal_model.specs.AnswersAsFormed.{IsBlockOf}
 use Rattle.journal_model.specs.SentDatagrams.{Datagram, IsFitting, IsAnswer, IsNotice, SendsFirst}
 use Rattle.journal_model.specs.Headline.{Headline}
+use Rattle.journal_model.specs.AdmittedWrites.{AdmittedAt}
+use Rattle.journal_model.specs.CarriedBlocks.{IsBlockOf}
 use Rattle.journal_model.proofs.MessageSizeLaws.{message_size-spelling}
 use Rattle.headline_law.proofs.entries.FailedLaws.{within_cases, nothing_within}
 use Rattle.headline_law.proofs.WrongRows.{row_of, lookup, answer, sent_first}

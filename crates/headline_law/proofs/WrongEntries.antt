@@ -26,8 +26,8 @@ use Rattle.journal_model.specs.declared.steps.StepKind.TheVariants as step
 use Rattle.journal_model.specs.declared.rows.Row.{Row}
 use Rattle.journal_model.specs.Journal.{events}
 use Rattle.journal_model.specs.Responses.{fetch_of}
-use Rattle.journal_model.specs.HoldsEachOnce.{AsksChange, CommitAsks, CompletionMakes, IsEntryOf}
 use Rattle.journal_model.specs.Headline.{Headline}
+use Rattle.journal_model.specs.AskedChanges.{AsksChange, CommitAsks, CompletionMakes, IsEntryOf}
 use Rattle.journal_model.proofs.OnLiterals.{machine_on_literals}
 use Rattle.headline_law.proofs.WrongRows.{row_of}
 

@@ -38,6 +38,10 @@ use Rattle.history_model.specs.declared.entries.Change.TheVariants as change
 use Rattle.history_model.specs.declared.entries.Entry.{Entry}
 use Rattle.history_model.specs.Listing.{listing, tag}
 use Rattle.history_model.proofs.HistoryLiterals.{history_on_literals}
+use Rattle.journal_model.specs.AdmittedWrites.{EndedWithoutMemory, AdmittedAt}
+use Rattle.journal_model.specs.AskedChanges.{IsEntryOf}
+use Rattle.journal_model.specs.AskedListings.{Asked, asked_at}
+use Rattle.journal_model.specs.CarriedBlocks.{IsBlockOf, Sent, FormedAs, Validates}
 use Rattle.journal_model.proofs.OnLiterals.{machine_on_literals}
 use Rattle.std.proofs.lemmas.Option.{same_Some}
 use Rattle.std.proofs.lemmas.Bool.{false≢true}
@@ -52,15 +56,6 @@ use Rattle.journal_model.specs.declared.rows.Row.{Row}
 use Rattle.journal_model.specs.Journal.{entries}
 use Rattle.journal_model.specs.Requests.{query_of, asked_block}
 use Rattle.journal_model.specs.PlacedRows.{Placed}
-use Rattle.journal_model.specs.HoldsEachOnce.{EndedWithoutMemory, IsEntryOf, AdmittedAt}
-use Rattle.journal_model.specs.AnswersAsFormed.{
-  Asked,
-  IsBlockOf,
-  asked_at,
-  Sent,
-  FormedAs,
-  Validates,
-}
 use Rattle.journal_model.specs.TagsDecideStates.{AreBlocksOfOne}
 use Rattle.journal_model.specs.Headline.{Headline}
 use Rattle.headline_law.proofs.entries.FailedLaws.{within_cases, nothing_within}

@@ -19,8 +19,13 @@ pub mod Seats
 pub mod DeskJournal
 pub mod UnfinishedRow
 pub mod PlacedRows
+pub mod FetchCompletions
+pub mod AskedChanges
+pub mod AdmittedWrites
 pub mod HoldsEachOnce
 pub mod BodyFormers
+pub mod AskedListings
+pub mod CarriedBlocks
 pub mod AnswersAsFormed
 pub mod TagsDecideStates
 pub mod ObserversKnow

@@ -17,7 +17,8 @@ use Rattle.journal_model.specs.declared.rows.Row.{Row}
 use Rattle.journal_model.specs.MessageSizes.{longest_datagram}
 use Rattle.journal_model.specs.Requests.{asked_block, number_of}
 use Rattle.journal_model.specs.PlacedRows.{Within, Placed, admits}
-use Rattle.journal_model.specs.AnswersAsFormed.{observer_named, is_content, IsBlockOf, Sent}
+use Rattle.journal_model.specs.AskedListings.{observer_named}
+use Rattle.journal_model.specs.CarriedBlocks.{is_content, IsBlockOf, Sent}
 
 -- a datagram that a row of a journal sends
 pub record Datagram (rows : List Row) : Type 0 where

@@ -9,7 +9,8 @@ use Rattle.journal_model.specs.declared.rows.Row.{Row}
 use Rattle.journal_model.specs.Journal.{entries}
 use Rattle.journal_model.specs.Requests.{asked_block}
 use Rattle.journal_model.specs.PlacedRows.{Within}
-use Rattle.journal_model.specs.AnswersAsFormed.{asked_at, IsBlockOf, FormedAs, Sent, is_listing}
+use Rattle.journal_model.specs.AskedListings.{asked_at}
+use Rattle.journal_model.specs.CarriedBlocks.{IsBlockOf, FormedAs, Sent, is_listing}
 
 -- the query that a message answers
 abbrev pub query_of_sent : {rows : List Row} → Sent rows → Option Query

@@ -32,12 +32,17 @@ use Rattle.journal_model.specs.Journal.{entries}
 use Rattle.journal_model.specs.Machine.{IsJournal}
 use Rattle.journal_model.specs.DeskJournal.{IsDeskJournal}
 use Rattle.journal_model.specs.BodyFormers.{is_formed_in_rows}
-use Rattle.journal_model.specs.HoldsEachOnce.{AdmittedAt}
-use Rattle.journal_model.specs.AnswersAsFormed.{observer_named, Asked, asked_by_observer, asked_at}
-use Rattle.journal_model.specs.AnswersAsFormed.{answers_lookup, is_content, is_tagged, FormedAs}
-use Rattle.journal_model.specs.AnswersAsFormed.{Sent, is_listing}
 use Rattle.journal_model.specs.SentDatagrams.{is_response, IsAnswer, IsNotice, IsAddressed}
 use Rattle.journal_model.specs.SentDatagrams.{SendsToWhoAsked, IsForRequest, AreForRequests}
+use Rattle.journal_model.specs.AdmittedWrites.{AdmittedAt}
+use Rattle.journal_model.specs.AskedListings.{
+  observer_named,
+  Asked,
+  asked_by_observer,
+  asked_at,
+  answers_lookup,
+}
+use Rattle.journal_model.specs.CarriedBlocks.{is_content, is_tagged, FormedAs, Sent, is_listing}
 use Rattle.journal_model.proofs.RowEquations.{row-step}
 use Rattle.journal_model.proofs.entries.JournalLaws.{Made, each_row, journal-AreRows}
 use Rattle.journal_model.proofs.entries.CommitPlaces.{journal-place}

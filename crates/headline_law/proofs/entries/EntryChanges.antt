@@ -99,7 +99,8 @@ use Rattle.journal_model.specs.Rows.{row_moment, row, AreRows}
 use Rattle.journal_model.specs.PlacedRows.{Within}
 use Rattle.journal_model.specs.declared.steps.StepKind.{StepKind}
 use Rattle.journal_model.specs.declared.steps.StepKind.TheVariants as step
-use Rattle.journal_model.specs.HoldsEachOnce.{EndsBody, AsksChange, IsAskedBy, IsEntryOf}
+use Rattle.journal_model.specs.FetchCompletions.{EndsBody}
+use Rattle.journal_model.specs.AskedChanges.{AsksChange, IsAskedBy, IsEntryOf}
 use Rattle.journal_model.proofs.entries.ResponseEntries.{content_of}
 use Rattle.journal_model.proofs.NoteKinds.{empty-entries_in}
 use Rattle.journal_model.proofs.EntriesNoted.{entries_in}

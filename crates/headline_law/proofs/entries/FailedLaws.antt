@@ -37,7 +37,7 @@ use Rattle.journal_model.specs.declared.rows.Row.{Row}
 use Rattle.journal_model.specs.Journal.{events, latest}
 use Rattle.journal_model.specs.Rows.{AreRows}
 use Rattle.journal_model.specs.PlacedRows.{Within, admits}
-use Rattle.journal_model.specs.HoldsEachOnce.{EndedWithoutMemory}
+use Rattle.journal_model.specs.AdmittedWrites.{EndedWithoutMemory}
 use Rattle.journal_model.proofs.EventRows.{within_more}
 use Rattle.journal_model.proofs.entries.RowLaws.{row-moment_latest}
 use Rattle.journal_model.proofs.entries.JournalLaws.{

@@ -45,7 +45,7 @@ use Rattle.journal_model.specs.Effects.{answering}
 use Rattle.journal_model.specs.Commits.{commit_effects}
 use Rattle.journal_model.specs.Rows.{done, effects, row_moment, row, AreRows}
 use Rattle.journal_model.specs.PlacedRows.{Within, Placed, Commits, code_sent}
-use Rattle.journal_model.specs.HoldsEachOnce.{EndedWithoutMemory}
+use Rattle.journal_model.specs.AdmittedWrites.{EndedWithoutMemory}
 use Rattle.journal_model.proofs.NoteKinds.{
   of_lookup,
   of_write,

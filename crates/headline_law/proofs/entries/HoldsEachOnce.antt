@@ -10,14 +10,10 @@ use Rattle.journal_model.specs.Rows.{effects, row_moment, row, AreRows}
 use Rattle.journal_model.specs.Machine.{IsJournal}
 use Rattle.journal_model.specs.DeskJournal.{IsDeskJournal}
 use Rattle.journal_model.specs.PlacedRows.{Within, Commits, code_sent}
-use Rattle.journal_model.specs.HoldsEachOnce.{
-  IsCompletion,
-  is_code_of_change,
-  names_location,
-  answers_change,
-  AdmittedAt,
-  HoldsEachOnce,
-}
+use Rattle.journal_model.specs.HoldsEachOnce.{HoldsEachOnce}
+use Rattle.journal_model.specs.FetchCompletions.{IsCompletion}
+use Rattle.journal_model.specs.AskedChanges.{is_code_of_change, names_location, answers_change}
+use Rattle.journal_model.specs.AdmittedWrites.{AdmittedAt}
 use Rattle.journal_model.proofs.entries.JournalLaws.{
   RowMade,
   each_made,

@@ -21,9 +21,13 @@ use Rattle.journal_model.specs.Journal.{events, entries}
 use Rattle.journal_model.specs.PlacedRows.{Placed}
 use Rattle.journal_model.specs.BodyFormers.{reads_further_block, sends_again, repeats_body}
 use Rattle.journal_model.specs.BodyFormers.{former_at, asker_at}
-use Rattle.journal_model.specs.AnswersAsFormed.{seen, is_content, is_tagged, answers_lookup}
-use Rattle.journal_model.specs.AnswersAsFormed.{asked_by_observer, observer_named, asked_at}
-use Rattle.journal_model.specs.AnswersAsFormed.{FormedAs}
+use Rattle.journal_model.specs.CarriedBlocks.{seen, is_content, is_tagged, FormedAs}
+use Rattle.journal_model.specs.AskedListings.{
+  answers_lookup,
+  asked_by_observer,
+  observer_named,
+  asked_at,
+}
 use Rattle.journal_model.proofs.entries.JournalLaws.{entries-IsPrefix-row}
 use Rattle.journal_model.proofs.sends.BodyAnswers.{wanted_by_observer, Bears, bears_carries}
 use Rattle.rd_base.proofs.lemmas.Among.{Among, all_among, among_all, find_only}

@@ -42,8 +42,8 @@ use Rattle.journal_model.specs.declared.rows.Row.{Row}
 use Rattle.journal_model.specs.Journal.{events}
 use Rattle.journal_model.specs.Effects.{Effects}
 use Rattle.journal_model.specs.BodyFormers.{forms_notice}
-use Rattle.journal_model.specs.AnswersAsFormed.{is_content}
 use Rattle.rd_base.proofs.lemmas.Among.{Among}
+use Rattle.journal_model.specs.CarriedBlocks.{is_content}
 use Rattle.journal_model.proofs.FlightKeys.{flight_key, is_landing, key_same_all, key_formed}
 use Rattle.journal_model.proofs.flights.WaitedPeers.{
   changes_observers,

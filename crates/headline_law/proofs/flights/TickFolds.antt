@@ -57,6 +57,7 @@ use Rattle.journal_model.specs.Ticks.{
   notices_again,
   notices,
 }
+use Rattle.journal_model.specs.CarriedBlocks.{is_content}
 use Rattle.journal_model.proofs.notes.LookupNotes.{IsAsking}
 use Rattle.journal_model.proofs.sends.BodyAnswers.{tag-length, notice_bears}
 use Rattle.rd_base.proofs.lemmas.Among.{Among, all_among, among_all}
@@ -81,7 +82,6 @@ use Rattle.headline_law.proofs.flights.TickNotices.{
   FreshSent,
 }
 use Rattle.message_model.specs.Reading.{reading}
-use Rattle.journal_model.specs.AnswersAsFormed.{is_content}
 use Rattle.headline_law.proofs.flights.FreshNotices.{NewNotice, so_far_noticed}
 use Rattle.rd_base.proofs.lemmas.Each.{each_weaker}
 

@@ -41,7 +41,7 @@ use Rattle.journal_model.specs.Effects.{Effects}
 use Rattle.journal_model.specs.Ticks.{notices}
 use Rattle.journal_model.specs.Ticks.{notices_again}
 use Rattle.journal_model.specs.BodyFormers.{forms_notice}
-use Rattle.journal_model.specs.AnswersAsFormed.{is_content}
+use Rattle.journal_model.specs.CarriedBlocks.{is_content}
 use Rattle.journal_model.proofs.sends.BodyAnswers.{wanted_by_observer, IsBodyOf}
 use Rattle.rd_base.proofs.lemmas.Among.{Among}
 use Rattle.journal_model.proofs.FlightKeys.{flight_key, is_landing, key_same_all}

@@ -19,8 +19,8 @@ use Rattle.journal_model.specs.Rows.{effects, row_moment, row, AreRows, empty, a
 use Rattle.journal_model.specs.Machine.{IsJournal, begun, made}
 use Rattle.journal_model.specs.DeskJournal.{IsDeskJournal}
 use Rattle.journal_model.specs.BodyFormers.{former_of_body, is_formed_in_rows}
-use Rattle.journal_model.specs.AnswersAsFormed.{FormedAs, is_content, Sent, is_listing}
 use Rattle.journal_model.specs.AnswersAsFormed.{AnswersAsFormed, DeskAnswersAsFormed}
+use Rattle.journal_model.specs.CarriedBlocks.{FormedAs, is_content, Sent, is_listing}
 use Rattle.journal_model.proofs.StepNotes.{requests_again-notes}
 use Rattle.journal_model.proofs.EntriesNoted.{entries_in}
 use Rattle.journal_model.proofs.sends.PlainSteps.{ArePlain}

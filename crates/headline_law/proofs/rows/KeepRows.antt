@@ -55,7 +55,8 @@ use Rattle.journal_model.specs.Machine.{
 use Rattle.journal_model.specs.PlacedRows.{Placed}
 use Rattle.journal_model.specs.BodyFormers.{look_of, former_of_body, former_at, is_keep}
 use Rattle.journal_model.specs.BodyFormers.{is_formed_in_rows}
-use Rattle.journal_model.specs.AnswersAsFormed.{asked_at, Carries}
+use Rattle.journal_model.specs.AskedListings.{asked_at}
+use Rattle.journal_model.specs.CarriedBlocks.{Carries}
 use Rattle.journal_model.proofs.EntriesNoted.{entries_in}
 use Rattle.journal_model.proofs.StepNotes.{keep_effects-notes}
 use Rattle.journal_model.proofs.notes.SilentSteps.{looked_notes}
@@ -149,7 +150,8 @@ pub record KeepOf (rows : List Row) (worker : ℕ) (m : Message) (body current :
   where
     pub look : Placed
     pub found : look_of worker rows ≡ Some look
-    pub is_kept : KeptAt (entries (look.row ∷ look.before)) look.row.moment.0 (key_in m) body current
+    pub is_kept : KeptAt (entries (look.row ∷ look.before)) look.row.moment.0 (key_in m) body
+        current
     pub query_is : is_kept.query ≡ query_of m
     pub asks : role_of m.kind m.code ≡ role.Request
 

@@ -30,7 +30,7 @@ use Rattle.journal_model.specs.BodyFormers.{former_of_body, former_of_kept, read
 use Rattle.journal_model.specs.BodyFormers.{reads_further_block, former_of_further, former_at}
 use Rattle.journal_model.specs.BodyFormers.{last_kept, is_keep, is_of_keep, reads_body_of_keep}
 use Rattle.journal_model.specs.BodyFormers.{is_formed_in_rows}
-use Rattle.journal_model.specs.AnswersAsFormed.{Carries}
+use Rattle.journal_model.specs.CarriedBlocks.{Carries}
 use Rattle.journal_model.proofs.EntriesNoted.{entries_in}
 use Rattle.journal_model.proofs.entries.QuietSteps.{lookup_effects-entries_in}
 use Rattle.message_model.proofs.ReadingLaws.{header_read}

@@ -26,7 +26,7 @@ use Rattle.journal_model.specs.PlacedRows.{Placed}
 use Rattle.journal_model.specs.BodyFormers.{former_of_body, reads_answer, reads_further_block}
 use Rattle.journal_model.specs.BodyFormers.{former_of_further, former_at, is_keep}
 use Rattle.journal_model.specs.BodyFormers.{is_formed_in_rows}
-use Rattle.journal_model.specs.AnswersAsFormed.{asked_in, asked_at, names_lookup, answers_lookup}
+use Rattle.journal_model.specs.AskedListings.{asked_in, asked_at, names_lookup, answers_lookup}
 use Rattle.journal_model.proofs.EntriesNoted.{entries_in}
 use Rattle.journal_model.proofs.StepNotes.{look_effects-notes}
 use Rattle.message_model.proofs.ReadingLaws.{header_read}

@@ -28,13 +28,14 @@ use Rattle.journal_model.specs.PlacedRows.{Within, Placed, last_row}
 use Rattle.journal_model.specs.BodyFormers.{former_of_body, former_of_kept, former_of_notice}
 use Rattle.journal_model.specs.BodyFormers.{reads_further_block, sends_again, former_of_further}
 use Rattle.journal_model.specs.BodyFormers.{former_at}
-use Rattle.journal_model.specs.AnswersAsFormed.{FormedAs, Asked, IsBlockOf, Sent}
 use Rattle.journal_model.specs.TagsDecideStates.{
   query_of_sent,
   AreBlocksOfOne,
   TagsDecideStates,
   FormedTagsDecideStates,
 }
+use Rattle.journal_model.specs.CarriedBlocks.{FormedAs, IsBlockOf, Sent}
+use Rattle.journal_model.specs.AskedListings.{Asked}
 use Rattle.journal_model.proofs.entries.JournalLaws.{journal-AreRows, desk-AreRows}
 use Rattle.headline_law.proofs.entries.TagStates.{tags_tell}
 use Rattle.headline_law.proofs.rows.AnswersAsFormed.{answer_formed}

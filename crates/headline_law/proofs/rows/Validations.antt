@@ -69,7 +69,8 @@ use Rattle.journal_model.specs.Looks.{
 }
 use Rattle.journal_model.specs.Rows.{effects, row_moment, row}
 use Rattle.journal_model.specs.Machine.{MayMake, IsJournal}
-use Rattle.journal_model.specs.AnswersAsFormed.{looks_with_tag, asked_at, Sent, Validates}
+use Rattle.journal_model.specs.CarriedBlocks.{looks_with_tag, Sent, Validates}
+use Rattle.journal_model.specs.AskedListings.{asked_at}
 use Rattle.journal_model.proofs.EventRows.{row_within}
 use Rattle.rd_base.proofs.lemmas.Among.{all_at_index}
 use Rattle.rd_base.proofs.lemmas.Each.{each_weaker}

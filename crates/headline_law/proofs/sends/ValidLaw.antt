@@ -58,7 +58,7 @@ use Rattle.journal_model.specs.Machine.{
   made,
 }
 use Rattle.journal_model.specs.PlacedRows.{Within, code_sent}
-use Rattle.journal_model.specs.AnswersAsFormed.{looks_with_tag}
+use Rattle.journal_model.specs.CarriedBlocks.{looks_with_tag}
 use Rattle.journal_model.proofs.entries.JournalLaws.{Made, each_row, journal-AreRows}
 use Rattle.journal_model.proofs.Jobs.{heard_as_hearing, heard_no_look, heard_a_look}
 use Rattle.journal_model.proofs.sends.PlainSteps.{IsPlain, ArePlain, SettledPlain}

@@ -11,7 +11,6 @@ use Rattle.journal_model.specs.declared.steps.StepKind.TheVariants as step
 use Rattle.journal_model.specs.declared.rows.Row.{Row}
 use Rattle.journal_model.specs.DeskJournal.{IsDeskJournal}
 use Rattle.journal_model.specs.PlacedRows.{Within}
-use Rattle.journal_model.specs.AnswersAsFormed.{is_content, Sent}
 use Rattle.journal_model.specs.SentDatagrams.{
   Datagram,
   IsFitting,
@@ -20,6 +19,7 @@ use Rattle.journal_model.specs.SentDatagrams.{
   SendsFirst,
   AreForRequests,
 }
+use Rattle.journal_model.specs.CarriedBlocks.{is_content, Sent}
 use Rattle.journal_model.proofs.EventRows.{row_within}
 use Rattle.journal_model.proofs.entries.JournalLaws.{desk-AreRows}
 use Rattle.journal_model.proofs.entries.CommitPlaces.{desk-place}

@@ -142,7 +142,7 @@ use Rattle.journal_model.specs.SentDatagrams.{
   CarriesFirst,
   IsForRequest,
 }
-use Rattle.journal_model.specs.AnswersAsFormed.{is_content, IsAsked}
+use Rattle.journal_model.specs.CarriedBlocks.{is_content, IsAsked}
 use Rattle.journal_model.proofs.NoteKinds.{of_write, of_empty, of_response, are}
 use Rattle.journal_model.proofs.StepNotes.{
   look_effects-notes,

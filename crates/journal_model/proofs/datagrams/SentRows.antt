@@ -64,13 +64,13 @@ use Rattle.journal_model.specs.Journal.{events, row_at}
 use Rattle.journal_model.specs.Rows.{effects, row_moment, row, AreRows, empty, added}
 use Rattle.journal_model.specs.Ticks.{tick_effects}
 use Rattle.journal_model.specs.PlacedRows.{Within, Placed, Commits}
-use Rattle.journal_model.specs.HoldsEachOnce.{AdmittedAt}
 use Rattle.journal_model.specs.SentDatagrams.{
   AnswersRequest,
   AnswersRepeat,
   IsForRequest,
   AreForRequests,
 }
+use Rattle.journal_model.specs.AdmittedWrites.{AdmittedAt}
 use Rattle.journal_model.proofs.EventRows.{AllRows, RowOf, row_of, row_within, within_more, said_by}
 use Rattle.journal_model.proofs.RowEquations.{effects-Tick, row-step}
 use Rattle.journal_model.proofs.entries.CommitPlaces.{AtPlace, at_place, own_of}

@@ -83,7 +83,7 @@ use Rattle.journal_model.specs.Ticks.{
   tick_effects,
 }
 use Rattle.journal_model.specs.SentDatagrams.{IsFitting, is_response}
-use Rattle.journal_model.specs.AnswersAsFormed.{is_content}
+use Rattle.journal_model.specs.CarriedBlocks.{is_content}
 use Rattle.journal_model.proofs.NoteKinds.{of_again, of_resent}
 use Rattle.journal_model.proofs.StepNotes.{notices_again-notes, requests_again-notes}
 use Rattle.journal_model.proofs.notes.LookupNotes.{IsAsking}

@@ -100,7 +100,7 @@ use Rattle.journal_model.specs.Commits.{
   commit_effects,
 }
 use Rattle.journal_model.specs.PlacedRows.{code_sent}
-use Rattle.journal_model.specs.HoldsEachOnce.{names_location, is_code_of_change}
+use Rattle.journal_model.specs.AskedChanges.{names_location, is_code_of_change}
 use Rattle.journal_model.proofs.EntriesNoted.{entries_in, NotesNext, none, one, entries_in-append}
 use Rattle.message_model.specs.declared.messages.Unread.{Unread}
 use Rattle.message_model.specs.Reading.{reading}

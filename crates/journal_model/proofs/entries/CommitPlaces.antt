@@ -51,7 +51,7 @@ use Rattle.journal_model.specs.Machine.{
   IsJournal,
 }
 use Rattle.journal_model.specs.PlacedRows.{Within, Commits, admits}
-use Rattle.journal_model.specs.HoldsEachOnce.{AdmittedAt}
+use Rattle.journal_model.specs.AdmittedWrites.{AdmittedAt}
 use Rattle.journal_model.proofs.EventRows.{within_more}
 use Rattle.journal_model.proofs.entries.JournalLaws.{
   Made,

@@ -29,8 +29,8 @@ use Rattle.journal_model.specs.declared.steps.StepKind.TheVariants as step
 use Rattle.journal_model.specs.declared.rows.Row.{Row}
 use Rattle.journal_model.specs.Journal.{events, entries}
 use Rattle.journal_model.specs.Commits.{commit_effects}
-use Rattle.journal_model.specs.HoldsEachOnce.{EndsBody}
 use Rattle.journal_model.specs.Rows.{effects}
+use Rattle.journal_model.specs.FetchCompletions.{EndsBody}
 use Rattle.journal_model.proofs.NoteKinds.{empty-entries_in}
 use Rattle.journal_model.proofs.EntriesNoted.{entries_in, NotesNext, none}
 use Rattle.journal_model.proofs.notes.StepTable.{StepNoted, effects-StepNoted}

@@ -52,7 +52,7 @@ use Rattle.journal_model.specs.Responses.{
   response_to_request,
   response_effects,
 }
-use Rattle.journal_model.specs.HoldsEachOnce.{is_end_of_fetch, EndsBody}
+use Rattle.journal_model.specs.FetchCompletions.{is_end_of_fetch, EndsBody}
 use Rattle.journal_model.proofs.EntriesNoted.{
   entries_in,
   none-append,

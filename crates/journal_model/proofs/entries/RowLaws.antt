@@ -8,7 +8,7 @@ use Rattle.journal_model.specs.declared.rows.Row.{Row}
 use Rattle.journal_model.specs.Journal.{entries, entries_of, latest}
 use Rattle.journal_model.specs.Rows.{effects, row_moment, row}
 use Rattle.journal_model.specs.PlacedRows.{Commits}
-use Rattle.journal_model.specs.HoldsEachOnce.{IsCompletion}
+use Rattle.journal_model.specs.FetchCompletions.{IsCompletion}
 use Rattle.journal_model.proofs.EntriesNoted.{entries_in, NotesNext, NotesNext-single}
 use Rattle.journal_model.proofs.entries.EntryOrigins.{
   EntryOrigin,

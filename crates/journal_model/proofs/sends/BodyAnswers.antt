@@ -90,16 +90,16 @@ use Rattle.journal_model.specs.Bodies.{
   body_reply,
 }
 use Rattle.journal_model.specs.PlacedRows.{code_at}
-use Rattle.journal_model.specs.AnswersAsFormed.{
+use Rattle.journal_model.specs.CarriedBlocks.{
   is_content,
   is_tagged,
-  Asked,
   longest_payload,
   IsBlockOf,
   IsAsked,
   CarriesBlock,
   Carries,
 }
+use Rattle.journal_model.specs.AskedListings.{Asked}
 
 -- a message with the code, options and payload of a reply
 abbrev pub with_reply : Kind4 → ℕ → List ℕ → Reply → Message
