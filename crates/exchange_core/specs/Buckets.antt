@@ -22,6 +22,7 @@ use Rattle.std.specs.Prelude.{
   bit_xor,
   if◌then◌else◌,
 }
+use Rattle.exchange_core.specs.declared.buckets.TheConstants.{BUCKETS}
 use Rattle.rd_base.specs.declared.peers.Host.{Host}
 use Rattle.rd_base.specs.declared.peers.Host.TheVariants as host
 use Rattle.rd_base.specs.declared.peers.Peer.{Peer}
@@ -29,7 +30,7 @@ use Rattle.event_model.specs.Repeats.{Exchange}
 
 -- how many buckets there are
 abbrev pub buckets : ℕ
-buckets = 8_192
+buckets = BUCKETS
 
 -- a hash with one word more: a product, whose upper half goes into the lower
 unfoldable pub mixed : ℕ → ℕ → ℕ

@@ -1,6 +1,6 @@
 //! The buckets that exchanges are found by.
 ghost use Rattle.std.specs.Prelude.{◌≡◌, ◌<◌, fold};
-ghost use Rattle.exchange_core.specs.Buckets.{mixed, host_hash, bucket_of};
+ghost use Rattle.exchange_core.specs.Buckets.{buckets, mixed, host_hash, bucket_of};
 
 use rd_base::{Host, Peer};
 
@@ -38,7 +38,7 @@ fn hash_of(host: Host) -> u64
 #[tactic(auto, unfolding(crate::specs::Buckets::bucket_of))]
 pub(crate) fn bucket_of(peer: Peer, mid: u16) -> usize
     ensures bucket { result ≡ bucket_of peer mid }
-    ensures within { result < 8_192 }
+    ensures within { result < buckets }
 {
     let hash = with_word(
         with_word(hash_of(peer.host), u64::from(peer.port)),

@@ -2,6 +2,7 @@
 ghost use Rattle.std.specs.Prelude.{◌≡◌, ◌+◌, ◌-◌, ◌<◌, ◌≤◌, ◌^◌, ◌∷◌, [], ℕ, length, take};
 ghost use Rattle.std.specs.Prelude.{slice_index, slice_set, IfOk, EachIndex};
 ghost use Rattle.std.specs.VecDeque.{deque_len, deque_capacity};
+ghost use Rattle.exchange_core.specs.Buckets.{buckets};
 
 use crate::buckets::BUCKETS;
 use rd_base::Starved;
@@ -24,7 +25,7 @@ impl Chains {
     /// No exchanges, with room for so many.
     pub(crate) fn make(alloc: Global, room: usize) -> Result<Chains, Starved>
         ensures first { IfOk result (λ c. c.first ≡ 1) }
-        ensures buckets { IfOk result (λ c. length c.latest.items ≡ 8_192) }
+        ensures buckets { IfOk result (λ c. length c.latest.items ≡ buckets) }
         ensures none { IfOk result
             (λ c. EachIndex c.latest.items (λ b. slice_index c.latest.items b ≡ 0)) }
         ensures empty { IfOk result (λ c. c.older.items ≡ []) }

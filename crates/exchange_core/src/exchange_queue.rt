@@ -4,9 +4,9 @@ ghost use Rattle.std.specs.Prelude.{◌≡◌, ◌+◌, ◌-◌, ◌<◌, ◌≤
 ghost use Rattle.std.specs.Prelude.{take, slice_set, slice_index_or, IfOk, IfSome, IsSome};
 ghost use Rattle.std.specs.List.{position, remove};
 ghost use Rattle.std.specs.VecDeque.{deque_len, deque_capacity};
-ghost use Rattle.event_model.specs.Repeats.{Exchange as Admission};
+ghost use Rattle.event_model.specs.Repeats.{max_exchanges, Exchange as Admission};
 ghost use Rattle.exchange_core.specs.Table.{is_sought, answered};
-ghost use Rattle.exchange_core.specs.Buckets.{AreFoundBy};
+ghost use Rattle.exchange_core.specs.Buckets.{buckets, AreFoundBy};
 
 use crate::buckets::bucket_of;
 use crate::chains::Chains;
@@ -29,16 +29,16 @@ pub(crate) struct ExchangeQueue {
 impl Model for ExchangeQueue {
     ghost use Rattle.std.specs.Prelude.{List, ◌≤◌};
     ghost use Rattle.std.specs.VecDeque.{deque_len, deque_capacity};
-    ghost use Rattle.event_model.specs.Repeats.{Exchange as Admission};
-    ghost use Rattle.exchange_core.specs.Buckets.{AreFoundBy};
+    ghost use Rattle.event_model.specs.Repeats.{max_exchanges, Exchange as Admission};
+    ghost use Rattle.exchange_core.specs.Buckets.{buckets, AreFoundBy};
 
     ghost Value = { List Admission };
 
     ghost view = { λ q. q.rows.items };
 
-    ghost invariant = { λ q. (4_096 ≤ deque_capacity q.rows)
-        × (4_096 ≤ deque_capacity q.chains.older)
-        × (deque_len q.rows ≤ 4_096)
+    ghost invariant = { λ q. (max_exchanges ≤ deque_capacity q.rows)
+        × (max_exchanges ≤ deque_capacity q.chains.older)
+        × (deque_len q.rows ≤ max_exchanges)
         × AreFoundBy q.chains.first q.chains.latest.items q.chains.older.items q.rows.items };
 }
 
@@ -55,7 +55,7 @@ impl ExchangeQueue {
     /// How many they are.
     pub(crate) fn len(&self) -> usize
         ensures many { result ≡ length self.now }
-        ensures within { result ≤ 4_096 }
+        ensures within { result ≤ max_exchanges }
     {
         self.rows.len()
     }
@@ -87,7 +87,7 @@ impl ExchangeQueue {
 
     /// One more exchange, the latest from now on.
     pub(crate) fn push(&mut self, exchange: Exchange)
-        requires { length self.old < 4_096 }
+        requires { length self.old < max_exchanges }
         ensures { self.new ≡ exchange ∷ self.old }
     {
         count_on(&self.rows, &mut self.chains);
@@ -154,8 +154,8 @@ fn index_in(
 fn count_on(rows: &VecDeque<Exchange>, chains: &mut Chains)
     requires found { AreFoundBy chains.old.first chains.old.latest.items chains.old.older.items
         rows.now.items }
-    requires few { length rows.now.items ≤ 4_096 }
-    requires room { 4_096 ≤ deque_capacity chains.old.older }
+    requires few { length rows.now.items ≤ max_exchanges }
+    requires room { max_exchanges ≤ deque_capacity chains.old.older }
     ensures found { AreFoundBy chains.new.first chains.new.latest.items chains.new.older.items
         rows.now.items }
     ensures counted { chains.new.first + length rows.now.items + 1 < 2 ^ 64 }
@@ -169,9 +169,9 @@ fn count_on(rows: &VecDeque<Exchange>, chains: &mut Chains)
 
 /// Numbers all exchanges anew.
 fn number_anew(rows: &VecDeque<Exchange>, chains: &mut Chains)
-    requires buckets { length chains.old.latest.items ≡ 8_192 }
-    requires few { length rows.now.items ≤ 4_096 }
-    requires room { 4_096 ≤ deque_capacity chains.old.older }
+    requires buckets { length chains.old.latest.items ≡ buckets }
+    requires few { length rows.now.items ≤ max_exchanges }
+    requires room { max_exchanges ≤ deque_capacity chains.old.older }
     ensures found { AreFoundBy chains.new.first chains.new.latest.items chains.new.older.items
         rows.now.items }
     ensures first { chains.new.first ≡ 1 }

@@ -3,7 +3,7 @@ ghost use Rattle.std.specs.Prelude.{◌≡◌, ◌<◌, Option};
 ghost use Rattle.event_model.specs.Events.{is_young};
 ghost use Rattle.exchange_core.specs.Table.{admitted_now, is_with, is_admitted_at, is_sought};
 ghost use Rattle.exchange_core.specs.Table.{repeating, answered};
-ghost use Rattle.exchange_core.specs.Buckets.{bucket};
+ghost use Rattle.exchange_core.specs.Buckets.{buckets, bucket};
 
 use crate::Reply;
 use crate::buckets::bucket_of;
@@ -87,7 +87,7 @@ impl Exchange {
     /// Its bucket.
     pub(crate) fn bucket(&self) -> usize
         ensures bucket { result ≡ bucket self.now }
-        ensures within { result < 8_192 }
+        ensures within { result < buckets }
     {
         bucket_of(self.peer, self.mid)
     }

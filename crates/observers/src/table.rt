@@ -46,6 +46,7 @@ pub struct Observers {
 
 impl Model for Observers {
     ghost use Rattle.std.specs.Prelude.{◌≤◌, List, vec_len, vec_capacity};
+    ghost use Rattle.event_model.specs.Observers.{max_observers};
     ghost use Rattle.observers.specs.Watchers.{Watcher};
 
     ghost Value = { List Watcher };
@@ -54,9 +55,9 @@ impl Model for Observers {
 
     ghost view = { λ t. t.items.items };
 
-    ghost invariant = { λ t. (vec_len t.items ≤ 1_024)
-        × (1_024 ≤ vec_capacity t.items)
-        × (1_024 ≤ vec_capacity t.awaited)
+    ghost invariant = { λ t. (vec_len t.items ≤ max_observers)
+        × (max_observers ≤ vec_capacity t.items)
+        × (max_observers ≤ vec_capacity t.awaited)
         × AreAwaited t.items.items t.awaited.items };
 }
 
@@ -79,7 +80,7 @@ impl Observers {
     pub fn add(&mut self, observer: Observer) -> Result<(), FullObservers>
         requires new { list_any (is_named observer.peer observer.token) self.old ≡ false }
         requires landed { observer.flight ≡ None }
-        ensures full { IsErr result ↔ (1_024 ≤ length self.old) }
+        ensures full { IsErr result ↔ (max_observers ≤ length self.old) }
         ensures full_among { (queries : ℕ → Query) (octets : OctetsSent) (events : List Event)
             (transitions : List Transition)
             → ObserversStandFor queries octets events transitions self.old

@@ -4,6 +4,7 @@ ghost use Rattle.std.specs.Prelude.{slice_get, length, option_map, IfSome, vec_l
 ghost use Rattle.std.specs.List.{list_any, position};
 ghost use Rattle.std.specs.Arc.{arc_value};
 ghost use Rattle.event_model.specs.Same.{is_same_peer};
+ghost use Rattle.event_model.specs.Observers.{max_observers};
 ghost use Rattle.observers.specs.AwaitedPeers.{awaited_of, Tells};
 ghost use Rattle.rd_base.specs.Firsts.{changed_first, without_first};
 ghost use Rattle.observers.specs.Watchers.{Watcher, is_named, has_notice, is_awaited, is_ready};
@@ -65,8 +66,8 @@ pub(crate) fn mark_all(observers: &mut Vec<Observer>, place: u32)
 
 /// The peers that notices are in flight to, gathered anew.
 pub(crate) fn gather(awaited: &mut Vec<Peer>, observers: &[Observer])
-    requires few { length observers.now ≤ 1_024 }
-    requires room { 1_024 ≤ vec_capacity awaited.old }
+    requires few { length observers.now ≤ max_observers }
+    requires room { max_observers ≤ vec_capacity awaited.old }
     ensures peers { awaited.new.items ≡ awaited_of observers.now }
     ensures capacity { vec_capacity awaited.new ≡ vec_capacity awaited.old }
 {

@@ -12,7 +12,8 @@ ghost use Rattle.coap_message.specs.Views.{message_in};
 ghost use Rattle.event_model.specs.declared.notes.Note.TheVariants as note;
 ghost use Rattle.event_model.specs.Events.{Event};
 ghost use Rattle.event_model.specs.Flights.{OctetsSent};
-ghost use Rattle.event_model.specs.Fetches.{Request, fetches, next_token, last_request, request_of, is_last_request};
+ghost use Rattle.event_model.specs.Fetches.{Request, fetches, next_token, last_request, request_of};
+ghost use Rattle.event_model.specs.Fetches.{is_last_request};
 ghost use Rattle.rd_base.specs.Firsts.{without_first};
 ghost use Rattle.simple_registration.specs.Table.{is_of, some_passes, belongs_among, IsKeptAfter};
 ghost use Rattle.simple_registration.specs.FetchEvents.{FetchesStandFor, start_refusal};
@@ -41,13 +42,14 @@ pub struct Fetches {
 
 impl Model for Fetches {
     ghost use Rattle.std.specs.Prelude.{◌≤◌, vec_len, vec_capacity};
+    ghost use Rattle.event_model.specs.Fetches.{max_fetches};
     ghost use Rattle.simple_registration.specs.Table.{Table};
 
     ghost Value = { Table };
 
     ghost view = { λ t. record { fetches = t.rows.items; started = t.started } };
 
-    ghost invariant = { λ t. (64 ≤ vec_capacity t.rows) × (vec_len t.rows ≤ 64) };
+    ghost invariant = { λ t. (max_fetches ≤ vec_capacity t.rows) × (vec_len t.rows ≤ max_fetches) };
 }
 
 impl Fetches {

@@ -126,7 +126,7 @@ fn keep(cache: &mut Cache, number: u64, kept: Kept) -> Result<(), Starved>
 /// memory.
 fn keep_each(cache: &mut Cache, alloc: Global, now: Moment, more: Answers) -> Result<(), Starved>
     requires room { cache.old.cap ≡ max_answers }
-    requires fresh { AreBelow 64 cache.old.entries }
+    requires fresh { AreBelow max_answers cache.old.entries }
     ensures answers { OnOk result
         (values cache.new.entries ≡ kept_each now.0 more (values cache.old.entries)) }
     ensures room { cache.new.cap ≡ cache.old.cap }
@@ -144,7 +144,7 @@ fn keep_each(cache: &mut Cache, alloc: Global, now: Moment, more: Answers) -> Re
 fn copied(alloc: Global, cache: &Cache) -> Result<Cache, Starved>
     requires { cache.now.cap ≡ max_answers }
     ensures answers { IfOk result (λ c. values c.entries ≡ values cache.now.entries) }
-    ensures numbers { IfOk result (λ c. AreBelow 64 c.entries) }
+    ensures numbers { IfOk result (λ c. AreBelow max_answers c.entries) }
     ensures room { IfOk result (λ c. c.cap ≡ max_answers) }
 {
     let mut copy = empty(alloc)?;

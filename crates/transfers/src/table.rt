@@ -29,6 +29,7 @@ pub struct Transfers {
 impl Model for Transfers {
     ghost use Rattle.std.specs.Prelude.{◌≡◌, ◌≤◌};
     ghost use Rattle.std.specs.Vec.{vec_len, vec_capacity};
+    ghost use Rattle.message_model.specs.Uploads.{max_uploads};
     ghost use Rattle.event_model.specs.KeptAnswers.{max_answers};
     ghost use Rattle.transfers.specs.Keeping.{values};
     ghost use Rattle.transfers.specs.TransferEvents.{Table};
@@ -37,8 +38,8 @@ impl Model for Transfers {
 
     ghost view = { λ t. record { uploads = t.uploads.items; answers = values t.answers.entries } };
 
-    ghost invariant = { λ t. (64 ≤ vec_capacity t.uploads)
-        × (vec_len t.uploads ≤ 64)
+    ghost invariant = { λ t. (max_uploads ≤ vec_capacity t.uploads)
+        × (vec_len t.uploads ≤ max_uploads)
         × (t.answers.cap ≡ max_answers) };
 }
 

@@ -4,7 +4,7 @@ ghost use Rattle.std.specs.Prelude.{filter, find, option_map, IfOk, OnOk, OnErr}
 ghost use Rattle.std.specs.List.{position};
 ghost use Rattle.std.specs.Vec.{vec_len, vec_capacity};
 ghost use Rattle.rd_base.specs.Firsts.{changed_first};
-ghost use Rattle.message_model.specs.Uploads.{collected_before, is_one_too_many};
+ghost use Rattle.message_model.specs.Uploads.{max_uploads, collected_before, is_one_too_many};
 ghost use Rattle.event_model.specs.Uploads.{Upload as LiveUpload};
 ghost use Rattle.transfers.specs.Uploading.{is_of, is_live_as, live_body, young_uploads};
 ghost use Rattle.transfers.specs.Uploading.{other_uploads, with_block, begun, taken};
@@ -226,8 +226,8 @@ pub(crate) fn upload(
     block: &Block,
     piece: &[u8],
 ) -> Upload
-    requires room { 64 ≤ vec_capacity uploads.old }
-    requires few { vec_len uploads.old ≤ 64 }
+    requires room { max_uploads ≤ vec_capacity uploads.old }
+    requires few { vec_len uploads.old ≤ max_uploads }
     ensures answer { result ≢ Upload.Starved
         → result
         ≡ answer_to block.now piece.now (live_body now.0 (peer, key.now) uploads.old.items)
@@ -235,7 +235,7 @@ pub(crate) fn upload(
     ensures more { result ≡ Upload.More
         → uploads.new.items ≡ taken block.now now.0 (peer, key.now) piece.now uploads.old.items }
     ensures other { result ≢ Upload.More → uploads.new.items ≡ uploads.old.items }
-    ensures few { vec_len uploads.new ≤ 64 }
+    ensures few { vec_len uploads.new ≤ max_uploads }
     ensures capacity { vec_capacity uploads.new ≡ vec_capacity uploads.old }
 {
     let index = live_index(uploads, now, peer, key);

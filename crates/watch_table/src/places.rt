@@ -7,6 +7,7 @@ ghost use Rattle.std.specs.Arc.{arc_value};
 ghost use Rattle.std.specs.Option.{option_copied};
 ghost use Rattle.rd_base.specs.declared.queries.Query.{Query as Sought};
 ghost use Rattle.indexmap.specs.IndexMap.{index_map_len, spare, values};
+ghost use Rattle.event_model.specs.Observers.{max_watched};
 ghost use Rattle.watch_table.specs.WatchedQueries.{watched_at, place_of, watched_first, one_more};
 ghost use Rattle.watch_table.specs.WatchedQueries.{one_fewer, without, touched, unmarked};
 ghost use Rattle.watch_table.specs.WatchedQueries.{with_body};
@@ -130,7 +131,7 @@ pub(crate) fn unmark_at(watches: &mut IndexMap<u32, Watch>, index: usize)
 
 /// A place where nothing is watched.
 fn free_place(watches: &IndexMap<u32, Watch>) -> u32
-    requires { index_map_len watches.now ≤ 256 }
+    requires { index_map_len watches.now ≤ max_watched }
     ensures { IsFree result watches.now.entries }
 {
     'places: for place in 0..257 {
@@ -143,7 +144,7 @@ fn free_place(watches: &IndexMap<u32, Watch>) -> u32
 
 /// A first watcher of a query, at a place where nothing is watched.
 fn begin(watches: &mut IndexMap<u32, Watch>, query: Query) -> u32
-    requires few { index_map_len watches.old ≤ 256 }
+    requires few { index_map_len watches.old ≤ max_watched }
     requires room { 0 < spare watches.old }
     ensures place { IsFree result watches.old.entries }
     ensures begun { watches.new.entries
@@ -164,12 +165,12 @@ fn watch_given(
 ) -> Result<u32, WatchFault>
     requires copied { given ≡ query.now }
     requires counts { CanCount watches.old.entries }
-    requires few { index_map_len watches.old ≤ 256 }
+    requires few { index_map_len watches.old ≤ max_watched }
     requires room { 0 < spare watches.old }
     ensures outcome { Watches query.now watches.old.entries watches.old.entries result
         watches.new.entries }
     ensures given { result ≢ Err WatchFault.Starved }
-    ensures few { index_map_len watches.new ≤ 256 }
+    ensures few { index_map_len watches.new ≤ max_watched }
 {
     if let Some(place) = find_place(watches, query) {
         join(watches, place);
@@ -188,10 +189,10 @@ pub(crate) fn watch_instead(
     instead_of: Option<u32>,
     query: &Query,
 ) -> Result<u32, WatchFault>
-    requires { index_map_len watches.old ≤ 256 }
+    requires { index_map_len watches.old ≤ max_watched }
     ensures outcome { Watches query.now watches.old.entries (without instead_of watches.old.entries)
         result watches.new.entries }
-    ensures few { index_map_len watches.new ≤ 256 }
+    ensures few { index_map_len watches.new ≤ max_watched }
 {
     let given = query.clone()?;
     watches.reserve(1)?;

@@ -31,13 +31,14 @@ pub struct WatchTable {
 impl Model for WatchTable {
     ghost use Rattle.std.specs.Prelude.{◌≤◌};
     ghost use Rattle.indexmap.specs.IndexMap.{index_map_len};
+    ghost use Rattle.event_model.specs.Observers.{max_watched};
     ghost use Rattle.watch_table.specs.WatchedQueries.{Table};
 
     ghost Value = { Table };
 
     ghost view = { λ t. t.watches.entries };
 
-    ghost invariant = { λ t. index_map_len t.watches ≤ 256 };
+    ghost invariant = { λ t. index_map_len t.watches ≤ max_watched };
 }
 
 impl WatchTable {
