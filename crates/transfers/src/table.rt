@@ -11,7 +11,7 @@ ghost use Rattle.transfers.specs.Ends.{ends_so};
 
 use crate::caching::Cache;
 use crate::{Answers, Collected, Ready, Upload, caching, uploading};
-use message_model::Block;
+use message_model::{Block, MAX_UPLOADS};
 use rd_base::{Bytes, Key, Moment, Peer, Starved, Tag};
 use std::alloc::Global;
 use std::marker::Model;
@@ -49,7 +49,7 @@ impl Transfers {
     pub fn make(alloc: Global) -> Result<Transfers, Starved>
         ensures { IfOk result (λ t. (at : ℕ) → TransfersStandFor at [] t) }
     {
-        let uploads = Vec::with_capacity(alloc, uploading::MAX_UPLOADS)?;
+        let uploads = Vec::with_capacity(alloc, MAX_UPLOADS)?;
         let answers = caching::empty(alloc)?;
         Ok(Transfers { uploads, answers })
     }
