@@ -2,9 +2,9 @@ use Rattle.std.proofs.Common.{arith, sym, refl}
 use Rattle.rd_server.proofs.Journeys.{kept, too_long_at, unkept}
 use Rattle.rd_server.proofs.sessions.Session.keep.Goals as goal
 
-pub returns-then-len-rest-gt-LONGEST_LINE-clause-fed :
-    goal.returns-then-len-rest-gt-LONGEST_LINE-clause-fed
-returns-then-len-rest-gt-LONGEST_LINE-clause-fed c workers place held at =
+pub returns-then-len-rest-gt-MAX_LINE-clause-fed :
+    goal.returns-then-len-rest-gt-MAX_LINE-clause-fed
+returns-then-len-rest-gt-MAX_LINE-clause-fed c workers place held at =
     too_long_at workers place c.args.rest.now held c.args.self.now c.args.self.now at
     (sym c.requires) (omega (arith, c.len.ensures.value))
 
