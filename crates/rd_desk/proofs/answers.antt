@@ -1,4 +1,2 @@
-pub mod AskedLaws
 pub mod RefusalLaws
 pub mod LookLaws
-pub mod ResourceLaws

@@ -1,7 +1,3 @@
-pub mod Resources
-pub mod Asking
-pub mod Accepted
-pub mod Incoming
 pub mod Watching
 pub mod Fetching
 pub mod WriteJobs

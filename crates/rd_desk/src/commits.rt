@@ -26,7 +26,6 @@ ghost use Rattle.history_model.specs.Versions.{VersionStandsFor};
 ghost use Rattle.rd_desk.specs.Staging.{IsLaid, IsLeftBy, IsNextOf};
 
 use crate::outcomes::Outcome;
-use crate::resources::Resource;
 use crate::staging::staged;
 use crate::tables::Tables;
 use crate::write_jobs::write_request;
@@ -34,6 +33,7 @@ use crate::{Mids, Outbox, Stepped, WriteJob};
 use coap_message::View;
 use directory_core::Board;
 use rd_base::{Moment, Peer, Starved};
+use rd_request::Resource;
 use std::alloc::Global;
 
 impl Tables {

@@ -12,17 +12,17 @@ ghost use Rattle.journal_model.specs.declared.steps.StepKind.TheVariants as step
 ghost use Rattle.journal_model.specs.Rows.{kept_body, row};
 ghost use Rattle.transfers.specs.TransferEvents.{AnswersStandFor};
 ghost use Rattle.coap_answers.specs.Outboxes.{most_datagrams};
-ghost use Rattle.rd_desk.specs.Accepted.{message_of};
+ghost use Rattle.rd_request.specs.Accepted.{message_of};
 ghost use Rattle.rd_desk.specs.Stepping.{is_starved_step};
 ghost use Rattle.rd_desk.specs.UnderWay.{UnderWay, IsCalled, Made};
 
-use crate::accepted::Request;
 use crate::looks::look_request;
 use crate::tables::Tables;
 use crate::{KeepJob, Mids, Outbox, Stepped};
 use coap_answers::{answer, answer_starved, body_reply};
 use coap_options::request_key;
 use rd_base::{Bytes, Moment, Peer, Starved, Tag};
+use rd_request::Request;
 use std::alloc::Global;
 use std::sync::Arc;
 use transfers::{Answer, Answers, Ready, Transfers};

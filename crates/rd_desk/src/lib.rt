@@ -2,7 +2,6 @@
 //! 7252, RFC 9176).
 #![tactic(auto)]
 
-mod accepted;
 mod admissions;
 mod change_kinds;
 mod commits;
@@ -13,7 +12,6 @@ mod heard_empties;
 mod heard_responses;
 mod heard_writes;
 mod hearing;
-mod incoming;
 mod jobs;
 mod joining;
 mod keep_jobs;
@@ -26,14 +24,11 @@ mod marks;
 mod notices;
 mod notices_again;
 mod outcomes;
-mod parameters;
 mod planning;
 mod refused_requests;
 mod refused_writes;
 mod registrations;
-mod requests;
 mod requests_again;
-mod resources;
 mod settling;
 mod simple_registrations;
 mod staging;
@@ -49,10 +44,10 @@ mod write_jobs;
 pub use admissions::Admitted;
 pub use coap_answers::{Mids, Outbox};
 pub use desk::{Desk, Unmade};
-pub use incoming::is_look;
 pub use jobs::Job;
 pub use keep_jobs::KeepJob;
 pub use looks::{Looked, look, look_starved};
+pub use rd_request::is_look;
 pub use steps::Stepped;
 pub use watchers::Watcher;
 pub use write_jobs::WriteJob;

@@ -19,7 +19,7 @@ ghost use Rattle.journal_model.specs.Requests.{method_of};
 ghost use Rattle.journal_model.specs.Rows.{row_moment};
 ghost use Rattle.coap_answers.specs.Outboxes.{most_datagrams};
 ghost use Rattle.coap_answers.specs.Replies.{IsReply};
-ghost use Rattle.rd_desk.specs.Accepted.{message_of};
+ghost use Rattle.rd_request.specs.Accepted.{message_of};
 ghost use Rattle.rd_desk.specs.Committing.{unless_failing, IsShort};
 ghost use Rattle.rd_desk.specs.Outcomes.{IsTimely, IsPlanned};
 ghost use Rattle.rd_desk.specs.Stepping.{is_starved_step};
@@ -28,7 +28,6 @@ ghost use Rattle.rd_desk.specs.Shown.{AreToldOf};
 ghost use Rattle.history_model.specs.declared.entries.Entry.{Entry};
 ghost use Rattle.rd_desk.specs.Staging.{IsLaid, IsNextOf};
 
-use crate::accepted::Request;
 use crate::outcomes::{Outcome, removed, updated};
 use crate::tables::Tables;
 use crate::{Mids, Outbox, Stepped};
@@ -36,6 +35,7 @@ use coap_options::{Meaning, queries};
 use directory_core::{Board, Directory};
 use query_text::{QueryBad, update_params};
 use rd_base::{Moment, Peer, Starved, UpdateParams};
+use rd_request::Request;
 use std::alloc::Global;
 
 /// POST (RFC 7252 section 5.8.2).

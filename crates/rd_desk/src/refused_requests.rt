@@ -7,14 +7,14 @@ ghost use Rattle.journal_model.specs.Rows.{refusal_answered};
 ghost use Rattle.coap_answers.specs.Outboxes.{most_datagrams};
 ghost use Rattle.coap_answers.specs.Replies.{IsReply, reply_said};
 ghost use Rattle.coap_answers.specs.Sendings.{IsStepOf, Sends};
-ghost use Rattle.rd_desk.specs.Asking.{refused_with, IsRefusedBy, is_passed_over};
+ghost use Rattle.rd_request.specs.Asking.{refused_with, IsRefusedBy, is_passed_over};
 
-use crate::requests::Refused;
 use crate::{Mids, Outbox};
 use coap_answers::{Reply, answer, refusal_code, refusal_word};
 use coap_message::{Kind4, View};
 use coap_options::Refusal;
 use rd_base::Peer;
+use rd_request::Refused;
 
 /// What is said of a refusal.
 fn reply_to(refused: Refused) -> Reply<'static>

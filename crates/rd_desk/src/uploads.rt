@@ -27,7 +27,7 @@ ghost use Rattle.transfers.specs.TransferEvents.{block_answer};
 ghost use Rattle.coap_answers.specs.declared.mids.Mids.{Mids};
 ghost use Rattle.coap_answers.specs.Outboxes.{most_datagrams};
 ghost use Rattle.coap_answers.specs.Replies.{IsReply, reply_said};
-ghost use Rattle.rd_desk.specs.Accepted.{message_of};
+ghost use Rattle.rd_request.specs.Accepted.{message_of};
 ghost use Rattle.rd_desk.specs.Committing.{unless_failing, IsShort};
 ghost use Rattle.rd_desk.specs.Outcomes.{IsTimely, IsPlanned, IsMadeAt};
 ghost use Rattle.rd_desk.specs.Stepping.{is_starved_step};
@@ -35,9 +35,7 @@ ghost use Rattle.rd_desk.specs.UnderWay.{UnderWay};
 ghost use Rattle.rd_desk.specs.Shown.{AreToldOf};
 ghost use Rattle.rd_desk.specs.Staging.{IsLaid, IsLeftBy, IsNextOf};
 
-use crate::accepted::Request;
 use crate::outcomes::{Outcome, registered};
-use crate::parameters::given_params;
 use crate::staging::staged;
 use crate::tables::Tables;
 use crate::{Mids, Outbox, Stepped};
@@ -47,6 +45,7 @@ use coap_options::request_key;
 use directory_core::{Board, Directory};
 use message_model::Block;
 use rd_base::{Key, Moment, Peer, Starved};
+use rd_request::{Request, given_params};
 use std::alloc::Global;
 use transfers::Upload;
 

@@ -117,10 +117,10 @@ use Rattle.coap_answers.specs.declared.mids.Mids.{Mids}
 use Rattle.coap_answers.specs.AskedBlocks.{has_asked_block}
 use Rattle.coap_answers.specs.Sendings.{IsStepOf, Sends}
 use Rattle.coap_answers.proofs.SendingLaws.{sends_notes}
+use Rattle.rd_request.specs.Asking.{begins_observation}
 use Rattle.rd_desk.specs.declared.joining.Joining.{Joining}
 use Rattle.rd_desk.specs.declared.listings.Formed.{Formed}
 use Rattle.rd_desk.specs.declared.listings.Listed.{Listed}
-use Rattle.rd_desk.specs.Asking.{begins_observation}
 use Rattle.rd_desk.specs.Desks.{Seen}
 use Rattle.rd_desk.specs.Joining.{observer_joining, joining_notes}
 use Rattle.rd_desk.specs.Lookups.{

@@ -3,14 +3,9 @@ use Rattle.coap_options.specs.ValuesLeft.{queries_left}
 use Rattle.coap_message.specs.Views.{message_in}
 use Rattle.journal_model.specs.Requests.{kind_of, refusal_of_request}
 use Rattle.record_model.specs.Criteria.{lookup_query}
-use Rattle.rd_desk.proofs.answers.LookLaws.{
-  query_meant,
-  query_read,
-  query_faulty,
-  good_request,
-  none_there,
-}
-use Rattle.rd_desk.proofs.answers.ResourceLaws.{kind_there}
+use Rattle.rd_request.proofs.QueryLaws.{query_meant, query_read, query_faulty}
+use Rattle.rd_request.proofs.AskedLaws.{good_request, none_there}
+use Rattle.rd_request.proofs.ResourceLaws.{kind_there}
 use Rattle.rd_desk.proofs.looks.query_of.Goals as goal
 
 pub unreachable-requires : goal.unreachable-requires

@@ -4,8 +4,8 @@ use Rattle.rd_base.specs.declared.queries.Kind.{Kind}
 use Rattle.rd_base.specs.declared.queries.Kind.TheVariants as kind
 use Rattle.message_model.specs.declared.requests.Path.{Path}
 use Rattle.message_model.specs.declared.requests.Path.TheVariants as path
-use Rattle.rd_desk.specs.declared.resources.Resource.{Resource}
-use Rattle.rd_desk.specs.declared.resources.Resource.TheVariants as resource
+use Rattle.rd_request.specs.declared.resources.Resource.{Resource}
+use Rattle.rd_request.specs.declared.resources.Resource.TheVariants as resource
 
 -- what a path names, where it names anything (RFC 9176 sections 4.3, 5 and 6)
 abbrev pub resource_at : Path → Option Resource

@@ -25,7 +25,7 @@ use Rattle.message_model.specs.Reading.{reading}
 use Rattle.message_model.specs.Request.{path_in}
 use Rattle.journal_model.specs.Effects.{Reply}
 use Rattle.journal_model.specs.Requests.{refusal_of_request}
-use Rattle.rd_desk.specs.WriteJobs.{
+use Rattle.rd_request.specs.WriteRequests.{
   is_write_path,
   is_write_message,
   is_write_reading,

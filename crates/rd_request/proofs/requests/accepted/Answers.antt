@@ -1,8 +1,8 @@
 use Rattle.std.proofs.Common.{ap, sym, ◌∙◌}
 use Rattle.coap_message.specs.Views.{message_in}
-use Rattle.rd_desk.specs.Resources.{resource_at}
-use Rattle.rd_desk.proofs.answers.ResourceLaws.{named}
-use Rattle.rd_desk.proofs.requests.accepted.Goals as goal
+use Rattle.rd_request.specs.Resources.{resource_at}
+use Rattle.rd_request.proofs.ResourceLaws.{named}
+use Rattle.rd_request.proofs.requests.accepted.Goals as goal
 
 pub unreachable-requires : goal.unreachable-requires
 unreachable-requires c =

@@ -15,7 +15,7 @@ use std::alloc::Global;
 
 /// The parameters of a registration, or of a simple one, whose query options are not refused.
 /// `Starved`: out of memory.
-pub(crate) fn given_params(
+pub fn given_params(
     alloc: Global,
     meaning: &Meaning<'_>,
     simple: bool,

@@ -8,12 +8,12 @@ use Rattle.message_model.specs.Reading.{reading}
 use Rattle.message_model.specs.Request.{path_in}
 use Rattle.coap_message.specs.Views.{message_in}
 use Rattle.journal_model.specs.Requests.{refusal_of_request, is_lookup, only_looks}
-use Rattle.rd_desk.specs.declared.incoming.Incoming.{Incoming}
-use Rattle.rd_desk.specs.declared.incoming.Incoming.TheVariants as incoming
-use Rattle.rd_desk.specs.declared.requests.Refused.{Refused}
-use Rattle.rd_desk.specs.Accepted.{message_of}
-use Rattle.rd_desk.specs.Asking.{refused_with, IsRefusedBy}
-use Rattle.rd_desk.specs.WriteJobs.{is_write_path}
+use Rattle.rd_request.specs.declared.incoming.Incoming.{Incoming}
+use Rattle.rd_request.specs.declared.incoming.Incoming.TheVariants as incoming
+use Rattle.rd_request.specs.declared.requests.Refused.{Refused}
+use Rattle.rd_request.specs.Accepted.{message_of}
+use Rattle.rd_request.specs.Asking.{refused_with, IsRefusedBy}
+use Rattle.rd_request.specs.WriteRequests.{is_write_path}
 
 -- the datagram is this message, which is for that (RFC 7252 section 4)
 pub record IsFor (r : Role) (datagram : List ℕ) (m : Message) : Type 0 where

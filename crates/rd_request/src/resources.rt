@@ -1,13 +1,13 @@
 //! What requests are about (RFC 9176 sections 4.3, 5 and 6).
 ghost use Rattle.std.specs.Prelude.{◌≡◌};
-ghost use Rattle.rd_desk.specs.Resources as resources;
+ghost use Rattle.rd_request.specs.Resources as resources;
 
 use coap_options::Path;
 use rd_base::Kind;
 
 /// A resource of the directory.
 #[derive(Clone, Copy, Debug, PartialEq, Eq)]
-pub(crate) enum Resource {
+pub enum Resource {
     /// `/.well-known/core`: discovery (RFC 9176 section 4.1).
     Core,
     /// `/.well-known/rd`: simple registration (RFC 9176 section 5.1).
@@ -49,7 +49,7 @@ pub(crate) fn kind_at(resource: &Resource) -> Kind
 }
 
 /// Whether it is that of discovery.
-pub(crate) fn is_core(resource: &Resource) -> bool
+pub fn is_core(resource: &Resource) -> bool
     ensures { result ≡ resources.is_core resource.now }
 {
     match *resource {

@@ -42,12 +42,12 @@ use Rattle.journal_model.specs.Requests.{
   is_discovery,
   kind_of,
 }
-use Rattle.rd_desk.specs.declared.accepted.Request.{Request}
-use Rattle.rd_desk.specs.declared.resources.Resource.{Resource}
-use Rattle.rd_desk.specs.declared.resources.Resource.TheVariants as resource
-use Rattle.rd_desk.specs.Accepted.{message_of}
-use Rattle.rd_desk.specs.Resources.{resource_at, is_at, kind_at, is_core}
-use Rattle.rd_desk.specs.WriteJobs.{is_write_path}
+use Rattle.rd_request.specs.declared.accepted.Request.{Request}
+use Rattle.rd_request.specs.declared.resources.Resource.{Resource}
+use Rattle.rd_request.specs.declared.resources.Resource.TheVariants as resource
+use Rattle.rd_request.specs.Accepted.{message_of}
+use Rattle.rd_request.specs.Resources.{resource_at, is_at, kind_at, is_core}
+use Rattle.rd_request.specs.WriteRequests.{is_write_path}
 
 same_number : (n : ℕ) → (n == n) ≡ true
 same_number n = grind arith

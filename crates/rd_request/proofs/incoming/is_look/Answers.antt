@@ -1,6 +1,6 @@
 use Rattle.std.proofs.Common.{sym, ◌∙◌}
-use Rattle.rd_desk.proofs.parts.IncomingLaws.{looks_is}
-use Rattle.rd_desk.proofs.incoming.is_look.Goals as goal
+use Rattle.rd_request.proofs.IncomingLaws.{looks_is}
+use Rattle.rd_request.proofs.incoming.is_look.Goals as goal
 
 pub returns : goal.returns
 returns c =

@@ -30,8 +30,8 @@ use Rattle.journal_model.specs.Requests.{
   is_heeded,
   register,
 }
-use Rattle.rd_desk.specs.declared.requests.Refused.{Refused}
-use Rattle.rd_desk.specs.declared.requests.Refused.TheVariants as refused
+use Rattle.rd_request.specs.declared.requests.Refused.{Refused}
+use Rattle.rd_request.specs.declared.requests.Refused.TheVariants as refused
 
 -- the path is that of a discovery or of a lookup (RFC 9176 sections 4.1 and 6)
 abbrev pub seeks_links : Path → Bool

@@ -3,8 +3,8 @@ use Rattle.coap_message.specs.Views.{message_in}
 use Rattle.message_model.specs.Request.{queries_in}
 use Rattle.record_model.specs.Parameters.{registration_parameters}
 use Rattle.query_text.specs.Outcomes.{registering}
-use Rattle.rd_desk.proofs.changes.ParameterLaws.{params_meant, params_read, params_faulty}
-use Rattle.rd_desk.proofs.parameters.given_params.Goals as goal
+use Rattle.rd_request.proofs.ParameterLaws.{params_meant, params_read, params_faulty}
+use Rattle.rd_request.proofs.parameters.given_params.Goals as goal
 
 pub unreachable-requires : goal.unreachable-requires
 unreachable-requires c =

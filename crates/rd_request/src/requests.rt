@@ -5,9 +5,9 @@ ghost use Rattle.std.specs.Option.{ForSome};
 ghost use Rattle.message_model.specs.Blocks.{IsBlock};
 ghost use Rattle.coap_message.specs.Views.{message_in};
 ghost use Rattle.journal_model.specs.Requests as requests_of;
-ghost use Rattle.rd_desk.specs.Accepted.{message_of};
-ghost use Rattle.rd_desk.specs.Asking.{begins_observation, refused_with};
-ghost use Rattle.rd_desk.specs.Asking.{IsRefusedBy};
+ghost use Rattle.rd_request.specs.Accepted.{message_of};
+ghost use Rattle.rd_request.specs.Asking.{begins_observation, refused_with};
+ghost use Rattle.rd_request.specs.Asking.{IsRefusedBy};
 
 use crate::accepted::Request;
 use crate::resources::resource_at;
@@ -78,7 +78,7 @@ fn sent_block(meaning: &Meaning<'_>) -> Option<Block>
 }
 
 /// Whether the block that is asked for comes after the first.
-pub(crate) fn is_later_block(request: &Request<'_>) -> bool
+pub fn is_later_block(request: &Request<'_>) -> bool
     ensures { result ≡ requests_of.is_later_block (message_of request.now) }
 {
     match request.asked {
@@ -88,7 +88,7 @@ pub(crate) fn is_later_block(request: &Request<'_>) -> bool
 }
 
 /// Whether the value of Observe begins or ends an observation (RFC 7641 section 2).
-pub(crate) fn is_heeded(observe: Option<u32>) -> bool
+pub fn is_heeded(observe: Option<u32>) -> bool
     ensures { result ≡ requests_of.is_heeded observe }
 {
     match observe {
@@ -98,7 +98,7 @@ pub(crate) fn is_heeded(observe: Option<u32>) -> bool
 }
 
 /// Whether the value of Observe begins an observation (RFC 7641 section 2).
-pub(crate) fn begins_observation(observe: Option<u32>) -> bool
+pub fn begins_observation(observe: Option<u32>) -> bool
     ensures { result ≡ begins_observation observe }
 {
     match observe {
@@ -131,7 +131,7 @@ fn takes_no_payload(path: &Path, code: u8) -> bool
 
 /// A refusal that a request alone decides.
 #[derive(Drop)]
-pub(crate) enum Refused {
+pub enum Refused {
     /// For its options, its path, its method, a block or a format.
     Request(Refusal),
     /// For its query options.

@@ -6,8 +6,8 @@ ghost use Rattle.message_model.specs.declared.messages.Role.TheVariants as role;
 ghost use Rattle.coap_message.specs.Views.{message_in};
 ghost use Rattle.journal_model.specs.Machine.{is_look_datagram};
 ghost use Rattle.journal_model.specs.Requests as requests_of;
-ghost use Rattle.rd_desk.specs.Accepted.{message_of};
-ghost use Rattle.rd_desk.specs.Incoming.{IsFor, IsIncoming, looks};
+ghost use Rattle.rd_request.specs.Accepted.{message_of};
+ghost use Rattle.rd_request.specs.Incoming.{IsFor, IsIncoming, looks};
 
 use crate::accepted::Request;
 use crate::requests::{Refused, asked, is_heeded, is_later_block};
@@ -17,7 +17,7 @@ use message_model::Role;
 
 /// What a datagram is to the directory.
 #[derive(Drop)]
-pub(crate) enum Incoming<'a> {
+pub enum Incoming<'a> {
     /// No message (RFC 7252 section 3).
     Unread(Unread),
     /// A message of which nothing comes.
@@ -101,7 +101,7 @@ fn told<'a>(view: &View<'a>) -> Incoming<'a>
 }
 
 /// What a datagram is to the directory.
-pub(crate) fn read_datagram(datagram: &[u8]) -> Incoming<'_>
+pub fn read_datagram(datagram: &[u8]) -> Incoming<'_>
     ensures { IsIncoming datagram.now result }
 {
     match view(datagram) {

@@ -2,8 +2,8 @@ use Rattle.std.proofs.Common.{sym, ap, ◌∙◌}
 use Rattle.message_model.specs.Refusals.{refusal_of}
 use Rattle.coap_message.specs.Views.{message_in}
 use Rattle.journal_model.specs.Requests.{has_bad_query, has_bad_payload}
-use Rattle.rd_desk.proofs.answers.AskedLaws.{query_refused, payload_refused, none_refused}
-use Rattle.rd_desk.proofs.requests.asked.Goals as goal
+use Rattle.rd_request.proofs.AskedLaws.{query_refused, payload_refused, none_refused}
+use Rattle.rd_request.proofs.requests.asked.Goals as goal
 
 pub returns-then-has_bad_query-clause-refused : goal.returns-then-has_bad_query-clause-refused
 returns-then-has_bad_query-clause-refused c =

@@ -42,3 +42,30 @@ none_refused m none good fine = rw none (rw good (rw fine refl))
 pub looks_by : (m : Message) → refusal_of_request m ≡ None → is_look_request m ≡ only_looks m
 unfolding is_look_request
 looks_by m none = rw none refl
+
+-- where nothing is refused, the query options are not
+pub good_request : (m : Message) → refusal_of_request m ≡ None → has_bad_query m ≡ false
+unfolding refusal_of_request
+good_request m none = by (refusal_of m) (has_bad_query m) refl none where
+  by : (o : Option Refusal) (bad : Bool)
+      → has_bad_query m ≡ bad
+      → refusal_or_next o m ≡ None
+      → has_bad_query m ≡ false
+  by (Some refusal) bad e h = cc
+  by None false e h = e
+  by None true e h = let refused = rw e at h in cc
+
+-- a request that only looks is a discovery or a lookup
+pub looks_seek : (m : Message) → only_looks m ≡ true → seeks_links (path_in m) ≡ true
+looks_seek m looks =
+    by (is_discovery (path_in m)) (is_lookup (path_in m)) (not (is_later_block m))
+    (not (is_heeded (observe_in m))) looks where
+      by : (d l first plain : Bool) → (d || (l && first && plain)) ≡ true → (d || l) ≡ true
+      by true l first plain h = refl
+      by false true first plain h = refl
+      by false false first plain h = h
+
+-- nothing is there
+pub none_there : {A : Type 0} (o : Option A) → is_none o ≡ true → o ≡ None
+none_there None e = refl
+none_there (Some x) e = cc

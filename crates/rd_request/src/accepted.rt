@@ -6,7 +6,7 @@ ghost use Rattle.std.specs.Prelude.{◌≡◌, true, is_none};
 ghost use Rattle.message_model.specs.Blocks.{IsBlock};
 ghost use Rattle.coap_message.specs.Views.{message_in};
 ghost use Rattle.journal_model.specs.Requests as requests_of;
-ghost use Rattle.rd_desk.specs.Resources.{is_at};
+ghost use Rattle.rd_request.specs.Resources.{is_at};
 
 use crate::resources::Resource;
 use coap_options::Meaning;
@@ -15,7 +15,7 @@ use message_model::Block;
 /// A request that nothing refuses for itself: what its options mean, what it is about, and the
 /// blocks that it names.
 #[derive(Clone, Copy, Debug)]
-pub(crate) struct Request<'a> {
+pub struct Request<'a> {
     /// The message, with what its options mean.
     pub meaning: Meaning<'a>,
     /// What it is about.
