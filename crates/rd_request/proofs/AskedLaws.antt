@@ -1,16 +1,39 @@
--- The refusals that a request alone decides, one after the other.
-use Rattle.std.proofs.Common.{◌≡◌, true, false, Some, None, codes, refl}
+-- The refusals that a request alone decides, one after the other, and what follows where nothing is
+-- refused.
+use Rattle.std.proofs.Common.{
+  ◌≡◌,
+  Bool,
+  true,
+  false,
+  not,
+  ◌&&◌,
+  ◌||◌,
+  Option,
+  Some,
+  None,
+  is_none,
+  codes,
+  refl,
+}
 use Rattle.message_model.specs.Codes as codes_of
+use Rattle.message_model.specs.declared.requests.Refusal.{Refusal}
 use Rattle.message_model.specs.Message.{Message}
 use Rattle.message_model.specs.Refusals.{refusal_of}
+use Rattle.message_model.specs.Request.{path_in, observe_in}
 use Rattle.journal_model.specs.Effects.{diagnostic}
 use Rattle.journal_model.specs.Requests.{
   refusal_of_request,
+  refusal_or_next,
   has_bad_query,
   has_bad_payload,
+  is_discovery,
+  is_lookup,
+  is_later_block,
+  is_heeded,
   only_looks,
   is_look_request,
 }
+use Rattle.rd_request.specs.Asking.{seeks_links}
 
 -- none before the query, and the query is refused
 pub query_refused : (m : Message)

@@ -2,87 +2,32 @@
 use Rattle.std.proofs.Common.{
   ◌≡◌,
   ℕ,
-  Bool,
   true,
   false,
-  not,
-  ◌&&◌,
-  ◌||◌,
   List,
   Option,
   Some,
   None,
-  option_map,
   option_and_then,
   is_some,
-  is_none,
   Result,
   Ok,
   Err,
   refl,
   sym,
   ap,
-  subst,
   ◌∙◌,
 }
-use Rattle.std.proofs.lemmas.Bool.{and_parts}
-use Rattle.rd_base.specs.declared.peers.Peer.{Peer}
 use Rattle.rd_base.specs.declared.queries.Kind.{Kind}
 use Rattle.rd_base.specs.declared.queries.Query.{Query}
-use Rattle.message_model.specs.declared.blocks.Block.{Block}
-use Rattle.message_model.specs.declared.messages.Role.{Role}
-use Rattle.message_model.specs.declared.messages.Role.TheVariants as role
-use Rattle.message_model.specs.declared.messages.Unread.{Unread}
 use Rattle.message_model.specs.declared.requests.Path.{Path}
 use Rattle.message_model.specs.declared.requests.Path.TheVariants as path
-use Rattle.message_model.specs.declared.requests.Refusal.{Refusal}
-use Rattle.message_model.specs.Message.{Message, role_of}
-use Rattle.message_model.specs.Reading.{reading}
-use Rattle.message_model.specs.Refusals.{refusal_of}
-use Rattle.message_model.specs.Request.{path_in, queries_in, observe_in}
+use Rattle.message_model.specs.Message.{Message}
+use Rattle.message_model.specs.Request.{path_in, queries_in}
 use Rattle.record_model.specs.Faults.{Fault}
 use Rattle.record_model.specs.Parameters.{unless_fault}
 use Rattle.record_model.specs.Criteria.{lookup_fault, lookup_values, lookup_query, fault_of}
-use Rattle.record_model.specs.Discovery.{discovery}
-use Rattle.history_model.specs.declared.entries.Entry.{Entry}
-use Rattle.history_model.specs.Listing.{listing, tag}
-use Rattle.journal_model.specs.declared.steps.Step.{Step}
-use Rattle.journal_model.specs.Effects.{Reply, without_memory}
-use Rattle.journal_model.specs.Requests.{
-  reading_of,
-  has_bad_query,
-  is_lookup,
-  is_discovery,
-  is_later_block,
-  is_heeded,
-  only_looks,
-  kind_of,
-  query_of,
-  asked_block,
-  refusal_of_request,
-  refusal_or_next,
-  is_look_request,
-}
-use Rattle.journal_model.specs.Bodies.{body_reply, is_long}
-use Rattle.journal_model.specs.Machine.{is_look_message, is_look_reading, is_look_datagram}
-use Rattle.journal_model.specs.Sought.{sought_at}
-use Rattle.journal_model.specs.Looks.{
-  Look,
-  answered,
-  held,
-  names_tag,
-  still_valid,
-  unless_long,
-  unless_valid,
-  found_under,
-  look_for,
-  look,
-  look_sent,
-  look_effects,
-  looked,
-  body_held,
-  held_after,
-}
+use Rattle.journal_model.specs.Requests.{reading_of, has_bad_query, kind_of, query_of}
 use Rattle.rd_request.specs.Asking.{seeks_links}
 
 -- no fault is found

@@ -5,7 +5,6 @@ use Rattle.std.proofs.Common.{
   Bool,
   true,
   false,
-  not,
   ◌==◌,
   Option,
   Some,
@@ -47,7 +46,6 @@ use Rattle.rd_request.specs.declared.resources.Resource.{Resource}
 use Rattle.rd_request.specs.declared.resources.Resource.TheVariants as resource
 use Rattle.rd_request.specs.Accepted.{message_of}
 use Rattle.rd_request.specs.Resources.{resource_at, is_at, kind_at, is_core}
-use Rattle.rd_request.specs.WriteRequests.{is_write_path}
 
 same_number : (n : ℕ) → (n == n) ≡ true
 same_number n = grind arith

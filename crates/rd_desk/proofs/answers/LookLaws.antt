@@ -13,8 +13,6 @@ use Rattle.std.proofs.Common.{
   Some,
   None,
   option_map,
-  option_and_then,
-  is_some,
   is_none,
   Result,
   Ok,
@@ -27,40 +25,29 @@ use Rattle.std.proofs.Common.{
 }
 use Rattle.std.proofs.lemmas.Bool.{and_parts}
 use Rattle.rd_base.specs.declared.peers.Peer.{Peer}
-use Rattle.rd_base.specs.declared.queries.Kind.{Kind}
-use Rattle.rd_base.specs.declared.queries.Query.{Query}
 use Rattle.message_model.specs.declared.blocks.Block.{Block}
 use Rattle.message_model.specs.declared.messages.Role.{Role}
 use Rattle.message_model.specs.declared.messages.Role.TheVariants as role
 use Rattle.message_model.specs.declared.messages.Unread.{Unread}
 use Rattle.message_model.specs.declared.requests.Path.{Path}
 use Rattle.message_model.specs.declared.requests.Path.TheVariants as path
-use Rattle.message_model.specs.declared.requests.Refusal.{Refusal}
 use Rattle.message_model.specs.Message.{Message, role_of}
 use Rattle.message_model.specs.Reading.{reading}
-use Rattle.message_model.specs.Refusals.{refusal_of}
-use Rattle.message_model.specs.Request.{path_in, queries_in, observe_in}
-use Rattle.record_model.specs.Faults.{Fault}
-use Rattle.record_model.specs.Parameters.{unless_fault}
-use Rattle.record_model.specs.Criteria.{lookup_fault, lookup_values, lookup_query, fault_of}
+use Rattle.message_model.specs.Request.{path_in, observe_in}
 use Rattle.record_model.specs.Discovery.{discovery}
 use Rattle.history_model.specs.declared.entries.Entry.{Entry}
 use Rattle.history_model.specs.Listing.{listing, tag}
 use Rattle.journal_model.specs.declared.steps.Step.{Step}
 use Rattle.journal_model.specs.Effects.{Reply, without_memory}
 use Rattle.journal_model.specs.Requests.{
-  reading_of,
-  has_bad_query,
   is_lookup,
   is_discovery,
   is_later_block,
   is_heeded,
   only_looks,
-  kind_of,
   query_of,
   asked_block,
   refusal_of_request,
-  refusal_or_next,
   is_look_request,
 }
 use Rattle.journal_model.specs.Bodies.{body_reply, is_long}
@@ -83,7 +70,6 @@ use Rattle.journal_model.specs.Looks.{
   body_held,
   held_after,
 }
-use Rattle.rd_request.specs.Asking.{seeks_links}
 use Rattle.rd_desk.specs.declared.looks.Looked.TheVariants as ended
 use Rattle.rd_desk.specs.Looking.{look_done, look_left, IsHeld}
 

@@ -6,7 +6,7 @@ use Rattle.record_model.specs.Criteria.{lookup_query}
 use Rattle.rd_request.proofs.QueryLaws.{query_meant, query_read, query_faulty}
 use Rattle.rd_request.proofs.AskedLaws.{good_request, none_there}
 use Rattle.rd_request.proofs.ResourceLaws.{kind_there}
-use Rattle.rd_desk.proofs.looks.query_of.Goals as goal
+use Rattle.rd_request.proofs.lookup_queries.query_of.Goals as goal
 
 pub unreachable-requires : goal.unreachable-requires
 unreachable-requires c =
