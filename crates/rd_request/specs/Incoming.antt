@@ -1,8 +1,7 @@
 -- What a datagram is to the directory, as the code says it.
-use Rattle.std.specs.Prelude.{◌≡◌, Bool, true, false, ℕ, List, Result, Some, Ok, Err}
+use Rattle.std.specs.Prelude.{◌≡◌, Bool, true, false, ℕ, List, Some, Ok, Err}
 use Rattle.message_model.specs.declared.messages.Role.{Role}
 use Rattle.message_model.specs.declared.messages.Role.TheVariants as role
-use Rattle.message_model.specs.declared.messages.Unread.{Unread}
 use Rattle.message_model.specs.Message.{Message, role_of}
 use Rattle.message_model.specs.Reading.{reading}
 use Rattle.message_model.specs.Request.{path_in}

@@ -1,5 +1,5 @@
 -- What requests are about.
-use Rattle.std.specs.Prelude.{◌≡◌, ℕ, Bool, true, false, ◌==◌, Option, Some, None}
+use Rattle.std.specs.Prelude.{Bool, true, false, ◌==◌, Option, Some, None}
 use Rattle.rd_base.specs.declared.queries.Kind.{Kind}
 use Rattle.rd_base.specs.declared.queries.Kind.TheVariants as kind
 use Rattle.message_model.specs.declared.requests.Path.{Path}
