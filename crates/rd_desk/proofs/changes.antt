@@ -2,7 +2,6 @@ pub mod OutcomeLaws
 pub mod EntryLaws
 pub mod LeaseLaws
 pub mod SettlingLaws
-pub mod ParameterLaws
 pub mod UploadLaws
 pub mod FetchStartLaws
 pub mod ShortAnswers

@@ -7,12 +7,11 @@ pub mod WayLaws
 pub mod PartLaws
 pub mod DeskLaws
 pub mod WriteLaws
-pub mod WriteJobLaws
 pub mod EmptyMessageLaws
 pub mod KeepLaws
 pub mod AdmissionLaws
 pub mod ForgottenLaws
 pub mod LookupLaws
 pub mod HearingLaws
-pub mod IncomingLaws
+pub mod RoleLaws
 pub mod LookRows

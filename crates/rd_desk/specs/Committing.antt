@@ -7,7 +7,7 @@ use Rattle.event_model.specs.declared.notes.Note.TheVariants as note
 use Rattle.journal_model.specs.declared.steps.Step.{Step}
 use Rattle.journal_model.specs.Effects as effects
 use Rattle.journal_model.specs.Effects.{Effects, bare, answer, answering}
-use Rattle.rd_desk.specs.declared.replies.Reply.{Reply}
+use Rattle.coap_answers.specs.declared.replies.Reply.{Reply}
 
 -- a request is answered, and its write, which was admitted at a place, is settled by that
 abbrev pub answering_settled : ℕ → Step → Message → effects.Reply → Effects

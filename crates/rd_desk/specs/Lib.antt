@@ -1,11 +1,3 @@
-pub mod Outboxes
-pub mod Replies
-pub mod Sendings
-pub mod Resources
-pub mod Asking
-pub mod Accepted
-pub mod Incoming
-pub mod Writing
 pub mod Watching
 pub mod Fetching
 pub mod WriteJobs

@@ -38,11 +38,11 @@ use Rattle.journal_model.specs.Lookups.{lookup_effects}
 use Rattle.journal_model.specs.Requests.{asked_block, number_of, szx_of}
 use Rattle.journal_model.specs.Rows.{row_moment}
 use Rattle.transfers.specs.TransferEvents.{Table, AnswersStandFor, TransfersStandFor}
+use Rattle.coap_answers.specs.declared.mids.Mids.{Mids}
+use Rattle.coap_answers.specs.Sendings.{IsStepOf, Sends}
 use Rattle.rd_desk.specs.declared.joining.Joining.{Joining}
 use Rattle.rd_desk.specs.declared.listings.Formed.{Formed}
 use Rattle.rd_desk.specs.declared.listings.Listed.{Listed}
-use Rattle.rd_desk.specs.declared.mids.Mids.{Mids}
-use Rattle.rd_desk.specs.Sendings.{IsStepOf, Sends}
 
 -- a listing as an answer
 abbrev pub answer_listed : Listed → Answer
@@ -54,10 +54,6 @@ answer_at history moment query = record {
   body = listing query history moment;
   tag = tag history moment;
 }
-
--- a body has the block that is asked for (RFC 7959 section 2.2)
-abbrev pub has_asked_block : Option Block → List ℕ → Bool
-has_asked_block asked body = is_some (block_of body (number_of asked) (szx_of asked))
 
 -- these kept answers are others with an answer kept after them at a moment, under a peer and a key
 abbrev pub AreWith : ℕ → Peer → List ℕ → Answer → List KeptAnswer → List KeptAnswer → Type 0

@@ -9,6 +9,8 @@ use Rattle.history_model.specs.Versions.{Version, VersionStandsFor}
 use Rattle.event_model.specs.declared.notes.Note.{Note}
 use Rattle.event_model.specs.declared.notes.Note.TheVariants as note
 use Rattle.journal_model.specs.Changes as changes
+use Rattle.coap_answers.specs.declared.replies.Reply.{Reply}
+use Rattle.coap_answers.specs.Replies.{IsReply, reply_said}
 use Rattle.rd_desk.specs.declared.change_kinds.ChangeKind.{ChangeKind}
 use Rattle.rd_desk.specs.ChangeKinds.{kind_of}
 use Rattle.rd_desk.specs.declared.outcomes.Entering.{Entering}
@@ -16,8 +18,6 @@ use Rattle.rd_desk.specs.declared.outcomes.Outcome.{Outcome}
 use Rattle.message_model.specs.Codes as codes_of
 use Rattle.history_model.specs.declared.refusals.Refusal.{Refusal}
 use Rattle.journal_model.specs.Effects.{diagnostic}
-use Rattle.rd_desk.specs.declared.replies.Reply.{Reply}
-use Rattle.rd_desk.specs.Replies.{IsReply, reply_said}
 
 -- the version has this entry after a history, which nothing refuses; the number is that of the
 -- registration that the entry is about, and the kind that of its change

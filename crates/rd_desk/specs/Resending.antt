@@ -13,9 +13,9 @@ use Rattle.journal_model.specs.Rows.{row_moment}
 use Rattle.journal_model.specs.Ticks.{each_of, fetch_again, requests_again}
 use Rattle.journal_model.specs.UnfinishedRow.{making}
 use Rattle.simple_registration.specs.FetchEvents.{fetch_due}
-use Rattle.rd_desk.specs.declared.mids.Mids.{Mids}
+use Rattle.coap_answers.specs.declared.mids.Mids.{Mids}
+use Rattle.coap_answers.specs.Outboxes.{most_datagrams}
 use Rattle.rd_desk.specs.Desks.{Seen}
-use Rattle.rd_desk.specs.Outboxes.{most_datagrams}
 use Rattle.rd_desk.specs.UnderWay.{UnderWay}
 
 -- the fetch with a peer is as it was before the row that is being made: it made the same last

@@ -9,9 +9,9 @@ use Rattle.journal_model.specs.DeskJournal.{IsDeskJournal, NoLaterLook}
 use Rattle.journal_model.specs.Journal.{is_look}
 use Rattle.journal_model.specs.Effects.{Effects}
 use Rattle.journal_model.specs.UnfinishedRow.{making, drawing}
-use Rattle.rd_desk.specs.declared.mids.Mids.{Mids}
+use Rattle.coap_answers.specs.declared.mids.Mids.{Mids}
+use Rattle.coap_answers.specs.Sendings.{AreRequestsSent}
 use Rattle.rd_desk.specs.Desks.{Seen, StandsFor}
-use Rattle.rd_desk.specs.Sendings.{AreRequestsSent}
 
 -- the step is under way after a journal of a desk: the desk stands for the journal with a row that
 -- did this so far, which is what was sent and drawn; the requests of fetches that the row noted are

@@ -1,39 +1,9 @@
--- What the job of an admitted write shows, and of which datagrams such jobs are.
-use Rattle.std.specs.Prelude.{ℕ, Bool, true, false, ◌&&◌, List, Result, Ok, Err, is_none}
+-- What the job of an admitted write shows.
+use Rattle.std.specs.Prelude.{ℕ, List}
 use Rattle.rd_base.specs.declared.peers.Peer.{Peer}
-use Rattle.message_model.specs.declared.messages.Role.{Role}
-use Rattle.message_model.specs.declared.messages.Role.TheVariants as role
-use Rattle.message_model.specs.declared.messages.Unread.{Unread}
-use Rattle.message_model.specs.declared.requests.Path.{Path}
-use Rattle.message_model.specs.declared.requests.Path.TheVariants as path
-use Rattle.message_model.specs.Message.{Message, role_of}
-use Rattle.message_model.specs.Reading.{reading}
-use Rattle.message_model.specs.Request.{path_in}
-use Rattle.journal_model.specs.Requests.{refusal_of_request}
 
 -- a write that is to be done: who wrote, by which datagram, and when it was admitted
 pub record Write : Type 0 where
   pub peer : Peer
   pub datagram : List ℕ
   pub admitted : ℕ
-
--- what is written to: the registrations, or one of them (RFC 9176 sections 5, 5.1 and 5.3)
-abbrev pub is_write_path : Path → Bool
-is_write_path path.Rd = true
-is_write_path path.SimpleRd = true
-is_write_path (path.Location number) = true
-is_write_path _ = false
-
--- a message is a write that nothing refuses
-abbrev pub is_write_message : Role → Message → Bool
-is_write_message role.Request m = is_none (refusal_of_request m) && is_write_path (path_in m)
-is_write_message _ m = false
-
--- what is read of a datagram is such a write
-abbrev pub is_write_reading : Result Message Unread → Bool
-is_write_reading (Err fault) = false
-is_write_reading (Ok m) = is_write_message (role_of m.kind m.code) m
-
--- the datagram is such a write
-unfoldable pub is_write_datagram : List ℕ → Bool
-is_write_datagram datagram = is_write_reading (reading datagram)

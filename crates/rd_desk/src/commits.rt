@@ -14,10 +14,10 @@ ghost use Rattle.journal_model.specs.Commits.{settling};
 ghost use Rattle.journal_model.specs.Effects.{nothing};
 ghost use Rattle.journal_model.specs.Journal.{events, entries};
 ghost use Rattle.journal_model.specs.Rows.{row_moment, done, row};
+ghost use Rattle.coap_answers.specs.Outboxes.{most_datagrams};
+ghost use Rattle.coap_answers.specs.Replies.{IsReply};
 ghost use Rattle.rd_desk.specs.Committing.{unless_failing, IsShort};
-ghost use Rattle.rd_desk.specs.Outboxes.{most_datagrams};
 ghost use Rattle.rd_desk.specs.Outcomes.{IsTimely, IsPlanned, IsMadeAt};
-ghost use Rattle.rd_desk.specs.Replies.{IsReply};
 ghost use Rattle.rd_desk.specs.Stepping.{is_starved_step};
 ghost use Rattle.rd_desk.specs.UnderWay.{UnderWay, IsCalled, Made};
 ghost use Rattle.rd_desk.specs.Shown.{AreToldOf};
@@ -26,7 +26,6 @@ ghost use Rattle.history_model.specs.Versions.{VersionStandsFor};
 ghost use Rattle.rd_desk.specs.Staging.{IsLaid, IsLeftBy, IsNextOf};
 
 use crate::outcomes::Outcome;
-use crate::resources::Resource;
 use crate::staging::staged;
 use crate::tables::Tables;
 use crate::write_jobs::write_request;
@@ -34,6 +33,7 @@ use crate::{Mids, Outbox, Stepped, WriteJob};
 use coap_message::View;
 use directory_core::Board;
 use rd_base::{Moment, Peer, Starved};
+use rd_request::Resource;
 use std::alloc::Global;
 
 impl Tables {

@@ -10,7 +10,7 @@ ghost use Rattle.journal_model.specs.declared.rows.Row.{Row};
 ghost use Rattle.journal_model.specs.Effects.{Effects, joined, noting};
 ghost use Rattle.journal_model.specs.Journal.{entries};
 ghost use Rattle.journal_model.specs.Rows.{row_moment};
-ghost use Rattle.rd_desk.specs.declared.mids.Mids.{Mids};
+ghost use Rattle.coap_answers.specs.declared.mids.Mids.{Mids};
 ghost use Rattle.rd_desk.specs.Outcomes.{IsEntering, IsReadyAt};
 ghost use Rattle.rd_desk.specs.UnderWay.{UnderWay};
 

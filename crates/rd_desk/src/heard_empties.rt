@@ -7,7 +7,7 @@ ghost use Rattle.journal_model.specs.declared.rows.Row.{Row};
 ghost use Rattle.journal_model.specs.Effects.{nothing};
 ghost use Rattle.journal_model.specs.EmptyMessages as empties;
 ghost use Rattle.journal_model.specs.Journal.{events};
-ghost use Rattle.rd_desk.specs.declared.mids.Mids.{Mids};
+ghost use Rattle.coap_answers.specs.declared.mids.Mids.{Mids};
 ghost use Rattle.rd_desk.specs.UnderWay.{UnderWay};
 
 use crate::tables::Tables;

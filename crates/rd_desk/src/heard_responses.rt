@@ -19,22 +19,22 @@ ghost use Rattle.journal_model.specs.Responses.{strange, acknowledgement, comple
 ghost use Rattle.journal_model.specs.Responses.{response_to};
 ghost use Rattle.journal_model.specs.Rows.{row_moment};
 ghost use Rattle.simple_registration.specs.Table.{belongs_among};
-ghost use Rattle.rd_desk.specs.declared.mids.Mids.{Mids};
+ghost use Rattle.coap_answers.specs.declared.mids.Mids.{Mids};
+ghost use Rattle.coap_answers.specs.Outboxes.{most_datagrams};
+ghost use Rattle.coap_answers.specs.Sendings.{Sends};
 ghost use Rattle.rd_desk.specs.Admitting.{response_takes};
-ghost use Rattle.rd_desk.specs.Outboxes.{most_datagrams};
 ghost use Rattle.rd_desk.specs.Outcomes.{IsPlanned, IsTimely};
 ghost use Rattle.rd_desk.specs.Responding.{asking_next, unless_starved, response_heard};
-ghost use Rattle.rd_desk.specs.Sendings.{Sends};
 ghost use Rattle.rd_desk.specs.Stepping.{is_starved_step};
 ghost use Rattle.rd_desk.specs.UnderWay.{UnderWay};
 ghost use Rattle.rd_desk.specs.Shown.{AreToldOf};
 ghost use Rattle.rd_desk.specs.Staging.{IsLaid, IsLeftBy};
 
-use crate::empty_messages::send_empty;
 use crate::outcomes::{Outcome, registered};
 use crate::staging::staged;
 use crate::tables::Tables;
 use crate::{Mids, Outbox, Stepped};
+use coap_answers::send_empty;
 use coap_message::{Kind4, View};
 use coap_options::Meaning;
 use directory_core::Board;

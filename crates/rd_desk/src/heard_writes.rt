@@ -9,15 +9,15 @@ ghost use Rattle.journal_model.specs.Effects.{nothing};
 ghost use Rattle.journal_model.specs.Journal.{events};
 ghost use Rattle.journal_model.specs.Rows.{row_moment};
 ghost use Rattle.journal_model.specs.Writes.{write_effects};
+ghost use Rattle.coap_answers.specs.Outboxes.{most_datagrams};
+ghost use Rattle.rd_request.specs.WriteRequests.{is_write_datagram};
 ghost use Rattle.rd_desk.specs.Admitting.{is_starved_admission, write_heard, write_takes};
 ghost use Rattle.rd_desk.specs.Admitting.{IsHeldFor};
-ghost use Rattle.rd_desk.specs.Outboxes.{most_datagrams};
 ghost use Rattle.rd_desk.specs.UnderWay.{UnderWay};
-ghost use Rattle.rd_desk.specs.WriteJobs.{is_write_datagram};
 
-use crate::server_errors::{answer_full, answer_starved};
 use crate::tables::Tables;
 use crate::{Admitted, Mids, Outbox, WriteJob};
+use coap_answers::{answer_full, answer_starved};
 use coap_message::View;
 use exchange_core::Keyed;
 use rd_base::{Bytes, Peer};

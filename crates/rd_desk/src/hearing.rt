@@ -13,15 +13,15 @@ ghost use Rattle.rd_desk.specs.UnderWay.{UnderWay, IsCalled, Made};
 ghost use Rattle.rd_desk.specs.Shown.{AreToldOf};
 ghost use Rattle.rd_desk.specs.Staging.{IsLaid};
 
-use crate::empty_messages::send_empty;
-use crate::incoming::{Incoming, read_datagram};
 use crate::refused_requests::refuse;
 use crate::tables::Tables;
 use crate::unread_datagrams::reject;
 use crate::{Admitted, Mids, Outbox, Stepped};
+use coap_answers::send_empty;
 use coap_message::Kind4;
 use directory_core::Board;
 use rd_base::{Moment, Peer};
+use rd_request::{Incoming, read_datagram};
 use std::alloc::Global;
 
 /// What comes of a datagram that leaves no job.

@@ -2,7 +2,6 @@
 //! and 6, RFC 7252 section 5.10.6.2).
 ghost use Rattle.std.specs.Prelude.{◌≡◌, ◌≤◌, ◌<◌, ℕ, true, false, List, length, Ok, Some, IfOk};
 ghost use Rattle.message_model.specs.Reading.{reading};
-ghost use Rattle.message_model.specs.Request.{path_in};
 ghost use Rattle.coap_message.specs.Views.{message_in};
 ghost use Rattle.history_model.specs.declared.entries.Entry.{Entry};
 ghost use Rattle.history_model.specs.Listing.{listing, tag};
@@ -11,26 +10,20 @@ ghost use Rattle.journal_model.specs.declared.steps.Step.{Step};
 ghost use Rattle.journal_model.specs.Looks as looks_of;
 ghost use Rattle.journal_model.specs.Machine.{is_look_datagram};
 ghost use Rattle.journal_model.specs.Requests as requests_of;
-ghost use Rattle.rd_desk.specs.Accepted.{message_of};
-ghost use Rattle.rd_desk.specs.Asking.{seeks_links};
+ghost use Rattle.coap_answers.specs.Outboxes.{most_datagrams};
+ghost use Rattle.coap_answers.specs.Replies.{IsReply, reply_said};
+ghost use Rattle.coap_answers.specs.Sendings.{IsStepOf, Sends};
+ghost use Rattle.rd_request.specs.Accepted.{message_of};
 ghost use Rattle.rd_desk.specs.Looking.{look_found, is_starved_look, look_done, look_left, IsHeld};
-ghost use Rattle.rd_desk.specs.Outboxes.{most_datagrams};
-ghost use Rattle.rd_desk.specs.Replies.{IsReply, reply_said};
-ghost use Rattle.rd_desk.specs.Sendings.{IsStepOf, Sends};
 
-use crate::accepted::Request;
-use crate::bodies::{body_reply, is_long};
-use crate::incoming::{Incoming, read_datagram};
-use crate::replies::{Reply, answer};
-use crate::resources::{is_core, kind_at};
-use crate::server_errors::answer_starved;
 use crate::{KeepJob, Mids, Outbox};
-use coap_options::{Meaning, etags, queries};
+use coap_answers::{Reply, answer, answer_starved, body_reply, is_long};
+use coap_options::{Meaning, etags};
 use directory_core::Directory;
 use listing::discovery;
 use message_model::codes::VALID;
-use query_text::{QueryBad, lookup_query};
 use rd_base::{Bytes, Moment, Peer, Query, Starved, Steps, Tag};
+use rd_request::{Incoming, Request, is_core, query_of, read_datagram};
 use std::alloc::Global;
 use std::marker::Brand;
 use std::sync::ledger::{Blank, Ledger};
@@ -64,19 +57,6 @@ enum Found {
     Listing(TaggedListing),
     /// The links of the directory itself, which have no tag.
     OwnLinks(Bytes),
-}
-
-/// What a lookup or a discovery asks for, whose query options are not refused. `Starved`: out of
-/// memory.
-pub(crate) fn query_of(alloc: Global, request: &Request<'_>) -> Result<Query, Starved>
-    requires seeks { seeks_links (path_in (message_of request.now)) ≡ true }
-    ensures { IfOk result (λ query. query ≡ requests_of.query_of (message_of request.now)) }
-{
-    match lookup_query(alloc, kind_at(&request.resource), queries(&request.meaning)) {
-        Ok(query) => Ok(query),
-        Err(QueryBad::Starved) => Err(Starved),
-        Err(QueryBad::At { .. }) => unreachable!(),
-    }
 }
 
 /// Whether a tag is among those that the request names (RFC 7252 section 5.10.6.2).

@@ -17,28 +17,26 @@ ghost use Rattle.journal_model.specs.Effects.{Effects, nothing, joined, noting};
 ghost use Rattle.journal_model.specs.Journal.{events};
 ghost use Rattle.journal_model.specs.Lookups.{without};
 ghost use Rattle.journal_model.specs.Requests as requests_of;
-ghost use Rattle.rd_desk.specs.Accepted.{message_of};
-ghost use Rattle.rd_desk.specs.declared.mids.Mids.{Mids as MidsSeen};
-ghost use Rattle.rd_desk.specs.Asking.{seeks_links, begins_observation};
+ghost use Rattle.coap_answers.specs.declared.mids.Mids.{Mids as MidsSeen};
+ghost use Rattle.coap_answers.specs.AskedBlocks.{has_asked_block};
+ghost use Rattle.coap_answers.specs.Outboxes.{most_datagrams};
+ghost use Rattle.rd_request.specs.Accepted.{message_of};
+ghost use Rattle.rd_request.specs.Asking.{seeks_links, begins_observation};
 ghost use Rattle.rd_desk.specs.Joining.{observer_joining, joining_notes};
-ghost use Rattle.rd_desk.specs.Lookups.{answer_listed, answer_at, has_asked_block, IsFormed};
+ghost use Rattle.rd_desk.specs.Lookups.{answer_listed, answer_at, IsFormed};
 ghost use Rattle.rd_desk.specs.Lookups.{IsReadied, IsJoining, giving, value_given, lookup_heard};
-ghost use Rattle.rd_desk.specs.Outboxes.{most_datagrams};
 ghost use Rattle.rd_desk.specs.Stepping.{is_starved_step};
 ghost use Rattle.rd_desk.specs.UnderWay.{UnderWay};
 
-use crate::accepted::Request;
-use crate::bodies::{has_asked_block, is_long};
 use crate::joining::Joining;
 use crate::listings::{Formed, form, joining_by, listed_at, send_block, send_kept};
-use crate::looks::query_of;
-use crate::requests::{begins_observation, is_later_block};
-use crate::server_errors::answer_starved;
 use crate::tables::Tables;
 use crate::{Mids, Outbox, Stepped};
+use coap_answers::{answer_starved, has_asked_block, is_long};
 use coap_options::request_key;
 use exchange_core::Token;
 use rd_base::{Peer, Query, Starved};
+use rd_request::{Request, begins_observation, is_later_block, query_of};
 use std::alloc::Global;
 
 /// How many Observe values there are: they have 24 bits (RFC 7641 section 3.4).

@@ -11,9 +11,9 @@ ghost use Rattle.journal_model.specs.Effects.{Effects, nothing, joined};
 ghost use Rattle.journal_model.specs.Rows.{row_moment};
 ghost use Rattle.journal_model.specs.Ticks as ticks_of;
 ghost use Rattle.observers.specs.Watchers.{Watcher};
-ghost use Rattle.rd_desk.specs.declared.mids.Mids.{Mids};
+ghost use Rattle.coap_answers.specs.declared.mids.Mids.{Mids};
+ghost use Rattle.coap_answers.specs.Outboxes.{most_datagrams};
 ghost use Rattle.rd_desk.specs.Noticing.{again_done, index_after};
-ghost use Rattle.rd_desk.specs.Outboxes.{most_datagrams};
 ghost use Rattle.rd_desk.specs.UnderWay.{UnderWay};
 
 use crate::Outbox;

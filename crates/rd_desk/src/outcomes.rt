@@ -21,13 +21,13 @@ ghost use Rattle.history_model.specs.Replay.{replay, number_for};
 ghost use Rattle.directory_core.specs.Answers.{IsRefusalOf};
 ghost use Rattle.directory_core.specs.Changes.{IsRegistrationOf};
 ghost use Rattle.registration.specs.Drafts.{IsDraft, IsFaultOf};
+ghost use Rattle.coap_answers.specs.Replies.{IsReply, reply_said, block1_options};
 ghost use Rattle.rd_desk.specs.Committing.{IsShort};
 ghost use Rattle.rd_desk.specs.Staging.{IsNextOf};
 ghost use Rattle.rd_desk.specs.Outcomes.{HasEntry, IsTimely, IsPlanned, IsRefusedWith, IsBadBody};
-ghost use Rattle.rd_desk.specs.Replies.{IsReply, reply_said, block1_options};
 
 use crate::change_kinds::ChangeKind;
-use crate::replies::Reply;
+use coap_answers::Reply;
 use directory_core::{Directory, Refusal};
 use message_model::Block;
 use message_model::codes::CREATED;

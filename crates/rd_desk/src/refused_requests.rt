@@ -4,18 +4,17 @@ ghost use Rattle.message_model.specs.OptionTable.{first_bad_option};
 ghost use Rattle.coap_message.specs.Views.{message_in};
 ghost use Rattle.journal_model.specs.declared.steps.Step.{Step};
 ghost use Rattle.journal_model.specs.Rows.{refusal_answered};
-ghost use Rattle.rd_desk.specs.Asking.{refused_with, IsRefusedBy, is_passed_over};
-ghost use Rattle.rd_desk.specs.Outboxes.{most_datagrams};
-ghost use Rattle.rd_desk.specs.Replies.{IsReply, reply_said};
-ghost use Rattle.rd_desk.specs.Sendings.{IsStepOf, Sends};
+ghost use Rattle.coap_answers.specs.Outboxes.{most_datagrams};
+ghost use Rattle.coap_answers.specs.Replies.{IsReply, reply_said};
+ghost use Rattle.coap_answers.specs.Sendings.{IsStepOf, Sends};
+ghost use Rattle.rd_request.specs.Asking.{refused_with, IsRefusedBy, is_passed_over};
 
-use crate::refusals::{code_of, word_of};
-use crate::replies::{Reply, answer};
-use crate::requests::Refused;
 use crate::{Mids, Outbox};
+use coap_answers::{Reply, answer, refusal_code, refusal_word};
 use coap_message::{Kind4, View};
 use coap_options::Refusal;
 use rd_base::Peer;
+use rd_request::Refused;
 
 /// What is said of a refusal.
 fn reply_to(refused: Refused) -> Reply<'static>
@@ -23,7 +22,7 @@ fn reply_to(refused: Refused) -> Reply<'static>
     ensures reply { IsReply result }
 {
     match refused {
-        Refused::Request(refusal) => Reply::plain(code_of(refusal), word_of(refusal)),
+        Refused::Request(refusal) => Reply::plain(refusal_code(refusal), refusal_word(refusal)),
         Refused::Query => Reply::plain(128, b"query"),
         Refused::Payload => Reply::plain(128, b"payload"),
     }

@@ -10,14 +10,14 @@ ghost use Rattle.journal_model.specs.Changes.{refused};
 ghost use Rattle.journal_model.specs.Commits.{settling};
 ghost use Rattle.journal_model.specs.Effects.{nothing, diagnostic};
 ghost use Rattle.journal_model.specs.Journal.{events};
+ghost use Rattle.coap_answers.specs.Outboxes.{most_datagrams};
+ghost use Rattle.coap_answers.specs.Replies.{IsReply, reply_said};
 ghost use Rattle.rd_desk.specs.Committing.{IsShort};
-ghost use Rattle.rd_desk.specs.Outboxes.{most_datagrams};
-ghost use Rattle.rd_desk.specs.Replies.{IsReply, reply_said};
 ghost use Rattle.rd_desk.specs.UnderWay.{UnderWay};
 
-use crate::replies::Reply;
 use crate::tables::Tables;
 use crate::{Mids, Outbox};
+use coap_answers::Reply;
 use coap_message::View;
 use rd_base::{Moment, Peer};
 

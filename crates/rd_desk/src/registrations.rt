@@ -12,24 +12,23 @@ ghost use Rattle.journal_model.specs.Effects.{nothing};
 ghost use Rattle.journal_model.specs.Journal.{events, entries};
 ghost use Rattle.journal_model.specs.Registrations.{registration_outcome, registering};
 ghost use Rattle.journal_model.specs.Rows.{row_moment};
-ghost use Rattle.rd_desk.specs.Accepted.{message_of};
+ghost use Rattle.coap_answers.specs.Outboxes.{most_datagrams};
+ghost use Rattle.coap_answers.specs.Replies.{IsReply};
+ghost use Rattle.rd_request.specs.Accepted.{message_of};
 ghost use Rattle.rd_desk.specs.Committing.{unless_failing, IsShort};
-ghost use Rattle.rd_desk.specs.Outboxes.{most_datagrams};
 ghost use Rattle.rd_desk.specs.Outcomes.{IsTimely, IsPlanned};
-ghost use Rattle.rd_desk.specs.Replies.{IsReply};
 ghost use Rattle.rd_desk.specs.Stepping.{is_starved_step};
 ghost use Rattle.rd_desk.specs.UnderWay.{UnderWay};
 ghost use Rattle.rd_desk.specs.Shown.{AreToldOf};
 ghost use Rattle.history_model.specs.declared.entries.Entry.{Entry};
 ghost use Rattle.rd_desk.specs.Staging.{IsLaid, IsNextOf};
 
-use crate::accepted::Request;
 use crate::outcomes::{Outcome, registered};
-use crate::parameters::given_params;
 use crate::tables::Tables;
 use crate::{Mids, Outbox, Stepped};
 use directory_core::{Board, Directory};
 use rd_base::{Moment, Peer, Starved};
+use rd_request::{Request, given_params};
 use std::alloc::Global;
 
 /// What comes of a registration whose body comes whole. `Starved`: out of memory.

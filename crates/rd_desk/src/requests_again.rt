@@ -15,9 +15,9 @@ ghost use Rattle.journal_model.specs.Journal.{events};
 ghost use Rattle.journal_model.specs.Rows.{row_moment};
 ghost use Rattle.journal_model.specs.Ticks as ticks_of;
 ghost use Rattle.simple_registration.specs.FetchEvents.{FetchesStandFor};
-ghost use Rattle.rd_desk.specs.declared.mids.Mids.{Mids};
+ghost use Rattle.coap_answers.specs.declared.mids.Mids.{Mids};
+ghost use Rattle.coap_answers.specs.Outboxes.{most_datagrams};
 ghost use Rattle.rd_desk.specs.Noticing.{index_after};
-ghost use Rattle.rd_desk.specs.Outboxes.{most_datagrams};
 ghost use Rattle.rd_desk.specs.Resending.{LeavesFetches, Resending};
 ghost use Rattle.rd_desk.specs.UnderWay.{UnderWay};
 

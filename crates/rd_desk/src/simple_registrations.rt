@@ -14,23 +14,22 @@ ghost use Rattle.journal_model.specs.Effects as effects;
 ghost use Rattle.journal_model.specs.Effects.{nothing};
 ghost use Rattle.journal_model.specs.Journal.{events};
 ghost use Rattle.simple_registration.specs.Table.{Table};
-ghost use Rattle.rd_desk.specs.Accepted.{message_of};
+ghost use Rattle.coap_answers.specs.Outboxes.{most_datagrams};
+ghost use Rattle.coap_answers.specs.Replies.{IsReply, reply_said};
+ghost use Rattle.rd_request.specs.Accepted.{message_of};
 ghost use Rattle.rd_desk.specs.Committing.{unless_failing, IsShort};
-ghost use Rattle.rd_desk.specs.Outboxes.{most_datagrams};
-ghost use Rattle.rd_desk.specs.Replies.{IsReply, reply_said};
 ghost use Rattle.rd_desk.specs.Stepping.{is_starved_step};
 ghost use Rattle.rd_desk.specs.UnderWay.{UnderWay};
 
-use crate::accepted::Request;
 use crate::heard_responses::ask_next;
-use crate::parameters::given_params;
-use crate::replies::Reply;
 use crate::settling::answer_short;
 use crate::tables::Tables;
 use crate::{Mids, Outbox, Stepped};
+use coap_answers::Reply;
 use coap_message::{Kind4, View};
 use message_model::codes::{CHANGED, SERVICE_UNAVAILABLE};
 use rd_base::{Moment, Peer};
+use rd_request::{Request, given_params};
 use simple_registration::StartFault;
 use std::alloc::Global;
 

@@ -4,7 +4,7 @@ ghost use Rattle.rd_base.specs.declared.peers.Peer.{Peer};
 ghost use Rattle.journal_model.specs.declared.steps.Step.{Step};
 ghost use Rattle.journal_model.specs.declared.rows.Row.{Row};
 ghost use Rattle.journal_model.specs.Effects.{nothing};
-ghost use Rattle.rd_desk.specs.declared.mids.Mids.{Mids};
+ghost use Rattle.coap_answers.specs.declared.mids.Mids.{Mids};
 ghost use Rattle.rd_desk.specs.Desks.{StandsFor};
 ghost use Rattle.rd_desk.specs.UnderWay.{UnderWay, IsCalled};
 

@@ -10,7 +10,7 @@ ghost use Rattle.journal_model.specs.declared.steps.StepKind.TheVariants as step
 ghost use Rattle.journal_model.specs.declared.rows.Row.{Row};
 ghost use Rattle.journal_model.specs.Rows.{row, row_moment};
 ghost use Rattle.journal_model.specs.Effects.{Effects};
-ghost use Rattle.rd_desk.specs.declared.mids.Mids.{Mids as Drawn};
+ghost use Rattle.coap_answers.specs.declared.mids.Mids.{Mids as Drawn};
 ghost use Rattle.rd_desk.specs.Stepping.{is_starved_step};
 ghost use Rattle.rd_desk.specs.Ticking.{tick_takes_memory};
 ghost use Rattle.rd_desk.specs.UnderWay.{UnderWay, IsCalled, Made};

@@ -2,12 +2,12 @@
 ghost use Rattle.std.specs.Prelude.{◌≡◌, ◌<◌, length};
 ghost use Rattle.journal_model.specs.declared.steps.Step.{Step};
 ghost use Rattle.journal_model.specs.Rows.{unread_answered};
-ghost use Rattle.rd_desk.specs.declared.mids.Mids.{Mids};
-ghost use Rattle.rd_desk.specs.Outboxes.{most_datagrams};
-ghost use Rattle.rd_desk.specs.Sendings.{Sends};
+ghost use Rattle.coap_answers.specs.declared.mids.Mids.{Mids};
+ghost use Rattle.coap_answers.specs.Outboxes.{most_datagrams};
+ghost use Rattle.coap_answers.specs.Sendings.{Sends};
 
 use crate::Outbox;
-use crate::empty_messages::send_empty;
+use coap_answers::send_empty;
 use coap_message::{Kind4, Unread};
 use rd_base::Peer;
 

@@ -24,24 +24,22 @@ ghost use Rattle.journal_model.specs.Journal.{events, entries};
 ghost use Rattle.journal_model.specs.Registrations.{block1_option, block_uploaded};
 ghost use Rattle.journal_model.specs.Rows.{row_moment};
 ghost use Rattle.transfers.specs.TransferEvents.{block_answer};
-ghost use Rattle.rd_desk.specs.Accepted.{message_of};
-ghost use Rattle.rd_desk.specs.declared.mids.Mids.{Mids};
+ghost use Rattle.coap_answers.specs.declared.mids.Mids.{Mids};
+ghost use Rattle.coap_answers.specs.Outboxes.{most_datagrams};
+ghost use Rattle.coap_answers.specs.Replies.{IsReply, reply_said};
+ghost use Rattle.rd_request.specs.Accepted.{message_of};
 ghost use Rattle.rd_desk.specs.Committing.{unless_failing, IsShort};
-ghost use Rattle.rd_desk.specs.Outboxes.{most_datagrams};
 ghost use Rattle.rd_desk.specs.Outcomes.{IsTimely, IsPlanned, IsMadeAt};
-ghost use Rattle.rd_desk.specs.Replies.{IsReply, reply_said};
 ghost use Rattle.rd_desk.specs.Stepping.{is_starved_step};
 ghost use Rattle.rd_desk.specs.UnderWay.{UnderWay};
 ghost use Rattle.rd_desk.specs.Shown.{AreToldOf};
 ghost use Rattle.rd_desk.specs.Staging.{IsLaid, IsLeftBy, IsNextOf};
 
-use crate::accepted::Request;
 use crate::outcomes::{Outcome, registered};
-use crate::parameters::given_params;
-use crate::replies::Reply;
 use crate::staging::staged;
 use crate::tables::Tables;
 use crate::{Mids, Outbox, Stepped};
+use coap_answers::Reply;
 use coap_message::View;
 use coap_options::request_key;
 use directory_core::{Board, Directory};
@@ -50,6 +48,7 @@ use message_model::codes::{
     CONTINUE, REQUEST_ENTITY_INCOMPLETE, REQUEST_ENTITY_TOO_LARGE, SERVICE_UNAVAILABLE,
 };
 use rd_base::{Key, Moment, Peer, Starved};
+use rd_request::{Request, given_params};
 use std::alloc::Global;
 use transfers::Upload;
 

@@ -2,12 +2,11 @@
 ghost use Rattle.std.specs.Prelude.{◌≡◌, true, Ok};
 ghost use Rattle.message_model.specs.Reading.{reading};
 ghost use Rattle.message_model.specs.Request.{path_in};
-ghost use Rattle.rd_desk.specs.Accepted.{message_of};
-ghost use Rattle.rd_desk.specs.WriteJobs.{is_write_path, is_write_datagram};
+ghost use Rattle.rd_request.specs.Accepted.{message_of};
+ghost use Rattle.rd_request.specs.WriteRequests.{is_write_path, is_write_datagram};
 
-use crate::accepted::Request;
-use crate::incoming::{Incoming, read_datagram};
 use rd_base::{Bytes, Moment, Peer};
+use rd_request::{Incoming, Request, read_datagram};
 use std::marker::Model;
 
 /// A write that was admitted, to be done by the next step of its worker but ticks. Nothing refuses
@@ -24,7 +23,8 @@ pub struct WriteJob {
 
 impl Model for WriteJob {
     ghost use Rattle.std.specs.Prelude.{◌≡◌, true};
-    ghost use Rattle.rd_desk.specs.WriteJobs.{Write, is_write_datagram};
+    ghost use Rattle.rd_request.specs.WriteRequests.{is_write_datagram};
+    ghost use Rattle.rd_desk.specs.WriteJobs.{Write};
 
     ghost Value = { Write };
 

@@ -14,7 +14,7 @@ use Rattle.journal_model.proofs.SeatLaws.{IsFront-trans}
 use Rattle.turn_lock.specs.declared.rows.Replays.{Ghosts}
 use Rattle.turn_lock.specs.declared.seats.Pass.{Pass}
 use Rattle.turn_lock.specs.Shown.{seen_of}
-use Rattle.rd_desk.specs.declared.mids.Mids.{Mids}
+use Rattle.coap_answers.specs.declared.mids.Mids.{Mids}
 use Rattle.rd_desk.specs.Shown.{Shown}
 use Rattle.rd_desk.specs.UnderWay.{Made}
 use Rattle.version_board.specs.Ends.{PublisherSeen, LookerSeen}

@@ -56,7 +56,7 @@ use Rattle.journal_model.proofs.entries.QuietSteps.{
   tick_effects-entries_in,
 }
 use Rattle.journal_model.proofs.EntriesNoted.{entries_in}
-use Rattle.rd_desk.specs.declared.mids.Mids.{Mids}
+use Rattle.coap_answers.specs.declared.mids.Mids.{Mids}
 use Rattle.rd_desk.specs.Desks.{StandsFor}
 use Rattle.rd_desk.specs.KeepJobs.{Keep}
 use Rattle.rd_desk.specs.UnderWay.{IsCalled}

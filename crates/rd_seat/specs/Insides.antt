@@ -9,7 +9,7 @@ use Rattle.journal_model.specs.declared.rows.Row.{Row}
 use Rattle.turn_lock.specs.declared.rows.Replays.{Ghosts}
 use Rattle.turn_lock.specs.declared.seats.Pass.{Pass}
 use Rattle.turn_lock.specs.Shown.{lock_of, number_of, label_of, is_holding, seen_of, mine_of, IsNew}
-use Rattle.rd_desk.specs.declared.mids.Mids.{Mids}
+use Rattle.coap_answers.specs.declared.mids.Mids.{Mids}
 use Rattle.version_board.specs.Ends.{LookerSeen, new_looker}
 use Rattle.rd_seat.specs.Seats.{SeatSeen}
 

@@ -13,8 +13,6 @@ use Rattle.std.proofs.Common.{
   Some,
   None,
   option_map,
-  option_and_then,
-  is_some,
   is_none,
   Result,
   Ok,
@@ -27,40 +25,29 @@ use Rattle.std.proofs.Common.{
 }
 use Rattle.std.proofs.lemmas.Bool.{and_parts}
 use Rattle.rd_base.specs.declared.peers.Peer.{Peer}
-use Rattle.rd_base.specs.declared.queries.Kind.{Kind}
-use Rattle.rd_base.specs.declared.queries.Query.{Query}
 use Rattle.message_model.specs.declared.blocks.Block.{Block}
 use Rattle.message_model.specs.declared.messages.Role.{Role}
 use Rattle.message_model.specs.declared.messages.Role.TheVariants as role
 use Rattle.message_model.specs.declared.messages.Unread.{Unread}
 use Rattle.message_model.specs.declared.requests.Path.{Path}
 use Rattle.message_model.specs.declared.requests.Path.TheVariants as path
-use Rattle.message_model.specs.declared.requests.Refusal.{Refusal}
 use Rattle.message_model.specs.Message.{Message, role_of}
 use Rattle.message_model.specs.Reading.{reading}
-use Rattle.message_model.specs.Refusals.{refusal_of}
-use Rattle.message_model.specs.Request.{path_in, queries_in, observe_in}
-use Rattle.record_model.specs.Faults.{Fault}
-use Rattle.record_model.specs.Parameters.{unless_fault}
-use Rattle.record_model.specs.Criteria.{lookup_fault, lookup_values, lookup_query, fault_of}
+use Rattle.message_model.specs.Request.{path_in, observe_in}
 use Rattle.record_model.specs.Discovery.{discovery}
 use Rattle.history_model.specs.declared.entries.Entry.{Entry}
 use Rattle.history_model.specs.Listing.{listing, tag}
 use Rattle.journal_model.specs.declared.steps.Step.{Step}
 use Rattle.journal_model.specs.Effects.{Reply, without_memory}
 use Rattle.journal_model.specs.Requests.{
-  reading_of,
-  has_bad_query,
   is_lookup,
   is_discovery,
   is_later_block,
   is_heeded,
   only_looks,
-  kind_of,
   query_of,
   asked_block,
   refusal_of_request,
-  refusal_or_next,
   is_look_request,
 }
 use Rattle.journal_model.specs.Bodies.{body_reply, is_long}
@@ -84,76 +71,7 @@ use Rattle.journal_model.specs.Looks.{
   held_after,
 }
 use Rattle.rd_desk.specs.declared.looks.Looked.TheVariants as ended
-use Rattle.rd_desk.specs.Asking.{seeks_links}
 use Rattle.rd_desk.specs.Looking.{look_done, look_left, IsHeld}
-
--- no fault is found
-no_fault : (fault : Option Fault) → is_some fault ≡ false → fault ≡ None
-no_fault None e = refl
-no_fault (Some fault) e = cc
-
--- where query options are not refused, and the path is that of a discovery or of a lookup, they
--- have no fault of a lookup
-good_at : (p : Path) (m : Message)
-    → seeks_links p ≡ true
-    → is_some (option_and_then (λ as_what. fault_of as_what (queries_in m)) (reading_of p m.code))
-    ≡ false
-    → lookup_fault (queries_in m) ≡ None
-unfolding fault_of
-good_at path.Core m seeks good = no_fault (lookup_fault (queries_in m)) good
-good_at path.SimpleRd m seeks good = cc
-good_at path.Rd m seeks good = cc
-good_at (path.Location number) m seeks good = cc
-good_at path.Res m seeks good = no_fault (lookup_fault (queries_in m)) good
-good_at path.Ep m seeks good = no_fault (lookup_fault (queries_in m)) good
-good_at path.Other m seeks good = cc
-
-pub good_query : (m : Message)
-    → seeks_links (path_in m) ≡ true
-    → has_bad_query m ≡ false
-    → lookup_fault (queries_in m) ≡ None
-good_query m seeks good = good_at (path_in m) m seeks good
-
--- a request that only looks is a discovery or a lookup
-pub looks_seek : (m : Message) → only_looks m ≡ true → seeks_links (path_in m) ≡ true
-looks_seek m looks =
-    by (is_discovery (path_in m)) (is_lookup (path_in m)) (not (is_later_block m))
-    (not (is_heeded (observe_in m))) looks where
-      by : (d l first plain : Bool) → (d || (l && first && plain)) ≡ true → (d || l) ≡ true
-      by true l first plain h = refl
-      by false true first plain h = refl
-      by false false first plain h = h
-
--- what the query options say: what the request asks for
-pub query_meant : (m : Message) (kind : Kind) (left : List (List ℕ))
-    → kind ≡ kind_of (path_in m)
-    → left ≡ queries_in m
-    → seeks_links (path_in m) ≡ true
-    → has_bad_query m ≡ false
-    → lookup_query kind left ≡ Ok (query_of m)
-unfolding lookup_query
-query_meant m kind left by all seeks good =
-    ap (λ (k : Kind). lookup_query k left) by
-    ∙ (ap (λ (queries : List (List ℕ)). lookup_query (kind_of (path_in m)) queries) all
-    ∙ ap (λ (fault : Option Fault).
-    unless_fault fault (lookup_values (kind_of (path_in m)) (queries_in m)))
-    (good_query m seeks good))
-
--- so it is read as that
-pub query_read : (m : Message) (query : Query) (meant : Result Query Fault)
-    → meant ≡ Ok (query_of m)
-    → meant ≡ Ok query
-    → query ≡ query_of m
-query_read m query meant same read =
-    let both : ◌≡◌ {A = Result Query Fault} (Ok query) (Ok (query_of m)) = sym read ∙ same in cc
-
--- and not as a fault
-pub query_faulty : (m : Message) (fault : Fault) (meant : Result Query Fault)
-    → meant ≡ Ok (query_of m)
-    → meant ≡ Err fault
-    → ⊥
-query_faulty m fault meant same faulty =
-    let both : ◌≡◌ {A = Result Query Fault} (Err fault) (Ok (query_of m)) = sym faulty ∙ same in cc
 
 -- discovery finds the links of the directory itself
 pub discovered : (history : List Entry) (moment : ℕ) (m : Message) (octets : List ℕ)
@@ -278,11 +196,6 @@ given_links m octets body asked reply same whole said =
     ∙ (ap (λ (b : Option Block). body_reply None None b body) same
     ∙ ap (λ (b : List ℕ). body_reply None None (asked_block m) b) whole)
 
--- nothing is there
-pub none_there : {A : Type 0} (o : Option A) → is_none o ≡ true → o ≡ None
-none_there None e = refl
-none_there (Some x) e = cc
-
 -- nothing refuses the request of a look, and it only looks
 look_request : (m : Message)
     → is_look_request m ≡ true
@@ -321,18 +234,6 @@ look_readable datagram fault is h =
     let none : false ≡ true =
     subst (λ (r : Result Message Unread). is_look_reading r ≡ true) is h in
     cc
-
--- where nothing is refused, the query options are not
-pub good_request : (m : Message) → refusal_of_request m ≡ None → has_bad_query m ≡ false
-unfolding refusal_of_request
-good_request m none = by (refusal_of m) (has_bad_query m) refl none where
-  by : (o : Option Refusal) (bad : Bool)
-      → has_bad_query m ≡ bad
-      → refusal_or_next o m ≡ None
-      → has_bad_query m ≡ false
-  by (Some refusal) bad e h = cc
-  by None false e h = e
-  by None true e h = let refused = rw e at h in cc
 
 -- what a look does that gives this is what is done after looking so
 pub looked_by : (starved : Bool) (history : List Entry) (moment : ℕ) (s : Step)

@@ -24,9 +24,9 @@ use Rattle.message_model.specs.Refusals.{refusal_of, refusal_after_options, opti
 use Rattle.journal_model.specs.declared.steps.Step.{Step}
 use Rattle.journal_model.specs.Effects.{Reply, nothing, answering}
 use Rattle.journal_model.specs.Rows.{refusal_answered}
-use Rattle.rd_desk.specs.declared.requests.Refused.{Refused}
-use Rattle.rd_desk.specs.declared.requests.Refused.TheVariants as refused
-use Rattle.rd_desk.specs.Asking.{IsRefusedBy, is_passed_over}
+use Rattle.rd_request.specs.declared.requests.Refused.{Refused}
+use Rattle.rd_request.specs.declared.requests.Refused.TheVariants as refused
+use Rattle.rd_request.specs.Asking.{IsRefusedBy, is_passed_over}
 
 -- the refusals after that of an option are none of an option
 after_options : (proxy nowhere method block accept format : Bool) (n : ℕ)

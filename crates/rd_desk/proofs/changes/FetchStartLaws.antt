@@ -80,10 +80,10 @@ use Rattle.rd_desk.proofs.responses.FetchStepLaws.{
   other_kind,
   octets_sent-here,
 }
-use Rattle.rd_desk.specs.declared.mids.Mids.{Mids}
+use Rattle.coap_answers.specs.declared.mids.Mids.{Mids}
+use Rattle.coap_answers.specs.Sendings.{IsStepOf, AreRequestsSent, Sends}
 use Rattle.rd_desk.specs.Desks.{Seen}
 use Rattle.rd_desk.specs.Responding.{asking_next}
-use Rattle.rd_desk.specs.Sendings.{IsStepOf, AreRequestsSent, Sends}
 use Rattle.rd_desk.specs.UnderWay.{UnderWay}
 use Rattle.rd_desk.proofs.changes.SettlingLaws.{
   StandsNoted,

@@ -55,10 +55,10 @@ use Rattle.journal_model.specs.UnfinishedRow.{making}
 use Rattle.journal_model.proofs.UnfinishedRowLaws.{events-making_nothing}
 use Rattle.exchange_core.specs.Table.{Table}
 use Rattle.exchange_core.specs.ExchangeEvents.{ExchangesStandFor}
-use Rattle.rd_desk.specs.declared.mids.Mids.{Mids}
+use Rattle.coap_answers.specs.declared.mids.Mids.{Mids}
+use Rattle.coap_answers.specs.Sendings.{IsStepOf, Sends}
 use Rattle.rd_desk.specs.Committing.{answering_settled, failing}
 use Rattle.rd_desk.specs.Desks.{Seen}
-use Rattle.rd_desk.specs.Sendings.{IsStepOf, Sends}
 use Rattle.rd_desk.specs.UnderWay.{UnderWay}
 use Rattle.rd_desk.proofs.parts.EffectLaws.{effects_same}
 use Rattle.rd_desk.proofs.parts.NoteTopics as topic

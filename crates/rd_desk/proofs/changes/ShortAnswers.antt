@@ -42,15 +42,15 @@ use Rattle.journal_model.specs.Effects.{answer}
 use Rattle.journal_model.specs.MessageSizes.{extension_size, options_size, payload_size}
 use Rattle.journal_model.proofs.MessageSizeLaws.{message_size-spelling, options_size-append}
 use Rattle.journal_model.proofs.sends.BodyAnswers.{uint_bytes-length, block_value-length}
-use Rattle.rd_desk.specs.declared.replies.Reply.{Reply}
-use Rattle.rd_desk.specs.Committing.{IsShort}
-use Rattle.rd_desk.specs.Replies.{
+use Rattle.coap_answers.specs.declared.replies.Reply.{Reply}
+use Rattle.coap_answers.specs.Replies.{
   location_option,
   format_option,
   block1_options,
   options_of,
   reply_said,
 }
+use Rattle.rd_desk.specs.Committing.{IsShort}
 
 -- few octets extend a small delta or length
 extension_none : (n : ℕ) → n < 13 → extension_size n ≡ 0

@@ -54,7 +54,7 @@ use Rattle.journal_model.proofs.EventRows.{found_in, RowOf, row_of}
 use Rattle.journal_model.proofs.RowEquations.{events-row}
 use Rattle.simple_registration.specs.Table.{Table}
 use Rattle.simple_registration.specs.FetchEvents.{FetchesStandFor}
-use Rattle.rd_desk.specs.Sendings.{is_confirmable_sent, IsRequestSent, AreRequestsSent}
+use Rattle.coap_answers.specs.Sendings.{is_confirmable_sent, IsRequestSent, AreRequestsSent}
 use Rattle.rd_desk.proofs.parts.MakingLaws.{octets-making_before, octets-making_own}
 
 -- two ways to find the octets that rows sent agree on the last request to a peer

@@ -62,9 +62,9 @@ use Rattle.exchange_core.proofs.ExchangeLaws.{same-exchanges}
 use Rattle.exchange_core.proofs.FilterLemmas.{filter_true}
 use Rattle.exchange_core.proofs.OpenLaws.{IsOpen-admitted}
 use Rattle.exchange_core.proofs.RepeatLaws.{each_admission}
-use Rattle.rd_desk.specs.declared.mids.Mids.{Mids}
+use Rattle.coap_answers.specs.declared.mids.Mids.{Mids}
+use Rattle.coap_answers.specs.Sendings.{IsStepOf, Sends}
 use Rattle.rd_desk.specs.Desks.{Seen}
-use Rattle.rd_desk.specs.Sendings.{IsStepOf, Sends}
 use Rattle.rd_desk.specs.UnderWay.{UnderWay}
 use Rattle.rd_desk.proofs.parts.NoteTopics as topic
 use Rattle.rd_desk.proofs.parts.PartLaws.{more_exchanges}

@@ -73,9 +73,10 @@ use Rattle.journal_model.proofs.notes.ChangeNotes.{response_effects-notes}
 use Rattle.journal_model.proofs.notes.SilentSteps.{refusal_notes, unread_notes}
 use Rattle.journal_model.proofs.desks.AdmissionsInOrder.{journal-IsOrderly}
 use Rattle.journal_model.proofs.desks.OpenAdmissions.{admitted-IsOpen, row-OwnAdmission}
+use Rattle.coap_answers.specs.declared.mids.Mids.{Mids}
+use Rattle.rd_request.specs.WriteRequests.{is_write_path}
 use Rattle.rd_desk.specs.declared.admissions.Admitted.{Admitted}
 use Rattle.rd_desk.specs.declared.admissions.Admitted.TheVariants as admitted
-use Rattle.rd_desk.specs.declared.mids.Mids.{Mids}
 use Rattle.rd_desk.specs.declared.steps.Stepped.{Stepped}
 use Rattle.rd_desk.specs.declared.steps.Stepped.TheVariants as stepped
 use Rattle.rd_desk.specs.Admitting.{
@@ -87,7 +88,7 @@ use Rattle.rd_desk.specs.Admitting.{
   request_takes,
   message_takes,
 }
-use Rattle.rd_desk.specs.WriteJobs.{Write, is_write_path}
+use Rattle.rd_desk.specs.WriteJobs.{Write}
 use Rattle.rd_desk.specs.Desks.{Seen}
 use Rattle.rd_desk.specs.Lookups.{lookup_heard}
 use Rattle.rd_desk.specs.Responding.{response_heard}

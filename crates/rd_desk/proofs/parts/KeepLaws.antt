@@ -55,10 +55,10 @@ use Rattle.transfers.specs.TransferEvents.{
   kept_note,
 }
 use Rattle.transfers.proofs.TransferLaws.{UploadsStandFor-noted}
-use Rattle.rd_desk.specs.declared.mids.Mids.{Mids}
+use Rattle.coap_answers.specs.declared.mids.Mids.{Mids}
+use Rattle.coap_answers.specs.Sendings.{IsStepOf, Sends}
 use Rattle.rd_desk.specs.Desks.{Seen}
 use Rattle.rd_desk.specs.KeepJobs.{Keep}
-use Rattle.rd_desk.specs.Sendings.{IsStepOf, Sends}
 use Rattle.rd_desk.specs.UnderWay.{UnderWay, IsCalled, Made}
 use Rattle.rd_desk.proofs.parts.NoteTopics as topic
 use Rattle.rd_desk.proofs.parts.NoteTopics.{AreAbout}

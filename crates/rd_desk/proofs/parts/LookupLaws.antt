@@ -113,17 +113,19 @@ use Rattle.transfers.specs.TransferEvents.{
   TransfersStandFor,
 }
 use Rattle.transfers.proofs.TransferLaws.{UploadsStandFor-noted}
+use Rattle.coap_answers.specs.declared.mids.Mids.{Mids}
+use Rattle.coap_answers.specs.AskedBlocks.{has_asked_block}
+use Rattle.coap_answers.specs.Sendings.{IsStepOf, Sends}
+use Rattle.coap_answers.proofs.SendingLaws.{sends_notes}
+use Rattle.rd_request.specs.Asking.{begins_observation}
 use Rattle.rd_desk.specs.declared.joining.Joining.{Joining}
 use Rattle.rd_desk.specs.declared.listings.Formed.{Formed}
 use Rattle.rd_desk.specs.declared.listings.Listed.{Listed}
-use Rattle.rd_desk.specs.declared.mids.Mids.{Mids}
-use Rattle.rd_desk.specs.Asking.{begins_observation}
 use Rattle.rd_desk.specs.Desks.{Seen}
 use Rattle.rd_desk.specs.Joining.{observer_joining, joining_notes}
 use Rattle.rd_desk.specs.Lookups.{
   answer_listed,
   answer_at,
-  has_asked_block,
   AreWith,
   IsFormed,
   IsJoining,
@@ -133,10 +135,8 @@ use Rattle.rd_desk.specs.Lookups.{
   value_given,
   lookup_heard,
 }
-use Rattle.rd_desk.specs.Sendings.{IsStepOf, Sends}
 use Rattle.rd_desk.specs.UnderWay.{UnderWay}
 use Rattle.rd_desk.specs.Watching.{Watching, WatchingStandsFor}
-use Rattle.rd_desk.proofs.answers.SendingLaws.{sends_notes}
 use Rattle.rd_desk.proofs.parts.EffectLaws.{effects_same, joined-nothing_first}
 use Rattle.rd_desk.proofs.parts.MakingLaws.{entries-making_nothing}
 use Rattle.rd_desk.proofs.parts.NoteTopics as topic

@@ -43,7 +43,7 @@ use Rattle.journal_model.specs.Ticks.{is_confirmable_with, octets_sent}
 use Rattle.journal_model.specs.UnfinishedRow.{making}
 use Rattle.journal_model.proofs.EntriesNoted.{entries_in, entries_in-append}
 use Rattle.journal_model.proofs.observers.SentOctets.{octets_sent-before, octets_sent-own}
-use Rattle.rd_desk.specs.Sendings.{is_confirmable_sent, IsRequestSent, AreRequestsSent}
+use Rattle.coap_answers.specs.Sendings.{is_confirmable_sent, IsRequestSent, AreRequestsSent}
 
 -- it enters nothing when it begins
 pub entries-making_nothing : (rows : List Row) (s : Step) (starved : Bool)

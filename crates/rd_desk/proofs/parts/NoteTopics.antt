@@ -16,7 +16,7 @@ use Rattle.event_model.proofs.AsideTables.{
 }
 use Rattle.journal_model.specs.Effects.{Effects}
 use Rattle.journal_model.proofs.EntriesNoted.{entries_in}
-use Rattle.rd_desk.specs.Sendings.{IsRequestSent, AreRequestsSent}
+use Rattle.coap_answers.specs.Sendings.{IsRequestSent, AreRequestsSent}
 
 pub data Topic : Type 0 where
   exchanges : Topic

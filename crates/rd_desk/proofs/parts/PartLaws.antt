@@ -19,9 +19,9 @@ use Rattle.transfers.proofs.TransferLaws.{TransfersStandFor-noted}
 use Rattle.simple_registration.specs.Table as fetches
 use Rattle.simple_registration.specs.FetchEvents.{FetchesStandFor}
 use Rattle.simple_registration.proofs.DeskLaws.{FetchesStandFor-noted}
-use Rattle.rd_desk.specs.declared.mids.Mids.{Mids}
+use Rattle.coap_answers.specs.declared.mids.Mids.{Mids}
+use Rattle.coap_answers.specs.Sendings.{Sends, AreRequestsSent}
 use Rattle.rd_desk.specs.Desks.{Seen, DirectoryStandsFor}
-use Rattle.rd_desk.specs.Sendings.{Sends, AreRequestsSent}
 use Rattle.rd_desk.specs.UnderWay.{UnderWay}
 use Rattle.rd_desk.specs.Watching.{Watching, WatchingStandsFor}
 use Rattle.rd_desk.proofs.parts.AsideLaws.{

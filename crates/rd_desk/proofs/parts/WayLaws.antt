@@ -42,9 +42,9 @@ use Rattle.exchange_core.proofs.TableLaws.{ExchangesStandFor-later}
 use Rattle.transfers.specs.TransferEvents.{TransfersStandFor}
 use Rattle.transfers.proofs.TransferLaws.{TransfersStandFor-later}
 use Rattle.simple_registration.specs.FetchEvents.{FetchesStandFor}
-use Rattle.rd_desk.specs.declared.mids.Mids.{Mids}
+use Rattle.coap_answers.specs.declared.mids.Mids.{Mids}
+use Rattle.coap_answers.specs.Sendings.{IsStepOf, Sends, AreRequestsSent}
 use Rattle.rd_desk.specs.Desks.{Seen, DirectoryStandsFor, StandsFor}
-use Rattle.rd_desk.specs.Sendings.{IsStepOf, Sends, AreRequestsSent}
 use Rattle.rd_desk.specs.UnderWay.{UnderWay, IsCalled, Made}
 use Rattle.rd_desk.specs.Watching.{Watching, WatchingStandsFor}
 use Rattle.rd_desk.proofs.parts.EffectLaws.{joined-nothing_first, drawing-more}

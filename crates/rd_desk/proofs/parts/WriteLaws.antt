@@ -54,9 +54,9 @@ use Rattle.exchange_core.specs.ExchangeEvents.{
   keyed_after,
   IsKeyedAt,
 }
-use Rattle.rd_desk.specs.declared.mids.Mids.{Mids}
+use Rattle.coap_answers.specs.declared.mids.Mids.{Mids}
+use Rattle.coap_answers.specs.Sendings.{Sends}
 use Rattle.rd_desk.specs.Desks.{Seen}
-use Rattle.rd_desk.specs.Sendings.{Sends}
 use Rattle.rd_desk.specs.UnderWay.{UnderWay}
 use Rattle.rd_desk.specs.WriteJobs.{Write}
 use Rattle.rd_desk.proofs.parts.NoteTopics as topic

@@ -106,15 +106,15 @@ use Rattle.simple_registration.specs.FetchEvents.{
 }
 use Rattle.simple_registration.proofs.CallLaws.{belongs}
 use Rattle.rd_desk.proofs.responses.FetchStepLaws.{other_kind, octets_sent-here}
-use Rattle.rd_desk.specs.declared.mids.Mids.{Mids}
+use Rattle.coap_answers.specs.declared.mids.Mids.{Mids}
+use Rattle.coap_answers.specs.Sendings.{Sends, AreRequestsSent}
+use Rattle.coap_answers.proofs.SendingLaws.{sends_nothing, sends_octets}
 use Rattle.rd_desk.specs.declared.outcomes.Outcome.{Outcome as Planned}
 use Rattle.rd_desk.specs.Desks.{Seen}
 use Rattle.rd_desk.specs.Fetching.{IsSendable}
 use Rattle.rd_desk.specs.Outcomes.{IsPlanned}
 use Rattle.rd_desk.specs.Responding.{asking_next, unless_starved, response_heard}
-use Rattle.rd_desk.specs.Sendings.{Sends, AreRequestsSent}
 use Rattle.rd_desk.specs.UnderWay.{UnderWay}
-use Rattle.rd_desk.proofs.answers.SendingLaws.{sends_nothing, sends_octets}
 use Rattle.rd_desk.proofs.parts.EffectLaws.{joined-nothing, joined-assoc, drawing-more}
 use Rattle.rd_desk.proofs.parts.EmptyMessageLaws.{fetch_more}
 use Rattle.rd_desk.proofs.parts.MakingLaws.{entries-making_nothing}

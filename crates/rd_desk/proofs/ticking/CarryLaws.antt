@@ -60,7 +60,9 @@ use Rattle.transfers.specs.TransferEvents.{Table, AnswersStandFor, kept_note}
 use Rattle.transfers.proofs.KeptEvents.{AnswersStandFor-kept, AnswersStandFor-kept_each}
 use Rattle.transfers.proofs.TransferLaws.{UploadsStandFor-noted}
 use Rattle.observers.specs.Watchers.{Watcher}
-use Rattle.rd_desk.specs.declared.mids.Mids.{Mids}
+use Rattle.coap_answers.specs.declared.mids.Mids.{Mids}
+use Rattle.coap_answers.specs.Sendings.{Sends}
+use Rattle.coap_answers.proofs.SendingLaws.{sends_notes}
 use Rattle.rd_desk.specs.declared.planning.Planned.{Planned}
 use Rattle.rd_desk.specs.declared.planning.Planned.TheVariants as planned
 use Rattle.rd_desk.specs.Desks.{Seen}
@@ -76,10 +78,8 @@ use Rattle.rd_desk.specs.Planning.{
   with_answers,
   CarryingOut,
 }
-use Rattle.rd_desk.specs.Sendings.{Sends}
 use Rattle.rd_desk.specs.UnderWay.{UnderWay}
 use Rattle.rd_desk.specs.Watching.{Watching, WatchingStandsFor}
-use Rattle.rd_desk.proofs.answers.SendingLaws.{sends_notes}
 use Rattle.rd_desk.proofs.observers.TickLaws.{
   IsKeptAs,
   kept-StandsFor,

@@ -30,7 +30,7 @@ use Rattle.journal_model.proofs.EntriesNoted.{entries_in}
 use Rattle.journal_model.proofs.NoteKinds.{again_tick, tick-entries_in}
 use Rattle.journal_model.proofs.StepNotes.{notices_again-notes}
 use Rattle.transfers.proofs.KeptLists.{is_none}
-use Rattle.rd_desk.specs.declared.mids.Mids.{Mids}
+use Rattle.coap_answers.specs.declared.mids.Mids.{Mids}
 use Rattle.rd_desk.specs.Desks.{Seen}
 use Rattle.rd_desk.specs.Noticing.{next_noticed}
 use Rattle.rd_desk.specs.Ticking.{tick_takes_memory}

@@ -113,7 +113,8 @@ use Rattle.exchange_core.specs.Retransmissions.{Resends}
 use Rattle.transfers.specs.Keeping.{NamedAnswer}
 use Rattle.observers.specs.Watchers as watchers
 use Rattle.observers.specs.Watchers.{Watcher, is_awaited, seen, changed_at, is_ready, next_ready}
-use Rattle.rd_desk.specs.declared.mids.Mids.{Mids}
+use Rattle.coap_answers.specs.declared.mids.Mids.{Mids}
+use Rattle.coap_answers.specs.Writing.{notice_saying}
 use Rattle.rd_desk.specs.declared.planning.Plan.{Plan}
 use Rattle.rd_desk.specs.declared.planning.Planned.{Planned}
 use Rattle.rd_desk.specs.declared.planning.Planned.TheVariants as planned
@@ -133,7 +134,6 @@ use Rattle.rd_desk.specs.Planning.{
 }
 use Rattle.rd_desk.specs.UnderWay.{UnderWay}
 use Rattle.rd_desk.specs.Watching.{Watching, WatchingStandsFor}
-use Rattle.rd_desk.specs.Writing.{notice_saying}
 use Rattle.rd_desk.proofs.observers.TickLaws.{
   IsKeptAs,
   kept-StandsFor,

@@ -57,7 +57,7 @@ use Rattle.journal_model.proofs.flights.WaitedPeers.{waited}
 use Rattle.transfers.specs.Keeping.{NamedAnswer}
 use Rattle.observers.specs.Watchers.{Watcher, is_awaited, is_ready, first_from, next_ready}
 use Rattle.observers.proofs.MarkLaws.{awaited-StandsFor}
-use Rattle.rd_desk.specs.declared.mids.Mids.{Mids}
+use Rattle.coap_answers.specs.declared.mids.Mids.{Mids}
 use Rattle.rd_desk.specs.declared.planning.Plan.{Plan}
 use Rattle.rd_desk.specs.declared.planning.Planned.{Planned}
 use Rattle.rd_desk.specs.Desks.{Seen}

@@ -33,7 +33,7 @@ use Rattle.journal_model.specs.UnfinishedRow.{making}
 use Rattle.journal_model.proofs.NoteKinds.{again_tick, tick-entries_in}
 use Rattle.journal_model.proofs.StepNotes.{notices_again-notes}
 use Rattle.journal_model.proofs.UnfinishedRowLaws.{now-making}
-use Rattle.rd_desk.specs.declared.mids.Mids.{Mids}
+use Rattle.coap_answers.specs.declared.mids.Mids.{Mids}
 use Rattle.rd_desk.specs.Desks.{Seen, StandsFor}
 use Rattle.rd_desk.specs.UnderWay.{UnderWay}
 

@@ -96,7 +96,8 @@ use Rattle.simple_registration.proofs.PeerLaws.{
 use Rattle.simple_registration.proofs.RunningLaws.{running-at, running-peers}
 use Rattle.rd_desk.proofs.responses.FetchStepLaws.{repeating-octets}
 use Rattle.simple_registration.proofs.TableLaws.{running_length}
-use Rattle.rd_desk.specs.declared.mids.Mids.{Mids}
+use Rattle.coap_answers.specs.declared.mids.Mids.{Mids}
+use Rattle.coap_answers.proofs.SendingLaws.{sends_notes}
 use Rattle.rd_desk.specs.Desks.{Seen}
 use Rattle.rd_desk.specs.Resending.{
   IsAsBefore,
@@ -106,7 +107,6 @@ use Rattle.rd_desk.specs.Resending.{
   Resending,
 }
 use Rattle.rd_desk.specs.UnderWay.{UnderWay}
-use Rattle.rd_desk.proofs.answers.SendingLaws.{sends_notes}
 use Rattle.rd_desk.proofs.observers.TickLaws.{each_at, got_inside}
 use Rattle.rd_desk.proofs.parts.EffectLaws.{joined-nothing, joined-assoc}
 use Rattle.rd_desk.proofs.parts.PartLaws.{more_fetches}

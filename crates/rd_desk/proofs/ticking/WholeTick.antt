@@ -80,7 +80,7 @@ use Rattle.simple_registration.specs.FetchEvents.{fetch_due}
 use Rattle.simple_registration.proofs.DeskLaws.{last_request-other, fetch_due-other}
 use Rattle.simple_registration.proofs.NoteLaws.{IsAside}
 use Rattle.simple_registration.proofs.PeerLaws.{fetches-aside}
-use Rattle.rd_desk.specs.declared.mids.Mids.{Mids}
+use Rattle.coap_answers.specs.declared.mids.Mids.{Mids}
 use Rattle.rd_desk.specs.Desks.{Seen}
 use Rattle.rd_desk.specs.Planning.{notices_done}
 use Rattle.rd_desk.specs.Resending.{LeavesFetches}

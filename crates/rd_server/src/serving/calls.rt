@@ -1,7 +1,7 @@
 //! Calls of the seat: the clock is asked, the seat is called, and what comes out is sent.
 ghost use Rattle.std.specs.Prelude.{◌≡◌, ◌+◌, ◌∷◌, [], IfSome, option_map};
 ghost use Rattle.journal_model.specs.declared.steps.StepKind.TheVariants as step;
-ghost use Rattle.rd_desk.specs.Outboxes.{most_datagrams};
+ghost use Rattle.coap_answers.specs.Outboxes.{most_datagrams};
 ghost use Rattle.rd_seat.specs.Heard.{IsOpenWrite};
 ghost use Rattle.rd_seat.specs.Jobs.{last_place};
 ghost use Rattle.rd_server.specs.serving.Calls.{Call, IsHearing, IsOfJob, job_at, job_held};

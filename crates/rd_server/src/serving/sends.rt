@@ -1,7 +1,7 @@
 //! What comes out of a call of the seat is sent.
 ghost use Rattle.std.specs.Prelude.{◌≡◌, ◌+◌, ◌^◌, ◌∷◌, [], List};
 ghost use Rattle.udp_link.specs.declared.links.Went.{Went};
-ghost use Rattle.rd_desk.specs.Outboxes.{most_datagrams};
+ghost use Rattle.coap_answers.specs.Outboxes.{most_datagrams};
 ghost use Rattle.rd_server.specs.serving.Sendings.{Sending, all_sent};
 ghost use Rattle.rd_server.specs.serving.Calls.{one_if};
 ghost use Rattle.rd_server.specs.serving.Workers.{Sends, link_seen};

@@ -3,7 +3,7 @@ use Rattle.message_model.specs.declared.blocks.Block.{Block}
 use Rattle.coap_message.specs.Views.{message_in}
 use Rattle.journal_model.specs.Bodies.{body_reply}
 use Rattle.journal_model.specs.Effects.{Reply, answering}
-use Rattle.rd_desk.specs.Sendings.{Sends}
+use Rattle.coap_answers.specs.Sendings.{Sends}
 use Rattle.rd_desk.proofs.listings.send_block.Goals as goal
 
 pub returns : goal.returns

@@ -6,7 +6,7 @@ use Rattle.journal_model.specs.Bodies.{body_reply}
 use Rattle.journal_model.specs.Effects.{answering}
 use Rattle.journal_model.specs.Requests.{asked_block}
 use Rattle.transfers.specs.TransferEvents.{answer_read, AfterReading}
-use Rattle.rd_desk.specs.Sendings.{Sends}
+use Rattle.coap_answers.specs.Sendings.{Sends}
 use Rattle.rd_desk.proofs.listings.send_kept.Goals as goal
 
 pub returns-in-Some-clause-used : goal.returns-in-Some-clause-used

@@ -2,10 +2,10 @@ use Rattle.std.proofs.Common.{[], Some, sym, subst}
 use Rattle.coap_message.specs.Views.{message_in}
 use Rattle.journal_model.specs.Effects.{Reply, answering}
 use Rattle.journal_model.specs.Looks.{look_sent}
+use Rattle.coap_answers.specs.Replies.{reply_said}
+use Rattle.coap_answers.specs.Sendings.{Sends}
 use Rattle.rd_desk.specs.declared.looks.Found.{Found}
 use Rattle.rd_desk.specs.Looking.{look_found, is_starved_look, look_done}
-use Rattle.rd_desk.specs.Replies.{reply_said}
-use Rattle.rd_desk.specs.Sendings.{Sends}
 use Rattle.rd_desk.proofs.answers.LookLaws.{given_links}
 use Rattle.rd_desk.proofs.looks.give.Goals as goal
 

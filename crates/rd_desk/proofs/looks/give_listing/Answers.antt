@@ -1,12 +1,12 @@
 use Rattle.std.proofs.Common.{[], Some, subst}
 use Rattle.coap_message.specs.Views.{message_in}
 use Rattle.journal_model.specs.Looks.{Look, look_sent, body_held}
+use Rattle.coap_answers.specs.Replies.{reply_said}
+use Rattle.coap_answers.specs.Sendings.{Sends}
+use Rattle.coap_answers.proofs.SendingLaws.{sends_nothing}
 use Rattle.rd_desk.specs.declared.looks.Looked.TheVariants as ended
 use Rattle.rd_desk.specs.Looking.{IsHeld}
-use Rattle.rd_desk.specs.Replies.{reply_said}
-use Rattle.rd_desk.specs.Sendings.{Sends}
 use Rattle.rd_desk.proofs.answers.LookLaws.{given_whole, given_held}
-use Rattle.rd_desk.proofs.answers.SendingLaws.{sends_nothing}
 use Rattle.rd_desk.proofs.looks.give_listing.Goals as goal
 
 pub returns-then-not-is_long-clause-sends : goal.returns-then-not-is_long-clause-sends

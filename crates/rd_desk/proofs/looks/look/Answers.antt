@@ -2,8 +2,8 @@ use Rattle.std.proofs.Common.{subst}
 use Rattle.message_model.specs.Reading.{reading}
 use Rattle.coap_message.specs.Views.{message_in}
 use Rattle.journal_model.specs.Effects.{Effects}
+use Rattle.coap_answers.specs.Sendings.{Sends}
 use Rattle.rd_desk.specs.Looking.{look_found, is_starved_look}
-use Rattle.rd_desk.specs.Sendings.{Sends}
 use Rattle.rd_desk.proofs.answers.LookLaws.{looked_by, looked_starved}
 use Rattle.rd_desk.proofs.looks.look.Goals as goal
 

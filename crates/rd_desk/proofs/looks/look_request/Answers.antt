@@ -1,5 +1,5 @@
 use Rattle.std.proofs.Common.{sym, ◌∙◌}
-use Rattle.rd_desk.proofs.parts.IncomingLaws.{looks_is, only_looks_left}
+use Rattle.rd_request.proofs.IncomingLaws.{looks_is, only_looks_left}
 use Rattle.rd_desk.proofs.looks.look_request.Goals as goal
 
 pub unreachable-requires : goal.unreachable-requires

@@ -2,7 +2,7 @@ use Rattle.std.proofs.Common.{subst}
 use Rattle.message_model.specs.Reading.{reading}
 use Rattle.coap_message.specs.Views.{message_in}
 use Rattle.journal_model.specs.Effects.{Effects}
-use Rattle.rd_desk.specs.Sendings.{Sends}
+use Rattle.coap_answers.specs.Sendings.{Sends}
 use Rattle.rd_desk.proofs.answers.LookLaws.{looked_starved}
 use Rattle.rd_desk.proofs.looks.look_starved.Goals as goal
 

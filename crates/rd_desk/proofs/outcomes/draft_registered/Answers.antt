@@ -1,6 +1,6 @@
 use Rattle.std.proofs.Common.{ℕ, sym, ap, ◌∙◌}
 use Rattle.journal_model.specs.Changes.{created_at}
-use Rattle.rd_desk.specs.Replies.{block1_options}
+use Rattle.coap_answers.specs.Replies.{block1_options}
 use Rattle.rd_desk.proofs.changes.OutcomeLaws.{registration-HasEntry}
 use Rattle.rd_desk.proofs.outcomes.draft_registered.Goals as goal
 

@@ -1,5 +1,5 @@
 use Rattle.std.proofs.Common.{[], refl}
-use Rattle.rd_desk.specs.Replies.{block1_options}
+use Rattle.coap_answers.specs.Replies.{block1_options}
 use Rattle.rd_desk.proofs.changes.OutcomeLaws.{planned-registered}
 use Rattle.rd_desk.proofs.changes.StagingLaws.{from_peer, next_planned}
 use Rattle.rd_desk.proofs.outcomes.registered.Goals as goal

@@ -1,10 +1,10 @@
 use Rattle.std.proofs.Common.{[], sym, subst, ◌∙◌}
 use Rattle.coap_message.specs.Views.{message_in}
 use Rattle.journal_model.specs.Effects.{Effects, Reply, answering}
-use Rattle.rd_desk.specs.Asking.{refused_with}
-use Rattle.rd_desk.specs.Sendings.{Sends}
+use Rattle.coap_answers.specs.Sendings.{Sends}
+use Rattle.coap_answers.proofs.SendingLaws.{sends_nothing}
+use Rattle.rd_request.specs.Asking.{refused_with}
 use Rattle.rd_desk.proofs.answers.RefusalLaws.{passed_over, answered}
-use Rattle.rd_desk.proofs.answers.SendingLaws.{sends_nothing}
 use Rattle.rd_desk.proofs.refused_requests.refuse.Goals as goal
 
 pub returns-then-is_passed_over : goal.returns-then-is_passed_over

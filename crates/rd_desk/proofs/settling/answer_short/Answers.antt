@@ -1,9 +1,9 @@
 use Rattle.std.proofs.Common.{length, ap, ◌∙◌, arith}
 use Rattle.message_model.specs.Spelling.{spelling}
 use Rattle.coap_message.specs.Views.{message_in}
-use Rattle.rd_desk.specs.Replies.{reply_said}
+use Rattle.coap_answers.specs.Replies.{reply_said}
 use Rattle.coap_message.proofs.MessageSizes.{with_payload_size}
-use Rattle.rd_desk.proofs.answers.SendingLaws.{sends_answer}
+use Rattle.coap_answers.proofs.SendingLaws.{sends_answer}
 use Rattle.rd_desk.proofs.changes.ShortAnswers.{short_written}
 use Rattle.rd_desk.proofs.settling.answer_short.Goals as goal
 

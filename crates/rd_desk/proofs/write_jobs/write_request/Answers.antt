@@ -1,5 +1,5 @@
 use Rattle.std.proofs.Common.{sym, ◌∙◌}
-use Rattle.rd_desk.proofs.parts.IncomingLaws.{writes_is, only_writes_left}
+use Rattle.rd_request.proofs.IncomingLaws.{writes_is, only_writes_left}
 use Rattle.rd_desk.proofs.write_jobs.write_request.Goals as goal
 
 pub unreachable-requires : goal.unreachable-requires

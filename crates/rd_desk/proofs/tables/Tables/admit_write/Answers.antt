@@ -3,7 +3,7 @@ use Rattle.coap_message.specs.Views.{message_in}
 use Rattle.event_model.specs.declared.notes.Note.TheVariants as note
 use Rattle.journal_model.specs.Effects.{Effects, nothing, answering}
 use Rattle.exchange_core.specs.declared.writes.Keyed.TheVariants as keyed
-use Rattle.rd_desk.proofs.answers.SendingLaws.{sends_nothing, sends_notes, sends_octets}
+use Rattle.coap_answers.proofs.SendingLaws.{sends_nothing, sends_notes, sends_octets}
 use Rattle.rd_desk.proofs.parts.WayLaws.{step_of}
 use Rattle.rd_desk.proofs.parts.WriteLaws.{write_is, write_more}
 use Rattle.rd_desk.proofs.tables.Tables.admit_write.Goals as goal

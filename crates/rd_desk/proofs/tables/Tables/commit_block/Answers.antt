@@ -5,7 +5,7 @@ use Rattle.event_model.specs.declared.notes.Note.TheVariants as note
 use Rattle.journal_model.specs.Effects.{nothing, joined, noting}
 use Rattle.transfers.specs.declared.collecting.Upload.{Upload}
 use Rattle.transfers.specs.declared.collecting.Upload.TheVariants as answer
-use Rattle.rd_desk.specs.Replies.{reply_said}
+use Rattle.coap_answers.specs.Replies.{reply_said}
 use Rattle.rd_desk.specs.Stepping.{is_starved_step}
 use Rattle.history_model.specs.Versions.{Version}
 use Rattle.rd_desk.specs.Shown.{AreToldOf}

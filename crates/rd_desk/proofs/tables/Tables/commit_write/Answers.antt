@@ -2,10 +2,10 @@ use Rattle.std.proofs.Common.{sym, ap, ◌∙◌}
 use Rattle.message_model.specs.declared.requests.Path.TheVariants as path
 use Rattle.message_model.specs.Reading.{reading}
 use Rattle.journal_model.specs.Requests.{refusal_of_request}
-use Rattle.rd_desk.specs.Accepted.{message_of}
+use Rattle.rd_request.specs.Accepted.{message_of}
+use Rattle.rd_request.proofs.AskedLaws.{none_there}
+use Rattle.rd_request.proofs.ResourceLaws.{registration_path, simple_path, location_path}
 use Rattle.rd_desk.specs.Stepping.{is_starved_step}
-use Rattle.rd_desk.proofs.answers.LookLaws.{none_there}
-use Rattle.rd_desk.proofs.answers.ResourceLaws.{registration_path, simple_path, location_path}
 use Rattle.rd_desk.proofs.changes.CommitLaws.{good_registration, good_simple, good_update, way_job}
 use Rattle.rd_desk.proofs.tables.Tables.commit_write.Goals as goal
 

@@ -1,5 +1,5 @@
 use Rattle.coap_message.specs.Views.{message_in}
-use Rattle.rd_desk.specs.Replies.{reply_said}
+use Rattle.coap_answers.specs.Replies.{reply_said}
 use Rattle.rd_desk.proofs.changes.SettlingLaws.{way_failed}
 use Rattle.rd_desk.proofs.tables.Tables.fail.Goals as goal
 

@@ -1,7 +1,7 @@
 use Rattle.std.proofs.Common.{[], true, false, subst}
+use Rattle.coap_answers.specs.Replies.{IsReply}
 use Rattle.rd_desk.specs.Committing.{IsShort}
 use Rattle.rd_desk.specs.Outcomes.{IsTimely}
-use Rattle.rd_desk.specs.Replies.{IsReply}
 use Rattle.rd_desk.specs.Staging.{IsNextOf}
 use Rattle.rd_desk.proofs.changes.StagingLaws.{
   next_told,

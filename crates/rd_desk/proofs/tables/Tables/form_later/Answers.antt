@@ -1,7 +1,7 @@
 use Rattle.std.proofs.Common.{◌∙◌}
 use Rattle.coap_message.specs.Views.{message_in}
 use Rattle.journal_model.specs.Requests.{query_of}
-use Rattle.rd_desk.specs.Lookups.{has_asked_block}
+use Rattle.coap_answers.specs.AskedBlocks.{has_asked_block}
 use Rattle.rd_desk.proofs.parts.LookupLaws.{formed_now}
 use Rattle.rd_desk.proofs.tables.Tables.form_later.Goals as goal
 

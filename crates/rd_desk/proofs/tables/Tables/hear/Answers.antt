@@ -15,13 +15,15 @@ use Rattle.journal_model.specs.Rows.{
   row_moment,
 }
 use Rattle.journal_model.proofs.notes.SilentSteps.{refusal_notes, unread_notes}
-use Rattle.rd_desk.specs.Accepted.{message_of}
+use Rattle.rd_request.specs.Accepted.{message_of}
+use Rattle.rd_request.specs.Asking.{refused_with}
+use Rattle.rd_request.proofs.AskedLaws.{none_there}
+use Rattle.rd_request.proofs.IncomingLaws.{look_left}
+use Rattle.rd_request.proofs.WriteRequestLaws.{write_datagram}
 use Rattle.rd_desk.specs.Admitting.{is_starved_admission, IsHeldFor, write_heard}
-use Rattle.rd_desk.specs.Asking.{refused_with}
 use Rattle.rd_desk.specs.Lookups.{lookup_heard}
 use Rattle.rd_desk.specs.Responding.{response_heard}
 use Rattle.rd_desk.specs.UnderWay.{UnderWay}
-use Rattle.rd_desk.proofs.answers.LookLaws.{none_there}
 use Rattle.rd_desk.proofs.parts.AdmissionLaws.{request_refused, request_writes}
 use Rattle.rd_desk.proofs.parts.HearingLaws.{
   served_lookup,
@@ -38,10 +40,9 @@ use Rattle.rd_desk.proofs.parts.HearingLaws.{
   jobless_way,
   jobless_held,
 }
-use Rattle.rd_desk.proofs.parts.IncomingLaws.{heard_for, admits_for, takes_for, look_left}
+use Rattle.rd_desk.proofs.parts.RoleLaws.{heard_for, admits_for, takes_for}
 use Rattle.rd_desk.proofs.parts.PartLaws.{only_silent}
 use Rattle.rd_desk.proofs.parts.WayLaws.{step_of}
-use Rattle.rd_desk.proofs.parts.WriteJobLaws.{write_datagram}
 use Rattle.rd_desk.proofs.changes.StagingLaws.{laid_none}
 use Rattle.rd_desk.proofs.tables.Tables.hear.Goals as goal
 

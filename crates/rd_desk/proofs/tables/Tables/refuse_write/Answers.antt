@@ -2,7 +2,7 @@ use Rattle.std.proofs.Common.{refl}
 use Rattle.coap_message.specs.Views.{message_in}
 use Rattle.journal_model.specs.Changes.{refused}
 use Rattle.journal_model.specs.Effects.{nothing}
-use Rattle.rd_desk.specs.Replies.{reply_said}
+use Rattle.coap_answers.specs.Replies.{reply_said}
 use Rattle.rd_desk.proofs.changes.SettlingLaws.{open_more}
 use Rattle.rd_desk.proofs.changes.UploadLaws.{settled_refusal}
 use Rattle.rd_desk.proofs.tables.Tables.refuse_write.Goals as goal

@@ -4,8 +4,8 @@ use Rattle.journal_model.specs.declared.steps.Step.{Step}
 use Rattle.journal_model.specs.declared.rows.Row.{Row}
 use Rattle.journal_model.specs.Effects.{Effects}
 use Rattle.journal_model.specs.Journal.{events}
-use Rattle.rd_desk.specs.declared.mids.Mids.{Mids}
-use Rattle.rd_desk.specs.Outboxes.{most_datagrams}
+use Rattle.coap_answers.specs.declared.mids.Mids.{Mids}
+use Rattle.coap_answers.specs.Outboxes.{most_datagrams}
 use Rattle.rd_desk.specs.Resending.{LeavesFetches, Resending}
 use Rattle.rd_desk.specs.UnderWay.{UnderWay}
 use Rattle.rd_desk.proofs.tables.Tables.requests_again.Given as goal

@@ -3,7 +3,7 @@ use Rattle.coap_message.specs.Views.{message_in}
 use Rattle.event_model.specs.declared.notes.Note.TheVariants as note
 use Rattle.journal_model.specs.Effects.{Effects, nothing, joined, noting}
 use Rattle.journal_model.specs.Journal.{entries}
-use Rattle.rd_desk.specs.Replies.{reply_said}
+use Rattle.coap_answers.specs.Replies.{reply_said}
 use Rattle.rd_desk.proofs.changes.SettlingLaws.{open_more}
 use Rattle.rd_desk.proofs.changes.UploadLaws.{
   refused_notes,

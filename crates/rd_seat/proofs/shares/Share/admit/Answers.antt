@@ -4,7 +4,7 @@ use Rattle.journal_model.specs.declared.rows.Row.{Row}
 use Rattle.journal_model.specs.declared.steps.Step.{Step}
 use Rattle.journal_model.specs.DeskJournal.{max_workers, MayFollow}
 use Rattle.journal_model.specs.Rows.{row, row_moment}
-use Rattle.rd_desk.specs.declared.mids.Mids.{Mids}
+use Rattle.coap_answers.specs.declared.mids.Mids.{Mids}
 use Rattle.rd_desk.specs.Shown.{Shown}
 use Rattle.rd_desk.specs.UnderWay.{IsCalled, Made}
 use Rattle.rd_desk.specs.Admitting.{is_starved_admission, IsHeldFor}

@@ -1,5 +1,5 @@
 use Rattle.std.proofs.Common.{◌∷◌, ◌+◌, ◌^◌, sym, arith}
-use Rattle.rd_desk.specs.Outboxes.{most_datagrams}
+use Rattle.coap_answers.specs.Outboxes.{most_datagrams}
 use Rattle.rd_server.specs.serving.Sendings.{Sending}
 use Rattle.rd_server.proofs.service.SendLaws.{
   IsBelow-more,

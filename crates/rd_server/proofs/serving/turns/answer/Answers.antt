@@ -1,7 +1,7 @@
 use Rattle.std.proofs.Common.{◌≡◌, ◌∷◌, ◌+◌, [], Option, refl, sym, ap, subst, ◌∙◌, arith}
 use Rattle.std.specs.Prelude.{option_map}
+use Rattle.coap_answers.specs.Outboxes.{most_datagrams}
 use Rattle.rd_desk.specs.declared.jobs.Job.{Job}
-use Rattle.rd_desk.specs.Outboxes.{most_datagrams}
 use Rattle.journal_model.specs.Machine as machine
 use Rattle.rd_seat.specs.Jobs.{last_place}
 use Rattle.rd_server.specs.serving.Calls.{job_at}

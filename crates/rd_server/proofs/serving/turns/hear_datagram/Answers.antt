@@ -1,5 +1,5 @@
 use Rattle.std.proofs.Common.{◌∷◌, ◌+◌, [], refl, arith}
-use Rattle.rd_desk.specs.Outboxes.{most_datagrams}
+use Rattle.coap_answers.specs.Outboxes.{most_datagrams}
 use Rattle.rd_server.proofs.service.SendLaws.{IsBelow-more}
 use Rattle.rd_server.proofs.service.CallLaws.{CallsMade-then, CountsCalls-then}
 use Rattle.rd_server.proofs.service.TurnLaws.{ticks_at}

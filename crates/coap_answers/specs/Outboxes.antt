@@ -1,0 +1,33 @@
+-- What an outbox shows: the datagrams that a step sends, with their peers.
+use Rattle.std.specs.Prelude.{ℕ, ◌-◌, ◌*◌, ◌≤◌, List, length, map, take, drop}
+use Rattle.std.specs.List.{AllByRecursion}
+use Rattle.std.specs.Vec.{vec_capacity}
+use Rattle.rd_base.specs.declared.peers.Peer.{Peer}
+use Rattle.coap_message.specs.PartialMessages.{longest_datagram}
+use Rattle.coap_answers.specs.declared.outbox.Span.{Span}
+use Rattle.coap_answers.specs.declared.outbox.Outbox.TheInside.{Inside}
+
+-- how many datagrams one step sends at most
+abbrev pub most_datagrams : ℕ
+most_datagrams = 1_152
+
+-- the datagram that lies there
+abbrev pub datagram_at : List ℕ → Span → Peer × List ℕ
+datagram_at octets s = (s.peer, take (s.end - s.start) (drop s.start octets))
+
+-- all of them, in order
+abbrev pub datagrams_shown : Inside → List (Peer × List ℕ)
+datagrams_shown o = map (datagram_at o.octets.items) o.spans.items
+
+-- a datagram lies within so many octets
+abbrev pub LiesWithin : ℕ → Span → Type 0
+LiesWithin size s = (s.start ≤ s.end) × (s.end ≤ size)
+
+-- each datagram lies within the octets, they are no more than one step sends, and there is room
+-- for all of these
+pub record IsOutbox (o : Inside) : Type 0 where
+  pub room : 1_474_560 ≤ vec_capacity o.octets
+  pub places : most_datagrams ≤ vec_capacity o.spans
+  pub few : length o.spans.items ≤ most_datagrams
+  pub short : length o.octets.items ≤ longest_datagram * length o.spans.items
+  pub within : AllByRecursion (LiesWithin (length o.octets.items)) o.spans.items

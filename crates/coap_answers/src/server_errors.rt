@@ -1,0 +1,62 @@
+//! Answers to requests that the server cannot serve now (RFC 7252 section 5.9.3).
+ghost use Rattle.std.specs.Prelude.{◌≡◌, ◌<◌, ◌≤◌, [], length};
+ghost use Rattle.message_model.specs.Codes as codes_of;
+ghost use Rattle.coap_message.specs.Views.{message_in};
+ghost use Rattle.journal_model.specs.declared.steps.Step.{Step};
+ghost use Rattle.journal_model.specs.Effects as effects;
+ghost use Rattle.journal_model.specs.Effects.{answering, diagnostic, without_memory};
+ghost use Rattle.coap_answers.specs.Outboxes.{most_datagrams};
+ghost use Rattle.coap_answers.specs.Replies.{IsReply, reply_said};
+ghost use Rattle.coap_answers.specs.Sendings.{IsStepOf, Sends};
+
+use crate::replies::{Reply, answer};
+use crate::{Mids, Outbox};
+use coap_message::View;
+use message_model::codes::{INTERNAL_SERVER_ERROR, SERVICE_UNAVAILABLE};
+use rd_base::Peer;
+
+/// 5.00 alone.
+pub fn internal_server_error() -> Reply<'static>
+    ensures said { reply_said result ≡ effects.bare codes_of.internal_server_error }
+    ensures reply { IsReply result }
+{
+    Reply::plain(INTERNAL_SERVER_ERROR, b"")
+}
+
+/// 5.03 with the word of what has no room.
+fn service_unavailable(word: &'static [u8]) -> Reply<'static>
+    requires { length word.now ≤ 1_024 }
+    ensures said { reply_said result ≡ diagnostic codes_of.service_unavailable word.now }
+    ensures reply { IsReply result }
+{
+    Reply::plain(SERVICE_UNAVAILABLE, word)
+}
+
+/// A request is answered 5.00: memory ran out.
+pub fn answer_starved(mids: &mut Mids, peer: Peer, view: &View<'_>, out: &mut Outbox)
+    requires room { length out.old < most_datagrams }
+    ensures sends { (s : Step)
+        → IsStepOf s peer mids.old
+        → Sends (without_memory s (message_in view.now)) out.old out.new mids.old mids.new }
+{
+    answer(mids, peer, view, &internal_server_error(), out);
+}
+
+/// A request is answered 5.03: there is no room for one more of what the word says.
+pub fn answer_full(
+    mids: &mut Mids,
+    peer: Peer,
+    view: &View<'_>,
+    word: &'static [u8],
+    out: &mut Outbox,
+)
+    requires word { length word.now ≤ 1_024 }
+    requires room { length out.old < most_datagrams }
+    ensures sends { (s : Step)
+        → IsStepOf s peer mids.old
+        → Sends (answering s (message_in view.now)
+        (diagnostic codes_of.service_unavailable word.now) []) out.old out.new mids.old
+        mids.new }
+{
+    answer(mids, peer, view, &service_unavailable(word), out);
+}

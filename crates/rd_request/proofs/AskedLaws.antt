@@ -1,0 +1,94 @@
+-- The refusals that a request alone decides, one after the other, and what follows where nothing is
+-- refused.
+use Rattle.std.proofs.Common.{
+  ◌≡◌,
+  Bool,
+  true,
+  false,
+  not,
+  ◌&&◌,
+  ◌||◌,
+  Option,
+  Some,
+  None,
+  is_none,
+  codes,
+  refl,
+}
+use Rattle.message_model.specs.Codes as codes_of
+use Rattle.message_model.specs.declared.requests.Refusal.{Refusal}
+use Rattle.message_model.specs.Message.{Message}
+use Rattle.message_model.specs.Refusals.{refusal_of}
+use Rattle.message_model.specs.Request.{path_in, observe_in}
+use Rattle.journal_model.specs.Effects.{diagnostic}
+use Rattle.journal_model.specs.Requests.{
+  refusal_of_request,
+  refusal_or_next,
+  has_bad_query,
+  has_bad_payload,
+  is_discovery,
+  is_lookup,
+  is_later_block,
+  is_heeded,
+  only_looks,
+  is_look_request,
+}
+use Rattle.rd_request.specs.Asking.{seeks_links}
+
+-- none before the query, and the query is refused
+pub query_refused : (m : Message)
+    → refusal_of m ≡ None
+    → has_bad_query m ≡ true
+    → refusal_of_request m ≡ Some (diagnostic codes_of.bad_request (codes "query"))
+unfolding refusal_of_request
+query_refused m none bad = rw none (rw bad refl)
+
+-- none before the payload, and the payload is refused
+pub payload_refused : (m : Message)
+    → refusal_of m ≡ None
+    → has_bad_query m ≡ false
+    → has_bad_payload m ≡ true
+    → refusal_of_request m ≡ Some (diagnostic codes_of.bad_request (codes "payload"))
+unfolding refusal_of_request
+payload_refused m none good bad = rw none (rw good (rw bad refl))
+
+-- none at all
+pub none_refused : (m : Message)
+    → refusal_of m ≡ None
+    → has_bad_query m ≡ false
+    → has_bad_payload m ≡ false
+    → refusal_of_request m ≡ None
+unfolding refusal_of_request
+none_refused m none good fine = rw none (rw good (rw fine refl))
+
+-- a request that nothing refuses is a look where it only looks
+pub looks_by : (m : Message) → refusal_of_request m ≡ None → is_look_request m ≡ only_looks m
+unfolding is_look_request
+looks_by m none = rw none refl
+
+-- where nothing is refused, the query options are not
+pub good_request : (m : Message) → refusal_of_request m ≡ None → has_bad_query m ≡ false
+unfolding refusal_of_request
+good_request m none = by (refusal_of m) (has_bad_query m) refl none where
+  by : (o : Option Refusal) (bad : Bool)
+      → has_bad_query m ≡ bad
+      → refusal_or_next o m ≡ None
+      → has_bad_query m ≡ false
+  by (Some refusal) bad e h = cc
+  by None false e h = e
+  by None true e h = let refused = rw e at h in cc
+
+-- a request that only looks is a discovery or a lookup
+pub looks_seek : (m : Message) → only_looks m ≡ true → seeks_links (path_in m) ≡ true
+looks_seek m looks =
+    by (is_discovery (path_in m)) (is_lookup (path_in m)) (not (is_later_block m))
+    (not (is_heeded (observe_in m))) looks where
+      by : (d l first plain : Bool) → (d || (l && first && plain)) ≡ true → (d || l) ≡ true
+      by true l first plain h = refl
+      by false true first plain h = refl
+      by false false first plain h = h
+
+-- nothing is there
+pub none_there : {A : Type 0} (o : Option A) → is_none o ≡ true → o ≡ None
+none_there None e = refl
+none_there (Some x) e = cc

@@ -1,0 +1,199 @@
+-- What a datagram is, and what is heard, looked at and written by it.
+use Rattle.std.proofs.Common.{
+  ◌≡◌,
+  ℕ,
+  Bool,
+  true,
+  false,
+  ◌&&◌,
+  List,
+  Option,
+  Some,
+  is_none,
+  Err,
+  refl,
+  sym,
+  ap,
+  ◌∙◌,
+}
+use Rattle.std.proofs.lemmas.Bool.{false≢true}
+use Rattle.message_model.specs.declared.messages.Role.{Role}
+use Rattle.message_model.specs.declared.messages.Role.TheVariants as role
+use Rattle.message_model.specs.declared.messages.Unread.{Unread}
+use Rattle.message_model.specs.declared.requests.Path.{Path}
+use Rattle.message_model.specs.declared.requests.Path.TheVariants as path
+use Rattle.message_model.specs.Message.{Message}
+use Rattle.message_model.specs.Reading.{reading}
+use Rattle.message_model.specs.Request.{path_in}
+use Rattle.coap_message.specs.Views.{message_in}
+use Rattle.journal_model.specs.Effects.{Reply}
+use Rattle.journal_model.specs.Machine.{is_look_message, is_look_reading, is_look_datagram}
+use Rattle.journal_model.specs.Requests.{refusal_of_request, is_lookup, only_looks, is_look_request}
+use Rattle.rd_request.specs.declared.accepted.Request.{Request}
+use Rattle.rd_request.specs.declared.incoming.Incoming.{Incoming}
+use Rattle.rd_request.specs.declared.incoming.Incoming.TheVariants as incoming
+use Rattle.rd_request.specs.Accepted.{message_of}
+use Rattle.rd_request.specs.Asking.{seeks_links}
+use Rattle.rd_request.specs.Incoming.{IsFor, IsIncoming, looks, writes}
+use Rattle.rd_request.specs.WriteRequests.{
+  is_write_path,
+  is_write_message,
+  is_write_reading,
+  is_write_datagram,
+}
+use Rattle.rd_request.proofs.AskedLaws.{looks_seek}
+
+-- ---- what only looks
+
+look_for : (r : Role) (datagram : List ℕ) (m : Message)
+    → IsFor r datagram m
+    → is_look_datagram datagram ≡ is_look_message r m
+unfolding is_look_datagram
+look_for r datagram m is =
+    ap is_look_reading is.read ∙ ap (λ (x : Role). is_look_message x m) is.role_is
+
+look_unread : (datagram : List ℕ) (fault : Unread)
+    → reading datagram ≡ Err fault
+    → is_look_datagram datagram ≡ false
+unfolding is_look_datagram
+look_unread datagram fault unread = ap is_look_reading unread
+
+refused_looks : (m : Message) (reply : Reply)
+    → refusal_of_request m ≡ Some reply
+    → is_look_request m ≡ false
+unfolding is_look_request
+refused_looks m reply refused = ap (λ (o : Option Reply). is_none o && only_looks m) refused
+
+accepted_looks : (m : Message)
+    → is_none (refusal_of_request m) ≡ true
+    → is_look_request m ≡ only_looks m
+unfolding is_look_request
+accepted_looks m accepted = ap (λ (b : Bool). b && only_looks m) accepted
+
+-- what writes seeks no links
+writes_seek : (p : Path) → is_write_path p ≡ true → seeks_links p ≡ false
+writes_seek path.Rd h = refl
+writes_seek path.SimpleRd h = refl
+writes_seek (path.Location number) h = refl
+writes_seek _ h = cc
+
+seeks_write : (p : Path) → seeks_links p ≡ true → is_write_path p ≡ false
+seeks_write path.Core h = refl
+seeks_write path.Res h = refl
+seeks_write path.Ep h = refl
+seeks_write _ h = cc
+
+looks_not : (m : Message) (b : Bool)
+    → only_looks m ≡ b
+    → seeks_links (path_in m) ≡ false
+    → b ≡ false
+looks_not m true h none = let sought = looks_seek m h in cc
+looks_not m false h none = refl
+
+pub looks_is : (datagram : List ℕ) (x : Incoming)
+    → IsIncoming datagram x
+    → is_look_datagram datagram ≡ looks x
+looks_is datagram (incoming.Unread fault) is = look_unread datagram fault is
+looks_is datagram incoming.Nothing is = look_for role.Ignored datagram is.0 is.1
+looks_is datagram (incoming.Ping view) is = look_for role.Ping datagram (message_in view) is
+looks_is datagram (incoming.Acknowledgement view) is =
+    look_for role.Acknowledgement datagram (message_in view) is
+looks_is datagram (incoming.Reset view) is = look_for role.Reset datagram (message_in view) is
+looks_is datagram (incoming.Response view) is = look_for role.Response datagram (message_in view) is
+looks_is datagram (incoming.Refused view refused) is =
+    look_for role.Request datagram (message_in view) is.request
+    ∙ refused_looks (message_in view) _ is.answer
+looks_is datagram (incoming.Look request) is =
+    look_for role.Request datagram (message_of request) is.0
+    ∙ (accepted_looks (message_of request) request.accepted ∙ is.1)
+looks_is datagram (incoming.Lookup request) is =
+    look_for role.Request datagram (message_of request) is.0
+    ∙ (accepted_looks (message_of request) request.accepted ∙ is.1)
+looks_is datagram (incoming.Write request) is =
+    look_for role.Request datagram (message_of request) is.0
+    ∙ (accepted_looks (message_of request) request.accepted
+    ∙ looks_not (message_of request) (only_looks (message_of request)) refl
+    (writes_seek (path_in (message_of request)) is.1))
+
+-- where it does, nothing else is left
+pub only_looks_left : (x : Incoming)
+    → looks x ≡ true
+    → ((request : Request) → x ≡ incoming.Look request → ⊥)
+    → ⊥
+only_looks_left (incoming.Look request) h none = none request refl
+only_looks_left _ h none = cc
+
+-- what does not only look is no look
+pub look_left : (datagram : List ℕ) (request : Request)
+    → IsIncoming datagram (incoming.Look request)
+    → is_look_datagram datagram ≡ false
+    → ⊥
+look_left datagram request is other =
+    false≢true (sym other ∙ looks_is datagram (incoming.Look request) is)
+
+-- ---- what writes
+
+write_for : (r : Role) (datagram : List ℕ) (m : Message)
+    → IsFor r datagram m
+    → is_write_datagram datagram ≡ is_write_message r m
+unfolding is_write_datagram
+write_for r datagram m is =
+    ap is_write_reading is.read ∙ ap (λ (x : Role). is_write_message x m) is.role_is
+
+write_unread : (datagram : List ℕ) (fault : Unread)
+    → reading datagram ≡ Err fault
+    → is_write_datagram datagram ≡ false
+unfolding is_write_datagram
+write_unread datagram fault unread = ap is_write_reading unread
+
+refused_writes : (m : Message) (reply : Reply)
+    → refusal_of_request m ≡ Some reply
+    → is_write_message role.Request m ≡ false
+refused_writes m reply refused =
+    ap (λ (o : Option Reply). is_none o && is_write_path (path_in m)) refused
+
+accepted_writes : (m : Message)
+    → is_none (refusal_of_request m) ≡ true
+    → is_write_message role.Request m ≡ is_write_path (path_in m)
+accepted_writes m accepted = ap (λ (b : Bool). b && is_write_path (path_in m)) accepted
+
+-- a lookup seeks links
+lookup_seeks : (p : Path) → is_lookup p ≡ true → seeks_links p ≡ true
+lookup_seeks path.Res h = refl
+lookup_seeks path.Ep h = refl
+lookup_seeks _ h = cc
+
+pub writes_is : (datagram : List ℕ) (x : Incoming)
+    → IsIncoming datagram x
+    → is_write_datagram datagram ≡ writes x
+writes_is datagram (incoming.Unread fault) is = write_unread datagram fault is
+writes_is datagram incoming.Nothing is = write_for role.Ignored datagram is.0 is.1
+writes_is datagram (incoming.Ping view) is = write_for role.Ping datagram (message_in view) is
+writes_is datagram (incoming.Acknowledgement view) is =
+    write_for role.Acknowledgement datagram (message_in view) is
+writes_is datagram (incoming.Reset view) is = write_for role.Reset datagram (message_in view) is
+writes_is datagram (incoming.Response view) is =
+    write_for role.Response datagram (message_in view) is
+writes_is datagram (incoming.Refused view refused) is =
+    write_for role.Request datagram (message_in view) is.request
+    ∙ refused_writes (message_in view) _ is.answer
+writes_is datagram (incoming.Look request) is =
+    write_for role.Request datagram (message_of request) is.0
+    ∙ (accepted_writes (message_of request) request.accepted
+    ∙ seeks_write (path_in (message_of request)) (looks_seek (message_of request) is.1))
+writes_is datagram (incoming.Lookup request) is =
+    write_for role.Request datagram (message_of request) is.0
+    ∙ (accepted_writes (message_of request) request.accepted
+    ∙ seeks_write (path_in (message_of request))
+    (lookup_seeks (path_in (message_of request)) is.2))
+writes_is datagram (incoming.Write request) is =
+    write_for role.Request datagram (message_of request) is.0
+    ∙ (accepted_writes (message_of request) request.accepted ∙ is.1)
+
+-- where it does, nothing else is left
+pub only_writes_left : (x : Incoming)
+    → writes x ≡ true
+    → ((request : Request) → x ≡ incoming.Write request → ⊥)
+    → ⊥
+only_writes_left (incoming.Write request) h none = none request refl
+only_writes_left _ h none = cc

@@ -1,0 +1,5 @@
+pub mod Resources
+pub mod Accepted
+pub mod Asking
+pub mod WriteRequests
+pub mod Incoming

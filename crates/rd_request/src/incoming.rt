@@ -1,0 +1,138 @@
+//! What a datagram is to the directory. It is read here, and nowhere else (RFC 7252 section 4).
+ghost use Rattle.std.specs.Prelude.{◌≡◌, ◌&&◌, ℕ, not, List, Ok};
+ghost use Rattle.message_model.specs.Reading.{reading};
+ghost use Rattle.message_model.specs.Request.{observe_in};
+ghost use Rattle.message_model.specs.declared.messages.Role.TheVariants as role;
+ghost use Rattle.coap_message.specs.Views.{message_in};
+ghost use Rattle.journal_model.specs.Machine.{is_look_datagram};
+ghost use Rattle.journal_model.specs.Requests as requests_of;
+ghost use Rattle.rd_request.specs.Accepted.{message_of};
+ghost use Rattle.rd_request.specs.Incoming.{IsFor, IsIncoming, looks};
+
+use crate::accepted::Request;
+use crate::requests::{Refused, asked, is_heeded, is_later_block};
+use crate::resources::Resource;
+use coap_message::{Unread, View, role_of, view};
+use message_model::Role;
+
+/// What a datagram is to the directory.
+#[derive(Drop)]
+pub enum Incoming<'a> {
+    /// No message (RFC 7252 section 3).
+    Unread(Unread),
+    /// A message of which nothing comes.
+    Nothing,
+    /// A ping (RFC 7252 section 4.3).
+    Ping(View<'a>),
+    /// An empty acknowledgement.
+    Acknowledgement(View<'a>),
+    /// A Reset.
+    Reset(View<'a>),
+    /// A response.
+    Response(View<'a>),
+    /// A request that is refused for itself.
+    Refused(View<'a>, Refused),
+    /// A request that only looks: a discovery, or a lookup of a first block that neither begins nor
+    /// ends an observation. It is answered from the registrations alone.
+    Look(Request<'a>),
+    /// Any other lookup.
+    Lookup(Request<'a>),
+    /// A request that writes to the registrations, or to one of them.
+    Write(Request<'a>),
+}
+
+/// Whether a lookup is of a first block, and neither begins nor ends an observation.
+fn is_plain(request: &Request<'_>) -> bool
+    ensures { result ≡ (not (requests_of.is_later_block (message_of request.now))
+        && not (requests_of.is_heeded (observe_in (message_of request.now)))) }
+{
+    if is_later_block(request) {
+        return false;
+    }
+    !is_heeded(request.meaning.observe)
+}
+
+/// A request that nothing refuses for itself, by what it is about.
+fn served(request: Request<'_>) -> Incoming<'_>
+    ensures { (datagram : List ℕ)
+        → IsFor role.Request datagram (message_of request.entry)
+        → IsIncoming datagram result }
+{
+    match request.resource {
+        Resource::Core => Incoming::Look(request),
+        Resource::Lookup(_) => {
+            if is_plain(&request) {
+                return Incoming::Look(request);
+            }
+            Incoming::Lookup(request)
+        }
+        Resource::SimpleRegistration | Resource::Registration | Resource::Location(_) => {
+            Incoming::Write(request)
+        }
+    }
+}
+
+/// A request.
+fn requested<'a>(view: &View<'a>) -> Incoming<'a>
+    ensures { (datagram : List ℕ)
+        → IsFor role.Request datagram (message_in view.now)
+        → IsIncoming datagram result }
+{
+    match asked(view) {
+        Ok(request) => served(request),
+        Err(refused) => Incoming::Refused(*view, refused),
+    }
+}
+
+/// A message, by what it is for (RFC 7252 section 4).
+fn told<'a>(view: &View<'a>) -> Incoming<'a>
+    ensures { (datagram : List ℕ)
+        → reading datagram ≡ Ok (message_in view.now)
+        → IsIncoming datagram result }
+{
+    match role_of(view) {
+        Role::Ping => Incoming::Ping(*view),
+        Role::Acknowledgement => Incoming::Acknowledgement(*view),
+        Role::Reset => Incoming::Reset(*view),
+        Role::Request => requested(view),
+        Role::Response => Incoming::Response(*view),
+        Role::Ignored => Incoming::Nothing,
+    }
+}
+
+/// What a datagram is to the directory.
+pub fn read_datagram(datagram: &[u8]) -> Incoming<'_>
+    ensures { IsIncoming datagram.now result }
+{
+    match view(datagram) {
+        Ok(view) => told(&view),
+        Err(fault) => Incoming::Unread(fault),
+    }
+}
+
+/// Whether it is a request that only looks.
+fn looks(incoming: &Incoming<'_>) -> bool
+    ensures { result ≡ looks incoming.now }
+{
+    match incoming {
+        Incoming::Look(_) => true,
+        Incoming::Unread(_)
+        | Incoming::Nothing
+        | Incoming::Ping(_)
+        | Incoming::Acknowledgement(_)
+        | Incoming::Reset(_)
+        | Incoming::Response(_)
+        | Incoming::Refused(_, _)
+        | Incoming::Lookup(_)
+        | Incoming::Write(_) => false,
+    }
+}
+
+/// Whether a datagram is a request that only looks: a lookup of a first block that neither begins
+/// nor ends an observation, or a discovery, which nothing refuses. It is answered from the
+/// registrations alone.
+pub fn is_look(datagram: &[u8]) -> bool
+    ensures { result ≡ is_look_datagram datagram.now }
+{
+    looks(&read_datagram(datagram))
+}

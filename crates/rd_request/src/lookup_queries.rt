@@ -1,0 +1,27 @@
+//! What lookups and discoveries ask for, by the query options of their requests (RFC 9176 sections
+//! 4.1 and 6).
+ghost use Rattle.std.specs.Prelude.{◌≡◌, true, IfOk};
+ghost use Rattle.message_model.specs.Request.{path_in};
+ghost use Rattle.journal_model.specs.Requests as requests_of;
+ghost use Rattle.rd_request.specs.Accepted.{message_of};
+ghost use Rattle.rd_request.specs.Asking.{seeks_links};
+
+use crate::accepted::Request;
+use crate::resources::kind_at;
+use coap_options::queries;
+use query_text::{QueryBad, lookup_query};
+use rd_base::{Query, Starved};
+use std::alloc::Global;
+
+/// What a lookup or a discovery asks for, whose query options are not refused. `Starved`: out of
+/// memory.
+pub fn query_of(alloc: Global, request: &Request<'_>) -> Result<Query, Starved>
+    requires seeks { seeks_links (path_in (message_of request.now)) ≡ true }
+    ensures { IfOk result (λ query. query ≡ requests_of.query_of (message_of request.now)) }
+{
+    match lookup_query(alloc, kind_at(&request.resource), queries(&request.meaning)) {
+        Ok(query) => Ok(query),
+        Err(QueryBad::Starved) => Err(Starved),
+        Err(QueryBad::At { .. }) => unreachable!(),
+    }
+}

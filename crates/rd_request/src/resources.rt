@@ -1,0 +1,62 @@
+//! What requests are about (RFC 9176 sections 4.3, 5 and 6).
+ghost use Rattle.std.specs.Prelude.{◌≡◌};
+ghost use Rattle.rd_request.specs.Resources as resources;
+
+use coap_options::Path;
+use rd_base::Kind;
+
+/// A resource of the directory.
+#[derive(Clone, Copy, Debug, PartialEq, Eq)]
+pub enum Resource {
+    /// `/.well-known/core`: discovery (RFC 9176 section 4.1).
+    Core,
+    /// `/.well-known/rd`: simple registration (RFC 9176 section 5.1).
+    SimpleRegistration,
+    /// `/rd`: registration (RFC 9176 section 5).
+    Registration,
+    /// `/rd/N`: the registration of this number (RFC 9176 section 5.3).
+    Location(u64),
+    /// `/rd-lookup/res` and `/rd-lookup/ep`: a lookup of this (RFC 9176 section 6).
+    Lookup(Kind),
+}
+
+/// What a path names, where it names anything.
+pub(crate) fn resource_at(path: &Path) -> Option<Resource>
+    ensures { result ≡ resources.resource_at path.now }
+{
+    match *path {
+        Path::Core => Some(Resource::Core),
+        Path::SimpleRd => Some(Resource::SimpleRegistration),
+        Path::Rd => Some(Resource::Registration),
+        Path::Location(number) => Some(Resource::Location(number)),
+        Path::Res => Some(Resource::Lookup(Kind::Resource)),
+        Path::Ep => Some(Resource::Lookup(Kind::Endpoint)),
+        Path::Other => None,
+    }
+}
+
+/// The kind of what is looked up there.
+pub(crate) fn kind_at(resource: &Resource) -> Kind
+    ensures { result ≡ resources.kind_at resource.now }
+{
+    match *resource {
+        Resource::Lookup(kind) => kind,
+        Resource::Core
+        | Resource::SimpleRegistration
+        | Resource::Registration
+        | Resource::Location(_) => Kind::Discovery,
+    }
+}
+
+/// Whether it is that of discovery.
+pub fn is_core(resource: &Resource) -> bool
+    ensures { result ≡ resources.is_core resource.now }
+{
+    match *resource {
+        Resource::Core => true,
+        Resource::SimpleRegistration
+        | Resource::Registration
+        | Resource::Location(_)
+        | Resource::Lookup(_) => false,
+    }
+}
