@@ -16,3 +16,4 @@ pub mod LookupLaws
 pub mod HearingLaws
 pub mod IncomingLaws
 pub mod LookRows
+pub mod ShownLaws

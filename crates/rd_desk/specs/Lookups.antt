@@ -38,7 +38,7 @@ use Rattle.journal_model.specs.Lookups.{lookup_effects}
 use Rattle.journal_model.specs.Requests.{asked_block, number_of, szx_of}
 use Rattle.journal_model.specs.Rows.{row_moment}
 use Rattle.transfers.specs.TransferEvents.{Table, AnswersStandFor, TransfersStandFor}
-use Rattle.rd_desk.specs.declared.joining.Joining.{Joining}
+use Rattle.observation.specs.declared.joining.Joining.{Joining}
 use Rattle.rd_desk.specs.declared.listings.Formed.{Formed}
 use Rattle.rd_desk.specs.declared.listings.Listed.{Listed}
 use Rattle.rd_desk.specs.declared.mids.Mids.{Mids}

@@ -23,7 +23,6 @@ ghost use Rattle.rd_desk.specs.Sendings.{IsStepOf, Sends};
 
 use crate::accepted::Request;
 use crate::bodies::{body_reply, szx_of};
-use crate::joining::Joining;
 use crate::keeps::with_listing;
 use crate::looks::listing_at;
 use crate::replies::answer;
@@ -31,6 +30,7 @@ use crate::{Mids, Outbox};
 use coap_options::request_key;
 use directory_core::Directory;
 use exchange_core::Token;
+use observation::Joining;
 use rd_base::{Bytes, Key, Moment, Peer, Query, Starved, Tag};
 use std::alloc::Global;
 use std::marker::Brand;

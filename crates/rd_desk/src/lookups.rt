@@ -17,10 +17,10 @@ ghost use Rattle.journal_model.specs.Effects.{Effects, nothing, joined, noting};
 ghost use Rattle.journal_model.specs.Journal.{events};
 ghost use Rattle.journal_model.specs.Lookups.{without};
 ghost use Rattle.journal_model.specs.Requests as requests_of;
+ghost use Rattle.observation.specs.Joining.{observer_joining, joining_notes};
 ghost use Rattle.rd_desk.specs.Accepted.{message_of};
 ghost use Rattle.rd_desk.specs.declared.mids.Mids.{Mids as MidsSeen};
 ghost use Rattle.rd_desk.specs.Asking.{seeks_links, begins_observation};
-ghost use Rattle.rd_desk.specs.Joining.{observer_joining, joining_notes};
 ghost use Rattle.rd_desk.specs.Lookups.{answer_listed, answer_at, has_asked_block, IsFormed};
 ghost use Rattle.rd_desk.specs.Lookups.{IsReadied, IsJoining, giving, value_given, lookup_heard};
 ghost use Rattle.rd_desk.specs.Outboxes.{most_datagrams};
@@ -29,7 +29,6 @@ ghost use Rattle.rd_desk.specs.UnderWay.{UnderWay};
 
 use crate::accepted::Request;
 use crate::bodies::{has_asked_block, is_long};
-use crate::joining::Joining;
 use crate::listings::{Formed, form, joining_by, listed_at, send_block, send_kept};
 use crate::looks::query_of;
 use crate::requests::{begins_observation, is_later_block};
@@ -38,6 +37,7 @@ use crate::tables::Tables;
 use crate::{Mids, Outbox, Stepped};
 use coap_options::request_key;
 use exchange_core::Token;
+use observation::Joining;
 use rd_base::{Peer, Query, Starved};
 use std::alloc::Global;
 

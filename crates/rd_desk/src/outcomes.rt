@@ -26,10 +26,10 @@ ghost use Rattle.rd_desk.specs.Staging.{IsNextOf};
 ghost use Rattle.rd_desk.specs.Outcomes.{HasEntry, IsTimely, IsPlanned, IsRefusedWith, IsBadBody};
 ghost use Rattle.rd_desk.specs.Replies.{IsReply, reply_said, block1_options};
 
-use crate::change_kinds::ChangeKind;
 use crate::replies::Reply;
 use directory_core::{Directory, Refusal};
 use message_model::Block;
+use observation::ChangeKind;
 use rd_base::{Moment, Peer, RegParams, Starved, UpdateParams};
 use registration::{Draft, DraftFault, build};
 use std::alloc::Global;

@@ -9,9 +9,9 @@ ghost use Rattle.rd_desk.specs.Desks.{StandsFor};
 ghost use Rattle.rd_desk.specs.UnderWay.{UnderWay, IsCalled};
 
 use crate::fetching::Fetching;
-use crate::watching::Watching;
 use directory_core::Directory;
 use exchange_core::Exchanges;
+use observation::Watching;
 use rd_base::{Moment, Starved};
 use std::alloc::Global;
 use std::marker::Model;

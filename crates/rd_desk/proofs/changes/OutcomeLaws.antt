@@ -66,11 +66,11 @@ use Rattle.journal_model.specs.Changes.{
   registered_links,
   registration,
 }
+use Rattle.observation.specs.declared.change_kinds.ChangeKind.TheVariants as kind_of_change
+use Rattle.observation.specs.ChangeKinds.{kind_of}
 use Rattle.rd_desk.specs.declared.replies.Reply.{Reply}
 use Rattle.rd_desk.specs.declared.outcomes.Entering.{Entering}
 use Rattle.rd_desk.specs.declared.outcomes.Outcome.{Outcome}
-use Rattle.rd_desk.specs.declared.change_kinds.ChangeKind.TheVariants as kind_of_change
-use Rattle.rd_desk.specs.ChangeKinds.{kind_of}
 use Rattle.rd_desk.specs.Outcomes.{HasEntry, IsEntering, IsPlanned, IsBadBody}
 use Rattle.rd_desk.specs.Replies.{IsReply, reply_said}
 

@@ -40,11 +40,11 @@ use Rattle.journal_model.proofs.UnfinishedRowLaws.{events-making_nothing, events
 use Rattle.simple_registration.specs.Table.{Table}
 use Rattle.simple_registration.specs.FetchEvents.{FetchesStandFor}
 use Rattle.simple_registration.proofs.DeskLaws.{last_request-noted}
+use Rattle.observation.specs.Watching.{Watching, WatchingStandsFor}
 use Rattle.rd_desk.specs.declared.mids.Mids.{Mids}
 use Rattle.rd_desk.specs.Desks.{Seen}
 use Rattle.rd_desk.specs.Sendings.{IsRequestSent, AreRequestsSent}
 use Rattle.rd_desk.specs.UnderWay.{UnderWay}
-use Rattle.rd_desk.specs.Watching.{Watching, WatchingStandsFor}
 use Rattle.rd_desk.proofs.parts.NoteTopics as topic
 use Rattle.rd_desk.proofs.parts.NoteTopics.{AreAbout, no_fetches}
 use Rattle.rd_desk.proofs.parts.PartLaws.{more_unformed, more_fetches}

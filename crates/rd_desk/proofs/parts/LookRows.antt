@@ -14,8 +14,9 @@ use Rattle.exchange_core.specs.ExchangeEvents.{ExchangesStandFor}
 use Rattle.transfers.specs.TransferEvents.{TransfersStandFor}
 use Rattle.simple_registration.specs.FetchEvents.{FetchesStandFor}
 use Rattle.simple_registration.proofs.DeskLaws.{FetchesStandFor-row}
-use Rattle.rd_desk.specs.Desks.{Seen, DirectoryStandsFor, StandsFor}
-use Rattle.rd_desk.proofs.observers.WatchingLaws.{WatchingStandsFor-looked}
+use Rattle.observation.specs.Directories.{DirectoryStandsFor}
+use Rattle.observation.proofs.WatchingLaws.{WatchingStandsFor-looked}
+use Rattle.rd_desk.specs.Desks.{Seen, StandsFor}
 
 -- it notes nothing, so the events, the entries and the moment are as before
 events-same : (rows : List Row) (r : Row) → r.notes ≡ [] → events (r ∷ rows) ≡ events rows

@@ -113,13 +113,14 @@ use Rattle.transfers.specs.TransferEvents.{
   TransfersStandFor,
 }
 use Rattle.transfers.proofs.TransferLaws.{UploadsStandFor-noted}
-use Rattle.rd_desk.specs.declared.joining.Joining.{Joining}
+use Rattle.observation.specs.declared.joining.Joining.{Joining}
+use Rattle.observation.specs.Joining.{observer_joining, joining_notes}
+use Rattle.observation.specs.Watching.{Watching, WatchingStandsFor}
 use Rattle.rd_desk.specs.declared.listings.Formed.{Formed}
 use Rattle.rd_desk.specs.declared.listings.Listed.{Listed}
 use Rattle.rd_desk.specs.declared.mids.Mids.{Mids}
 use Rattle.rd_desk.specs.Asking.{begins_observation}
 use Rattle.rd_desk.specs.Desks.{Seen}
-use Rattle.rd_desk.specs.Joining.{observer_joining, joining_notes}
 use Rattle.rd_desk.specs.Lookups.{
   answer_listed,
   answer_at,
@@ -135,7 +136,6 @@ use Rattle.rd_desk.specs.Lookups.{
 }
 use Rattle.rd_desk.specs.Sendings.{IsStepOf, Sends}
 use Rattle.rd_desk.specs.UnderWay.{UnderWay}
-use Rattle.rd_desk.specs.Watching.{Watching, WatchingStandsFor}
 use Rattle.rd_desk.proofs.answers.SendingLaws.{sends_notes}
 use Rattle.rd_desk.proofs.parts.EffectLaws.{effects_same, joined-nothing_first}
 use Rattle.rd_desk.proofs.parts.MakingLaws.{entries-making_nothing}

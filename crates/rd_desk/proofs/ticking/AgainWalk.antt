@@ -50,14 +50,15 @@ use Rattle.exchange_core.specs.declared.resends.Again.{Again}
 use Rattle.exchange_core.specs.declared.resends.Again.TheVariants as again
 use Rattle.observers.specs.Watchers.{Watcher, due_of, changed_at}
 use Rattle.observers.specs.ObserverEvents.{shown}
+use Rattle.observation.specs.Notices.{sending_again}
+use Rattle.observation.specs.Watching.{Watching, WatchingStandsFor}
+use Rattle.observation.proofs.TickLaws.{length-StandsFor}
 use Rattle.rd_desk.specs.declared.mids.Mids.{Mids}
 use Rattle.rd_desk.specs.Desks.{Seen}
-use Rattle.rd_desk.specs.Noticing.{sending_again, again_as, again_done}
+use Rattle.rd_desk.specs.Noticing.{again_as, again_done}
 use Rattle.rd_desk.specs.Sendings.{Sends}
 use Rattle.rd_desk.specs.UnderWay.{UnderWay}
-use Rattle.rd_desk.specs.Watching.{Watching, WatchingStandsFor}
 use Rattle.rd_desk.proofs.answers.SendingLaws.{sends_notes}
-use Rattle.rd_desk.proofs.observers.TickLaws.{length-StandsFor}
 use Rattle.rd_desk.proofs.parts.EffectLaws.{joined-nothing, joined-nothing_first, joined-assoc}
 use Rattle.rd_desk.proofs.parts.PartLaws.{more_unformed}
 use Rattle.rd_desk.proofs.parts.WayLaws.{way_moment}

@@ -60,11 +60,19 @@ use Rattle.transfers.specs.TransferEvents.{Table, AnswersStandFor, kept_note}
 use Rattle.transfers.proofs.KeptEvents.{AnswersStandFor-kept, AnswersStandFor-kept_each}
 use Rattle.transfers.proofs.TransferLaws.{UploadsStandFor-noted}
 use Rattle.observers.specs.Watchers.{Watcher}
+use Rattle.observation.specs.Notices.{forming, next_noticed}
+use Rattle.observation.specs.Watching.{Watching, WatchingStandsFor}
+use Rattle.observation.proofs.TickLaws.{
+  IsKeptAs,
+  kept-StandsFor,
+  length-StandsFor,
+  got_inside,
+  got_within,
+}
 use Rattle.rd_desk.specs.declared.mids.Mids.{Mids}
 use Rattle.rd_desk.specs.declared.planning.Planned.{Planned}
 use Rattle.rd_desk.specs.declared.planning.Planned.TheVariants as planned
 use Rattle.rd_desk.specs.Desks.{Seen}
-use Rattle.rd_desk.specs.Noticing.{forming, next_noticed}
 use Rattle.rd_desk.specs.Planning.{
   forming_for,
   kept_of,
@@ -78,15 +86,7 @@ use Rattle.rd_desk.specs.Planning.{
 }
 use Rattle.rd_desk.specs.Sendings.{Sends}
 use Rattle.rd_desk.specs.UnderWay.{UnderWay}
-use Rattle.rd_desk.specs.Watching.{Watching, WatchingStandsFor}
 use Rattle.rd_desk.proofs.answers.SendingLaws.{sends_notes}
-use Rattle.rd_desk.proofs.observers.TickLaws.{
-  IsKeptAs,
-  kept-StandsFor,
-  length-StandsFor,
-  got_inside,
-  got_within,
-}
 use Rattle.rd_desk.proofs.parts.EffectLaws.{joined-assoc, joined-nothing}
 use Rattle.rd_desk.proofs.parts.PartLaws.{more_watching, more_unformed, more_transfers}
 

@@ -96,6 +96,7 @@ use Rattle.simple_registration.proofs.PeerLaws.{
 use Rattle.simple_registration.proofs.RunningLaws.{running-at, running-peers}
 use Rattle.simple_registration.proofs.StepLaws.{repeating-octets}
 use Rattle.simple_registration.proofs.TableLaws.{running_length}
+use Rattle.observation.proofs.TickLaws.{each_at, got_inside}
 use Rattle.rd_desk.specs.declared.mids.Mids.{Mids}
 use Rattle.rd_desk.specs.Desks.{Seen}
 use Rattle.rd_desk.specs.Resending.{
@@ -107,7 +108,6 @@ use Rattle.rd_desk.specs.Resending.{
 }
 use Rattle.rd_desk.specs.UnderWay.{UnderWay}
 use Rattle.rd_desk.proofs.answers.SendingLaws.{sends_notes}
-use Rattle.rd_desk.proofs.observers.TickLaws.{each_at, got_inside}
 use Rattle.rd_desk.proofs.parts.EffectLaws.{joined-nothing, joined-assoc}
 use Rattle.rd_desk.proofs.parts.PartLaws.{more_fetches}
 use Rattle.rd_desk.proofs.parts.WayLaws.{way_moment}
