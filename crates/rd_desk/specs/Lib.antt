@@ -6,7 +6,6 @@ pub mod Asking
 pub mod Accepted
 pub mod Incoming
 pub mod Writing
-pub mod Fetching
 pub mod WriteJobs
 pub mod Admitting
 pub mod Lookups

@@ -9,7 +9,6 @@ mod commits;
 mod desk;
 mod empty_messages;
 mod entries;
-mod fetching;
 mod heard_empties;
 mod heard_responses;
 mod heard_writes;

@@ -30,7 +30,7 @@ use crate::tables::Tables;
 use crate::{Mids, Outbox, Stepped};
 use coap_message::{Kind4, View};
 use rd_base::{Moment, Peer};
-use simple_registration::StartFault;
+use simple_registration::{AllowedParams, StartFault};
 use std::alloc::Global;
 
 /// 2.04 (RFC 7252 section 5.9.1.4).
@@ -126,6 +126,7 @@ impl Tables {
             self.fail(mids, peer, &request.meaning.view, admitted, out);
             return Stepped::Starved;
         };
+        let params = AllowedParams::of(params);
         let mid = mids.after(drawn_for(request.meaning.view.kind));
         match self
             .fetches

@@ -100,12 +100,12 @@ use Rattle.simple_registration.specs.FetchEvents.{
   has_names_of_request,
   heard_after,
 }
+use Rattle.simple_registration.specs.Sendable.{IsSendable}
 use Rattle.simple_registration.proofs.CallLaws.{belongs}
 use Rattle.simple_registration.proofs.StepLaws.{other_kind, octets_sent-here}
 use Rattle.rd_desk.specs.declared.mids.Mids.{Mids}
 use Rattle.rd_desk.specs.declared.outcomes.Outcome.{Outcome as Planned}
 use Rattle.rd_desk.specs.Desks.{Seen}
-use Rattle.rd_desk.specs.Fetching.{IsSendable}
 use Rattle.rd_desk.specs.Outcomes.{IsPlanned}
 use Rattle.rd_desk.specs.Responding.{asking_next, unless_starved, response_heard}
 use Rattle.rd_desk.specs.Sendings.{Sends, AreRequestsSent}
