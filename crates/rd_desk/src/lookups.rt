@@ -29,8 +29,8 @@ ghost use Rattle.rd_desk.specs.UnderWay.{UnderWay};
 
 use crate::accepted::Request;
 use crate::bodies::{has_asked_block, is_long};
-use crate::listings::{Formed, form, joining_by, listed_at, send_block, send_kept};
-use crate::looks::query_of;
+use crate::listings::{Formed, form, joining_by, listed_at, send_kept};
+use crate::looks::{query_of, send_block};
 use crate::requests::{begins_observation, is_later_block};
 use crate::server_errors::answer_starved;
 use crate::tables::Tables;
@@ -85,8 +85,8 @@ impl Tables {
             mids,
             peer,
             request,
+            Some(listed.tag),
             observe,
-            listed.tag,
             listed.body.as_slice(),
             out,
         );

@@ -2,7 +2,6 @@ use Rattle.std.proofs.Common.{◌≡◌, Ok, sym, ap, ◌∙◌}
 use Rattle.std.specs.Arc.{arc_value}
 use Rattle.message_model.specs.Reading.{reading}
 use Rattle.coap_message.specs.Views.{message_in}
-use Rattle.rd_desk.specs.Replies.{reply_said}
 use Rattle.rd_desk.proofs.parts.KeepLaws.{way_starved, way_kept}
 use Rattle.rd_desk.proofs.tables.Tables.keep_listing.Goals as goal
 
@@ -25,11 +24,10 @@ returns c = record {
       let read : reading c.job.inside.datagram ≡ Ok m =
       ap reading (sym c.as_slice.ensures.value) ∙ c.look_request-request.ensures.read in
       way_kept rows s _ c.args.self.now c.adopt.new.self c.in-Ok.ready c.args.out.now
-      c.answer.new.out c.args.mids.now c.answer.new.mids c.job.inside.peer c.job.inside.datagram
+      c.send_block.new.out c.args.mids.now c.send_block.new.mids c.job.inside.peer
+      c.job.inside.datagram
       (record { body = arc_value c.job.inside.body; tag = c.job.inside.tag.0 }) c.args.job m
-      c.as_slice-2.result.now c.look_request-request.result.asked
-      (reply_said c.body_reply-reply.result) c.self.view_is c.job.view_is of read
-      c.look_request-request.result.asked_said (c.as_slice-2.ensures.value ∙ c.deref.ensures)
-      c.body_reply-reply.ensures.said
-      c.in-Ok.ensures c.adopt.ensures.stands c.answer.ensures.sends way;
+      c.as_slice-2.result.now c.self.view_is c.job.view_is of read
+      (c.as_slice-2.ensures.value ∙ c.deref.ensures) c.in-Ok.ensures c.adopt.ensures.stands
+      c.send_block.ensures way;
 }
