@@ -6,7 +6,6 @@ ghost use Rattle.message_model.specs.Blocks.{IsBlock};
 ghost use Rattle.message_model.specs.Spelling.{spelling};
 ghost use Rattle.coap_message.specs.PartialMessages.{longest_datagram, with_last_option};
 ghost use Rattle.journal_model.specs.Commits.{fetch_request};
-ghost use Rattle.simple_registration.specs.Sendable.{IsSendable};
 
 use block_wise::{Block, block_write};
 use coap_message::{Kind4, TokenRef, TooLong, Writer};
@@ -83,7 +82,7 @@ pub(crate) fn first_request(alloc: Global, mid: u16, token: TokenRef<'_>) -> Res
     ensures spelled { IfOk result (λ bytes. bytes
         ≡ spelling (fetch_request mid token.entry.octets.now None)) }
     ensures some { IfOk result (λ bytes. 0 < length bytes) }
-    ensures sendable { IfOk result (IsSendable mid) }
+    ensures fits { IfOk result (λ bytes. length bytes ≤ longest_datagram) }
 {
     datagram_of(alloc, core_request(mid, token))
 }
@@ -99,7 +98,7 @@ pub(crate) fn request_for(
     ensures spelled { IfOk result (λ bytes. bytes
         ≡ spelling (fetch_request mid token.entry.octets.now (Some block.now))) }
     ensures some { IfOk result (λ bytes. 0 < length bytes) }
-    ensures sendable { IfOk result (IsSendable mid) }
+    ensures fits { IfOk result (λ bytes. length bytes ≤ longest_datagram) }
 {
     let mut value = [0u8; 3];
     let size = block_write(block, &mut value);
