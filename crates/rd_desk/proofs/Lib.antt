@@ -8,13 +8,7 @@
 -- (ForgottenLaws), empty messages (EmptyMessageLaws), keeps (KeepLaws), the row of a look,
 --   which leaves what a desk stands for (LookRows), lookups with the journal
 --   (LookupLaws), and what an admission does and leaves by what it hears (AdmissionLaws,
--- HearingLaws).
--- The watched queries and their observers (observers): marks that are handed on (MarkLaws), which
--- observer is found (WalkLaws, FoundObservers), each query is watched as often as it
---   is observed (WatchedLaws); what they stand for, by its parts (WatchingParts, WatcherParts) and
--- while a row is made: nothing about them, time that passes, an entry (WatchingLaws),
---   a note about an observer (WatchingNotes), one who joins (JoiningLaws), and what a tick asks
--- (TickLaws).
+-- HearingLaws). What is shown of an observer: ShownLaws.
 -- Responses to fetches (responses): the fetches that a desk keeps stay sound (FetchingLaws), and
 -- what a response does, part after part (ResponseLaws).
 -- Changes of the registrations (changes): what is planned of a write (OutcomeLaws), the entry that
@@ -24,7 +18,7 @@
 --   for the desk above, that a commit is of an open admission (OpenJobs).
 --   The parameters that a registration gives (ParameterLaws), a block of one (UploadLaws), and a
 -- simple one, whose fetch starts beside its answer (FetchStartLaws); what a
---   step leaves on a board (StagingLaws). What is shown of an observer is ShownLaws of observers.
+--   step leaves on a board (StagingLaws).
 -- Ticks (ticking): how many observe and are fetched from (BoundLaws), how long the octets are that
 -- may be sent again (FittingLaws); notices that are sent again (AgainLaws, observer after
 --   observer AgainWalk), requests of fetches that are (RequestWalk); who gets a new notice
@@ -37,7 +31,6 @@
 -- What steps send and note in which memory runs out, computed (examples).
 pub mod answers
 pub mod parts
-pub mod observers
 pub mod changes
 pub mod responses
 pub mod ticking

@@ -1,6 +1,5 @@
 pub mod OutcomeLaws
 pub mod EntryLaws
-pub mod LeaseLaws
 pub mod SettlingLaws
 pub mod UploadLaws
 pub mod FetchStartLaws

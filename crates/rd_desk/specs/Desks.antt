@@ -1,9 +1,9 @@
 -- What a desk shows, and the journal that it stands for.
-use Rattle.std.specs.Prelude.{◌≡◌, ℕ, ◌≤◌, List}
-use Rattle.history_model.specs.Versions.{Version, VersionStandsFor}
+use Rattle.std.specs.Prelude.{◌≡◌, ℕ, List}
+use Rattle.history_model.specs.Versions.{Version}
 use Rattle.event_model.specs.Observers.{observe_values_sent}
 use Rattle.journal_model.specs.declared.rows.Row.{Row}
-use Rattle.journal_model.specs.Journal.{events, entries, now}
+use Rattle.journal_model.specs.Journal.{events, now}
 use Rattle.journal_model.specs.Ticks.{octets_sent}
 use Rattle.exchange_core.specs.Table as exchanges
 use Rattle.exchange_core.specs.ExchangeEvents.{ExchangesStandFor}
@@ -11,7 +11,8 @@ use Rattle.transfers.specs.TransferEvents as transfers
 use Rattle.transfers.specs.TransferEvents.{TransfersStandFor}
 use Rattle.simple_registration.specs.Table as fetches
 use Rattle.simple_registration.specs.FetchEvents.{FetchesStandFor}
-use Rattle.rd_desk.specs.Watching.{Watching, WatchingStandsFor}
+use Rattle.observation.specs.Directories.{DirectoryStandsFor}
+use Rattle.observation.specs.Watching.{Watching, WatchingStandsFor}
 
 -- its moment, the version of the directory, the tables, and how many Observe values it gave, as 64
 -- bits count
@@ -23,12 +24,6 @@ pub record Seen : Type 0 where
   pub watching : Watching
   pub fetches : fetches.Table
   pub observed : ℕ
-
--- a version stands for the entries of a journal, and may be asked at its moment
-pub record DirectoryStandsFor (rows : List Row) (v : Version) : Type 0 where
-  pub history : VersionStandsFor 0 (entries rows) v
-  pub at : v.at ≤ now rows
-  pub swept : v.swept ≤ now rows
 
 -- a desk stands for a journal: its moment is that of the last row that is no look, and each table
 -- stands for the events

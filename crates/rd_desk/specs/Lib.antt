@@ -1,17 +1,11 @@
-pub mod Watching
-pub mod Fetching
 pub mod WriteJobs
 pub mod Admitting
-pub mod Marks
-pub mod Entering
-pub mod Joining
 pub mod Lookups
 pub mod Noticing
 pub mod Desks
 pub mod UnderWay
 pub mod Outcomes
 pub mod Committing
-pub mod ChangeKinds
 pub mod Staging
 pub mod KeepJobs
 pub mod Looking

@@ -40,7 +40,7 @@ use Rattle.journal_model.specs.Rows.{row_moment}
 use Rattle.transfers.specs.TransferEvents.{Table, AnswersStandFor, TransfersStandFor}
 use Rattle.coap_answers.specs.declared.mids.Mids.{Mids}
 use Rattle.coap_answers.specs.Sendings.{IsStepOf, Sends}
-use Rattle.rd_desk.specs.declared.joining.Joining.{Joining}
+use Rattle.observation.specs.declared.joining.Joining.{Joining}
 use Rattle.rd_desk.specs.declared.listings.Formed.{Formed}
 use Rattle.rd_desk.specs.declared.listings.Listed.{Listed}
 

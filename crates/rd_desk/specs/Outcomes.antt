@@ -11,8 +11,8 @@ use Rattle.event_model.specs.declared.notes.Note.TheVariants as note
 use Rattle.journal_model.specs.Changes as changes
 use Rattle.coap_answers.specs.declared.replies.Reply.{Reply}
 use Rattle.coap_answers.specs.Replies.{IsReply, reply_said}
-use Rattle.rd_desk.specs.declared.change_kinds.ChangeKind.{ChangeKind}
-use Rattle.rd_desk.specs.ChangeKinds.{kind_of}
+use Rattle.observation.specs.declared.change_kinds.ChangeKind.{ChangeKind}
+use Rattle.observation.specs.ChangeKinds.{kind_of}
 use Rattle.rd_desk.specs.declared.outcomes.Entering.{Entering}
 use Rattle.rd_desk.specs.declared.outcomes.Outcome.{Outcome}
 use Rattle.message_model.specs.Codes as codes_of

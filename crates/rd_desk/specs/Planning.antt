@@ -60,13 +60,13 @@ use Rattle.transfers.specs.Keeping.{NamedAnswer, kept_each}
 use Rattle.observers.specs.Watchers.{Watcher, is_awaited}
 use Rattle.coap_answers.specs.declared.mids.Mids.{Mids}
 use Rattle.coap_answers.specs.Writing.{notice_saying}
+use Rattle.observation.specs.Notices.{next_noticed}
+use Rattle.observation.specs.Watching.{Watching, WatchingStandsFor}
 use Rattle.rd_desk.specs.declared.planning.Plan.{Plan}
 use Rattle.rd_desk.specs.declared.planning.Planned.{Planned}
 use Rattle.rd_desk.specs.declared.planning.Planned.TheVariants as planned
 use Rattle.rd_desk.specs.Desks.{Seen}
-use Rattle.rd_desk.specs.Noticing.{next_noticed}
 use Rattle.rd_desk.specs.UnderWay.{UnderWay}
-use Rattle.rd_desk.specs.Watching.{Watching, WatchingStandsFor}
 
 -- ---- one notice
 

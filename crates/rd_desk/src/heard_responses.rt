@@ -1,7 +1,7 @@
 //! Responses to the fetches of simple registrations, as they are heard (RFC 9176 section 5.1, RFC
 //! 7252 sections 4.2 and 5.2.2).
 ghost use Rattle.std.specs.Prelude.{◌≡◌, ◌<◌, ◌≤◌, ◌+◌, ◌∷◌, [], true, ℕ, Bool, List, Some};
-ghost use Rattle.std.specs.Prelude.{length, false};
+ghost use Rattle.std.specs.Prelude.{None, IfSome, is_some, length, false, if◌then◌else◌};
 ghost use Rattle.rd_base.specs.declared.peers.Peer.{Peer};
 ghost use Rattle.record_model.specs.AllowedParameters.{AreAllowed};
 ghost use Rattle.coap_message.specs.PartialMessages.{longest_datagram};
@@ -10,14 +10,17 @@ ghost use Rattle.history_model.specs.declared.entries.Entry.{Entry};
 ghost use Rattle.event_model.specs.declared.notes.Note.{Note};
 ghost use Rattle.event_model.specs.declared.notes.Note.TheVariants as note;
 ghost use Rattle.event_model.specs.Fetches.{Request, last_request, request_of};
+ghost use Rattle.event_model.specs.Events.{Event};
+ghost use Rattle.event_model.specs.Flights.{OctetsSent};
 ghost use Rattle.journal_model.specs.declared.steps.Step.{Step};
 ghost use Rattle.journal_model.specs.declared.rows.Row.{Row};
 ghost use Rattle.journal_model.specs.Changes as changes;
 ghost use Rattle.journal_model.specs.Effects.{Effects, nothing, joined, noting};
 ghost use Rattle.journal_model.specs.Journal.{events, entries};
-ghost use Rattle.journal_model.specs.Responses.{strange, acknowledgement, completed};
-ghost use Rattle.journal_model.specs.Responses.{response_to};
+ghost use Rattle.journal_model.specs.Responses.{strange, acknowledgement, completed, response_to};
+ghost use Rattle.journal_model.specs.Responses.{fetch_of};
 ghost use Rattle.journal_model.specs.Rows.{row_moment};
+ghost use Rattle.simple_registration.specs.FetchEvents.{FetchesStandFor};
 ghost use Rattle.simple_registration.specs.Table.{belongs_among};
 ghost use Rattle.coap_answers.specs.declared.mids.Mids.{Mids};
 ghost use Rattle.coap_answers.specs.Outboxes.{most_datagrams};
@@ -36,10 +39,10 @@ use crate::tables::Tables;
 use crate::{Mids, Outbox, Stepped};
 use coap_answers::send_empty;
 use coap_message::{Kind4, View};
-use coap_options::Meaning;
+use coap_options::{Meaning, meaning};
 use directory_core::Board;
 use rd_base::{Bytes, Peer, RegParams};
-use simple_registration::{Ask, Heard};
+use simple_registration::{Ask, Fetches, Heard};
 use std::alloc::Global;
 
 /// A response that belongs to no fetch: a confirmable one is rejected by a Reset, and another is
@@ -74,6 +77,28 @@ fn acknowledge_response(peer: Peer, view: &View<'_>, out: &mut Outbox)
             return;
         }
         Kind4::Non | Kind4::Ack | Kind4::Rst => return,
+    }
+}
+
+/// What a response means that is to the last request of the fetch of a peer; none where it is to
+/// none, as where it has an unrecognized critical option (RFC 7252 section 5.3.2).
+fn answered<'a>(fetches: &Fetches, peer: &Peer, view: &View<'a>) -> Option<Meaning<'a>>
+    ensures fetch { (octets : OctetsSent) (events : List Event) (s : Step)
+        → FetchesStandFor octets events fetches.now
+        → s.peer ≡ peer.now
+        → fetch_of s (message_in view.now) events
+        ≡ (if is_some result then request_of (last_request peer.now events) else None) }
+    ensures view { IfSome result (λ meaning. message_in meaning.view ≡ message_in view.now) }
+    ensures belongs { IfSome result (λ meaning. belongs_among peer.now (message_in meaning.view)
+        fetches.now.fetches
+        ≡ true) }
+{
+    if !fetches.belongs(peer, view) {
+        return None;
+    }
+    match meaning(view) {
+        Ok(meaning) => Some(meaning),
+        Err(_) => None,
     }
 }
 
@@ -248,7 +273,7 @@ impl Tables {
         ensures name { B.name board.new ≡ B.name board.old }
         ensures told { B.told board.new ≡ B.told board.old }
     {
-        let Some(meaning) = self.fetches.answered(&peer, view) else {
+        let Some(meaning) = answered(&self.fetches, &peer, view) else {
             reject_strange(peer, view, out);
             return Stepped::Done;
         };

@@ -16,7 +16,7 @@ ghost use Rattle.rd_request.specs.Accepted.{message_of};
 ghost use Rattle.rd_desk.specs.Stepping.{is_starved_step};
 ghost use Rattle.rd_desk.specs.UnderWay.{UnderWay, IsCalled, Made};
 
-use crate::looks::look_request;
+use crate::looks::{look_request, send_block};
 use crate::tables::Tables;
 use crate::{KeepJob, Mids, Outbox, Stepped};
 use coap_answers::{answer, answer_starved, body_reply};
@@ -94,8 +94,7 @@ impl Tables {
             answer_starved(mids, peer, &request.meaning.view, out);
             return Stepped::Starved;
         };
-        let reply = body_reply(Some(tag), None, &request.asked, body.as_slice());
-        answer(mids, peer, &request.meaning.view, &reply, out);
+        send_block(mids, peer, &request, Some(tag), None, body.as_slice(), out);
         self.transfers.adopt(ready);
         Stepped::Done
     }

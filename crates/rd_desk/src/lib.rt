@@ -3,24 +3,20 @@
 #![tactic(auto)]
 
 mod admissions;
-mod change_kinds;
 mod commits;
 mod desk;
 mod entries;
-mod fetching;
 mod heard_empties;
 mod heard_responses;
 mod heard_writes;
 mod hearing;
 mod jobs;
-mod joining;
 mod keep_jobs;
 mod keeps;
 mod listings;
 mod locations;
 mod looks;
 mod lookups;
-mod marks;
 mod notices;
 mod notices_again;
 mod outcomes;
@@ -38,7 +34,6 @@ mod ticks;
 mod unread_datagrams;
 mod uploads;
 mod watchers;
-mod watching;
 mod write_jobs;
 
 pub use admissions::Admitted;

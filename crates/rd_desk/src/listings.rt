@@ -1,19 +1,13 @@
 //! Listings that are formed for lookups in which the journal takes part, and the kept answers with
 //! them (RFC 7959 section 2.4).
-ghost use Rattle.std.specs.Prelude.{◌≡◌, ◌<◌, ◌≤◌, ◌^◌, ℕ, true, false, List, length, Some, None};
+ghost use Rattle.std.specs.Prelude.{◌≡◌, ◌<◌, ◌≤◌, ℕ, true, false, List, length, None};
 ghost use Rattle.std.specs.Prelude.{IfOk};
 ghost use Rattle.std.specs.Arc.{arc_value};
-ghost use Rattle.std.specs.Option.{ForSome};
 ghost use Rattle.message_model.specs.RequestKey.{key_in};
 ghost use Rattle.history_model.specs.declared.entries.Entry.{Entry};
 ghost use Rattle.history_model.specs.Versions.{VersionStandsFor};
-ghost use Rattle.event_model.specs.declared.notes.Note.{Note};
 ghost use Rattle.event_model.specs.Events.{Event};
 ghost use Rattle.event_model.specs.KeptAnswers.{kept_answer};
-ghost use Rattle.journal_model.specs.declared.steps.Step.{Step};
-ghost use Rattle.journal_model.specs.Bodies as bodies_of;
-ghost use Rattle.journal_model.specs.Effects.{answering};
-ghost use Rattle.journal_model.specs.Requests as requests_of;
 ghost use Rattle.transfers.specs.TransferEvents.{TransfersStandFor};
 ghost use Rattle.coap_answers.specs.Outboxes.{most_datagrams};
 ghost use Rattle.coap_answers.specs.Sendings.{IsStepOf, Sends};
@@ -21,14 +15,15 @@ ghost use Rattle.rd_request.specs.Accepted.{message_of};
 ghost use Rattle.rd_desk.specs.Lookups.{answer_listed, answer_at, IsFormed, IsReadied, IsJoining};
 ghost use Rattle.rd_desk.specs.Lookups.{IsUsed};
 
-use crate::joining::Joining;
+use crate::bodies::szx_of;
 use crate::keeps::with_listing;
-use crate::looks::listing_at;
+use crate::looks::{listing_at, send_block};
 use crate::{Mids, Outbox};
 use coap_answers::{answer, body_reply, szx_of};
 use coap_options::request_key;
 use directory_core::Directory;
 use exchange_core::Token;
+use observation::Joining;
 use rd_base::{Bytes, Key, Moment, Peer, Query, Starved, Tag};
 use rd_request::Request;
 use std::alloc::Global;
@@ -131,30 +126,6 @@ pub(crate) fn joining_by(
     })
 }
 
-/// The block of a body that is asked for is sent, under its tag and an Observe value; 4.00 where it
-/// lies past the end of the body.
-pub(crate) fn send_block(
-    mids: &mut Mids,
-    peer: Peer,
-    request: &Request<'_>,
-    observe: Option<u32>,
-    tag: Tag,
-    body: &[u8],
-    out: &mut Outbox,
-)
-    requires observe { ForSome observe (λ value. value < 2 ^ 24) }
-    requires room { length out.old < most_datagrams }
-    ensures { (s : Step) (notes : List Note)
-        → IsStepOf s peer mids.old
-        → Sends (answering s (message_of request.now)
-        (bodies_of.body_reply (Some tag.0) observe
-        (requests_of.asked_block (message_of request.now)) body.now) notes) out.old out.new
-        mids.old mids.new }
-{
-    let reply = body_reply(Some(tag), observe, &request.asked, body);
-    answer(mids, peer, &request.meaning.view, &reply, out);
-}
-
 /// The block that is asked for is sent of the answer that is kept under a peer and a key, where one
 /// is: that is a use of it, also where the block lies past its end. Whether one is kept. Takes no
 /// memory.
@@ -181,7 +152,7 @@ pub(crate) fn send_kept(
         → (transfers.new ≡ transfers.old) × (out.new ≡ out.old) × (mids.new ≡ mids.old) }
 {
     if let Some((body, tag)) = transfers.kept_block(now, peer, key) {
-        send_block(mids, peer, request, None, tag, body.as_slice(), out);
+        send_block(mids, peer, request, Some(tag), None, body.as_slice(), out);
         return true;
     }
     false

@@ -1,12 +1,16 @@
 //! Lookups and discovery that are answered from one version of the directory (RFC 9176 sections 4.1
 //! and 6, RFC 7252 section 5.10.6.2).
-ghost use Rattle.std.specs.Prelude.{◌≡◌, ◌≤◌, ◌<◌, ℕ, true, false, List, length, Ok, Some, IfOk};
+ghost use Rattle.std.specs.Prelude.{◌≡◌, ◌≤◌, ◌<◌, ◌^◌, ℕ, true, false, List, length, Ok, Some, IfOk};
+ghost use Rattle.std.specs.Option.{ForSome};
 ghost use Rattle.message_model.specs.Reading.{reading};
 ghost use Rattle.coap_message.specs.Views.{message_in};
 ghost use Rattle.history_model.specs.declared.entries.Entry.{Entry};
 ghost use Rattle.history_model.specs.Listing.{listing, tag};
 ghost use Rattle.history_model.specs.Versions.{VersionStandsFor};
+ghost use Rattle.event_model.specs.declared.notes.Note.{Note};
 ghost use Rattle.journal_model.specs.declared.steps.Step.{Step};
+ghost use Rattle.journal_model.specs.Bodies as bodies_of;
+ghost use Rattle.journal_model.specs.Effects.{answering};
 ghost use Rattle.journal_model.specs.Looks as looks_of;
 ghost use Rattle.journal_model.specs.Machine.{is_look_datagram};
 ghost use Rattle.journal_model.specs.Requests as requests_of;
@@ -15,6 +19,7 @@ ghost use Rattle.coap_answers.specs.Replies.{IsReply, reply_said};
 ghost use Rattle.coap_answers.specs.Sendings.{IsStepOf, Sends};
 ghost use Rattle.rd_request.specs.Accepted.{message_of};
 ghost use Rattle.rd_desk.specs.Looking.{look_found, is_starved_look, look_done, look_left, IsHeld};
+ghost use Rattle.rd_desk.specs.Replies.{tag_octets};
 
 use crate::{KeepJob, Mids, Outbox};
 use coap_answers::{Reply, answer, answer_starved, body_reply, is_long};
@@ -156,6 +161,30 @@ fn still_valid(tag: Tag) -> Reply<'static>
     }
 }
 
+/// The block of a body that is asked for is sent, the first where none is, under a tag and an
+/// Observe value; 4.00 where it lies past the end of the body.
+pub(crate) fn send_block(
+    mids: &mut Mids,
+    peer: Peer,
+    request: &Request<'_>,
+    tag: Option<Tag>,
+    observe: Option<u32>,
+    body: &[u8],
+    out: &mut Outbox,
+)
+    requires observe { ForSome observe (λ value. value < 2 ^ 24) }
+    requires room { length out.old < most_datagrams }
+    ensures { (s : Step) (notes : List Note)
+        → IsStepOf s peer mids.old
+        → Sends (answering s (message_of request.now)
+        (bodies_of.body_reply (tag_octets tag) observe
+        (requests_of.asked_block (message_of request.now)) body.now) notes) out.old out.new
+        mids.old mids.new }
+{
+    let reply = body_reply(tag, observe, &request.asked, body);
+    answer(mids, peer, &request.meaning.view, &reply, out);
+}
+
 /// What is found is sent, or held where it is a listing longer than the block that is asked for.
 fn give(
     alloc: Global,
@@ -184,8 +213,7 @@ fn give(
             return give_listing(alloc, mids, peer, datagram, request, tagged, out);
         }
         Found::OwnLinks(octets) => {
-            let reply = body_reply(None, None, &request.asked, octets.as_slice());
-            answer(mids, peer, &request.meaning.view, &reply, out);
+            send_block(mids, peer, request, None, None, octets.as_slice(), out);
             return Looked::Done;
         }
     }
@@ -213,8 +241,7 @@ fn give_listing(
 {
     let TaggedListing { octets, tag } = tagged;
     if !is_long(&request.asked, octets.as_slice()) {
-        let reply = body_reply(Some(tag), None, &request.asked, octets.as_slice());
-        answer(mids, peer, &request.meaning.view, &reply, out);
+        send_block(mids, peer, request, Some(tag), None, octets.as_slice(), out);
         return Looked::Done;
     }
     let Ok(job) = KeepJob::of(alloc, peer, datagram, octets, tag) else {

@@ -22,19 +22,20 @@ ghost use Rattle.coap_answers.specs.AskedBlocks.{has_asked_block};
 ghost use Rattle.coap_answers.specs.Outboxes.{most_datagrams};
 ghost use Rattle.rd_request.specs.Accepted.{message_of};
 ghost use Rattle.rd_request.specs.Asking.{seeks_links, begins_observation};
-ghost use Rattle.rd_desk.specs.Joining.{observer_joining, joining_notes};
 ghost use Rattle.rd_desk.specs.Lookups.{answer_listed, answer_at, IsFormed};
+ghost use Rattle.observation.specs.Joining.{observer_joining, joining_notes};
 ghost use Rattle.rd_desk.specs.Lookups.{IsReadied, IsJoining, giving, value_given, lookup_heard};
 ghost use Rattle.rd_desk.specs.Stepping.{is_starved_step};
 ghost use Rattle.rd_desk.specs.UnderWay.{UnderWay};
 
-use crate::joining::Joining;
-use crate::listings::{Formed, form, joining_by, listed_at, send_block, send_kept};
+use crate::listings::{Formed, form, joining_by, listed_at, send_kept};
+use crate::looks::{query_of, send_block};
 use crate::tables::Tables;
 use crate::{Mids, Outbox, Stepped};
 use coap_answers::{answer_starved, has_asked_block, is_long};
 use coap_options::request_key;
 use exchange_core::Token;
+use observation::Joining;
 use rd_base::{Peer, Query, Starved};
 use rd_request::{Request, begins_observation, is_later_block, query_of};
 use std::alloc::Global;
@@ -83,8 +84,8 @@ impl Tables {
             mids,
             peer,
             request,
+            Some(listed.tag),
             observe,
-            listed.tag,
             listed.body.as_slice(),
             out,
         );

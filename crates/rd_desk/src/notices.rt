@@ -18,25 +18,25 @@ ghost use Rattle.journal_model.specs.Ticks as ticks_of;
 ghost use Rattle.observers.specs.Watchers.{Watcher, is_awaited, next_ready};
 ghost use Rattle.coap_answers.specs.declared.mids.Mids.{Mids as Drawn};
 ghost use Rattle.coap_answers.specs.Outboxes.{most_datagrams};
+ghost use Rattle.observation.specs.Notices.{next_noticed};
+ghost use Rattle.observation.specs.Watching.{WatchingStandsFor};
 ghost use Rattle.rd_desk.specs.declared.planning.Planned.{Planned as Meant};
 ghost use Rattle.rd_desk.specs.declared.planning.Planned.TheVariants as meant;
 ghost use Rattle.rd_desk.specs.Desks.{StandsFor};
-ghost use Rattle.rd_desk.specs.Noticing.{next_noticed};
 ghost use Rattle.coap_message.specs.PartialMessages.{longest_datagram};
 ghost use Rattle.rd_desk.specs.Planning.{PlannedUpTo, AreDone, CarryingOut, with_answers};
 ghost use Rattle.rd_desk.specs.Planning.{notices_done};
 ghost use Rattle.rd_desk.specs.Stepping.{is_starved_step};
 ghost use Rattle.rd_desk.specs.Ticking.{tick_takes_memory};
 ghost use Rattle.rd_desk.specs.UnderWay.{UnderWay};
-ghost use Rattle.rd_desk.specs.Watching.{WatchingStandsFor};
 
 use crate::planning::{
     MAX_NOTICES, Occasion, Plan, Planned, formed_body, is_unchanged, observe_after,
 };
 use crate::tables::Tables;
-use crate::watching::Watching;
 use crate::{Mids, Outbox, Stepped};
 use exchange_core::Sent;
+use observation::Watching;
 use rd_base::{Bytes, Starved, Tag};
 use std::alloc::Global;
 use std::sync::Arc;

@@ -18,8 +18,8 @@ ghost use Rattle.rd_desk.specs.UnderWay.{UnderWay};
 
 use crate::Outbox;
 use crate::tables::Tables;
-use crate::watching::Watching;
 use exchange_core::Again;
+use observation::Watching;
 
 /// The notice in flight to the observer with an index is sent.
 fn send_notice(watching: &Watching, index: usize, out: &mut Outbox)

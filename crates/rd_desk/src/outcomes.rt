@@ -26,11 +26,11 @@ ghost use Rattle.rd_desk.specs.Committing.{IsShort};
 ghost use Rattle.rd_desk.specs.Staging.{IsNextOf};
 ghost use Rattle.rd_desk.specs.Outcomes.{HasEntry, IsTimely, IsPlanned, IsRefusedWith, IsBadBody};
 
-use crate::change_kinds::ChangeKind;
 use coap_answers::Reply;
 use directory_core::{Directory, Refusal};
 use message_model::Block;
 use message_model::codes::CREATED;
+use observation::ChangeKind;
 use rd_base::{Moment, Peer, RegParams, Starved, UpdateParams};
 use registration::{Draft, DraftFault, build};
 use std::alloc::Global;

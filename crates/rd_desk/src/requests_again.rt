@@ -22,12 +22,12 @@ ghost use Rattle.rd_desk.specs.Resending.{LeavesFetches, Resending};
 ghost use Rattle.rd_desk.specs.UnderWay.{UnderWay};
 
 use crate::Outbox;
-use crate::fetching::Fetching;
 use crate::tables::Tables;
 use exchange_core::Again;
+use simple_registration::Fetches;
 
 /// The last request of the fetch at an index is sent.
-fn send_request(fetches: &Fetching, index: usize, out: &mut Outbox)
+fn send_request(fetches: &Fetches, index: usize, out: &mut Outbox)
     ensures some { (f : running.Fetch)
         → slice_get fetches.now.fetches index ≡ Some f
         → 0 < length f.waits.octets }
@@ -44,7 +44,7 @@ fn send_request(fetches: &Fetching, index: usize, out: &mut Outbox)
 }
 
 /// The fetch at an index ends.
-fn end_fetch(fetches: &mut Fetching, index: usize)
+fn end_fetch(fetches: &mut Fetches, index: usize)
     ensures { (octets : OctetsSent) (past : List Event) (peer : Endpoint) (e : Event)
         → slice_get (running.fetches past) index ≡ Some peer
         → e.note ≡ note.Ceased peer

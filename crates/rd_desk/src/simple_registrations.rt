@@ -30,7 +30,7 @@ use coap_message::{Kind4, View};
 use message_model::codes::{CHANGED, SERVICE_UNAVAILABLE};
 use rd_base::{Moment, Peer};
 use rd_request::{Request, given_params};
-use simple_registration::StartFault;
+use simple_registration::{AllowedParams, StartFault};
 use std::alloc::Global;
 
 /// 2.04 alone.
@@ -120,6 +120,7 @@ impl Tables {
             self.fail(mids, peer, &request.meaning.view, admitted, out);
             return Stepped::Starved;
         };
+        let params = AllowedParams::of(params);
         let mid = mids.after(drawn_for(request.meaning.view.kind));
         match self
             .fetches

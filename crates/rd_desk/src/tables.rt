@@ -8,11 +8,11 @@ ghost use Rattle.coap_answers.specs.declared.mids.Mids.{Mids};
 ghost use Rattle.rd_desk.specs.Desks.{StandsFor};
 ghost use Rattle.rd_desk.specs.UnderWay.{UnderWay, IsCalled};
 
-use crate::fetching::Fetching;
-use crate::watching::Watching;
 use directory_core::Directory;
 use exchange_core::Exchanges;
+use observation::Watching;
 use rd_base::{Moment, Starved};
+use simple_registration::Fetches;
 use std::alloc::Global;
 use std::marker::Model;
 use std::sync::Arc;
@@ -33,7 +33,7 @@ pub(crate) struct Tables {
     /// The observed queries and their observers.
     pub(crate) watching: Watching,
     /// The fetches of simple registrations.
-    pub(crate) fetches: Fetching,
+    pub(crate) fetches: Fetches,
     /// How many Observe values were given, modulo 2^64.
     pub(crate) observed: u64,
 }
@@ -71,7 +71,7 @@ impl Tables {
         let exchanges = Exchanges::make(alloc)?;
         let transfers = Transfers::make(alloc)?;
         let watching = Watching::make(alloc)?;
-        let fetches = Fetching::make(alloc)?;
+        let fetches = Fetches::make(alloc)?;
         Ok(Tables {
             moment: Moment(0),
             version,

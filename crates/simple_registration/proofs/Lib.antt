@@ -1,6 +1,7 @@
 -- The octets of requests: AskLaws. Events, and the fetches that run after them: NoteLaws (one event
 -- more, for one fetch), PeerLaws (who is fetched from), RunningLaws (the list of the fetches). What
--- a table stands for: TableLaws. For a desk above: DeskLaws.
+-- a table stands for: TableLaws. For a desk above: DeskLaws, StepLaws. That requests can be sent:
+-- SendableLaws.
 pub mod AskLaws
 pub mod NoteLaws
 pub mod PeerLaws
@@ -10,4 +11,5 @@ pub mod RuleLaws
 pub mod TableLaws
 pub mod CallLaws
 pub mod DeskLaws
+pub mod SendableLaws
 mod examples

@@ -3,3 +3,4 @@ pub mod Running
 pub mod Hearing
 pub mod Table
 pub mod FetchEvents
+pub mod Sendable

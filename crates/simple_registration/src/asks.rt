@@ -57,6 +57,7 @@ fn datagram_of(alloc: Global, mut request: Writer) -> Result<Bytes, Starved>
     requires short { length (spelling request) ≤ longest_datagram }
     ensures spelled { IfOk result (λ bytes. bytes ≡ spelling request) }
     ensures some { IfOk result (λ bytes. 0 < length bytes) }
+    ensures fits { IfOk result (λ bytes. length bytes ≤ longest_datagram) }
 {
     match request.finish(b"") {
         Ok(octets) => {
@@ -74,6 +75,7 @@ pub(crate) fn first_request(alloc: Global, mid: u16, token: TokenRef<'_>) -> Res
     ensures spelled { IfOk result (λ bytes. bytes
         ≡ spelling (fetch_request mid token.entry.octets.now None)) }
     ensures some { IfOk result (λ bytes. 0 < length bytes) }
+    ensures fits { IfOk result (λ bytes. length bytes ≤ longest_datagram) }
 {
     datagram_of(alloc, core_request(mid, token))
 }
@@ -89,6 +91,7 @@ pub(crate) fn request_for(
     ensures spelled { IfOk result (λ bytes. bytes
         ≡ spelling (fetch_request mid token.entry.octets.now (Some block.now))) }
     ensures some { IfOk result (λ bytes. 0 < length bytes) }
+    ensures fits { IfOk result (λ bytes. length bytes ≤ longest_datagram) }
 {
     let mut value = [0u8; 3];
     let size = block_write(block, &mut value);

@@ -2,6 +2,7 @@
 //! 9176 section 5.1).
 #![tactic(auto)]
 
+mod allowed_params;
 mod asks;
 mod hearing;
 mod rules;
@@ -9,6 +10,7 @@ mod running;
 mod starts;
 mod table;
 
+pub use allowed_params::AllowedParams;
 pub use asks::Ask;
 pub use hearing::Heard;
 pub use starts::StartFault;

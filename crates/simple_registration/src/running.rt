@@ -8,13 +8,17 @@ ghost use Rattle.message_model.specs.Spelling.{spelling};
 ghost use Rattle.message_model.specs.Uploads.{max_body};
 ghost use Rattle.message_model.specs.FetchRequests.{fetch_request};
 ghost use Rattle.message_model.specs.Responses.{ends_by};
+ghost use Rattle.record_model.specs.AllowedParameters.{AreAllowed};
+ghost use Rattle.coap_message.specs.PartialMessages.{longest_datagram};
 ghost use Rattle.coap_message.specs.Views.{message_in};
 ghost use Rattle.event_model.specs.Same.{is_same_peer};
 ghost use Rattle.message_model.specs.Responses as responses;
 ghost use Rattle.simple_registration.specs.Responses.{request_after};
 ghost use Rattle.simple_registration.specs.Running as running;
 ghost use Rattle.simple_registration.specs.Hearing.{fetch_started, first_ask, IsLeftBy};
+ghost use Rattle.simple_registration.specs.Sendable.{IsSendable, IsSoundHeard};
 
+use crate::allowed_params::AllowedParams;
 use crate::asks::{Ask, first_request, request_for};
 use crate::hearing::Heard;
 use crate::rules::{
@@ -42,7 +46,7 @@ pub(crate) struct Fetch {
     /// The token of its requests.
     token: Token,
     /// The parameters of the registration that it is for.
-    params: RegParams,
+    params: AllowedParams,
     /// The number of the block that was asked for last.
     number: u32,
     /// When that was first asked for.
@@ -59,7 +63,8 @@ pub(crate) struct Fetch {
 
 impl Model for Fetch {
     ghost use Rattle.std.specs.Prelude.{◌≤◌, ◌<◌, length};
-    ghost use Rattle.message_model.specs.Uploads.{max_body};
+ghost use Rattle.message_model.specs.Uploads.{max_body};
+ghost use Rattle.coap_message.specs.PartialMessages.{longest_datagram};
     ghost use Rattle.event_model.specs.Fetches.{Fetch as Running};
 
     ghost Value = { Running };
@@ -76,7 +81,9 @@ impl Model for Fetch {
       tag = f.tag;
     } };
 
-    ghost invariant = { λ f. (length f.body ≤ max_body) × (0 < length f.waits.octets) };
+    ghost invariant = { λ f. (length f.body ≤ max_body)
+        × (0 < length f.waits.octets)
+        × (length f.waits.octets ≤ longest_datagram) };
 }
 
 /// A request that is sent now and waits for its acknowledgement.
@@ -120,10 +127,11 @@ impl Fetch {
         mid: u16,
         peer: Peer,
         token: Token,
-        params: RegParams,
+        params: AllowedParams,
     ) -> Result<(Fetch, Ask), Starved>
         ensures fetch { IfOk result (λ x. x.0 ≡ fetch_started now.0 word mid peer token params) }
         ensures ask { IfOk result (λ x. x.1 ≡ first_ask mid peer token) }
+        ensures sendable { IfOk result (λ x. IsSendable mid x.1.bytes) }
     {
         let named = TokenRef {
             octets: token.as_slice(),
@@ -169,6 +177,7 @@ impl Fetch {
     pub(crate) fn request(&self) -> &[u8]
         ensures octets { result.now ≡ self.now.waits.octets }
         ensures some { 0 < length result.now }
+        ensures fits { length result.now ≤ longest_datagram }
     {
         self.waits.bytes.as_slice()
     }
@@ -256,6 +265,7 @@ impl Fetch {
         ensures next { OnOk result (self.new
             ≡ running.with_next now.0 word mid (message_in meaning.now.view) block.now
             self.old) }
+        ensures sendable { IfOk result (λ ask. IsSendable mid ask.bytes) }
         ensures kept { OnErr result (self.new ≡ self.old) }
     {
         let next = Block {
@@ -284,9 +294,10 @@ impl Fetch {
     /// `Starved`: out of memory.
     fn whole(&self, alloc: Global, payload: &[u8]) -> Result<(RegParams, Bytes), Starved>
         ensures params { IfOk result (λ x. x.0 ≡ self.now.params) }
+        ensures allowed { IfOk result (λ x. AreAllowed x.0) }
         ensures body { IfOk result (λ x. x.1 ≡ self.now.body ++ payload.now) }
     {
-        let params = self.params.clone()?;
+        let params = self.params.copy()?;
         let mut body = Bytes::copy_of(alloc, self.body.as_slice())?;
         body.append(payload)?;
         Ok((params, body))
@@ -306,6 +317,7 @@ impl Fetch {
             → result ≡ running.heard_of mid (message_in meaning.now.view) self.old }
         ensures left { IsLeftBy result now.0 word mid (message_in meaning.now.view) self.old
             self.new }
+        ensures sound { IsSoundHeard mid result }
     {
         let block = block_in(meaning);
         if is_elsewhere(&block, self.body.len()) {

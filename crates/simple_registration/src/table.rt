@@ -1,5 +1,5 @@
 //! The table of fetches.
-ghost use Rattle.std.specs.Prelude.{◌≡◌, ◌≢◌, ◌+◌, ◌<◌, [], ◌∷◌, true, false, length, List, ◌==◌};
+ghost use Rattle.std.specs.Prelude.{◌≡◌, ◌≢◌, ◌+◌, ◌<◌, ◌≤◌, [], ◌∷◌, true, false, length, List, ◌==◌};
 ghost use Rattle.std.specs.Prelude.{IfOk, OnErr, IfSome, is_some, Some, None, slice_get};
 ghost use Rattle.std.specs.Prelude.{option_map, find, vec_capacity};
 ghost use Rattle.std.specs.List.{position};
@@ -8,6 +8,7 @@ ghost use Rattle.message_model.specs.declared.blocks.Block.{Block};
 ghost use Rattle.message_model.specs.Spelling.{spelling};
 ghost use Rattle.message_model.specs.FetchRequests.{fetch_request};
 ghost use Rattle.message_model.specs.Responses.{block_in, tag_in};
+ghost use Rattle.coap_message.specs.PartialMessages.{longest_datagram};
 ghost use Rattle.coap_message.specs.Views.{message_in};
 ghost use Rattle.event_model.specs.declared.notes.Note.TheVariants as note;
 ghost use Rattle.event_model.specs.Events.{Event};
@@ -19,14 +20,15 @@ ghost use Rattle.simple_registration.specs.Table.{is_of, some_passes, belongs_am
 ghost use Rattle.simple_registration.specs.FetchEvents.{FetchesStandFor, start_refusal};
 ghost use Rattle.simple_registration.specs.FetchEvents.{IsRefusedAs, belongs_after, heard_after};
 ghost use Rattle.simple_registration.specs.FetchEvents.{fetch_due};
+ghost use Rattle.simple_registration.specs.Sendable.{IsSendable, IsSoundHeard};
 
 use crate::running::Fetch;
-use crate::{Ask, Heard, StartFault};
+use crate::{AllowedParams, Ask, Heard, StartFault};
 use coap_message::View;
 use coap_options::Meaning;
 use event_model::limits::MAX_FETCHES;
 use exchange_core::{Again, Token};
-use rd_base::{Moment, Peer, RegParams, Starved};
+use rd_base::{Moment, Peer, Starved};
 use std::alloc::Global;
 use std::marker::Model;
 
@@ -73,7 +75,7 @@ impl Fetches {
         word: u32,
         mid: u16,
         peer: Peer,
-        params: RegParams,
+        params: AllowedParams,
     ) -> Result<Ask, StartFault>
         ensures refused { (octets : OctetsSent) (events : List Event)
             → FetchesStandFor octets events self.old
@@ -95,6 +97,7 @@ impl Fetches {
             → IfOk result (λ ask.
             octets e.place peer mid ≡ ask.bytes
             → FetchesStandFor octets (e ∷ events) self.new) }
+        ensures sendable { IfOk result (λ ask. IsSendable mid ask.bytes) }
         ensures kept { OnErr result (self.new ≡ self.old) }
     {
         if index_of(&self.rows, &peer).is_some() {
@@ -164,6 +167,7 @@ impl Fetches {
             → e.note ≡ note.Ceased peer
             → FetchesStandFor octets (e ∷ events) self.new }
         ensures kept { IsKeptAfter result self.old self.new }
+        ensures sound { IsSoundHeard mid result }
     {
         let Some(index) = index_of(&self.rows, &peer) else {
             unreachable!()
@@ -263,6 +267,7 @@ impl Fetches {
         ensures octets { option_map (λ f. f.waits.octets) (slice_get self.now.fetches index)
             ≡ Some result.now }
         ensures some { 0 < length result.now }
+        ensures fits { length result.now ≤ longest_datagram }
     {
         self.rows[index].request()
     }

@@ -157,19 +157,16 @@ is_measured m octets shown asked long same all measured =
 
 -- a listing that is not long
 pub given_whole : (m : Message) (octets current shown body : List ℕ) (asked : Option Block)
-    (long : Bool) (reply : Reply)
+    (long : Bool)
     → asked ≡ asked_block m
     → shown ≡ octets
     → long ≡ is_long asked shown
     → long ≡ false
     → body ≡ octets
-    → reply ≡ body_reply (Some current) None asked body
-    → answered reply
+    → answered (body_reply (Some current) None (asked_block m) body)
     ≡ unless_long (is_long (asked_block m) octets) m (record { body = octets; tag = current })
-given_whole m octets current shown body asked long reply same all measured short whole said =
-    ap (λ (r : Reply). answered r) (said
-    ∙ (ap (λ (b : Option Block). body_reply (Some current) None b body) same
-    ∙ ap (λ (b : List ℕ). body_reply (Some current) None (asked_block m) b) whole))
+given_whole m octets current shown body asked long same all measured short whole =
+    ap (λ (b : List ℕ). answered (body_reply (Some current) None (asked_block m) b)) whole
     ∙ ap (λ (b : Bool). unless_long b m (record { body = octets; tag = current }))
     (sym short ∙ is_measured m octets shown asked long same all measured)
 
@@ -184,17 +181,6 @@ pub given_held : (m : Message) (octets current shown : List ℕ) (asked : Option
 given_held m octets current shown asked long same all measured yes_long =
     ap (λ (b : Bool). unless_long b m (record { body = octets; tag = current }))
     (sym yes_long ∙ is_measured m octets shown asked long same all measured)
-
--- the links of the directory itself
-pub given_links : (m : Message) (octets body : List ℕ) (asked : Option Block) (reply : Reply)
-    → asked ≡ asked_block m
-    → body ≡ octets
-    → reply ≡ body_reply None None asked body
-    → reply ≡ body_reply None None (asked_block m) octets
-given_links m octets body asked reply same whole said =
-    said
-    ∙ (ap (λ (b : Option Block). body_reply None None b body) same
-    ∙ ap (λ (b : List ℕ). body_reply None None (asked_block m) b) whole)
 
 -- nothing refuses the request of a look, and it only looks
 look_request : (m : Message)

@@ -33,7 +33,7 @@ use Rattle.journal_model.specs.UnfinishedRow.{making}
 use Rattle.journal_model.proofs.EntriesNoted.{entries_in}
 use Rattle.exchange_core.specs.Table as exchanges
 use Rattle.exchange_core.specs.ExchangeEvents.{ExchangesStandFor}
-use Rattle.rd_desk.specs.Desks.{DirectoryStandsFor}
+use Rattle.observation.specs.Directories.{DirectoryStandsFor}
 use Rattle.rd_desk.proofs.parts.MakingLaws.{now-making_joined, entries-making_joined}
 
 -- the directory

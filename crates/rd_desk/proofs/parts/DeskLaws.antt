@@ -9,8 +9,8 @@ use Rattle.journal_model.specs.Ticks.{octets_sent}
 use Rattle.exchange_core.specs.ExchangeEvents.{ExchangesStandFor}
 use Rattle.transfers.specs.TransferEvents.{TransfersStandFor}
 use Rattle.simple_registration.specs.FetchEvents.{FetchesStandFor}
+use Rattle.observation.specs.Watching.{WatchingStandsFor}
 use Rattle.rd_desk.specs.Desks.{Seen, StandsFor}
-use Rattle.rd_desk.specs.Watching.{WatchingStandsFor}
 
 -- without entries the moment of the last one is 0
 pub last_moment-none : last_moment [] ≡ 0

@@ -44,9 +44,9 @@ use Rattle.simple_registration.proofs.DeskLaws.{last_request-noted}
 use Rattle.coap_answers.specs.declared.mids.Mids.{Mids}
 use Rattle.coap_answers.specs.Sendings.{IsRequestSent, AreRequestsSent}
 use Rattle.coap_answers.proofs.SendingLaws.{sends_notes}
+use Rattle.observation.specs.Watching.{Watching, WatchingStandsFor}
 use Rattle.rd_desk.specs.Desks.{Seen}
 use Rattle.rd_desk.specs.UnderWay.{UnderWay}
-use Rattle.rd_desk.specs.Watching.{Watching, WatchingStandsFor}
 use Rattle.rd_desk.proofs.parts.NoteTopics as topic
 use Rattle.rd_desk.proofs.parts.NoteTopics.{AreAbout, no_fetches}
 use Rattle.rd_desk.proofs.parts.PartLaws.{more_unformed, more_fetches}

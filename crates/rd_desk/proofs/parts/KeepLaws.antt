@@ -25,7 +25,6 @@ use Rattle.std.proofs.Common.{
 use Rattle.std.specs.List.{list_any}
 use Rattle.rd_base.specs.declared.moments.Moment.{Moment}
 use Rattle.rd_base.specs.declared.peers.Peer.{Peer}
-use Rattle.message_model.specs.declared.blocks.Block.{Block}
 use Rattle.message_model.specs.declared.messages.Unread.{Unread}
 use Rattle.message_model.specs.Message.{Message}
 use Rattle.message_model.specs.Reading.{reading}
@@ -40,7 +39,7 @@ use Rattle.journal_model.specs.declared.steps.StepKind.{StepKind}
 use Rattle.journal_model.specs.declared.steps.StepKind.TheVariants as step
 use Rattle.journal_model.specs.declared.rows.Row.{Row}
 use Rattle.journal_model.specs.Bodies.{body_reply}
-use Rattle.journal_model.specs.Effects.{Reply, nothing, answering, without_memory}
+use Rattle.journal_model.specs.Effects.{nothing, answering, without_memory}
 use Rattle.journal_model.specs.Journal.{events}
 use Rattle.journal_model.specs.Looks.{keep_effects}
 use Rattle.journal_model.specs.Requests.{asked_block}
@@ -146,31 +145,13 @@ unfolding keep_effects answering
 keeping_notes s m body current sender by =
     ap (λ (peer : Peer). note.Kept peer (key_in m) body current ∷ []) (sym by)
 
--- what is sent is the reply with its note
-keeping_sends : (s : Step) (m : Message) (body current : List ℕ) (asked : Option Block)
-    (reply : Reply) (out sent : List (Peer × List ℕ)) (mids_before mids : Mids)
-    → asked ≡ asked_block m
-    → reply ≡ body_reply (Some current) None asked body
-    → ((notes : List Note) → Sends (answering s m reply notes) out sent mids_before mids)
-    → Sends (keep_effects s m body current) out sent mids_before mids
-unfolding keep_effects
-keeping_sends s m body current asked reply out sent mids_before mids same said sends =
-    subst (λ (r : Reply).
-    Sends (answering s m r (note.Kept s.peer (key_in m) body current ∷ [])) out sent
-    mids_before mids)
-    (said ∙ ap (λ (b : Option Block). body_reply (Some current) None b body) same)
-    (sends (note.Kept s.peer (key_in m) body current ∷ []))
-
 -- the listing is kept, and its block is sent
 kept_read : (rows : List Row) (s : Step) (x d : Seen) (t : Table) (ready : List KeptAnswer)
     (out sent : List (Peer × List ℕ)) (mids_before mids : Mids) (sender : Peer) (m : Message)
     (read : Result Message Unread) (body current : List ℕ)
-    (asked : Option Block) (reply : Reply)
     → x ≡ d
     → s.peer ≡ sender
     → read ≡ Ok m
-    → asked ≡ asked_block m
-    → reply ≡ body_reply (Some current) None asked body
     → ((events : List Event) (place word : ℕ)
     → AnswersStandFor events x.transfers.answers
     → AnswersStandFor
@@ -182,12 +163,14 @@ kept_read : (rows : List Row) (s : Step) (x d : Seen) (t : Table) (ready : List 
     → TransfersStandFor at events t)
     → ((s : Step) (notes : List Note)
     → IsStepOf s sender mids_before
-    → Sends (answering s m reply notes) out sent mids_before mids)
+    → Sends (answering s m (body_reply (Some current) None (asked_block m) body) notes) out sent
+    mids_before mids)
     → UnderWay rows s false nothing d out mids_before
     → UnderWay rows s false (kept_body false s read body current) (record x { transfers = t }) sent
     mids
-kept_read rows s x d t ready out sent mids_before mids sender m read body current asked reply seen
-    by is same said kept adopted sends way =
+unfolding keep_effects
+kept_read rows s x d t ready out sent mids_before mids sender m read body current seen by is kept
+    adopted sends way =
     let e = keep_effects s m body current in
     let past = events (making rows s false nothing) in
     let moment : x.moment ≡ row_moment rows s =
@@ -210,22 +193,18 @@ kept_read rows s x d t ready out sent mids_before mids sender m read body curren
     (UploadsStandFor-noted (row_moment rows s) x.transfers.uploads (length rows) (row_moment rows s)
     s.word e.notes past (no_uploads s m body current) h.uploads)
     (answers h.answers))
-    (keeping_sends s m body current asked reply out sent mids_before mids same said
-    (λ notes. sends s notes
-    (step_of rows s false nothing d out mids_before sender by refl way))) way))
+    (sends s (note.Kept s.peer (key_in m) body current ∷ [])
+    (step_of rows s false nothing d out mids_before sender by refl way)) way))
 
 -- so of a job
 pub way_kept : (rows : List Row) (s : Step) (x d : Seen) (t : Table) (ready : List KeptAnswer)
     (out sent : List (Peer × List ℕ)) (mids_before mids : Mids) (sender : Peer) (datagram : List ℕ)
-    (answer : Answer) (job : Keep) (m : Message)
-    (shown : List ℕ) (asked : Option Block) (reply : Reply)
+    (answer : Answer) (job : Keep) (m : Message) (shown : List ℕ)
     → x ≡ d
     → record { peer = sender; datagram = datagram; answer = answer } ≡ job
     → s.peer ≡ job.peer
     → reading datagram ≡ Ok m
-    → asked ≡ asked_block m
     → shown ≡ answer.body
-    → reply ≡ body_reply (Some answer.tag) None asked shown
     → ((events : List Event) (place word : ℕ)
     → AnswersStandFor events x.transfers.answers
     → AnswersStandFor
@@ -237,15 +216,14 @@ pub way_kept : (rows : List Row) (s : Step) (x d : Seen) (t : Table) (ready : Li
     → TransfersStandFor at events t)
     → ((s : Step) (notes : List Note)
     → IsStepOf s sender mids_before
-    → Sends (answering s m reply notes) out sent mids_before mids)
+    → Sends (answering s m (body_reply (Some answer.tag) None (asked_block m) shown) notes) out
+    sent mids_before mids)
     → UnderWay rows s false nothing d out mids_before
     → UnderWay rows s false
     (kept_body false s (reading job.datagram) job.answer.body job.answer.tag)
     (record x { transfers = t }) sent mids
-way_kept rows s x d t ready out sent mids_before mids sender datagram answer job m shown asked reply
-    seen same by read block whole said kept adopted sends way =
-    let said_whole : reply ≡ body_reply (Some answer.tag) None asked answer.body =
-    said ∙ ap (λ (b : List ℕ). body_reply (Some answer.tag) None asked b) whole in
+way_kept rows s x d t ready out sent mids_before mids sender datagram answer job m shown seen same
+    by read whole kept adopted sends way =
     subst (λ (j : Keep).
     s.peer ≡ j.peer
     → UnderWay rows s false
@@ -253,8 +231,11 @@ way_kept rows s x d t ready out sent mids_before mids sender datagram answer job
     (record x { transfers = t }) sent mids) same
     (λ mine.
     kept_read rows s x d t ready out sent mids_before mids sender m (reading datagram)
-    answer.body answer.tag asked reply seen mine read block said_whole kept adopted sends
-    way) by
+    answer.body answer.tag seen mine read kept adopted
+    (λ told notes of.
+    subst (λ (body : List ℕ).
+    Sends (answering told m (body_reply (Some answer.tag) None (asked_block m) body) notes)
+    out sent mids_before mids) whole (sends told notes of)) way) by
 
 -- ---- the row of the step
 

@@ -13,9 +13,10 @@ use Rattle.journal_model.proofs.RowEquations.{events-row, now-row}
 use Rattle.exchange_core.specs.ExchangeEvents.{ExchangesStandFor}
 use Rattle.transfers.specs.TransferEvents.{TransfersStandFor}
 use Rattle.simple_registration.specs.FetchEvents.{FetchesStandFor}
-use Rattle.rd_desk.specs.Desks.{Seen, DirectoryStandsFor, StandsFor}
-use Rattle.rd_desk.proofs.observers.WatchingLaws.{WatchingStandsFor-looked}
+use Rattle.rd_desk.specs.Desks.{Seen, StandsFor}
 use Rattle.rd_desk.proofs.responses.FetchStepLaws.{FetchesStandFor-row}
+use Rattle.observation.specs.Directories.{DirectoryStandsFor}
+use Rattle.observation.proofs.WatchingLaws.{WatchingStandsFor-looked}
 
 -- it notes nothing, so the events, the entries and the moment are as before
 events-same : (rows : List Row) (r : Row) → r.notes ≡ [] → events (r ∷ rows) ≡ events rows

@@ -118,11 +118,12 @@ use Rattle.coap_answers.specs.AskedBlocks.{has_asked_block}
 use Rattle.coap_answers.specs.Sendings.{IsStepOf, Sends}
 use Rattle.coap_answers.proofs.SendingLaws.{sends_notes}
 use Rattle.rd_request.specs.Asking.{begins_observation}
-use Rattle.rd_desk.specs.declared.joining.Joining.{Joining}
+use Rattle.observation.specs.declared.joining.Joining.{Joining}
+use Rattle.observation.specs.Joining.{observer_joining, joining_notes}
+use Rattle.observation.specs.Watching.{Watching, WatchingStandsFor}
 use Rattle.rd_desk.specs.declared.listings.Formed.{Formed}
 use Rattle.rd_desk.specs.declared.listings.Listed.{Listed}
 use Rattle.rd_desk.specs.Desks.{Seen}
-use Rattle.rd_desk.specs.Joining.{observer_joining, joining_notes}
 use Rattle.rd_desk.specs.Lookups.{
   answer_listed,
   answer_at,
@@ -136,7 +137,6 @@ use Rattle.rd_desk.specs.Lookups.{
   lookup_heard,
 }
 use Rattle.rd_desk.specs.UnderWay.{UnderWay}
-use Rattle.rd_desk.specs.Watching.{Watching, WatchingStandsFor}
 use Rattle.rd_desk.proofs.parts.EffectLaws.{effects_same, joined-nothing_first}
 use Rattle.rd_desk.proofs.parts.MakingLaws.{entries-making_nothing}
 use Rattle.rd_desk.proofs.parts.NoteTopics as topic

@@ -21,9 +21,11 @@ use Rattle.simple_registration.specs.FetchEvents.{FetchesStandFor}
 use Rattle.simple_registration.proofs.DeskLaws.{FetchesStandFor-noted}
 use Rattle.coap_answers.specs.declared.mids.Mids.{Mids}
 use Rattle.coap_answers.specs.Sendings.{Sends, AreRequestsSent}
-use Rattle.rd_desk.specs.Desks.{Seen, DirectoryStandsFor}
+use Rattle.rd_desk.specs.Desks.{Seen}
+use Rattle.observation.specs.Directories.{DirectoryStandsFor}
+use Rattle.observation.specs.Watching.{Watching, WatchingStandsFor}
+use Rattle.observation.proofs.WatchingLaws.{WatchingStandsFor-aside}
 use Rattle.rd_desk.specs.UnderWay.{UnderWay}
-use Rattle.rd_desk.specs.Watching.{Watching, WatchingStandsFor}
 use Rattle.rd_desk.proofs.parts.AsideLaws.{
   DirectoryStandsFor-aside,
   ExchangesStandFor-noted,
@@ -43,7 +45,6 @@ use Rattle.rd_desk.proofs.parts.NoteTopics.{
   no_requests,
   no_bodies,
 }
-use Rattle.rd_desk.proofs.observers.WatchingLaws.{WatchingStandsFor-aside}
 use Rattle.rd_desk.proofs.parts.WayLaws.{noting_more, more, only}
 
 -- what a part leaves whose notes are about one thing alone

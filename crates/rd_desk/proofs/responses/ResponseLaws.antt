@@ -104,6 +104,7 @@ use Rattle.simple_registration.specs.FetchEvents.{
   has_names_of_request,
   heard_after,
 }
+use Rattle.simple_registration.specs.Sendable.{IsSendable}
 use Rattle.simple_registration.proofs.CallLaws.{belongs}
 use Rattle.rd_desk.proofs.responses.FetchStepLaws.{other_kind, octets_sent-here}
 use Rattle.coap_answers.specs.declared.mids.Mids.{Mids}
@@ -111,7 +112,6 @@ use Rattle.coap_answers.specs.Sendings.{Sends, AreRequestsSent}
 use Rattle.coap_answers.proofs.SendingLaws.{sends_nothing, sends_octets}
 use Rattle.rd_desk.specs.declared.outcomes.Outcome.{Outcome as Planned}
 use Rattle.rd_desk.specs.Desks.{Seen}
-use Rattle.rd_desk.specs.Fetching.{IsSendable}
 use Rattle.rd_desk.specs.Outcomes.{IsPlanned}
 use Rattle.rd_desk.specs.Responding.{asking_next, unless_starved, response_heard}
 use Rattle.rd_desk.specs.UnderWay.{UnderWay}

@@ -71,8 +71,9 @@ use Rattle.exchange_core.specs.Retransmissions.{kept_due}
 use Rattle.rd_desk.proofs.responses.FetchStepLaws.{repeating-octets}
 use Rattle.observers.specs.Watchers.{Watcher, due_of}
 use Rattle.observers.specs.ObserverEvents.{shown}
-use Rattle.rd_desk.specs.Noticing.{sending_again, again_as, again_done}
-use Rattle.rd_desk.specs.Watching.{Watching, IsConfirmable, WatchingStandsFor}
+use Rattle.observation.specs.Notices.{sending_again}
+use Rattle.observation.specs.Watching.{Watching, IsConfirmable, WatchingStandsFor}
+use Rattle.rd_desk.specs.Noticing.{again_as, again_done}
 
 -- ---- one notice
 

@@ -53,11 +53,12 @@ use Rattle.observers.specs.ObserverEvents.{shown}
 use Rattle.coap_answers.specs.declared.mids.Mids.{Mids}
 use Rattle.coap_answers.specs.Sendings.{Sends}
 use Rattle.coap_answers.proofs.SendingLaws.{sends_notes}
+use Rattle.observation.specs.Notices.{sending_again}
+use Rattle.observation.specs.Watching.{Watching, WatchingStandsFor}
+use Rattle.observation.proofs.TickLaws.{length-StandsFor}
 use Rattle.rd_desk.specs.Desks.{Seen}
-use Rattle.rd_desk.specs.Noticing.{sending_again, again_as, again_done}
+use Rattle.rd_desk.specs.Noticing.{again_as, again_done}
 use Rattle.rd_desk.specs.UnderWay.{UnderWay}
-use Rattle.rd_desk.specs.Watching.{Watching, WatchingStandsFor}
-use Rattle.rd_desk.proofs.observers.TickLaws.{length-StandsFor}
 use Rattle.rd_desk.proofs.parts.EffectLaws.{joined-nothing, joined-nothing_first, joined-assoc}
 use Rattle.rd_desk.proofs.parts.PartLaws.{more_unformed}
 use Rattle.rd_desk.proofs.parts.WayLaws.{way_moment}

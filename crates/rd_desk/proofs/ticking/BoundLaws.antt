@@ -207,7 +207,7 @@ use Rattle.journal_model.proofs.notes.StepTable.{
   tick,
   effects-StepNoted,
 }
-use Rattle.rd_desk.proofs.observers.FoundObservers.{request_turned}
+use Rattle.observation.proofs.FoundObservers.{request_turned}
 
 -- ---- lists
 

@@ -63,10 +63,14 @@ use Rattle.observers.specs.Watchers.{Watcher}
 use Rattle.coap_answers.specs.declared.mids.Mids.{Mids}
 use Rattle.coap_answers.specs.Sendings.{Sends}
 use Rattle.coap_answers.proofs.SendingLaws.{sends_notes}
+use Rattle.observation.specs.Notices.{forming, next_noticed}
+use Rattle.observation.specs.Watching.{Watching, WatchingStandsFor}
+use Rattle.observation.proofs.TickLaws.{
+    IsKeptAs, kept-StandsFor, length-StandsFor, got_inside, got_within
+}
 use Rattle.rd_desk.specs.declared.planning.Planned.{Planned}
 use Rattle.rd_desk.specs.declared.planning.Planned.TheVariants as planned
 use Rattle.rd_desk.specs.Desks.{Seen}
-use Rattle.rd_desk.specs.Noticing.{forming, next_noticed}
 use Rattle.rd_desk.specs.Planning.{
   forming_for,
   kept_of,
@@ -79,14 +83,6 @@ use Rattle.rd_desk.specs.Planning.{
   CarryingOut,
 }
 use Rattle.rd_desk.specs.UnderWay.{UnderWay}
-use Rattle.rd_desk.specs.Watching.{Watching, WatchingStandsFor}
-use Rattle.rd_desk.proofs.observers.TickLaws.{
-  IsKeptAs,
-  kept-StandsFor,
-  length-StandsFor,
-  got_inside,
-  got_within,
-}
 use Rattle.rd_desk.proofs.parts.EffectLaws.{joined-assoc, joined-nothing}
 use Rattle.rd_desk.proofs.parts.PartLaws.{more_watching, more_unformed, more_transfers}
 

@@ -31,11 +31,11 @@ use Rattle.journal_model.proofs.NoteKinds.{again_tick, tick-entries_in}
 use Rattle.journal_model.proofs.StepNotes.{notices_again-notes}
 use Rattle.transfers.proofs.KeptLists.{is_none}
 use Rattle.coap_answers.specs.declared.mids.Mids.{Mids}
+use Rattle.observation.specs.Notices.{next_noticed}
+use Rattle.observation.specs.Watching.{Watching, WatchingStandsFor}
 use Rattle.rd_desk.specs.Desks.{Seen}
-use Rattle.rd_desk.specs.Noticing.{next_noticed}
 use Rattle.rd_desk.specs.Ticking.{tick_takes_memory}
 use Rattle.rd_desk.specs.UnderWay.{UnderWay}
-use Rattle.rd_desk.specs.Watching.{Watching, WatchingStandsFor}
 use Rattle.rd_desk.proofs.ticking.NoticeWalk.{events-with, notices-end, next-unlooked}
 use Rattle.rd_desk.proofs.ticking.WholeTick.{again_draws}
 

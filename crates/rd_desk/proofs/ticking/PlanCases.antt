@@ -115,11 +115,17 @@ use Rattle.observers.specs.Watchers as watchers
 use Rattle.observers.specs.Watchers.{Watcher, is_awaited, seen, changed_at, is_ready, next_ready}
 use Rattle.coap_answers.specs.declared.mids.Mids.{Mids}
 use Rattle.coap_answers.specs.Writing.{notice_saying}
+use Rattle.observation.specs.Notices.{forming}
+use Rattle.observation.specs.Watching.{Watching, WatchingStandsFor}
+use Rattle.observation.proofs.TickLaws.{
+    IsKeptAs, kept-StandsFor, length-StandsFor, each_at, got_inside, got_within
+}
+use Rattle.observation.proofs.WatchingLaws.{WatchingStandsFor-aside}
+use Rattle.observation.proofs.WatchingNotes.{WatchingStandsFor-unchanged, WatchingStandsFor-formed}
 use Rattle.rd_desk.specs.declared.planning.Plan.{Plan}
 use Rattle.rd_desk.specs.declared.planning.Planned.{Planned}
 use Rattle.rd_desk.specs.declared.planning.Planned.TheVariants as planned
 use Rattle.rd_desk.specs.Desks.{Seen}
-use Rattle.rd_desk.specs.Noticing.{forming}
 use Rattle.rd_desk.specs.Planning.{
   block_of_notice,
   block_named,
@@ -133,20 +139,6 @@ use Rattle.rd_desk.specs.Planning.{
   PlannedUpTo,
 }
 use Rattle.rd_desk.specs.UnderWay.{UnderWay}
-use Rattle.rd_desk.specs.Watching.{Watching, WatchingStandsFor}
-use Rattle.rd_desk.proofs.observers.TickLaws.{
-  IsKeptAs,
-  kept-StandsFor,
-  length-StandsFor,
-  each_at,
-  got_inside,
-  got_within,
-}
-use Rattle.rd_desk.proofs.observers.WatchingLaws.{WatchingStandsFor-aside}
-use Rattle.rd_desk.proofs.observers.WatchingNotes.{
-  WatchingStandsFor-unchanged,
-  WatchingStandsFor-formed,
-}
 use Rattle.rd_desk.proofs.parts.EffectLaws.{joined-assoc}
 use Rattle.rd_desk.proofs.ticking.AgainWalk.{drop-changed}
 use Rattle.rd_desk.proofs.ticking.BoundLaws.{asking_observers}

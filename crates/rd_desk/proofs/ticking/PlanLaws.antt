@@ -58,13 +58,13 @@ use Rattle.transfers.specs.Keeping.{NamedAnswer}
 use Rattle.observers.specs.Watchers.{Watcher, is_awaited, is_ready, first_from, next_ready}
 use Rattle.observers.proofs.MarkLaws.{awaited-StandsFor}
 use Rattle.coap_answers.specs.declared.mids.Mids.{Mids}
+use Rattle.observation.specs.Watching.{Watching, WatchingStandsFor}
+use Rattle.observation.proofs.TickLaws.{next-StandsFor}
 use Rattle.rd_desk.specs.declared.planning.Plan.{Plan}
 use Rattle.rd_desk.specs.declared.planning.Planned.{Planned}
 use Rattle.rd_desk.specs.Desks.{Seen}
 use Rattle.rd_desk.specs.Planning.{AreDone, PlannedUpTo}
 use Rattle.rd_desk.specs.UnderWay.{UnderWay}
-use Rattle.rd_desk.specs.Watching.{Watching, WatchingStandsFor}
-use Rattle.rd_desk.proofs.observers.TickLaws.{next-StandsFor}
 use Rattle.rd_desk.proofs.ticking.BoundLaws.{few_observers}
 use Rattle.rd_desk.proofs.ticking.NoticeWalk.{full_passes, notices-end}
 use Rattle.rd_desk.proofs.ticking.WholeTick.{again_size, again_draws}

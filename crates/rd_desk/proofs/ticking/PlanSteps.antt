@@ -53,11 +53,11 @@ use Rattle.journal_model.specs.UnfinishedRow.{making}
 use Rattle.journal_model.proofs.EntriesNoted.{entries_in, none-append}
 use Rattle.transfers.specs.Keeping.{NamedAnswer}
 use Rattle.observers.specs.Watchers.{Watcher, is_awaited, seen, changed_at, next_ready}
+use Rattle.observation.specs.Notices.{next_noticed}
+use Rattle.observation.specs.Watching.{Watching, WatchingStandsFor}
 use Rattle.rd_desk.specs.declared.planning.Plan.{Plan}
 use Rattle.rd_desk.specs.declared.planning.Planned.{Planned}
-use Rattle.rd_desk.specs.Noticing.{next_noticed}
 use Rattle.rd_desk.specs.Planning.{planned_done, planned_kept, MayBeDone, AreDone, PlannedUpTo}
-use Rattle.rd_desk.specs.Watching.{Watching, WatchingStandsFor}
 use Rattle.rd_desk.proofs.ticking.AgainWalk.{length-append}
 use Rattle.rd_desk.proofs.ticking.NoticeWalk.{notices-next}
 use Rattle.rd_desk.proofs.ticking.SkipLaws.{planned_next}

@@ -98,6 +98,7 @@ use Rattle.rd_desk.proofs.responses.FetchStepLaws.{repeating-octets}
 use Rattle.simple_registration.proofs.TableLaws.{running_length}
 use Rattle.coap_answers.specs.declared.mids.Mids.{Mids}
 use Rattle.coap_answers.proofs.SendingLaws.{sends_notes}
+use Rattle.observation.proofs.TickLaws.{each_at, got_inside}
 use Rattle.rd_desk.specs.Desks.{Seen}
 use Rattle.rd_desk.specs.Resending.{
   IsAsBefore,
@@ -107,7 +108,6 @@ use Rattle.rd_desk.specs.Resending.{
   Resending,
 }
 use Rattle.rd_desk.specs.UnderWay.{UnderWay}
-use Rattle.rd_desk.proofs.observers.TickLaws.{each_at, got_inside}
 use Rattle.rd_desk.proofs.parts.EffectLaws.{joined-nothing, joined-assoc}
 use Rattle.rd_desk.proofs.parts.PartLaws.{more_fetches}
 use Rattle.rd_desk.proofs.parts.WayLaws.{way_moment}

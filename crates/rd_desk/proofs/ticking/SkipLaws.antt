@@ -54,13 +54,13 @@ use Rattle.journal_model.specs.Ticks.{ticking, max_notices, notice_next}
 use Rattle.journal_model.specs.UnfinishedRow.{making}
 use Rattle.journal_model.proofs.EntriesNoted.{entries_in}
 use Rattle.observers.specs.Watchers.{Watcher, is_awaited, is_ready, first_from, next_ready}
+use Rattle.observation.specs.Notices.{first_observer, next_noticed}
+use Rattle.observation.specs.Watching.{Watching, WatchingStandsFor}
+use Rattle.observation.proofs.TickLaws.{next-StandsFor, got_inside}
 use Rattle.rd_desk.specs.declared.planning.Plan.{Plan}
 use Rattle.transfers.specs.Keeping.{NamedAnswer}
 use Rattle.rd_desk.specs.declared.planning.Planned.{Planned}
-use Rattle.rd_desk.specs.Noticing.{first_observer, next_noticed}
 use Rattle.rd_desk.specs.Planning.{AreDone, PlannedUpTo}
-use Rattle.rd_desk.specs.Watching.{Watching, WatchingStandsFor}
-use Rattle.rd_desk.proofs.observers.TickLaws.{next-StandsFor, got_inside}
 use Rattle.rd_desk.proofs.ticking.NoticeWalk.{notices-next, notices-end, drop-drop, got-drop}
 use Rattle.rd_desk.proofs.ticking.PlanLaws.{free_before}
 

@@ -1,12 +1,13 @@
-use Rattle.std.proofs.Common.{[], Some, sym, subst}
+use Rattle.std.proofs.Common.{ℕ, List, [], Some, None, sym, subst}
 use Rattle.coap_message.specs.Views.{message_in}
+use Rattle.journal_model.specs.Bodies.{body_reply}
 use Rattle.journal_model.specs.Effects.{Reply, answering}
 use Rattle.journal_model.specs.Looks.{look_sent}
 use Rattle.coap_answers.specs.Replies.{reply_said}
 use Rattle.coap_answers.specs.Sendings.{Sends}
+use Rattle.journal_model.specs.Requests.{asked_block}
 use Rattle.rd_desk.specs.declared.looks.Found.{Found}
 use Rattle.rd_desk.specs.Looking.{look_found, is_starved_look, look_done}
-use Rattle.rd_desk.proofs.answers.LookLaws.{given_links}
 use Rattle.rd_desk.proofs.looks.give.Goals as goal
 
 pub returns-in-Valid-clause-sends : goal.returns-in-Valid-clause-sends
@@ -32,14 +33,10 @@ pub returns-in-OwnLinks-clause-sends : goal.returns-in-OwnLinks-clause-sends
 returns-in-OwnLinks-clause-sends c s of =
     let m = message_in c.args.request.now.meaning.view in
     subst (λ (f : Found).
-    Sends (look_sent s m (Some (look_found m f))) c.args.out.now
-    c.answer-in-OwnLinks.new.out c.args.mids.now c.answer-in-OwnLinks.new.mids)
+    Sends (look_sent s m (Some (look_found m f))) c.args.out.now c.send_block.new.out
+    c.args.mids.now c.send_block.new.mids)
     (sym c.in-OwnLinks.is)
-    (subst (λ (reply : Reply).
-    Sends (answering s m reply []) c.args.out.now c.answer-in-OwnLinks.new.out
-    c.args.mids.now c.answer-in-OwnLinks.new.mids)
-    (given_links m c.in-OwnLinks.octets c.as_slice.result.now c.args.request.now.asked
-    (reply_said c.body_reply-reply.result) c.args.request.now.asked_said
-    c.as_slice.ensures.value
-    c.body_reply-reply.ensures.said)
-    (c.answer-in-OwnLinks.ensures.sends s [] of))
+    (subst (λ (body : List ℕ).
+    Sends (answering s m (body_reply None None (asked_block m) body) []) c.args.out.now
+    c.send_block.new.out c.args.mids.now c.send_block.new.mids) c.as_slice.ensures.value
+    (c.send_block.ensures s [] of))

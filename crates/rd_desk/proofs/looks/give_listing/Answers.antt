@@ -13,14 +13,13 @@ pub returns-then-not-is_long-clause-sends : goal.returns-then-not-is_long-clause
 returns-then-not-is_long-clause-sends c s of =
     let m = message_in c.args.request.now.meaning.view in
     subst (λ (given : Look).
-    Sends (look_sent s m (Some given)) c.args.out.now c.answer.new.out c.args.mids.now
-    c.answer.new.mids)
+    Sends (look_sent s m (Some given)) c.args.out.now c.send_block.new.out c.args.mids.now
+    c.send_block.new.mids)
     (given_whole m c.args.tagged.octets c.args.tagged.tag.0 c.as_slice.result.now
     c.as_slice-then-not-is_long.result.now c.args.request.now.asked c.is_long.result
-    (reply_said c.body_reply-reply.result)
     c.args.request.now.asked_said c.as_slice.ensures.value c.is_long.ensures c.if-not-is_long.true
-    c.as_slice-then-not-is_long.ensures.value c.body_reply-reply.ensures.said)
-    (c.answer.ensures.sends s [] of)
+    c.as_slice-then-not-is_long.ensures.value)
+    (c.send_block.ensures s [] of)
 
 pub returns-then-not-is_long-clause-held : goal.returns-then-not-is_long-clause-held
 returns-then-not-is_long-clause-held c =
@@ -29,9 +28,8 @@ returns-then-not-is_long-clause-held c =
     IsHeld c.args.peer c.args.datagram.now (body_held (Some given)) ended.Done)
     (given_whole m c.args.tagged.octets c.args.tagged.tag.0 c.as_slice.result.now
     c.as_slice-then-not-is_long.result.now c.args.request.now.asked c.is_long.result
-    (reply_said c.body_reply-reply.result)
     c.args.request.now.asked_said c.as_slice.ensures.value c.is_long.ensures c.if-not-is_long.true
-    c.as_slice-then-not-is_long.ensures.value c.body_reply-reply.ensures.said)
+    c.as_slice-then-not-is_long.ensures.value)
     tt
 
 pub returns-clause-sends : goal.returns-clause-sends

@@ -4,8 +4,8 @@ use Rattle.coap_message.specs.Views.{message_in}
 use Rattle.event_model.specs.Observers.{observers}
 use Rattle.journal_model.specs.Effects.{noting}
 use Rattle.journal_model.specs.Journal.{events}
+use Rattle.observation.specs.Joining.{observer_joining, joining_notes}
 use Rattle.rd_desk.specs.Desks.{Seen}
-use Rattle.rd_desk.specs.Joining.{observer_joining, joining_notes}
 use Rattle.rd_desk.specs.Lookups.{lookup_heard}
 use Rattle.rd_desk.specs.UnderWay.{UnderWay}
 use Rattle.rd_desk.proofs.parts.LookupLaws.{lookup_starved, observed_way}

@@ -4,8 +4,8 @@ use Rattle.event_model.specs.Observers.{observers}
 use Rattle.journal_model.specs.Effects.{nothing, joined, noting}
 use Rattle.journal_model.specs.Journal.{events}
 use Rattle.journal_model.specs.UnfinishedRow.{making}
-use Rattle.rd_desk.specs.Joining.{observer_joining, joining_notes}
-use Rattle.rd_desk.specs.Watching.{WatchingStandsFor}
+use Rattle.observation.specs.Joining.{observer_joining, joining_notes}
+use Rattle.observation.specs.Watching.{WatchingStandsFor}
 use Rattle.rd_desk.proofs.parts.LookupLaws.{left_more, added_more, given_room, value-is}
 use Rattle.rd_desk.proofs.tables.Tables.join.Goals as goal
 

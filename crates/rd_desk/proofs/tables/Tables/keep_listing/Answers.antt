@@ -25,11 +25,10 @@ returns c = record {
       let read : reading c.job.inside.datagram ≡ Ok m =
       ap reading (sym c.as_slice.ensures.value) ∙ c.look_request-request.ensures.read in
       way_kept rows s _ c.args.self.now c.adopt.new.self c.in-Ok.ready c.args.out.now
-      c.answer.new.out c.args.mids.now c.answer.new.mids c.job.inside.peer c.job.inside.datagram
+      c.send_block.new.out c.args.mids.now c.send_block.new.mids c.job.inside.peer
+      c.job.inside.datagram
       (record { body = arc_value c.job.inside.body; tag = c.job.inside.tag.0 }) c.args.job m
-      c.as_slice-2.result.now c.look_request-request.result.asked
-      (reply_said c.body_reply-reply.result) c.self.view_is c.job.view_is of read
-      c.look_request-request.result.asked_said (c.as_slice-2.ensures.value ∙ c.deref.ensures)
-      c.body_reply-reply.ensures.said
-      c.in-Ok.ensures c.adopt.ensures.stands c.answer.ensures.sends way;
+      c.as_slice-2.result.now c.self.view_is c.job.view_is of read
+      (c.as_slice-2.ensures.value ∙ c.deref.ensures) c.in-Ok.ensures c.adopt.ensures.stands
+      c.send_block.ensures way;
 }

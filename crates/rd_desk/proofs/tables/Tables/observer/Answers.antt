@@ -1,6 +1,6 @@
 use Rattle.std.proofs.Common.{option_map, sym, subst, ap, ◌∙◌}
 use Rattle.rd_desk.specs.Desks.{Seen, StandsFor}
-use Rattle.rd_desk.proofs.observers.ShownLaws.{shown-IsObserverAfter}
+use Rattle.rd_desk.proofs.parts.ShownLaws.{shown-IsObserverAfter}
 use Rattle.rd_desk.proofs.tables.Tables.observer.Goals as goal
 
 pub returns-in-Some-clause-observer : goal.returns-in-Some-clause-observer

@@ -1,7 +1,8 @@
 use Rattle.std.proofs.Common.{◌≡◌, max, sym, ap, subst, ◌∙◌}
 use Rattle.journal_model.specs.Rows.{row_moment}
-use Rattle.rd_desk.specs.Desks.{Seen, DirectoryStandsFor}
-use Rattle.rd_desk.specs.Watching.{WatchingStandsFor}
+use Rattle.observation.specs.Directories.{DirectoryStandsFor}
+use Rattle.observation.specs.Watching.{WatchingStandsFor}
+use Rattle.rd_desk.specs.Desks.{Seen}
 use Rattle.rd_desk.proofs.parts.WayLaws.{begun, moment_passes}
 use Rattle.rd_desk.proofs.tables.Tables.pass.Goals as goal
 

@@ -1,0 +1,98 @@
+-- Who joins the observers of a lookup, and what becomes of the watched queries and their observers
+-- then (RFC 7641 section 4.1).
+use Rattle.std.specs.Prelude.{
+  ◌≡◌,
+  ℕ,
+  Bool,
+  true,
+  false,
+  nat_lt,
+  ◌&&◌,
+  ◌||◌,
+  List,
+  [],
+  ◌∷◌,
+  ◌++◌,
+  find,
+  None,
+  option_map,
+  Result,
+  Ok,
+  Err,
+}
+use Rattle.std.specs.Arc.{arc_value}
+use Rattle.rd_base.specs.declared.out_of_memory.Starved.{Starved}
+use Rattle.rd_base.specs.declared.peers.Peer.{Peer}
+use Rattle.rd_base.specs.declared.queries.Query.{Query}
+use Rattle.rd_base.specs.Firsts.{without_first}
+use Rattle.event_model.specs.declared.notes.Note.{Note}
+use Rattle.event_model.specs.declared.notes.Observer.{Observer}
+use Rattle.event_model.specs.Observers.{
+  name_of,
+  max_observers,
+  max_watched,
+  is_watched,
+  number_watched,
+}
+use Rattle.journal_model.specs.Lookups.{removal, addition}
+use Rattle.watch_table.specs.WatchedQueries.{one_more, without, IsPlaceFor}
+use Rattle.observers.specs.Watchers.{Watcher, is_named}
+use Rattle.observation.specs.declared.joining.Joining.{Joining}
+use Rattle.observation.specs.Watching.{Watching}
+
+-- the observer as the notes speak of it, by the query that it asks for
+abbrev pub observer_joining : Query → Joining → Observer
+observer_joining query j = record {
+  peer = j.peer;
+  token = j.token;
+  query = query;
+  key = j.key;
+  szx = j.szx;
+}
+
+-- as the table keeps it, with the place of its query: it is not due, a body was formed for it, and
+-- no notice is in flight
+abbrev pub watcher_joining : ℕ → Joining → Watcher
+watcher_joining place j = record {
+  peer = j.peer;
+  token = j.token;
+  place = place;
+  key = j.key;
+  szx = j.szx;
+  due = false;
+  last = arc_value j.body;
+  flight = None;
+}
+
+-- without the observer of a peer and a token
+abbrev pub without_observer : Peer → List ℕ → Watching → Watching
+without_observer peer token w = record {
+  watches = without (option_map (λ x. x.place) (find (is_named peer token) w.observers)) w.watches;
+  observers = without_first (is_named peer token) w.observers;
+}
+
+-- with one more observer, whose query is watched at its place
+pub record IsAdded (query : Query) (j : Joining) (before after : Watching) : Type 0 where
+  pub place : ℕ
+  pub place_for : IsPlaceFor query place before.watches
+  pub watches : after.watches ≡ one_more place query before.watches
+  pub observers : after.observers ≡ before.observers ++ watcher_joining place j ∷ []
+
+-- what comes of it: an observer of the same peer and token goes, and then this one is added or has
+-- no room; where memory ran out, nothing changes
+abbrev pub Joins : Query → Joining → Watching → Result Bool Starved → Watching → Type 0
+Joins query j before (Ok true) after =
+    IsAdded query j (without_observer j.peer j.token before) after
+Joins query j before (Ok false) after = after ≡ without_observer j.peer j.token before
+Joins query j before (Err starved) after = after ≡ before
+
+-- one more observer of a query has room beside so many others, of whom these are the observers
+abbrev pub has_room : Query → ℕ → List Observer → Bool
+has_room query others standing =
+    nat_lt others max_observers
+    && (is_watched query standing || nat_lt (number_watched standing) max_watched)
+
+-- what is noted of it
+abbrev pub joining_notes : Bool → Observer → List ℕ → List Observer → List Note
+joining_notes true o body standing = removal (name_of o) standing ++ addition o body
+joining_notes false o body standing = removal (name_of o) standing

@@ -1,0 +1,217 @@
+//! Who joins the observers of a lookup, and who goes: the watched queries and the observers change
+//! together (RFC 7641 sections 3.6 and 4.1).
+ghost use Rattle.std.specs.Prelude.{◌≡◌, ◌<◌, ℕ, ◌++◌, ◌∷◌, [], List, Some, None, false, IfOk};
+ghost use Rattle.std.specs.Prelude.{find, length, nat_le, is_some, option_map, slice_get, remove};
+ghost use Rattle.std.specs.List.{list_any};
+ghost use Rattle.rd_base.specs.declared.peers.Peer.{Peer as Endpoint};
+ghost use Rattle.rd_base.specs.Firsts.{without_first};
+ghost use Rattle.event_model.specs.declared.notes.Observer.{Observer as Observed};
+ghost use Rattle.event_model.specs.Observers.{max_observers};
+ghost use Rattle.watch_table.specs.WatchedQueries.{one_fewer, without};
+ghost use Rattle.watch_table.specs.Watchers.{WatchesStandFor};
+ghost use Rattle.observers.specs.Watchers.{Watcher, is_named, has_notice};
+ghost use Rattle.observation.specs.Joining.{Joins, has_room, watcher_joining};
+
+use event_model::limits::MAX_OBSERVERS;
+use exchange_core::Token;
+use observers::{FullObservers, Observer, Observers};
+use rd_base::{Bytes, Key, Peer, Query, Starved};
+use std::alloc::Global;
+use std::sync::Arc;
+use watch_table::{WatchFault, WatchTable};
+
+/// Who asks to observe a lookup: all that is kept of it but the place of its query.
+#[derive(Drop)]
+pub struct Joining {
+    /// Where its notices go.
+    pub peer: Peer,
+    /// The token of its request, which each notice has.
+    pub token: Token,
+    /// The key of its request.
+    pub key: Key,
+    /// The exponent of the block size that it asks for (RFC 7959 section 2.2).
+    pub szx: u8,
+    /// The body that its request is answered with.
+    pub body: Arc<Bytes>,
+}
+
+impl Joining {
+    /// The observer, with the place of its query.
+    fn at(self, place: u32) -> Observer
+        ensures { result ≡ watcher_joining place self }
+    {
+        Observer {
+            peer: self.peer,
+            token: self.token,
+            place,
+            key: self.key,
+            szx: self.szx,
+            due: false,
+            last: self.body,
+            flight: None,
+        }
+    }
+}
+
+/// Whether it is the observer of this peer and token.
+fn is_of(observer: &Observer, peer: &Peer, token: &Token) -> bool
+    ensures { result ≡ is_named peer.now token.now observer.now }
+{
+    *token == observer.token && *peer == observer.peer
+}
+
+/// The place of the query of the observer of a peer and a token, where there is one.
+fn place_named(observers: &Observers, peer: &Peer, token: &Token) -> Option<u32>
+    ensures { result
+        ≡ option_map (λ x. x.place) (find (is_named peer.now token.now) observers.now) }
+{
+    'observers: for index in 0..observers.len() {
+        if let Some(observer) = observers.at(index) {
+            if is_of(observer, peer, token) {
+                return Some(observer.place);
+            }
+        }
+    }
+    None
+}
+
+/// Whether as many observers stand as there are at most, beside that of a peer and a token, whose
+/// query has this place where there is one.
+fn is_full_beside(observers: &Observers, before: Option<u32>) -> bool
+    ensures { (peer : Endpoint) (token : List ℕ)
+        → before ≡ option_map (λ x. x.place) (find (is_named peer token) observers.now)
+        → result
+        ≡ nat_le max_observers (length (without_first (is_named peer token) observers.now)) }
+{
+    match before {
+        Some(_) => observers.len() > MAX_OBSERVERS,
+        None => observers.len() >= MAX_OBSERVERS,
+    }
+}
+
+/// Takes out the observer of a peer and a token, and one watcher of its query; whether there is
+/// one.
+pub(crate) fn leave(
+    watches: &mut WatchTable,
+    observers: &mut Observers,
+    peer: &Peer,
+    token: &Token,
+) -> bool
+    ensures found { result ≡ is_some (find (is_named peer.now token.now) observers.old) }
+    ensures watches { watches.new
+        ≡ without (option_map (λ x. x.place) (find (is_named peer.now token.now) observers.old))
+        watches.old }
+    ensures observers { observers.new ≡ without_first (is_named peer.now token.now) observers.old }
+{
+    match observers.drop_one(peer, token) {
+        Some(gone) => {
+            watches.unwatch(gone.place);
+            true
+        }
+        None => false,
+    }
+}
+
+/// Takes out the observer of a peer whose notice in flight has a Message ID, and one watcher of its
+/// query; whether there is one.
+pub(crate) fn reset(
+    watches: &mut WatchTable,
+    observers: &mut Observers,
+    peer: &Peer,
+    mid: u16,
+) -> bool
+    ensures found { result ≡ is_some (find (has_notice peer.now mid) observers.old) }
+    ensures watches { watches.new
+        ≡ without (option_map (λ x. x.place) (find (has_notice peer.now mid) observers.old))
+        watches.old }
+    ensures observers { observers.new ≡ without_first (has_notice peer.now mid) observers.old }
+{
+    match observers.reset(peer, mid) {
+        Some(gone) => {
+            watches.unwatch(gone.place);
+            true
+        }
+        None => false,
+    }
+}
+
+/// Takes out the observer with an index, and one watcher of its query.
+pub(crate) fn take_out(watches: &mut WatchTable, observers: &mut Observers, index: usize)
+    requires { index < length observers.old }
+    ensures watches { (x : Watcher)
+        → slice_get observers.old index ≡ Some x
+        → watches.new ≡ one_fewer x.place watches.old }
+    ensures observers { observers.new ≡ remove observers.old index }
+{
+    let gone = observers.timed_out(index);
+    watches.unwatch(gone.place);
+}
+
+/// The place of the query of the observer with an index.
+pub(crate) fn place_at(observers: &Observers, index: usize) -> u32
+    requires { index < length observers.now }
+    ensures { (x : Watcher) → slice_get observers.now index ≡ Some x → result ≡ x.place }
+{
+    match observers.at(index) {
+        Some(observer) => observer.place,
+        None => unreachable!(),
+    }
+}
+
+/// Adds an observer in place of that of its peer and token. There is room for it.
+fn replace(observers: &mut Observers, observer: Observer)
+    requires room { length (without_first (is_named observer.peer observer.token) observers.old)
+        < max_observers }
+    requires new { list_any (is_named observer.peer observer.token)
+        (without_first (is_named observer.peer observer.token) observers.old)
+        ≡ false }
+    requires landed { observer.flight ≡ None }
+    ensures { observers.new
+        ≡ without_first (is_named observer.peer observer.token) observers.old ++ observer ∷ [] }
+{
+    observers.drop_one(&observer.peer, &observer.token);
+    match observers.add(observer) {
+        Ok(()) => {}
+        Err(FullObservers) => unreachable!(),
+    }
+}
+
+/// An observer of a query joins in place of that of its peer and token, where there is room;
+/// whether it was added. `Starved`: out of memory, and nothing changed.
+pub(crate) fn join(
+    watches: &mut WatchTable,
+    observers: &mut Observers,
+    alloc: Global,
+    query: &Query,
+    joining: Joining,
+) -> Result<bool, Starved>
+    requires new { list_any (is_named joining.peer joining.token)
+        (without_first (is_named joining.peer joining.token) observers.old)
+        ≡ false }
+    ensures outcome { Joins query.now joining (record
+        { watches = watches.old; observers = observers.old }) result
+        (record { watches = watches.new; observers = observers.new }) }
+    ensures room { (standing : List Observed)
+        → WatchesStandFor standing (without (option_map (λ x. x.place)
+        (find (is_named joining.peer joining.token) observers.old)) watches.old)
+        → IfOk result (λ added. added
+        ≡ has_room query.now (length (without_first (is_named joining.peer joining.token)
+        observers.old)) standing) }
+{
+    let before = place_named(observers, &joining.peer, &joining.token);
+    if is_full_beside(observers, before) {
+        leave(watches, observers, &joining.peer, &joining.token);
+        return Ok(false);
+    }
+    match watches.watch(alloc, before, query) {
+        Ok(place) => {
+            replace(observers, joining.at(place));
+            Ok(true)
+        }
+        Err(WatchFault::FullWatches) => {
+            observers.drop_one(&joining.peer, &joining.token);
+            Ok(false)
+        }
+        Err(WatchFault::Starved) => Err(Starved),
+    }
+}

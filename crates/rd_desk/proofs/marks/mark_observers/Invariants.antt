@@ -1,5 +1,0 @@
-use Rattle.rd_desk.proofs.observers.MarkLaws.{Walked}
-use Rattle.rd_desk.proofs.marks.mark_observers.Given as goal
-
-abbrev pub invariant-observers : goal.invariant-observers
-invariant-observers l = Walked l.watches l.initial.observers l.observers l.index

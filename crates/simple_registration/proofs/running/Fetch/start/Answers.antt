@@ -1,0 +1,16 @@
+use Rattle.std.proofs.Common.{ℕ, ◌≤◌, List, length, None, sym, ap, subst, ◌∙◌}
+use Rattle.message_model.specs.Spelling.{spelling}
+use Rattle.coap_message.specs.PartialMessages.{longest_datagram}
+use Rattle.journal_model.specs.Commits.{fetch_request}
+use Rattle.simple_registration.proofs.SendableLaws.{request-IsSendable}
+use Rattle.simple_registration.proofs.running.Fetch.start.Goals as goal
+
+pub returns-clause-sendable : goal.returns-clause-sendable
+returns-clause-sendable c =
+    let copied = c.in_ok-bytes.ensures ∙ c.as_slice-2.ensures.value in
+    request-IsSendable c.args.mid c.args.token c.in_ok-bytes.bytes None c.as_slice.ensures.fits
+    (copied
+    ∙ (c.in_ok-kept.ensures.spelled
+    ∙ ap (λ (t : List ℕ). spelling (fetch_request c.args.mid t None)) c.as_slice.ensures.value))
+    (subst (λ (bytes : List ℕ). length bytes ≤ longest_datagram) (sym copied)
+    c.in_ok-kept.ensures.fits)
