@@ -5,7 +5,6 @@ ghost use Rattle.std.specs.Prelude.{false};
 ghost use Rattle.message_model.specs.Message.{Message};
 ghost use Rattle.message_model.specs.Reading.{reading};
 ghost use Rattle.event_model.specs.AdmissionOrder.{IsOpen};
-ghost use Rattle.coap_message.specs.Views.{message_in};
 ghost use Rattle.journal_model.specs.declared.steps.Step.{Step};
 ghost use Rattle.journal_model.specs.declared.steps.StepKind.TheVariants as step;
 ghost use Rattle.journal_model.specs.declared.rows.Row.{Row};
@@ -14,6 +13,7 @@ ghost use Rattle.journal_model.specs.Commits.{settling};
 ghost use Rattle.journal_model.specs.Effects.{nothing};
 ghost use Rattle.journal_model.specs.Journal.{events, entries};
 ghost use Rattle.journal_model.specs.Rows.{row_moment, done, row};
+ghost use Rattle.rd_desk.specs.Accepted.{message_of};
 ghost use Rattle.rd_desk.specs.Committing.{unless_failing, IsShort};
 ghost use Rattle.rd_desk.specs.Outboxes.{most_datagrams};
 ghost use Rattle.rd_desk.specs.Outcomes.{IsTimely, IsPlanned, IsMadeAt};
@@ -30,46 +30,39 @@ use crate::resources::Resource;
 use crate::staging::staged;
 use crate::tables::Tables;
 use crate::write_jobs::write_request;
+use crate::writes::Write;
 use crate::{Mids, Outbox, Stepped, WriteJob};
-use coap_message::View;
 use directory_core::Board;
-use rd_base::{Moment, Peer, Starved};
-use std::alloc::Global;
+use rd_base::{Moment, Starved};
 
 impl Tables {
     /// What is planned of a write is done: its entry is made, where it makes one, and then its
     /// answer settles it. Takes no memory.
-    fn conclude(
-        &mut self,
-        mids: &mut Mids,
-        peer: Peer,
-        view: &View<'_>,
-        admitted: Moment,
-        outcome: Outcome,
-        out: &mut Outbox,
-    )
+    fn conclude(&mut self, mids: &mut Mids, write: &Write<'_>, outcome: Outcome, out: &mut Outbox)
         requires reply { IsReply outcome.reply }
         requires short { IsShort outcome.reply }
         requires timely { IsTimely self.old.moment outcome }
         requires room { length out.old < most_datagrams }
         ensures way { (rows : List Row) (s : Step) (starved : Bool) (place : ℕ)
             (meant : changes.Outcome)
-            → s.peer ≡ peer
-            → IsOpen place peer view.now.mid admitted.0 (events rows)
+            → s.peer ≡ write.now.peer
+            → IsOpen place write.now.peer (message_of write.now.request).mid
+            write.now.admitted.0 (events rows)
             → IsMadeAt (row_moment rows s) meant
             → IsPlanned (entries rows) self.old.version.swept [] meant outcome
             → UnderWay rows s starved nothing self.old out.old mids.old
-            → UnderWay rows s starved (settling place s (message_in view.now) meant) self.new
+            → UnderWay rows s starved (settling place s (message_of write.now.request) meant)
+            self.new
             out.new mids.new }
         ensures version { IsLeftBy self.old.version self.new.version outcome.entering }
     {
         let Outcome { reply, entering } = outcome;
         let Some(entering) = entering else {
-            self.settle(mids, peer, view, admitted, &reply, out);
+            self.settle(mids, write, &reply, out);
             return;
         };
         self.enter(entering);
-        self.settle(mids, peer, view, admitted, &reply, out);
+        self.settle(mids, write, &reply, out);
     }
 
     /// A write that was admitted is done as it is planned, or fails where memory ran out meanwhile.
@@ -78,9 +71,7 @@ impl Tables {
         &mut self,
         board: &mut B,
         mids: &mut Mids,
-        peer: Peer,
-        view: &View<'_>,
-        admitted: Moment,
+        write: &Write<'_>,
         planned: Result<Outcome, Starved>,
         out: &mut Outbox,
     ) -> Stepped
@@ -94,14 +85,15 @@ impl Tables {
             → VersionStandsFor 0 history self.old.version
             → IfOk planned (IsNextOf history) }
         ensures way { (rows : List Row) (s : Step) (place : ℕ) (meant : changes.Outcome)
-            → s.peer ≡ peer
-            → IsOpen place s.peer view.now.mid admitted.0 (events rows)
+            → s.peer ≡ write.now.peer
+            → IsOpen place s.peer (message_of write.now.request).mid write.now.admitted.0
+            (events rows)
             → IsMadeAt (row_moment rows s) meant
             → IfOk planned (IsPlanned (entries rows) self.old.version.swept [] meant)
             → UnderWay rows s (is_starved_step result) nothing self.old out.old mids.old
             → UnderWay rows s (is_starved_step result)
-            (unless_failing (is_starved_step result) place s (message_in view.now)
-            (settling place s (message_in view.now) meant)) self.new out.new mids.new }
+            (unless_failing (is_starved_step result) place s (message_of write.now.request)
+            (settling place s (message_of write.now.request) meant)) self.new out.new mids.new }
         ensures laid { IsLaid self.old.version self.new.version (B.staged board.old)
             (B.staged board.new) (B.has_staged board.new) }
         ensures name { B.name board.new ≡ B.name board.old }
@@ -109,11 +101,11 @@ impl Tables {
     {
         match staged(board, planned) {
             Ok(outcome) => {
-                self.conclude(mids, peer, view, admitted, outcome, out);
+                self.conclude(mids, write, outcome, out);
                 return Stepped::Done;
             }
             Err(Starved) => {
-                self.fail(mids, peer, view, admitted, out);
+                self.fail(mids, write, out);
                 return Stepped::Starved;
             }
         }
@@ -122,7 +114,6 @@ impl Tables {
     /// The write of a job is done, by what it writes to.
     fn commit_write<B: Board>(
         &mut self,
-        alloc: Global,
         board: &mut B,
         mids: &mut Mids,
         job: WriteJob,
@@ -151,17 +142,18 @@ impl Tables {
             admitted,
         } = job;
         let request = write_request(datagram.as_slice());
+        let write = Write {
+            peer,
+            admitted,
+            request,
+        };
         match request.resource {
             Resource::Registration => {
-                return self.commit_registration(alloc, board, mids, peer, admitted, &request, out);
+                return self.commit_registration(board, mids, &write, out);
             }
-            Resource::SimpleRegistration => {
-                return self.commit_simple(alloc, 0, mids, peer, admitted, &request, out);
-            }
+            Resource::SimpleRegistration => return self.commit_simple(0, mids, &write, out),
             Resource::Location(number) => {
-                return self.commit_location(
-                    alloc, board, mids, peer, admitted, &request, number, out,
-                );
+                return self.commit_location(board, mids, &write, number, out);
             }
             Resource::Core | Resource::Lookup(_) => unreachable!(),
         }
@@ -171,7 +163,6 @@ impl Tables {
     /// that of the tables is lifted to it. `out` is empty.
     pub(crate) fn commit<B: Board>(
         &mut self,
-        alloc: Global,
         board: &mut B,
         now: Moment,
         mids: &mut Mids,
@@ -197,6 +188,6 @@ impl Tables {
         ensures told { B.told board.new ≡ B.told board.old }
     {
         self.pass(now);
-        self.commit_write(alloc, board, mids, job, out)
+        self.commit_write(board, mids, job, out)
     }
 }

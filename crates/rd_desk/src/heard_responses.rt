@@ -40,7 +40,6 @@ use coap_options::Meaning;
 use directory_core::Board;
 use rd_base::{Bytes, Peer, RegParams};
 use simple_registration::{Ask, Heard};
-use std::alloc::Global;
 
 /// A response that belongs to no fetch: a confirmable one is rejected by a Reset, and another is
 /// ignored (RFC 7252 section 4.2).
@@ -114,7 +113,6 @@ impl Tables {
     /// silence, and the fetch ends. What takes memory comes before anything changes.
     fn complete_fetch<B: Board>(
         &mut self,
-        alloc: Global,
         board: &mut B,
         peer: Peer,
         view: &View<'_>,
@@ -139,7 +137,15 @@ impl Tables {
         ensures name { B.name board.new ≡ B.name board.old }
         ensures told { B.told board.new ≡ B.told board.old }
     {
-        let planned = registered(alloc, &*self.version, self.moment, peer, params, body, None);
+        let planned = registered(
+            self.alloc,
+            &*self.version,
+            self.moment,
+            peer,
+            params,
+            body,
+            None,
+        );
         let Ok(planned) = staged(board, planned) else {
             return Stepped::Starved;
         };
@@ -153,7 +159,6 @@ impl Tables {
     /// section 2.4).
     fn hear_answer<B: Board>(
         &mut self,
-        alloc: Global,
         board: &mut B,
         word: u32,
         mids: &mut Mids,
@@ -184,7 +189,7 @@ impl Tables {
         let mid = mids.upcoming();
         match self
             .fetches
-            .response(alloc, self.moment, word, mid, peer, meaning)
+            .response(self.alloc, self.moment, word, mid, peer, meaning)
         {
             Heard::Passed => {
                 acknowledge_response(peer, &meaning.view, out);
@@ -197,7 +202,6 @@ impl Tables {
             }
             Heard::Whole(params, body) => {
                 return self.complete_fetch(
-                    alloc,
                     board,
                     peer,
                     &meaning.view,
@@ -220,7 +224,6 @@ impl Tables {
     /// nothing is done. One that belongs to no fetch takes no memory.
     pub(crate) fn hear_response<B: Board>(
         &mut self,
-        alloc: Global,
         board: &mut B,
         word: u32,
         mids: &mut Mids,
@@ -252,6 +255,6 @@ impl Tables {
             reject_strange(peer, view, out);
             return Stepped::Done;
         };
-        self.hear_answer(alloc, board, word, mids, peer, &meaning, out)
+        self.hear_answer(board, word, mids, peer, &meaning, out)
     }
 }

@@ -21,7 +21,6 @@ use crate::{Admitted, Mids, Outbox, WriteJob};
 use coap_message::View;
 use exchange_core::Keyed;
 use rd_base::{Bytes, Peer};
-use std::alloc::Global;
 
 impl Tables {
     /// A write that nothing refuses repeats another, or there is no room for it, or it is admitted.
@@ -66,7 +65,6 @@ impl Tables {
     /// memory.
     pub(crate) fn hear_write(
         &mut self,
-        alloc: Global,
         mids: &mut Mids,
         peer: Peer,
         view: &View<'_>,
@@ -97,7 +95,7 @@ impl Tables {
         if !self.admit_write(mids, peer, view, out) {
             return Admitted::Done;
         }
-        let Ok(copied) = Bytes::copy_of(alloc, datagram) else {
+        let Ok(copied) = Bytes::copy_of(self.alloc, datagram) else {
             self.exchanges.forget(peer, view.mid, self.moment);
             answer_starved(mids, peer, view, out);
             return Admitted::Starved;

@@ -61,13 +61,7 @@ pub(crate) fn with_listing(
 impl Tables {
     /// A listing is kept under its tag, and the block of it that the look asked for is sent. What
     /// takes memory comes before anything changes.
-    fn keep_listing(
-        &mut self,
-        alloc: Global,
-        mids: &mut Mids,
-        job: KeepJob,
-        out: &mut Outbox,
-    ) -> Stepped
+    fn keep_listing(&mut self, mids: &mut Mids, job: KeepJob, out: &mut Outbox) -> Stepped
         requires room { length out.old < most_datagrams }
         ensures way { (rows : List Row) (s : Step)
             → s.peer ≡ job.peer
@@ -85,7 +79,7 @@ impl Tables {
         let request = look_request(datagram.as_slice());
         let ready = with_listing(
             &self.transfers,
-            alloc,
+            self.alloc,
             self.moment,
             peer,
             &request,
@@ -106,7 +100,6 @@ impl Tables {
     /// that of the tables is lifted to it. `out` is empty.
     pub(crate) fn keep(
         &mut self,
-        alloc: Global,
         now: Moment,
         mids: &mut Mids,
         job: KeepJob,
@@ -122,6 +115,6 @@ impl Tables {
             → Made rows (row rows s (is_starved_step result)) self.new out.new mids.old mids.new }
     {
         self.pass(now);
-        self.keep_listing(alloc, mids, job, out)
+        self.keep_listing(mids, job, out)
     }
 }

@@ -4,6 +4,7 @@
 
 mod accepted;
 mod admissions;
+mod arrivals;
 mod bodies;
 mod change_kinds;
 mod commits;
@@ -52,8 +53,10 @@ mod uploads;
 mod watchers;
 mod watching;
 mod write_jobs;
+mod writes;
 
 pub use admissions::Admitted;
+pub use arrivals::Arrival;
 pub use desk::{Desk, Unmade};
 pub use incoming::is_look;
 pub use jobs::Job;

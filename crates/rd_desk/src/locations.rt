@@ -28,14 +28,14 @@ ghost use Rattle.rd_desk.specs.Shown.{AreToldOf};
 ghost use Rattle.history_model.specs.declared.entries.Entry.{Entry};
 ghost use Rattle.rd_desk.specs.Staging.{IsLaid, IsNextOf};
 
-use crate::accepted::Request;
 use crate::outcomes::{Outcome, removed, updated};
 use crate::tables::Tables;
+use crate::writes::Write;
 use crate::{Mids, Outbox, Stepped};
 use coap_options::{Meaning, queries};
 use directory_core::{Board, Directory};
 use query_text::{QueryBad, update_params};
-use rd_base::{Moment, Peer, Starved, UpdateParams};
+use rd_base::{Moment, Starved, UpdateParams};
 use std::alloc::Global;
 
 /// POST (RFC 7252 section 5.8.2).
@@ -60,14 +60,13 @@ fn update_outcome(
     alloc: Global,
     version: &Directory,
     now: Moment,
-    peer: Peer,
-    request: &Request<'_>,
+    write: &Write<'_>,
     number: u64,
 ) -> Result<Outcome, Starved>
     requires after_at { version.now.at ≤ now.0 }
     requires after_sweep { version.now.swept ≤ now.0 }
     requires moment { now.0 ≤ 10 ^ 15 }
-    requires good { fault_of reading.Update (queries_in (message_of request.now)) ≡ None }
+    requires good { fault_of reading.Update (queries_in (message_of write.now.request)) ≡ None }
     ensures reply { IfOk result (λ o. IsReply o.reply) }
     ensures short { IfOk result (λ o. IsShort o.reply) }
     ensures moments { IfOk result (IsTimely now.0) }
@@ -76,12 +75,12 @@ fn update_outcome(
         → IfOk result (IsNextOf history) }
     ensures planned { (rows : List Row) (s : Step)
         → VersionStandsFor 0 (entries rows) version.now
-        → s.peer ≡ peer
+        → s.peer ≡ write.now.peer
         → IfOk result (IsPlanned (entries rows) version.now.swept []
-        (updating rows now.0 s (message_of request.now) number)) }
+        (updating rows now.0 s (message_of write.now.request) number)) }
 {
-    let change = given_change(alloc, &request.meaning)?;
-    updated(alloc, version, now, number, change, peer)
+    let change = given_change(alloc, &write.request.meaning)?;
+    updated(alloc, version, now, number, change, write.peer)
 }
 
 impl Tables {
@@ -89,55 +88,42 @@ impl Tables {
     /// runs out.
     fn commit_update<B: Board>(
         &mut self,
-        alloc: Global,
         board: &mut B,
         mids: &mut Mids,
-        peer: Peer,
-        admitted: Moment,
-        request: &Request<'_>,
+        write: &Write<'_>,
         number: u64,
         out: &mut Outbox,
     ) -> Stepped
-        requires good { fault_of reading.Update (queries_in (message_of request.now)) ≡ None }
+        requires good { fault_of reading.Update (queries_in (message_of write.now.request)) ≡ None }
         requires room { length out.old < most_datagrams }
         requires free { B.has_staged board.old ≡ false }
         requires told { AreToldOf self.old.version (B.told board.old) }
         ensures way { (rows : List Row) (s : Step) (place : ℕ)
-            → s.peer ≡ peer
-            → IsOpen place s.peer (message_of request.now).mid admitted.0 (events rows)
+            → s.peer ≡ write.now.peer
+            → IsOpen place s.peer (message_of write.now.request).mid write.now.admitted.0
+            (events rows)
             → UnderWay rows s (is_starved_step result) nothing self.old out.old mids.old
             → UnderWay rows s (is_starved_step result)
-            (unless_failing (is_starved_step result) place s (message_of request.now)
-            (settling place s (message_of request.now)
-            (updating rows (row_moment rows s) s (message_of request.now) number)))
+            (unless_failing (is_starved_step result) place s (message_of write.now.request)
+            (settling place s (message_of write.now.request)
+            (updating rows (row_moment rows s) s (message_of write.now.request) number)))
             self.new out.new mids.new }
         ensures laid { IsLaid self.old.version self.new.version (B.staged board.old)
             (B.staged board.new) (B.has_staged board.new) }
         ensures name { B.name board.new ≡ B.name board.old }
         ensures told { B.told board.new ≡ B.told board.old }
     {
-        let planned = update_outcome(alloc, &*self.version, self.moment, peer, request, number);
-        self.finish(
-            board,
-            mids,
-            peer,
-            &request.meaning.view,
-            admitted,
-            planned,
-            out,
-        )
+        let planned = update_outcome(self.alloc, &*self.version, self.moment, write, number);
+        self.finish(board, mids, write, planned, out)
     }
 
     /// A removal of the registration of a number that was admitted is done, or fails where memory
     /// runs out.
     fn commit_removal<B: Board>(
         &mut self,
-        alloc: Global,
         board: &mut B,
         mids: &mut Mids,
-        peer: Peer,
-        admitted: Moment,
-        request: &Request<'_>,
+        write: &Write<'_>,
         number: u64,
         out: &mut Outbox,
     ) -> Stepped
@@ -145,64 +131,55 @@ impl Tables {
         requires free { B.has_staged board.old ≡ false }
         requires told { AreToldOf self.old.version (B.told board.old) }
         ensures way { (rows : List Row) (s : Step) (place : ℕ)
-            → s.peer ≡ peer
-            → IsOpen place s.peer (message_of request.now).mid admitted.0 (events rows)
+            → s.peer ≡ write.now.peer
+            → IsOpen place s.peer (message_of write.now.request).mid write.now.admitted.0
+            (events rows)
             → UnderWay rows s (is_starved_step result) nothing self.old out.old mids.old
             → UnderWay rows s (is_starved_step result)
-            (unless_failing (is_starved_step result) place s (message_of request.now)
-            (settling place s (message_of request.now)
+            (unless_failing (is_starved_step result) place s (message_of write.now.request)
+            (settling place s (message_of write.now.request)
             (removing rows (row_moment rows s) s number))) self.new out.new mids.new }
         ensures laid { IsLaid self.old.version self.new.version (B.staged board.old)
             (B.staged board.new) (B.has_staged board.new) }
         ensures name { B.name board.new ≡ B.name board.old }
         ensures told { B.told board.new ≡ B.told board.old }
     {
-        let planned = removed(alloc, &*self.version, self.moment, number);
-        self.finish(
-            board,
-            mids,
-            peer,
-            &request.meaning.view,
-            admitted,
-            planned,
-            out,
-        )
+        let planned = removed(self.alloc, &*self.version, self.moment, number);
+        self.finish(board, mids, write, planned, out)
     }
 
     /// A write on a registration that was admitted is done: POST updates it, and DELETE removes it
     /// (RFC 9176 sections 5.3.1 and 5.3.2).
     pub(crate) fn commit_location<B: Board>(
         &mut self,
-        alloc: Global,
         board: &mut B,
         mids: &mut Mids,
-        peer: Peer,
-        admitted: Moment,
-        request: &Request<'_>,
+        write: &Write<'_>,
         number: u64,
         out: &mut Outbox,
     ) -> Stepped
-        requires good { request.now.meaning.view.code ≡ codes_of.post
-            → fault_of reading.Update (queries_in (message_of request.now)) ≡ None }
+        requires good { (message_of write.now.request).code ≡ codes_of.post
+            → fault_of reading.Update (queries_in (message_of write.now.request)) ≡ None }
         requires room { length out.old < most_datagrams }
         requires free { B.has_staged board.old ≡ false }
         requires told { AreToldOf self.old.version (B.told board.old) }
         ensures way { (rows : List Row) (s : Step) (place : ℕ)
-            → s.peer ≡ peer
-            → IsOpen place s.peer (message_of request.now).mid admitted.0 (events rows)
+            → s.peer ≡ write.now.peer
+            → IsOpen place s.peer (message_of write.now.request).mid write.now.admitted.0
+            (events rows)
             → UnderWay rows s (is_starved_step result) nothing self.old out.old mids.old
             → UnderWay rows s (is_starved_step result)
-            (unless_failing (is_starved_step result) place s (message_of request.now)
-            (on_location (method_of (message_of request.now).code) rows (row_moment rows s)
-            place s (message_of request.now) number)) self.new out.new mids.new }
+            (unless_failing (is_starved_step result) place s (message_of write.now.request)
+            (on_location (method_of (message_of write.now.request).code) rows (row_moment rows s)
+            place s (message_of write.now.request) number)) self.new out.new mids.new }
         ensures laid { IsLaid self.old.version self.new.version (B.staged board.old)
             (B.staged board.new) (B.has_staged board.new) }
         ensures name { B.name board.new ≡ B.name board.old }
         ensures told { B.told board.new ≡ B.told board.old }
     {
-        if request.meaning.view.code == POST {
-            return self.commit_update(alloc, board, mids, peer, admitted, request, number, out);
+        if write.request.meaning.view.code == POST {
+            return self.commit_update(board, mids, write, number, out);
         }
-        self.commit_removal(alloc, board, mids, peer, admitted, request, number, out)
+        self.commit_removal(board, mids, write, number, out)
     }
 }

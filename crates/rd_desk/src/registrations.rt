@@ -23,13 +23,13 @@ ghost use Rattle.rd_desk.specs.Shown.{AreToldOf};
 ghost use Rattle.history_model.specs.declared.entries.Entry.{Entry};
 ghost use Rattle.rd_desk.specs.Staging.{IsLaid, IsNextOf};
 
-use crate::accepted::Request;
 use crate::outcomes::{Outcome, registered};
 use crate::parameters::given_params;
 use crate::tables::Tables;
+use crate::writes::Write;
 use crate::{Mids, Outbox, Stepped};
 use directory_core::{Board, Directory};
-use rd_base::{Moment, Peer, Starved};
+use rd_base::{Moment, Starved};
 use std::alloc::Global;
 
 /// What comes of a registration whose body comes whole. `Starved`: out of memory.
@@ -37,13 +37,12 @@ fn whole_outcome(
     alloc: Global,
     version: &Directory,
     now: Moment,
-    peer: Peer,
-    request: &Request<'_>,
+    write: &Write<'_>,
 ) -> Result<Outcome, Starved>
     requires after_at { version.now.at ≤ now.0 }
     requires after_sweep { version.now.swept ≤ now.0 }
     requires moment { now.0 ≤ 10 ^ 15 }
-    requires good { fault_of reading.Register (queries_in (message_of request.now)) ≡ None }
+    requires good { fault_of reading.Register (queries_in (message_of write.now.request)) ≡ None }
     ensures reply { IfOk result (λ o. IsReply o.reply) }
     ensures short { IfOk result (λ o. IsShort o.reply) }
     ensures moments { IfOk result (IsTimely now.0) }
@@ -52,18 +51,19 @@ fn whole_outcome(
         → IfOk result (IsNextOf history) }
     ensures planned { (rows : List Row) (s : Step)
         → VersionStandsFor 0 (entries rows) version.now
-        → s.peer ≡ peer
+        → s.peer ≡ write.now.peer
         → IfOk result (IsPlanned (entries rows) version.now.swept []
-        (registration_outcome None rows now.0 s (message_of request.now))) }
+        (registration_outcome None rows now.0 s (message_of write.now.request))) }
 {
-    let params = given_params(alloc, &request.meaning, false)?;
+    let meaning = &write.request.meaning;
+    let params = given_params(alloc, meaning, false)?;
     registered(
         alloc,
         version,
         now,
-        peer,
+        write.peer,
         params,
-        request.meaning.view.payload,
+        meaning.view.payload,
         None,
     )
 }
@@ -72,79 +72,67 @@ impl Tables {
     /// A registration whose body came whole is done, or fails where memory runs out.
     fn commit_whole<B: Board>(
         &mut self,
-        alloc: Global,
         board: &mut B,
         mids: &mut Mids,
-        peer: Peer,
-        admitted: Moment,
-        request: &Request<'_>,
+        write: &Write<'_>,
         out: &mut Outbox,
     ) -> Stepped
-        requires good { fault_of reading.Register (queries_in (message_of request.now))
+        requires good { fault_of reading.Register (queries_in (message_of write.now.request))
             ≡ None }
         requires room { length out.old < most_datagrams }
         requires free { B.has_staged board.old ≡ false }
         requires told { AreToldOf self.old.version (B.told board.old) }
         ensures way { (rows : List Row) (s : Step) (place : ℕ)
-            → s.peer ≡ peer
-            → IsOpen place s.peer (message_of request.now).mid admitted.0 (events rows)
+            → s.peer ≡ write.now.peer
+            → IsOpen place s.peer (message_of write.now.request).mid write.now.admitted.0
+            (events rows)
             → UnderWay rows s (is_starved_step result) nothing self.old out.old mids.old
             → UnderWay rows s (is_starved_step result)
-            (unless_failing (is_starved_step result) place s (message_of request.now)
-            (settling place s (message_of request.now)
+            (unless_failing (is_starved_step result) place s (message_of write.now.request)
+            (settling place s (message_of write.now.request)
             (registration_outcome None rows (row_moment rows s) s
-            (message_of request.now)))) self.new out.new mids.new }
+            (message_of write.now.request)))) self.new out.new mids.new }
         ensures laid { IsLaid self.old.version self.new.version (B.staged board.old)
             (B.staged board.new) (B.has_staged board.new) }
         ensures name { B.name board.new ≡ B.name board.old }
         ensures told { B.told board.new ≡ B.told board.old }
     {
-        let planned = whole_outcome(alloc, &*self.version, self.moment, peer, request);
-        self.finish(
-            board,
-            mids,
-            peer,
-            &request.meaning.view,
-            admitted,
-            planned,
-            out,
-        )
+        let planned = whole_outcome(self.alloc, &*self.version, self.moment, write);
+        self.finish(board, mids, write, planned, out)
     }
 
     /// A registration that was admitted is done: with its whole body, or as a block of it.
     pub(crate) fn commit_registration<B: Board>(
         &mut self,
-        alloc: Global,
         board: &mut B,
         mids: &mut Mids,
-        peer: Peer,
-        admitted: Moment,
-        request: &Request<'_>,
+        write: &Write<'_>,
         out: &mut Outbox,
     ) -> Stepped
-        requires good { fault_of reading.Register (queries_in (message_of request.now))
+        requires good { fault_of reading.Register (queries_in (message_of write.now.request))
             ≡ None }
         requires room { length out.old < most_datagrams }
         requires free { B.has_staged board.old ≡ false }
         requires told { AreToldOf self.old.version (B.told board.old) }
         ensures way { (rows : List Row) (s : Step) (place : ℕ)
-            → s.peer ≡ peer
-            → IsOpen place s.peer (message_of request.now).mid admitted.0 (events rows)
+            → s.peer ≡ write.now.peer
+            → IsOpen place s.peer (message_of write.now.request).mid write.now.admitted.0
+            (events rows)
             → UnderWay rows s (is_starved_step result) nothing self.old out.old mids.old
             → UnderWay rows s (is_starved_step result)
-            (unless_failing (is_starved_step result) place s (message_of request.now)
-            (settling place s (message_of request.now)
-            (registering rows (row_moment rows s) s (message_of request.now)))) self.new
+            (unless_failing (is_starved_step result) place s (message_of write.now.request)
+            (settling place s (message_of write.now.request)
+            (registering rows (row_moment rows s) s (message_of write.now.request)))) self.new
             out.new mids.new }
         ensures laid { IsLaid self.old.version self.new.version (B.staged board.old)
             (B.staged board.new) (B.has_staged board.new) }
         ensures name { B.name board.new ≡ B.name board.old }
         ensures told { B.told board.new ≡ B.told board.old }
     {
-        match request.sent {
-            None => return self.commit_whole(alloc, board, mids, peer, admitted, request, out),
+        match write.request.sent {
+            None => return self.commit_whole(board, mids, write, out),
             Some(block) => {
-                return self.commit_block(alloc, board, mids, peer, admitted, request, &block, out);
+                return self.commit_block(board, mids, write, &block, out);
             }
         }
     }

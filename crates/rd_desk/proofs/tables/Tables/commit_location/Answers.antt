@@ -11,7 +11,7 @@ use Rattle.rd_desk.proofs.tables.Tables.commit_location.Goals as goal
 pub returns-clause-way : goal.returns-clause-way
 returns-clause-way g c =
     λ rows s place of opened way.
-    let m = message_in c.args.request.now.meaning.view in
+    let m = message_in c.args.write.now.request.meaning.view in
     subst (λ (e : Effects).
     UnderWay rows s (is_starved_step c.commit_removal.result)
     (unless_failing (is_starved_step c.commit_removal.result) place s m e)
