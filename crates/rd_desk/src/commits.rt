@@ -30,10 +30,13 @@ use crate::resources::Resource;
 use crate::staging::staged;
 use crate::tables::Tables;
 use crate::write_jobs::write_request;
-use crate::writes::Write;
+use crate::writes::{Registering, RegisteringSimply, Updating, Write};
 use crate::{Mids, Outbox, Stepped, WriteJob};
 use directory_core::Board;
 use rd_base::{Moment, Starved};
+
+/// POST (RFC 7252 section 5.8.2).
+const POST: u8 = 2;
 
 impl Tables {
     /// What is planned of a write is done: its entry is made, where it makes one, and then its
@@ -149,11 +152,17 @@ impl Tables {
         };
         match request.resource {
             Resource::Registration => {
-                return self.commit_registration(board, mids, &write, out);
+                return self.commit_registration(board, mids, &Registering { write }, out);
             }
-            Resource::SimpleRegistration => return self.commit_simple(0, mids, &write, out),
+            Resource::SimpleRegistration => {
+                return self.commit_simple(0, mids, &RegisteringSimply { write }, out);
+            }
             Resource::Location(number) => {
-                return self.commit_location(board, mids, &write, number, out);
+                if request.meaning.view.code == POST {
+                    let updating = Updating { write, number };
+                    return self.commit_update(board, mids, &updating, out);
+                }
+                return self.commit_removal(board, mids, &write, number, out);
             }
             Resource::Core | Resource::Lookup(_) => unreachable!(),
         }

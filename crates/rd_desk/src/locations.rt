@@ -1,21 +1,16 @@
 //! Writes on a registration: updates and removals (RFC 9176 sections 5.3.1 and 5.3.2).
-ghost use Rattle.std.specs.Prelude.{◌≡◌, ◌≢◌, ◌<◌, ◌≤◌, ◌^◌, ℕ, [], List, length, None, IfOk};
+ghost use Rattle.std.specs.Prelude.{◌≡◌, ◌<◌, ◌≤◌, ◌^◌, ℕ, [], List, length, IfOk};
 ghost use Rattle.std.specs.Prelude.{false};
-ghost use Rattle.message_model.specs.Codes as codes_of;
 ghost use Rattle.message_model.specs.Request.{queries_in};
-ghost use Rattle.record_model.specs.declared.readings.Reading.TheVariants as reading;
 ghost use Rattle.record_model.specs.AllowedParameters.{IsAllowedChange};
-ghost use Rattle.record_model.specs.Criteria.{fault_of};
 ghost use Rattle.record_model.specs.Parameters.{update_values};
 ghost use Rattle.history_model.specs.Versions.{VersionStandsFor};
 ghost use Rattle.event_model.specs.AdmissionOrder.{IsOpen};
-ghost use Rattle.coap_message.specs.Views.{message_in};
 ghost use Rattle.journal_model.specs.declared.steps.Step.{Step};
 ghost use Rattle.journal_model.specs.declared.rows.Row.{Row};
-ghost use Rattle.journal_model.specs.Commits.{settling, updating, removing, on_location};
+ghost use Rattle.journal_model.specs.Commits as commits_of;
 ghost use Rattle.journal_model.specs.Effects.{nothing};
 ghost use Rattle.journal_model.specs.Journal.{events, entries};
-ghost use Rattle.journal_model.specs.Requests.{method_of};
 ghost use Rattle.journal_model.specs.Rows.{row_moment};
 ghost use Rattle.rd_desk.specs.Accepted.{message_of};
 ghost use Rattle.rd_desk.specs.Committing.{unless_failing, IsShort};
@@ -30,25 +25,21 @@ ghost use Rattle.rd_desk.specs.Staging.{IsLaid, IsNextOf};
 
 use crate::outcomes::{Outcome, removed, updated};
 use crate::tables::Tables;
-use crate::writes::Write;
+use crate::writes::{Updating, Write};
 use crate::{Mids, Outbox, Stepped};
-use coap_options::{Meaning, queries};
+use coap_options::queries;
 use directory_core::{Board, Directory};
 use query_text::{QueryBad, update_params};
 use rd_base::{Moment, Starved, UpdateParams};
 use std::alloc::Global;
 
-/// POST (RFC 7252 section 5.8.2).
-const POST: u8 = 2;
-
-/// What an update gives whose query options are not refused. `Starved`: out of memory.
-fn given_change(alloc: Global, meaning: &Meaning<'_>) -> Result<UpdateParams, Starved>
-    requires { fault_of reading.Update (queries_in (message_in meaning.now.view)) ≡ None }
+/// What an update gives. `Starved`: out of memory.
+fn given_change(alloc: Global, updating: &Updating<'_>) -> Result<UpdateParams, Starved>
     ensures value { IfOk result (λ change. change
-        ≡ update_values (queries_in (message_in meaning.now.view))) }
+        ≡ update_values (queries_in (message_of updating.now.write.request))) }
     ensures allowed { IfOk result IsAllowedChange }
 {
-    match update_params(alloc, queries(meaning)) {
+    match update_params(alloc, queries(&updating.write.request.meaning)) {
         Ok(change) => Ok(change),
         Err(QueryBad::Starved) => Err(Starved),
         Err(QueryBad::At { .. }) => unreachable!(),
@@ -60,13 +51,11 @@ fn update_outcome(
     alloc: Global,
     version: &Directory,
     now: Moment,
-    write: &Write<'_>,
-    number: u64,
+    updating: &Updating<'_>,
 ) -> Result<Outcome, Starved>
     requires after_at { version.now.at ≤ now.0 }
     requires after_sweep { version.now.swept ≤ now.0 }
     requires moment { now.0 ≤ 10 ^ 15 }
-    requires good { fault_of reading.Update (queries_in (message_of write.now.request)) ≡ None }
     ensures reply { IfOk result (λ o. IsReply o.reply) }
     ensures short { IfOk result (λ o. IsShort o.reply) }
     ensures moments { IfOk result (IsTimely now.0) }
@@ -75,51 +64,58 @@ fn update_outcome(
         → IfOk result (IsNextOf history) }
     ensures planned { (rows : List Row) (s : Step)
         → VersionStandsFor 0 (entries rows) version.now
-        → s.peer ≡ write.now.peer
+        → s.peer ≡ updating.now.write.peer
         → IfOk result (IsPlanned (entries rows) version.now.swept []
-        (updating rows now.0 s (message_of write.now.request) number)) }
+        (commits_of.updating rows now.0 s (message_of updating.now.write.request)
+        updating.now.number)) }
 {
-    let change = given_change(alloc, &write.request.meaning)?;
-    updated(alloc, version, now, number, change, write.peer)
+    let change = given_change(alloc, updating)?;
+    updated(
+        alloc,
+        version,
+        now,
+        updating.number,
+        change,
+        updating.write.peer,
+    )
 }
 
 impl Tables {
     /// An update of the registration of a number that was admitted is done, or fails where memory
     /// runs out.
-    fn commit_update<B: Board>(
+    pub(crate) fn commit_update<B: Board>(
         &mut self,
         board: &mut B,
         mids: &mut Mids,
-        write: &Write<'_>,
-        number: u64,
+        updating: &Updating<'_>,
         out: &mut Outbox,
     ) -> Stepped
-        requires good { fault_of reading.Update (queries_in (message_of write.now.request)) ≡ None }
         requires room { length out.old < most_datagrams }
         requires free { B.has_staged board.old ≡ false }
         requires told { AreToldOf self.old.version (B.told board.old) }
         ensures way { (rows : List Row) (s : Step) (place : ℕ)
-            → s.peer ≡ write.now.peer
-            → IsOpen place s.peer (message_of write.now.request).mid write.now.admitted.0
-            (events rows)
+            → s.peer ≡ updating.now.write.peer
+            → IsOpen place s.peer (message_of updating.now.write.request).mid
+            updating.now.write.admitted.0 (events rows)
             → UnderWay rows s (is_starved_step result) nothing self.old out.old mids.old
             → UnderWay rows s (is_starved_step result)
-            (unless_failing (is_starved_step result) place s (message_of write.now.request)
-            (settling place s (message_of write.now.request)
-            (updating rows (row_moment rows s) s (message_of write.now.request) number)))
+            (unless_failing (is_starved_step result) place s (message_of updating.now.write.request)
+            (commits_of.settling place s (message_of updating.now.write.request)
+            (commits_of.updating rows (row_moment rows s) s
+            (message_of updating.now.write.request) updating.now.number)))
             self.new out.new mids.new }
         ensures laid { IsLaid self.old.version self.new.version (B.staged board.old)
             (B.staged board.new) (B.has_staged board.new) }
         ensures name { B.name board.new ≡ B.name board.old }
         ensures told { B.told board.new ≡ B.told board.old }
     {
-        let planned = update_outcome(self.alloc, &*self.version, self.moment, write, number);
-        self.finish(board, mids, write, planned, out)
+        let planned = update_outcome(self.alloc, &*self.version, self.moment, updating);
+        self.finish(board, mids, &updating.write, planned, out)
     }
 
     /// A removal of the registration of a number that was admitted is done, or fails where memory
     /// runs out.
-    fn commit_removal<B: Board>(
+    pub(crate) fn commit_removal<B: Board>(
         &mut self,
         board: &mut B,
         mids: &mut Mids,
@@ -137,8 +133,8 @@ impl Tables {
             → UnderWay rows s (is_starved_step result) nothing self.old out.old mids.old
             → UnderWay rows s (is_starved_step result)
             (unless_failing (is_starved_step result) place s (message_of write.now.request)
-            (settling place s (message_of write.now.request)
-            (removing rows (row_moment rows s) s number))) self.new out.new mids.new }
+            (commits_of.settling place s (message_of write.now.request)
+            (commits_of.removing rows (row_moment rows s) s number))) self.new out.new mids.new }
         ensures laid { IsLaid self.old.version self.new.version (B.staged board.old)
             (B.staged board.new) (B.has_staged board.new) }
         ensures name { B.name board.new ≡ B.name board.old }
@@ -146,40 +142,5 @@ impl Tables {
     {
         let planned = removed(self.alloc, &*self.version, self.moment, number);
         self.finish(board, mids, write, planned, out)
-    }
-
-    /// A write on a registration that was admitted is done: POST updates it, and DELETE removes it
-    /// (RFC 9176 sections 5.3.1 and 5.3.2).
-    pub(crate) fn commit_location<B: Board>(
-        &mut self,
-        board: &mut B,
-        mids: &mut Mids,
-        write: &Write<'_>,
-        number: u64,
-        out: &mut Outbox,
-    ) -> Stepped
-        requires good { (message_of write.now.request).code ≡ codes_of.post
-            → fault_of reading.Update (queries_in (message_of write.now.request)) ≡ None }
-        requires room { length out.old < most_datagrams }
-        requires free { B.has_staged board.old ≡ false }
-        requires told { AreToldOf self.old.version (B.told board.old) }
-        ensures way { (rows : List Row) (s : Step) (place : ℕ)
-            → s.peer ≡ write.now.peer
-            → IsOpen place s.peer (message_of write.now.request).mid write.now.admitted.0
-            (events rows)
-            → UnderWay rows s (is_starved_step result) nothing self.old out.old mids.old
-            → UnderWay rows s (is_starved_step result)
-            (unless_failing (is_starved_step result) place s (message_of write.now.request)
-            (on_location (method_of (message_of write.now.request).code) rows (row_moment rows s)
-            place s (message_of write.now.request) number)) self.new out.new mids.new }
-        ensures laid { IsLaid self.old.version self.new.version (B.staged board.old)
-            (B.staged board.new) (B.has_staged board.new) }
-        ensures name { B.name board.new ≡ B.name board.old }
-        ensures told { B.told board.new ≡ B.told board.old }
-    {
-        if write.request.meaning.view.code == POST {
-            return self.commit_update(board, mids, write, number, out);
-        }
-        self.commit_removal(board, mids, write, number, out)
     }
 }

@@ -80,8 +80,8 @@ impl Tables {
             write.now.admitted.0 (events (making rows s starved done))
             → UnderWay rows s starved done self.old out.old mids.old
             → UnderWay rows s starved (joined done
-            (answering_settled place s (message_of write.now.request) (reply_said reply.now))) self.new
-            out.new mids.new }
+            (answering_settled place s (message_of write.now.request) (reply_said reply.now)))
+            self.new out.new mids.new }
         ensures version { self.new.version ≡ self.old.version }
     {
         let view = &write.request.meaning.view;

@@ -2,9 +2,6 @@
 //! (RFC 9176 section 5.1).
 ghost use Rattle.std.specs.Prelude.{◌≡◌, ◌<◌, ◌+◌, ℕ, Bool, [], ◌∷◌, ◌++◌, List, length, None};
 ghost use Rattle.message_model.specs.Codes as codes_of;
-ghost use Rattle.message_model.specs.Request.{queries_in};
-ghost use Rattle.record_model.specs.declared.readings.Reading.TheVariants as reading;
-ghost use Rattle.record_model.specs.Criteria.{fault_of};
 ghost use Rattle.event_model.specs.AdmissionOrder.{IsOpen};
 ghost use Rattle.journal_model.specs.declared.steps.Step.{Step};
 ghost use Rattle.journal_model.specs.declared.rows.Row.{Row};
@@ -25,7 +22,7 @@ use crate::parameters::given_params;
 use crate::replies::Reply;
 use crate::settling::answer_short;
 use crate::tables::Tables;
-use crate::writes::Write;
+use crate::writes::{RegisteringSimply, Write};
 use crate::{Mids, Outbox, Stepped};
 use coap_message::Kind4;
 use simple_registration::StartFault;
@@ -96,23 +93,24 @@ impl Tables {
         &mut self,
         word: u32,
         mids: &mut Mids,
-        write: &Write<'_>,
+        registering: &RegisteringSimply<'_>,
         out: &mut Outbox,
     ) -> Stepped
-        requires good { fault_of reading.Simple (queries_in (message_of write.now.request)) ≡ None }
         requires room { length out.old + 1 < most_datagrams }
         ensures way { (rows : List Row) (s : Step) (place : ℕ)
-            → s.peer ≡ write.now.peer
+            → s.peer ≡ registering.now.write.peer
             → s.word ≡ word
-            → IsOpen place s.peer (message_of write.now.request).mid write.now.admitted.0
-            (events rows)
+            → IsOpen place s.peer (message_of registering.now.write.request).mid
+            registering.now.write.admitted.0 (events rows)
             → UnderWay rows s (is_starved_step result) nothing self.old out.old mids.old
             → UnderWay rows s (is_starved_step result)
-            (unless_failing (is_starved_step result) place s (message_of write.now.request)
-            (registering_simply (events rows) place s (message_of write.now.request))) self.new
-            out.new mids.new }
+            (unless_failing (is_starved_step result) place s
+            (message_of registering.now.write.request)
+            (registering_simply (events rows) place s
+            (message_of registering.now.write.request))) self.new out.new mids.new }
         ensures version { self.new.version ≡ self.old.version }
     {
+        let write = &registering.write;
         let Ok(params) = given_params(self.alloc, &write.request.meaning, true) else {
             self.fail(mids, write, out);
             return Stepped::Starved;

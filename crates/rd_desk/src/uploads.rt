@@ -5,8 +5,6 @@ ghost use Rattle.rd_base.specs.declared.peers.Peer.{Peer};
 ghost use Rattle.message_model.specs.Blocks.{IsBlock};
 ghost use Rattle.message_model.specs.Codes as codes_of;
 ghost use Rattle.message_model.specs.Request.{queries_in};
-ghost use Rattle.record_model.specs.declared.readings.Reading.TheVariants as reading;
-ghost use Rattle.record_model.specs.Criteria.{fault_of};
 ghost use Rattle.record_model.specs.Parameters.{registration_values};
 ghost use Rattle.history_model.specs.declared.entries.Entry.{Entry};
 ghost use Rattle.history_model.specs.Versions.{VersionStandsFor};
@@ -39,7 +37,7 @@ use crate::parameters::given_params;
 use crate::replies::Reply;
 use crate::staging::staged;
 use crate::tables::Tables;
-use crate::writes::Write;
+use crate::writes::{Registering, Write};
 use crate::{Mids, Outbox, Stepped};
 use coap_options::request_key;
 use directory_core::{Board, Directory};
@@ -98,13 +96,12 @@ fn body_outcome(
     alloc: Global,
     version: &Directory,
     now: Moment,
-    write: &Write<'_>,
+    registering: &Registering<'_>,
     body: &WholeBody<'_>,
 ) -> Result<Outcome, Starved>
     requires after_at { version.now.at ≤ now.0 }
     requires after_sweep { version.now.swept ≤ now.0 }
     requires moment { now.0 ≤ 10 ^ 15 }
-    requires good { fault_of reading.Register (queries_in (message_of write.now.request)) ≡ None }
     requires block { IsBlock body.now.last }
     ensures moments { IfOk result (IsTimely now.0) }
     ensures reply { IfOk result (λ o. IsReply o.reply) }
@@ -114,12 +111,13 @@ fn body_outcome(
         → IfOk result (IsNextOf history) }
     ensures planned { (history : List Entry) (s : Step) (further : List Note)
         → VersionStandsFor 0 history version.now
-        → s.peer ≡ write.now.peer
+        → s.peer ≡ registering.now.write.peer
         → IfOk result (IsPlanned history version.now.swept further
         (registration history now.0 s (registration_values
-        (queries_in (message_of write.now.request))) body.now.octets.now (block1_option body.now.last)
-        further)) }
+        (queries_in (message_of registering.now.write.request))) body.now.octets.now
+        (block1_option body.now.last) further)) }
 {
+    let write = &registering.write;
     let params = given_params(alloc, &write.request.meaning, false)?;
     registered(
         alloc,
@@ -218,41 +216,40 @@ impl Tables {
         &mut self,
         board: &mut B,
         mids: &mut Mids,
-        write: &Write<'_>,
+        registering: &Registering<'_>,
         body: &WholeBody<'_>,
         out: &mut Outbox,
     ) -> Stepped
-        requires good { fault_of reading.Register (queries_in (message_of write.now.request))
-            ≡ None }
         requires block { IsBlock body.now.last }
         requires room { length out.old < most_datagrams }
         requires free { B.has_staged board.old ≡ false }
         requires told { AreToldOf self.old.version (B.told board.old) }
         ensures way { (rows : List Row) (s : Step) (place : ℕ)
-            → s.peer ≡ write.now.peer
-            → IsOpen place write.now.peer (message_of write.now.request).mid
-            write.now.admitted.0 (events rows)
+            → s.peer ≡ registering.now.write.peer
+            → IsOpen place registering.now.write.peer (message_of registering.now.write.request).mid
+            registering.now.write.admitted.0 (events rows)
             → UnderWay rows s (is_starved_step result) nothing self.old out.old mids.old
             → UnderWay rows s (is_starved_step result)
-            (unless_failing (is_starved_step result) place s (message_of write.now.request)
-            (settling place s (message_of write.now.request)
+            (unless_failing (is_starved_step result) place s
+            (message_of registering.now.write.request)
+            (settling place s (message_of registering.now.write.request)
             (registration (entries rows) (row_moment rows s) s
-            (registration_values (queries_in (message_of write.now.request))) body.now.octets.now
-            (block1_option body.now.last) (note.Finished s.peer body.now.key.now ∷ [])))) self.new out.new
-            mids.new }
+            (registration_values (queries_in (message_of registering.now.write.request)))
+            body.now.octets.now (block1_option body.now.last)
+            (note.Finished s.peer body.now.key.now ∷ [])))) self.new out.new mids.new }
         ensures laid { IsLaid self.old.version self.new.version (B.staged board.old)
             (B.staged board.new) (B.has_staged board.new) }
         ensures name { B.name board.new ≡ B.name board.old }
         ensures told { B.told board.new ≡ B.told board.old }
     {
-        let planned = body_outcome(self.alloc, &*self.version, self.moment, write, body);
+        let planned = body_outcome(self.alloc, &*self.version, self.moment, registering, body);
         match staged(board, planned) {
             Ok(outcome) => {
-                self.settle_upload(mids, write, body.key, outcome, out);
+                self.settle_upload(mids, &registering.write, body.key, outcome, out);
                 return Stepped::Done;
             }
             Err(_) => {
-                self.fail(mids, write, out);
+                self.fail(mids, &registering.write, out);
                 return Stepped::Starved;
             }
         }
@@ -264,31 +261,31 @@ impl Tables {
         &mut self,
         board: &mut B,
         mids: &mut Mids,
-        write: &Write<'_>,
+        registering: &Registering<'_>,
         block: &Block,
         out: &mut Outbox,
     ) -> Stepped
-        requires good { fault_of reading.Register (queries_in (message_of write.now.request))
-            ≡ None }
         requires block { IsBlock block.now }
         requires room { length out.old < most_datagrams }
         requires free { B.has_staged board.old ≡ false }
         requires told { AreToldOf self.old.version (B.told board.old) }
         ensures way { (rows : List Row) (s : Step) (place : ℕ)
-            → s.peer ≡ write.now.peer
-            → IsOpen place s.peer (message_of write.now.request).mid write.now.admitted.0
-            (events rows)
+            → s.peer ≡ registering.now.write.peer
+            → IsOpen place s.peer (message_of registering.now.write.request).mid
+            registering.now.write.admitted.0 (events rows)
             → UnderWay rows s (is_starved_step result) nothing self.old out.old mids.old
             → UnderWay rows s (is_starved_step result)
-            (unless_failing (is_starved_step result) place s (message_of write.now.request)
-            (settling place s (message_of write.now.request)
-            (block_uploaded rows (row_moment rows s) s (message_of write.now.request)
+            (unless_failing (is_starved_step result) place s
+            (message_of registering.now.write.request)
+            (settling place s (message_of registering.now.write.request)
+            (block_uploaded rows (row_moment rows s) s (message_of registering.now.write.request)
             block.now))) self.new out.new mids.new }
         ensures laid { IsLaid self.old.version self.new.version (B.staged board.old)
             (B.staged board.new) (B.has_staged board.new) }
         ensures name { B.name board.new ≡ B.name board.old }
         ensures told { B.told board.new ≡ B.told board.old }
     {
+        let write = &registering.write;
         let Ok(key) = request_key(self.alloc, &write.request.meaning) else {
             self.fail(mids, write, out);
             return Stepped::Starved;
@@ -304,7 +301,7 @@ impl Tables {
                     last: *block,
                     octets: octets.as_slice(),
                 };
-                return self.commit_body(board, mids, write, &body, out);
+                return self.commit_body(board, mids, registering, &body, out);
             }
             Upload::OutOfOrder => {
                 self.refuse_write(mids, write, REQUEST_ENTITY_INCOMPLETE, b"order", out);
