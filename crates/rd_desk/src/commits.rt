@@ -29,7 +29,6 @@ use crate::outcomes::Outcome;
 use crate::resources::Resource;
 use crate::staging::staged;
 use crate::tables::Tables;
-use crate::write_jobs::write_request;
 use crate::writes::{Registering, RegisteringSimply, Updating, Write};
 use crate::{Mids, Outbox, Stepped, WriteJob};
 use directory_core::Board;
@@ -141,10 +140,10 @@ impl Tables {
     {
         let WriteJob {
             peer,
-            datagram,
+            request: kept,
             admitted,
         } = job;
-        let request = write_request(datagram.as_slice());
+        let request = kept.request();
         let write = Write {
             peer,
             admitted,

@@ -101,9 +101,7 @@ impl Tables {
             Incoming::Lookup(request) => {
                 without_job(self.hear_lookup(mids, peer, &request, out))
             }
-            Incoming::Write(request) => {
-                self.hear_write(mids, peer, &request.meaning.view, datagram, out)
-            }
+            Incoming::Write(request) => { self.hear_write(mids, peer, &request, out) }
             Incoming::Nothing => Admitted::Done,
             Incoming::Look(_) => unreachable!(),
         }

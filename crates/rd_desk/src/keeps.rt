@@ -18,7 +18,6 @@ ghost use Rattle.rd_desk.specs.UnderWay.{UnderWay, IsCalled, Made};
 
 use crate::accepted::Request;
 use crate::bodies::body_reply;
-use crate::looks::look_request;
 use crate::replies::answer;
 use crate::server_errors::answer_starved;
 use crate::tables::Tables;
@@ -72,11 +71,11 @@ impl Tables {
     {
         let KeepJob {
             peer,
-            datagram,
+            request: kept,
             body,
             tag,
         } = job;
-        let request = look_request(datagram.as_slice());
+        let request = kept.request();
         let ready = with_listing(
             &self.transfers,
             self.alloc,

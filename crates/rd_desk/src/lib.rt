@@ -21,6 +21,7 @@ mod jobs;
 mod joining;
 mod keep_jobs;
 mod keeps;
+mod kept_requests;
 mod listings;
 mod locations;
 mod looks;

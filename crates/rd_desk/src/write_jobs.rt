@@ -1,13 +1,6 @@
 //! The job that an admitted write leaves its worker with.
-ghost use Rattle.std.specs.Prelude.{◌≡◌, true, Ok};
-ghost use Rattle.message_model.specs.Reading.{reading};
-ghost use Rattle.message_model.specs.Request.{path_in};
-ghost use Rattle.rd_desk.specs.Accepted.{message_of};
-ghost use Rattle.rd_desk.specs.WriteJobs.{is_write_path, is_write_datagram};
-
-use crate::accepted::Request;
-use crate::incoming::{Incoming, read_datagram};
-use rd_base::{Bytes, Moment, Peer};
+use crate::kept_requests::KeptRequest;
+use rd_base::{Moment, Peer};
 use std::marker::Model;
 
 /// A write that was admitted, to be done by the next step of its worker but ticks. Nothing refuses
@@ -16,35 +9,26 @@ use std::marker::Model;
 pub struct WriteJob {
     /// Who wrote.
     pub(crate) peer: Peer,
-    /// The datagram of the request.
-    pub(crate) datagram: Bytes,
+    /// Its request.
+    pub(crate) request: KeptRequest,
     /// When it was admitted.
     pub(crate) admitted: Moment,
 }
 
 impl Model for WriteJob {
-    ghost use Rattle.std.specs.Prelude.{◌≡◌, true};
+    ghost use Rattle.std.specs.Prelude.{◌≡◌, true, Ok};
+    ghost use Rattle.message_model.specs.Reading.{reading};
+    ghost use Rattle.message_model.specs.Spelling.{spelling};
     ghost use Rattle.rd_desk.specs.WriteJobs.{Write, is_write_datagram};
 
     ghost Value = { Write };
 
     ghost view = { λ job. record {
       peer = job.peer;
-      datagram = job.datagram;
+      datagram = spelling job.request;
       admitted = job.admitted.0;
     } };
 
-    ghost invariant = { λ job. is_write_datagram job.datagram ≡ true };
-}
-
-/// The request of the datagram of a write.
-pub(crate) fn write_request(datagram: &[u8]) -> Request<'_>
-    requires { is_write_datagram datagram.now ≡ true }
-    ensures read { reading datagram.now ≡ Ok (message_of result) }
-    ensures writes { is_write_path (path_in (message_of result)) ≡ true }
-{
-    let Incoming::Write(request) = read_datagram(datagram) else {
-        unreachable!()
-    };
-    request
+    ghost invariant = { λ job. (reading (spelling job.request) ≡ Ok job.request)
+        × (is_write_datagram (spelling job.request) ≡ true) };
 }

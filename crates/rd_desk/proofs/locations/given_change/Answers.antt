@@ -11,16 +11,16 @@ pub unreachable-requires : goal.unreachable-requires
 unreachable-requires c =
     let faulty = rw c.in-Err-At.field-0-is at c.in-Err-At.ensures.value in
     update_faulty (queries_in (message_in c.args.updating.now.write.request.meaning.view))
-        (queries_left c.queries.result)
+    (queries_left c.queries.result)
     (c.in-Err-At.field-0-0, c.in-Err-At.field-0-1) c.queries.ensures
-        (none_there (fault_of reading.Update
-                (queries_in (message_in c.args.updating.now.write.request.meaning.view)))
-            c.args.updating.now.good) faulty
+    (none_there (fault_of reading.Update
+    (queries_in (message_in c.args.updating.now.write.request.meaning.view)))
+    c.args.updating.now.good) faulty
 
 pub returns-in-Ok-clause-value : goal.returns-in-Ok-clause-value
 returns-in-Ok-clause-value c =
     update_given (queries_in (message_in c.args.updating.now.write.request.meaning.view))
-        (queries_left c.queries.result)
+    (queries_left c.queries.result)
     c.in-Ok.change c.queries.ensures (none_there (fault_of reading.Update
-                (queries_in (message_in c.args.updating.now.write.request.meaning.view)))
-            c.args.updating.now.good) c.in-Ok.ensures.value
+    (queries_in (message_in c.args.updating.now.write.request.meaning.view)))
+    c.args.updating.now.good) c.in-Ok.ensures.value

@@ -10,7 +10,8 @@ use Rattle.rd_desk.proofs.tables.Tables.admit.Goals as goal
 pub returns-clause-made : goal.returns-clause-made
 returns-clause-made g c rows s kind of datagram worded call =
     admission_made rows s (is_starved_admission c.hear.result) c.args.arrival.moment
-    (reading c.args.arrival.datagram.now) c.args.self.now c.hear.new.self c.hear.new.out c.args.mids.now
+    (reading c.args.arrival.datagram.now) c.args.self.now c.hear.new.self c.hear.new.out
+    c.args.mids.now
     c.hear.new.mids kind (ap reading datagram) call
     (c.hear.ensures.way rows s of worded
     (c.pass.ensures.way rows s (is_starved_admission c.hear.result) c.args.out.now

@@ -25,7 +25,7 @@ returns-in_default-clause-way g c =
     λ rows s place of opened way.
     c.fail.ensures.way rows s true place of
     (opened_by rows s place (message_in c.args.registering.now.write.request.meaning.view)
-        c.args.registering.now.write.peer
+    c.args.registering.now.write.peer
     c.args.registering.now.write.admitted.0 of opened) way
 
 pub returns-in-More-clause-way : goal.returns-in-More-clause-way
@@ -45,9 +45,9 @@ returns-in-More-clause-way g c =
     (c.take_block.ensures.answer rows s false c.args.out.now c.args.mids.now of way fed)
     (c.settle.ensures.way rows s false piece place of refl
     (open_more rows s false piece place c.args.registering.now.write.peer m.mid
-        c.args.registering.now.write.admitted.0 refl
+    c.args.registering.now.write.admitted.0 refl
     (opened_by rows s place m c.args.registering.now.write.peer
-        c.args.registering.now.write.admitted.0 of opened))
+    c.args.registering.now.write.admitted.0 of opened))
     (c.take_block.ensures.more rows s false c.args.out.now c.args.mids.now of c.in-More.is way))
 
 pub returns-in-Whole-clause-way : goal.returns-in-Whole-clause-way
@@ -76,7 +76,7 @@ returns-in-Whole-clause-way g c =
     c.args.mids.now of way fed)
     (c.commit_body.ensures.way rows s place of
     (opened_by rows s place m c.args.registering.now.write.peer
-        c.args.registering.now.write.admitted.0 of opened) begun)
+    c.args.registering.now.write.admitted.0 of opened) begun)
 
 pub returns-in-OutOfOrder-clause-way : goal.returns-in-OutOfOrder-clause-way
 returns-in-OutOfOrder-clause-way g c =
@@ -94,11 +94,11 @@ returns-in-OutOfOrder-clause-way g c =
     settled_block rows s place m b c.take_block.result answer.OutOfOrder c.in-Ok.key
     c.refuse_write.new.self c.refuse_write.new.out c.refuse_write.new.mids
     (c.in-Ok.ensures.key m (is_meaning c.args.registering.now.write.request.meaning))
-        c.in-OutOfOrder.is
+    c.in-OutOfOrder.is
     (c.take_block.ensures.answer rows s false c.args.out.now c.args.mids.now of way fed)
     (c.refuse_write.ensures.way rows s false place of
     (opened_by rows s place m c.args.registering.now.write.peer
-        c.args.registering.now.write.admitted.0 of opened)
+    c.args.registering.now.write.admitted.0 of opened)
     (unchanged rows s false c.args.self.now c.take_block.new.self c.args.out.now c.args.mids.now
     (c.take_block.ensures.other still) way))
 
@@ -119,11 +119,11 @@ returns-in-TooLarge-clause-way g c =
     c.refuse_write-in-TooLarge.new.self c.refuse_write-in-TooLarge.new.out
     c.refuse_write-in-TooLarge.new.mids
     (c.in-Ok.ensures.key m (is_meaning c.args.registering.now.write.request.meaning))
-        c.in-TooLarge.is
+    c.in-TooLarge.is
     (c.take_block.ensures.answer rows s false c.args.out.now c.args.mids.now of way fed)
     (c.refuse_write-in-TooLarge.ensures.way rows s false place of
     (opened_by rows s place m c.args.registering.now.write.peer
-        c.args.registering.now.write.admitted.0 of opened)
+    c.args.registering.now.write.admitted.0 of opened)
     (unchanged rows s false c.args.self.now c.take_block.new.self c.args.out.now c.args.mids.now
     (c.take_block.ensures.other still) way))
 
@@ -144,11 +144,11 @@ returns-in-FullUploads-clause-way g c =
     c.refuse_write-in-FullUploads.new.self c.refuse_write-in-FullUploads.new.out
     c.refuse_write-in-FullUploads.new.mids
     (c.in-Ok.ensures.key m (is_meaning c.args.registering.now.write.request.meaning))
-        c.in-FullUploads.is
+    c.in-FullUploads.is
     (c.take_block.ensures.answer rows s false c.args.out.now c.args.mids.now of way fed)
     (c.refuse_write-in-FullUploads.ensures.way rows s false place of
     (opened_by rows s place m c.args.registering.now.write.peer
-        c.args.registering.now.write.admitted.0 of opened)
+    c.args.registering.now.write.admitted.0 of opened)
     (unchanged rows s false c.args.self.now c.take_block.new.self c.args.out.now c.args.mids.now
     (c.take_block.ensures.other still) way))
 
@@ -162,7 +162,7 @@ returns-in-Starved-clause-way g c =
     cc) in
     c.fail-in-Starved.ensures.way rows s true place of
     (opened_by rows s place m c.args.registering.now.write.peer
-        c.args.registering.now.write.admitted.0 of opened)
+    c.args.registering.now.write.admitted.0 of opened)
     (unchanged rows s true c.args.self.now c.take_block.new.self c.args.out.now c.args.mids.now
     (c.take_block.ensures.other still) way)
 

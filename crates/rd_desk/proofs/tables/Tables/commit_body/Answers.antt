@@ -54,13 +54,13 @@ pub returns-in-Ok-clause-way : goal.returns-in-Ok-clause-way
 returns-in-Ok-clause-way g c =
     λ rows s place of opened way.
     let params =
-        registration_values
-            (queries_in (message_in c.args.registering.now.write.request.meaning.view)) in
+    registration_values
+    (queries_in (message_in c.args.registering.now.write.request.meaning.view)) in
     let options = block1_option c.args.body.now.last in
     let further = note.Finished s.peer c.args.body.now.key.now ∷ [] in
     c.settle_upload.ensures.way rows s false place
     (registration (entries rows) (row_moment rows s) s params c.args.body.now.octets.now options
-        further)
+    further)
     of opened
     (λ entry more noted. registration_enters (entries rows) (row_moment rows s) s params
     c.args.body.now.octets.now options further entry more noted)

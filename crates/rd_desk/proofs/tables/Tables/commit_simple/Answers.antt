@@ -24,7 +24,8 @@ pub returns-in_default-clause-way : goal.returns-in_default-clause-way
 returns-in_default-clause-way c =
     λ rows s place of fed opened way.
     c.fail.ensures.way rows s true place of
-    (opened_by rows s place (message_in c.args.registering.now.write.request.meaning.view) c.args.registering.now.write.peer
+    (opened_by rows s place (message_in c.args.registering.now.write.request.meaning.view)
+    c.args.registering.now.write.peer
     c.args.registering.now.write.admitted.0 of opened) way
 
 pub returns-in-Ok-start-clause-way : goal.returns-in-Ok-start-clause-way
@@ -32,7 +33,8 @@ returns-in-Ok-start-clause-way c =
     λ rows s place of fed opened way.
     let m = message_in c.args.registering.now.write.request.meaning.view in
     way_started rows s place m _ c.args.self.now c.settle_beside_fetch.new.self c.start.new.self
-    c.in-Ok-start.ask c.in-Ok.params c.after-mid.result c.args.word c.args.registering.now.write.peer
+    c.in-Ok-start.ask c.in-Ok.params c.after-mid.result c.args.word
+    c.args.registering.now.write.peer
     c.args.out.now c.settle_beside_fetch.new.out c.ask_next.new.out c.args.mids.now
     c.settle_beside_fetch.new.mids c.ask_next.new.mids c.self.view_is of fed
     c.args.registering.now.write.request.meaning.view.token.short c.in-Ok.ensures.value
@@ -44,20 +46,23 @@ returns-in-Ok-start-clause-way c =
     c.settle_beside_fetch.ensures.fetches
     (λ begun.
     c.settle_beside_fetch.ensures.way _ rows s false place of
-    (opened_by rows s place m c.args.registering.now.write.peer c.args.registering.now.write.admitted.0 of opened) begun)
+    (opened_by rows s place m c.args.registering.now.write.peer
+    c.args.registering.now.write.admitted.0 of opened) begun)
     c.ask_next.ensures.sends way
 
 pub returns-in-Err-Fetching-clause-way : goal.returns-in-Err-Fetching-clause-way
 returns-in-Err-Fetching-clause-way c =
     λ rows s place of fed opened way.
     let m = message_in c.args.registering.now.write.request.meaning.view in
-    settled_fetching rows s place m _ c.args.self.now c.refuse_write.new.self c.args.registering.now.write.peer
+    settled_fetching rows s place m _ c.args.self.now c.refuse_write.new.self
+    c.args.registering.now.write.peer
     c.in-Err-Fetching.field-0-0 c.args.out.now c.refuse_write.new.out c.args.mids.now
     c.refuse_write.new.mids c.self.view_is of
     (λ octets past h.
     (rw c.in-Err-Fetching.field-0-is at c.in-Err-Fetching.ensures.refused octets past h)) way
     (c.refuse_write.ensures.way rows s false place of
-    (opened_by rows s place m c.args.registering.now.write.peer c.args.registering.now.write.admitted.0 of opened)
+    (opened_by rows s place m c.args.registering.now.write.peer
+    c.args.registering.now.write.admitted.0 of opened)
     (way_kept rows s false _ c.args.self.now c.start.new.self c.args.out.now c.args.mids.now
     c.self.view_is c.in-Err-Fetching.ensures.kept way))
 
@@ -66,13 +71,15 @@ returns-in-Err-FullFetches-clause-way c =
     λ rows s place of fed opened way.
     let m = message_in c.args.registering.now.write.request.meaning.view in
     settled_full rows s place m _ c.args.self.now c.refuse_write-in-Err-FullFetches.new.self
-    c.args.registering.now.write.peer c.args.out.now c.refuse_write-in-Err-FullFetches.new.out c.args.mids.now
+    c.args.registering.now.write.peer c.args.out.now c.refuse_write-in-Err-FullFetches.new.out
+    c.args.mids.now
     c.refuse_write-in-Err-FullFetches.new.mids c.self.view_is of
     (λ octets past h.
     (rw c.in-Err-FullFetches.field-0-is at c.in-Err-FullFetches.ensures.refused octets past h))
     way
     (c.refuse_write-in-Err-FullFetches.ensures.way rows s false place of
-    (opened_by rows s place m c.args.registering.now.write.peer c.args.registering.now.write.admitted.0 of opened)
+    (opened_by rows s place m c.args.registering.now.write.peer
+    c.args.registering.now.write.admitted.0 of opened)
     (way_kept rows s false _ c.args.self.now c.start.new.self c.args.out.now c.args.mids.now
     c.self.view_is c.in-Err-FullFetches.ensures.kept way))
 
@@ -81,6 +88,7 @@ returns-in-Err-Starved-clause-way c =
     λ rows s place of fed opened way.
     let m = message_in c.args.registering.now.write.request.meaning.view in
     c.fail-in-Err-Starved.ensures.way rows s true place of
-    (opened_by rows s place m c.args.registering.now.write.peer c.args.registering.now.write.admitted.0 of opened)
+    (opened_by rows s place m c.args.registering.now.write.peer
+    c.args.registering.now.write.admitted.0 of opened)
     (way_kept rows s true _ c.args.self.now c.start.new.self c.args.out.now c.args.mids.now
     c.self.view_is c.in-Err-Starved.ensures.kept way)

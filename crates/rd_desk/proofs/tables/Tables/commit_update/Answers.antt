@@ -11,7 +11,8 @@ pub returns-clause-way : goal.returns-clause-way
 returns-clause-way g c =
     λ rows s place of opened way.
     let m = message_in c.args.updating.now.write.request.meaning.view in
-    c.finish.ensures.way rows s place (updating rows (row_moment rows s) s m c.args.updating.now.number) of
+    c.finish.ensures.way rows s place
+    (updating rows (row_moment rows s) s m c.args.updating.now.number) of
     opened (updating-at rows (row_moment rows s) s m c.args.updating.now.number)
     (planned_here rows s (is_starved_step c.finish.result) c.args.self.now c.deref.result.now
     c.self.inside.moment.0 c.args.out.now c.args.mids.now c.update_outcome-planned.result

@@ -92,7 +92,8 @@ returns-in-Acknowledgement-clause-way g c rows s of worded way =
 pub returns-in-Acknowledgement-clause-held : goal.returns-in-Acknowledgement-clause-held
 returns-in-Acknowledgement-clause-held g c rows s of datagram way =
     let m = message_in c.in-Acknowledgement.view in
-    admits_for rows s false role.Acknowledgement c.args.arrival.datagram.now m c.in-Acknowledgement.ensures
+    admits_for rows s false role.Acknowledgement c.args.arrival.datagram.now m
+    c.in-Acknowledgement.ensures
     (acknowledged_admits rows s m)
 
 pub returns-in-Acknowledgement-clause-laid : goal.returns-in-Acknowledgement-clause-laid
@@ -163,7 +164,8 @@ returns-in-Refused-clause-way g c rows s of worded way =
     c.refuse.new.mids
     (refusal_notes m.kind (first_bad_option m.options) s m (refused_with c.in-Refused.refused))
     (c.refuse.ensures.sends s
-    (step_of rows s false nothing c.args.self.now c.args.out.now c.args.mids.now c.args.arrival.peer of
+    (step_of rows s false nothing c.args.self.now c.args.out.now c.args.mids.now c.args.arrival.peer
+    of
     refl way)) way)
 
 pub returns-in-Refused-clause-held : goal.returns-in-Refused-clause-held

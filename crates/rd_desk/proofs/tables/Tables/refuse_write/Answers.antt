@@ -15,5 +15,6 @@ returns-clause-way c =
     (refused c.args.code c.args.word.now) c.settle.new.self c.settle.new.out c.settle.new.mids
     c.refusal.ensures.said refl
     (c.settle.ensures.way rows s starved nothing place of refl
-    (open_more rows s starved nothing place c.args.write.now.peer m.mid c.args.write.now.admitted.0 refl opened)
+    (open_more rows s starved nothing place c.args.write.now.peer m.mid c.args.write.now.admitted.0
+    refl opened)
     way)

@@ -22,7 +22,8 @@ returns-in_default-clause-way c =
     (refused_notes (entries rows) c.args.self.now.version.swept
     (note.Finished s.peer c.args.key.now ∷ []) meant c.args.outcome c.in_default.is planned)
     (c.settle.ensures.way rows s starved nothing place of refl
-    (open_more rows s starved nothing place c.args.write.now.peer m.mid c.args.write.now.admitted.0 refl opened)
+    (open_more rows s starved nothing place c.args.write.now.peer m.mid c.args.write.now.admitted.0
+    refl opened)
     way)
 
 pub returns-clause-way : goal.returns-clause-way
@@ -38,7 +39,8 @@ returns-clause-way c =
     settled_upload rows s starved place m (reply_said c.args.outcome.reply) it.entry c.args.key.now
     meant c.settle-2.new.self c.settle-2.new.out c.settle-2.new.mids planned.said it.noted
     (c.settle-2.ensures.way rows s starved finished place of refl
-    (open_more rows s starved finished place c.args.write.now.peer m.mid c.args.write.now.admitted.0 refl opened)
+    (open_more rows s starved finished place c.args.write.now.peer m.mid c.args.write.now.admitted.0
+    refl opened)
     (c.end_upload.ensures.way rows s starved entered c.args.out.now c.args.mids.now of
     (c.enter.ensures.way rows s starved nothing it.entry c.args.out.now c.args.mids.now refl
     (made it.entry (note.Finished s.peer c.args.key.now ∷ []) it.noted) it.is_of way)))
