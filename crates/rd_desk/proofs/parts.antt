@@ -8,6 +8,7 @@ pub mod PartLaws
 pub mod DeskLaws
 pub mod WriteLaws
 pub mod WriteJobLaws
+pub mod KeptLaws
 pub mod EmptyMessageLaws
 pub mod KeepLaws
 pub mod AdmissionLaws

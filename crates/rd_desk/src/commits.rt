@@ -138,15 +138,10 @@ impl Tables {
         ensures name { B.name board.new ≡ B.name board.old }
         ensures told { B.told board.new ≡ B.told board.old }
     {
-        let WriteJob {
-            peer,
-            request: kept,
-            admitted,
-        } = job;
-        let request = kept.request();
+        let request = job.request();
         let write = Write {
-            peer,
-            admitted,
+            peer: job.peer,
+            admitted: job.admitted,
             request,
         };
         match request.resource {

@@ -75,4 +75,11 @@ impl KeepJob {
             tag,
         })
     }
+
+    /// The request of the look.
+    pub(crate) fn request(&self) -> Request<'_>
+        ensures { reading self.now.datagram ≡ Ok (message_of result) }
+    {
+        self.request.request()
+    }
 }

@@ -69,28 +69,23 @@ impl Tables {
             (kept_body (is_starved_step result) s (reading job.datagram) job.answer.body
             job.answer.tag) self.new out.new mids.new }
     {
-        let KeepJob {
-            peer,
-            request: kept,
-            body,
-            tag,
-        } = job;
-        let request = kept.request();
+        let request = job.request();
+        let view = &request.meaning.view;
         let ready = with_listing(
             &self.transfers,
             self.alloc,
             self.moment,
-            peer,
+            job.peer,
             &request,
-            &body,
-            tag,
+            &job.body,
+            job.tag,
         );
         let Ok(ready) = ready else {
-            answer_starved(mids, peer, &request.meaning.view, out);
+            answer_starved(mids, job.peer, view, out);
             return Stepped::Starved;
         };
-        let reply = body_reply(Some(tag), None, &request.asked, body.as_slice());
-        answer(mids, peer, &request.meaning.view, &reply, out);
+        let reply = body_reply(Some(job.tag), None, &request.asked, job.body.as_slice());
+        answer(mids, job.peer, view, &reply, out);
         self.transfers.adopt(ready);
         Stepped::Done
     }

@@ -1,4 +1,11 @@
 //! The job that an admitted write leaves its worker with.
+ghost use Rattle.std.specs.Prelude.{◌≡◌, true, Ok};
+ghost use Rattle.message_model.specs.Reading.{reading};
+ghost use Rattle.message_model.specs.Request.{path_in};
+ghost use Rattle.rd_desk.specs.Accepted.{message_of};
+ghost use Rattle.rd_desk.specs.WriteJobs.{is_write_path};
+
+use crate::accepted::Request;
 use crate::kept_requests::KeptRequest;
 use rd_base::{Moment, Peer};
 use std::marker::Model;
@@ -31,4 +38,14 @@ impl Model for WriteJob {
 
     ghost invariant = { λ job. (reading (spelling job.request) ≡ Ok job.request)
         × (is_write_datagram (spelling job.request) ≡ true) };
+}
+
+impl WriteJob {
+    /// Its request.
+    pub(crate) fn request(&self) -> Request<'_>
+        ensures read { reading self.now.datagram ≡ Ok (message_of result) }
+        ensures writes { is_write_path (path_in (message_of result)) ≡ true }
+    {
+        self.request.request()
+    }
 }

@@ -1,4 +1,7 @@
 use Rattle.std.proofs.Common.{sym, ◌∙◌}
+use Rattle.message_model.proofs.ByteLemmas.{AreBytes-from_Fits}
+use Rattle.rd_desk.specs.Accepted.{message_of}
+use Rattle.rd_desk.proofs.parts.KeptLaws.{spelled_by}
 use Rattle.rd_desk.proofs.parts.IncomingLaws.{looks_is, only_looks_left}
 use Rattle.rd_desk.proofs.looks.look_request.Goals as goal
 
@@ -7,3 +10,8 @@ unreachable-requires c =
     only_looks_left c.read_datagram.result
     (sym (looks_is c.args.datagram.now c.read_datagram.result c.read_datagram.ensures)
     ∙ c.requires) c.in_default.not-Look
+
+pub returns-clause-spelled : goal.returns-clause-spelled
+returns-clause-spelled c =
+    spelled_by c.args.datagram.now (message_of c.in-Look.request)
+    (AreBytes-from_Fits c.args.datagram.now c.type_inv.datagram) c.in-Look.ensures.0.read

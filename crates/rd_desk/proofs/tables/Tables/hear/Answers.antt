@@ -3,6 +3,8 @@ use Rattle.std.specs.List.{list_any}
 use Rattle.message_model.specs.declared.messages.Role.TheVariants as role
 use Rattle.message_model.specs.OptionTable.{first_bad_option}
 use Rattle.message_model.specs.Reading.{reading}
+use Rattle.message_model.specs.Spelling.{spelling}
+use Rattle.message_model.proofs.ByteLemmas.{AreBytes-from_Fits}
 use Rattle.coap_message.specs.Views.{message_in}
 use Rattle.event_model.specs.Repeats.{is_admitting}
 use Rattle.journal_model.specs.Effects.{Effects, nothing, resetting}
@@ -39,6 +41,7 @@ use Rattle.rd_desk.proofs.parts.HearingLaws.{
   jobless_held,
 }
 use Rattle.rd_desk.proofs.parts.IncomingLaws.{heard_for, admits_for, takes_for, look_left}
+use Rattle.rd_desk.proofs.parts.KeptLaws.{spelled_by, read_again}
 use Rattle.rd_desk.proofs.parts.PartLaws.{only_silent}
 use Rattle.rd_desk.proofs.parts.WayLaws.{step_of}
 use Rattle.rd_desk.proofs.parts.WriteJobLaws.{write_datagram}
@@ -225,8 +228,16 @@ pub hear_write-requires-clause-write : goal.hear_write-requires-clause-write
 hear_write-requires-clause-write g c =
     let m = message_of c.in-Write.request in
     let is = c.in-Write.ensures in
-    write_datagram c.args.arrival.datagram.now m is.0.read is.0.role_is
-    (none_there (refusal_of_request m) c.in-Write.request.accepted) is.1
+    write_datagram (spelling m) m
+    (read_again c.args.arrival.datagram.now m
+    (AreBytes-from_Fits c.args.arrival.datagram.now c.type_inv.arrival.datagram) is.0.read)
+    is.0.role_is (none_there (refusal_of_request m) c.in-Write.request.accepted) is.1
+
+pub hear_write-requires-clause-read : goal.hear_write-requires-clause-read
+hear_write-requires-clause-read g c =
+    read_again c.args.arrival.datagram.now (message_of c.in-Write.request)
+    (AreBytes-from_Fits c.args.arrival.datagram.now c.type_inv.arrival.datagram)
+    c.in-Write.ensures.0.read
 
 pub returns-in-Write-clause-way : goal.returns-in-Write-clause-way
 returns-in-Write-clause-way g c rows s of worded way =
@@ -250,7 +261,10 @@ returns-in-Write-clause-held g c rows s of datagram way =
     (request_writes rows s starved m (none_there (refusal_of_request m) c.in-Write.request.accepted)
     is.1
     ∙ heard_for rows s starved role.Request c.args.arrival.datagram.now m is.0)
-    (c.hear_write.ensures.held rows s of datagram way)
+    (c.hear_write.ensures.held rows s of
+    (datagram
+    ∙ sym (spelled_by c.args.arrival.datagram.now m
+    (AreBytes-from_Fits c.args.arrival.datagram.now c.type_inv.arrival.datagram) is.0.read)) way)
 
 pub returns-in-Write-clause-unstarved : goal.returns-in-Write-clause-unstarved
 returns-in-Write-clause-unstarved g c rows s of way silent =
