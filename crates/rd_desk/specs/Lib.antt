@@ -8,6 +8,7 @@ pub mod Incoming
 pub mod Writing
 pub mod Watching
 pub mod Fetching
+pub mod KeptRequests
 pub mod WriteJobs
 pub mod Admitting
 pub mod Marks
