@@ -7,6 +7,7 @@ pub mod WayLaws
 pub mod PartLaws
 pub mod DeskLaws
 pub mod WriteLaws
+pub mod KeptLaws
 pub mod EmptyMessageLaws
 pub mod KeepLaws
 pub mod AdmissionLaws

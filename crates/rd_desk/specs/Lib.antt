@@ -1,3 +1,4 @@
+pub mod KeptRequests
 pub mod WriteJobs
 pub mod Admitting
 pub mod Lookups

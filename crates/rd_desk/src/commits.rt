@@ -5,7 +5,6 @@ ghost use Rattle.std.specs.Prelude.{false};
 ghost use Rattle.message_model.specs.Message.{Message};
 ghost use Rattle.message_model.specs.Reading.{reading};
 ghost use Rattle.event_model.specs.AdmissionOrder.{IsOpen};
-ghost use Rattle.coap_message.specs.Views.{message_in};
 ghost use Rattle.journal_model.specs.declared.steps.Step.{Step};
 ghost use Rattle.journal_model.specs.declared.steps.StepKind.TheVariants as step;
 ghost use Rattle.journal_model.specs.declared.rows.Row.{Row};
@@ -16,6 +15,7 @@ ghost use Rattle.journal_model.specs.Journal.{events, entries};
 ghost use Rattle.journal_model.specs.Rows.{row_moment, done, row};
 ghost use Rattle.coap_answers.specs.Outboxes.{most_datagrams};
 ghost use Rattle.coap_answers.specs.Replies.{IsReply};
+ghost use Rattle.rd_request.specs.Accepted.{message_of};
 ghost use Rattle.rd_desk.specs.Committing.{unless_failing, IsShort};
 ghost use Rattle.rd_desk.specs.Outcomes.{IsTimely, IsPlanned, IsMadeAt};
 ghost use Rattle.rd_desk.specs.Stepping.{is_starved_step};
@@ -28,48 +28,42 @@ ghost use Rattle.rd_desk.specs.Staging.{IsLaid, IsLeftBy, IsNextOf};
 use crate::outcomes::Outcome;
 use crate::staging::staged;
 use crate::tables::Tables;
-use crate::write_jobs::write_request;
+use crate::writes::{Registering, RegisteringSimply, Updating, Write};
 use crate::{Mids, Outbox, Stepped, WriteJob};
-use coap_message::View;
 use directory_core::Board;
-use rd_base::{Moment, Peer, Starved};
+use message_model::codes::POST;
+use rd_base::{Moment, Starved};
 use rd_request::Resource;
-use std::alloc::Global;
+
 
 impl Tables {
     /// What is planned of a write is done: its entry is made, where it makes one, and then its
     /// answer settles it. Takes no memory.
-    fn conclude(
-        &mut self,
-        mids: &mut Mids,
-        peer: Peer,
-        view: &View<'_>,
-        admitted: Moment,
-        outcome: Outcome,
-        out: &mut Outbox,
-    )
+    fn conclude(&mut self, mids: &mut Mids, write: &Write<'_>, outcome: Outcome, out: &mut Outbox)
         requires reply { IsReply outcome.reply }
         requires short { IsShort outcome.reply }
         requires timely { IsTimely self.old.moment outcome }
         requires room { length out.old < most_datagrams }
         ensures way { (rows : List Row) (s : Step) (starved : Bool) (place : ℕ)
             (meant : changes.Outcome)
-            → s.peer ≡ peer
-            → IsOpen place peer view.now.mid admitted.0 (events rows)
+            → s.peer ≡ write.now.peer
+            → IsOpen place write.now.peer (message_of write.now.request).mid
+            write.now.admitted.0 (events rows)
             → IsMadeAt (row_moment rows s) meant
             → IsPlanned (entries rows) self.old.version.swept [] meant outcome
             → UnderWay rows s starved nothing self.old out.old mids.old
-            → UnderWay rows s starved (settling place s (message_in view.now) meant) self.new
+            → UnderWay rows s starved (settling place s (message_of write.now.request) meant)
+            self.new
             out.new mids.new }
         ensures version { IsLeftBy self.old.version self.new.version outcome.entering }
     {
         let Outcome { reply, entering } = outcome;
         let Some(entering) = entering else {
-            self.settle(mids, peer, view, admitted, &reply, out);
+            self.settle(mids, write, &reply, out);
             return;
         };
         self.enter(entering);
-        self.settle(mids, peer, view, admitted, &reply, out);
+        self.settle(mids, write, &reply, out);
     }
 
     /// A write that was admitted is done as it is planned, or fails where memory ran out meanwhile.
@@ -78,9 +72,7 @@ impl Tables {
         &mut self,
         board: &mut B,
         mids: &mut Mids,
-        peer: Peer,
-        view: &View<'_>,
-        admitted: Moment,
+        write: &Write<'_>,
         planned: Result<Outcome, Starved>,
         out: &mut Outbox,
     ) -> Stepped
@@ -94,14 +86,15 @@ impl Tables {
             → VersionStandsFor 0 history self.old.version
             → IfOk planned (IsNextOf history) }
         ensures way { (rows : List Row) (s : Step) (place : ℕ) (meant : changes.Outcome)
-            → s.peer ≡ peer
-            → IsOpen place s.peer view.now.mid admitted.0 (events rows)
+            → s.peer ≡ write.now.peer
+            → IsOpen place s.peer (message_of write.now.request).mid write.now.admitted.0
+            (events rows)
             → IsMadeAt (row_moment rows s) meant
             → IfOk planned (IsPlanned (entries rows) self.old.version.swept [] meant)
             → UnderWay rows s (is_starved_step result) nothing self.old out.old mids.old
             → UnderWay rows s (is_starved_step result)
-            (unless_failing (is_starved_step result) place s (message_in view.now)
-            (settling place s (message_in view.now) meant)) self.new out.new mids.new }
+            (unless_failing (is_starved_step result) place s (message_of write.now.request)
+            (settling place s (message_of write.now.request) meant)) self.new out.new mids.new }
         ensures laid { IsLaid self.old.version self.new.version (B.staged board.old)
             (B.staged board.new) (B.has_staged board.new) }
         ensures name { B.name board.new ≡ B.name board.old }
@@ -109,11 +102,11 @@ impl Tables {
     {
         match staged(board, planned) {
             Ok(outcome) => {
-                self.conclude(mids, peer, view, admitted, outcome, out);
+                self.conclude(mids, write, outcome, out);
                 return Stepped::Done;
             }
             Err(Starved) => {
-                self.fail(mids, peer, view, admitted, out);
+                self.fail(mids, write, out);
                 return Stepped::Starved;
             }
         }
@@ -122,7 +115,6 @@ impl Tables {
     /// The write of a job is done, by what it writes to.
     fn commit_write<B: Board>(
         &mut self,
-        alloc: Global,
         board: &mut B,
         mids: &mut Mids,
         job: WriteJob,
@@ -145,23 +137,25 @@ impl Tables {
         ensures name { B.name board.new ≡ B.name board.old }
         ensures told { B.told board.new ≡ B.told board.old }
     {
-        let WriteJob {
-            peer,
-            datagram,
-            admitted,
-        } = job;
-        let request = write_request(datagram.as_slice());
+        let request = job.request();
+        let write = Write {
+            peer: job.peer,
+            admitted: job.admitted,
+            request,
+        };
         match request.resource {
             Resource::Registration => {
-                return self.commit_registration(alloc, board, mids, peer, admitted, &request, out);
+                return self.commit_registration(board, mids, &Registering { write }, out);
             }
             Resource::SimpleRegistration => {
-                return self.commit_simple(alloc, 0, mids, peer, admitted, &request, out);
+                return self.commit_simple(0, mids, &RegisteringSimply { write }, out);
             }
             Resource::Location(number) => {
-                return self.commit_location(
-                    alloc, board, mids, peer, admitted, &request, number, out,
-                );
+                if request.meaning.view.code == POST {
+                    let updating = Updating { write, number };
+                    return self.commit_update(board, mids, &updating, out);
+                }
+                return self.commit_removal(board, mids, &write, number, out);
             }
             Resource::Core | Resource::Lookup(_) => unreachable!(),
         }
@@ -171,7 +165,6 @@ impl Tables {
     /// that of the tables is lifted to it. `out` is empty.
     pub(crate) fn commit<B: Board>(
         &mut self,
-        alloc: Global,
         board: &mut B,
         now: Moment,
         mids: &mut Mids,
@@ -197,6 +190,6 @@ impl Tables {
         ensures told { B.told board.new ≡ B.told board.old }
     {
         self.pass(now);
-        self.commit_write(alloc, board, mids, job, out)
+        self.commit_write(board, mids, job, out)
     }
 }

@@ -25,7 +25,7 @@ ghost use Rattle.rd_desk.specs.UnderWay.{IsCalled, Made};
 ghost use Rattle.rd_desk.specs.Watchers.{IsShown, IsObserverAfter};
 
 use crate::tables::Tables;
-use crate::{Admitted, KeepJob, Mids, Outbox, Stepped, Watcher, WriteJob};
+use crate::{Admitted, Arrival, KeepJob, Mids, Outbox, Stepped, Watcher, WriteJob};
 use directory_core::{Board, Directory};
 use rd_base::{Moment, Peer, Starved};
 use std::alloc::Global;
@@ -36,8 +36,6 @@ use std::sync::Arc;
 /// board that its versions are laid on.
 #[derive(Drop)]
 pub struct Desk<B: Board> {
-    /// Where its memory comes from.
-    alloc: Global,
     /// What it keeps.
     tables: Tables,
     /// Where a version with an entry is laid, to be published after the step that made it.
@@ -90,11 +88,7 @@ impl<B: Board> Desk<B> {
         let Ok(tables) = Tables::make(alloc) else {
             return Err(Unmade { board });
         };
-        Ok(Desk {
-            alloc,
-            tables,
-            board,
-        })
+        Ok(Desk { tables, board })
     }
 
     /// The step that hears a datagram of a peer, which is not one that only looks
@@ -157,16 +151,13 @@ impl<B: Board> Desk<B> {
         ensures name { B.name self.new.board ≡ B.name self.old.board }
         ensures told { B.told self.new.board ≡ B.told self.old.board }
     {
-        self.tables.admit(
-            self.alloc,
-            &mut self.board,
-            now,
+        let arrival = Arrival {
+            moment: now,
             word,
-            mids,
             peer,
             datagram,
-            out,
-        )
+        };
+        self.tables.admit(&mut self.board, mids, arrival, out)
     }
 
     /// The step that does a write that was admitted, at a moment in milliseconds that is at most
@@ -214,8 +205,7 @@ impl<B: Board> Desk<B> {
         ensures name { B.name self.new.board ≡ B.name self.old.board }
         ensures told { B.told self.new.board ≡ B.told self.old.board }
     {
-        self.tables
-            .commit(self.alloc, &mut self.board, now, mids, job, out)
+        self.tables.commit(&mut self.board, now, mids, job, out)
     }
 
     /// The step that does the job to keep a listing, at a moment in milliseconds that is at most
@@ -236,7 +226,7 @@ impl<B: Board> Desk<B> {
             mids.new }
         ensures board { self.new.board ≡ self.old.board }
     {
-        self.tables.keep(self.alloc, now, mids, job, out)
+        self.tables.keep(now, mids, job, out)
     }
 
     /// The step in which time passes, at a moment in milliseconds that is at most 10^15; one below
@@ -265,7 +255,7 @@ impl<B: Board> Desk<B> {
             → is_starved_step result ≡ false }
         ensures board { self.new.board ≡ self.old.board }
     {
-        self.tables.tick(self.alloc, now, word, mids, out)
+        self.tables.tick(now, word, mids, out)
     }
 
     /// The version of the registrations now, from which a look is answered ([`crate::look`]). A
@@ -322,7 +312,6 @@ impl<B: Board> Desk<B> {
         ensures { result ≡ self.board }
     {
         let Desk {
-            alloc: _alloc,
             tables: _tables,
             board,
         } = self;

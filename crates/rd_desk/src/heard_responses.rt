@@ -43,7 +43,6 @@ use coap_options::{Meaning, meaning};
 use directory_core::Board;
 use rd_base::{Bytes, Peer, RegParams};
 use simple_registration::{Ask, Fetches, Heard};
-use std::alloc::Global;
 
 /// A response that belongs to no fetch: a confirmable one is rejected by a Reset, and another is
 /// ignored (RFC 7252 section 4.2).
@@ -139,7 +138,6 @@ impl Tables {
     /// silence, and the fetch ends. What takes memory comes before anything changes.
     fn complete_fetch<B: Board>(
         &mut self,
-        alloc: Global,
         board: &mut B,
         peer: Peer,
         view: &View<'_>,
@@ -164,7 +162,15 @@ impl Tables {
         ensures name { B.name board.new ≡ B.name board.old }
         ensures told { B.told board.new ≡ B.told board.old }
     {
-        let planned = registered(alloc, &*self.version, self.moment, peer, params, body, None);
+        let planned = registered(
+            self.alloc,
+            &*self.version,
+            self.moment,
+            peer,
+            params,
+            body,
+            None,
+        );
         let Ok(planned) = staged(board, planned) else {
             return Stepped::Starved;
         };
@@ -178,7 +184,6 @@ impl Tables {
     /// section 2.4).
     fn hear_answer<B: Board>(
         &mut self,
-        alloc: Global,
         board: &mut B,
         word: u32,
         mids: &mut Mids,
@@ -209,7 +214,7 @@ impl Tables {
         let mid = mids.upcoming();
         match self
             .fetches
-            .response(alloc, self.moment, word, mid, peer, meaning)
+            .response(self.alloc, self.moment, word, mid, peer, meaning)
         {
             Heard::Passed => {
                 acknowledge_response(peer, &meaning.view, out);
@@ -222,7 +227,6 @@ impl Tables {
             }
             Heard::Whole(params, body) => {
                 return self.complete_fetch(
-                    alloc,
                     board,
                     peer,
                     &meaning.view,
@@ -245,7 +249,6 @@ impl Tables {
     /// nothing is done. One that belongs to no fetch takes no memory.
     pub(crate) fn hear_response<B: Board>(
         &mut self,
-        alloc: Global,
         board: &mut B,
         word: u32,
         mids: &mut Mids,
@@ -277,6 +280,6 @@ impl Tables {
             reject_strange(peer, view, out);
             return Stepped::Done;
         };
-        self.hear_answer(alloc, board, word, mids, peer, &meaning, out)
+        self.hear_answer(board, word, mids, peer, &meaning, out)
     }
 }

@@ -16,13 +16,11 @@ ghost use Rattle.rd_desk.specs.Staging.{IsLaid};
 use crate::refused_requests::refuse;
 use crate::tables::Tables;
 use crate::unread_datagrams::reject;
-use crate::{Admitted, Mids, Outbox, Stepped};
+use crate::{Admitted, Mids, Outbox, Stepped, Arrival};
 use coap_answers::send_empty;
 use coap_message::Kind4;
 use directory_core::Board;
-use rd_base::{Moment, Peer};
 use rd_request::{Incoming, read_datagram};
-use std::alloc::Global;
 
 /// What comes of a datagram that leaves no job.
 fn without_job(stepped: Stepped) -> Admitted
@@ -38,41 +36,44 @@ impl Tables {
     /// A datagram that does not only look, by what it is (RFC 7252 section 4).
     fn hear<B: Board>(
         &mut self,
-        alloc: Global,
         board: &mut B,
-        word: u32,
         mids: &mut Mids,
-        peer: Peer,
-        datagram: &[u8],
+        arrival: Arrival<'_>,
         out: &mut Outbox,
     ) -> Admitted
-        requires other { is_look_datagram datagram.now ≡ false }
+        requires other { is_look_datagram arrival.datagram.now ≡ false }
         requires empty { out.old ≡ [] }
         requires free { B.has_staged board.old ≡ false }
         requires told { AreToldOf self.old.version (B.told board.old) }
         ensures way { (rows : List Row) (s : Step)
-            → s.peer ≡ peer
-            → s.word ≡ word
+            → s.peer ≡ arrival.peer
+            → s.word ≡ arrival.word
             → UnderWay rows s (is_starved_admission result) nothing self.old out.old mids.old
             → UnderWay rows s (is_starved_admission result)
             (heard (is_starved_admission result) rows (row_moment rows s) s
-            (reading datagram.now)) self.new out.new mids.new }
+            (reading arrival.datagram.now)) self.new out.new mids.new }
         ensures held { (rows : List Row) (s : Step)
-            → s.peer ≡ peer
-            → s.datagram ≡ datagram.now
+            → s.peer ≡ arrival.peer
+            → s.datagram ≡ arrival.datagram.now
             → UnderWay rows s (is_starved_admission result) nothing self.old out.old mids.old
             → IsHeldFor result (heard (is_starved_admission result) rows (row_moment rows s) s
-            (reading datagram.now)).notes s (row_moment rows s) }
+            (reading arrival.datagram.now)).notes s (row_moment rows s) }
         ensures unstarved { (rows : List Row) (s : Step)
-            → s.peer ≡ peer
+            → s.peer ≡ arrival.peer
             → UnderWay rows s false nothing self.old out.old mids.old
-            → takes_memory rows (row_moment rows s) s (reading datagram.now) ≡ false
+            → takes_memory rows (row_moment rows s) s (reading arrival.datagram.now) ≡ false
             → is_starved_admission result ≡ false }
         ensures laid { IsLaid self.old.version self.new.version (B.staged board.old)
             (B.staged board.new) (B.has_staged board.new) }
         ensures name { B.name board.new ≡ B.name board.old }
         ensures told { B.told board.new ≡ B.told board.old }
     {
+        let Arrival {
+            moment: _,
+            word,
+            peer,
+            datagram,
+        } = arrival;
         match read_datagram(datagram) {
             Incoming::Unread(fault) => {
                 reject(peer, fault, out);
@@ -91,18 +92,16 @@ impl Tables {
                 Admitted::Done
             }
             Incoming::Response(view) => {
-                without_job(self.hear_response(alloc, board, word, mids, peer, &view, out))
+                without_job(self.hear_response(board, word, mids, peer, &view, out))
             }
             Incoming::Refused(view, refused) => {
                 refuse(mids, peer, &view, refused, out);
                 Admitted::Done
             }
             Incoming::Lookup(request) => {
-                without_job(self.hear_lookup(alloc, mids, peer, &request, out))
+                without_job(self.hear_lookup(mids, peer, &request, out))
             }
-            Incoming::Write(request) => {
-                self.hear_write(alloc, mids, peer, &request.meaning.view, datagram, out)
-            }
+            Incoming::Write(request) => { self.hear_write(mids, peer, &request, out) }
             Incoming::Nothing => Admitted::Done,
             Incoming::Look(_) => unreachable!(),
         }
@@ -115,47 +114,43 @@ impl Tables {
     /// one for which there is no room take no memory.
     pub(crate) fn admit<B: Board>(
         &mut self,
-        alloc: Global,
         board: &mut B,
-        now: Moment,
-        word: u32,
         mids: &mut Mids,
-        peer: Peer,
-        datagram: &[u8],
+        arrival: Arrival<'_>,
         out: &mut Outbox,
     ) -> Admitted
-        requires moment { now.0 ≤ 10 ^ 15 }
-        requires other { is_look_datagram datagram.now ≡ false }
+        requires moment { arrival.moment.0 ≤ 10 ^ 15 }
+        requires other { is_look_datagram arrival.datagram.now ≡ false }
         requires empty { out.old ≡ [] }
         requires free { B.has_staged board.old ≡ false }
         requires told { AreToldOf self.old.version (B.told board.old) }
         ensures made { (rows : List Row) (s : Step)
             → s.kind ≡ step.Admit
-            → s.peer ≡ peer
-            → s.datagram ≡ datagram.now
-            → s.word ≡ word
-            → IsCalled rows s now mids.old self.old
+            → s.peer ≡ arrival.peer
+            → s.datagram ≡ arrival.datagram.now
+            → s.word ≡ arrival.word
+            → IsCalled rows s arrival.moment mids.old self.old
             → Made rows (row rows s (is_starved_admission result)) self.new out.new mids.old
             mids.new }
         ensures held { (rows : List Row) (s : Step)
             → s.kind ≡ step.Admit
-            → s.peer ≡ peer
-            → s.datagram ≡ datagram.now
-            → IsCalled rows s now mids.old self.old
+            → s.peer ≡ arrival.peer
+            → s.datagram ≡ arrival.datagram.now
+            → IsCalled rows s arrival.moment mids.old self.old
             → IsHeldFor result (row rows s (is_starved_admission result)).notes s
             (row_moment rows s) }
         ensures unstarved { (rows : List Row) (s : Step)
-            → s.peer ≡ peer
-            → s.datagram ≡ datagram.now
-            → IsCalled rows s now mids.old self.old
-            → takes_memory rows (row_moment rows s) s (reading datagram.now) ≡ false
+            → s.peer ≡ arrival.peer
+            → s.datagram ≡ arrival.datagram.now
+            → IsCalled rows s arrival.moment mids.old self.old
+            → takes_memory rows (row_moment rows s) s (reading arrival.datagram.now) ≡ false
             → is_starved_admission result ≡ false }
         ensures laid { IsLaid self.old.version self.new.version (B.staged board.old)
             (B.staged board.new) (B.has_staged board.new) }
         ensures name { B.name board.new ≡ B.name board.old }
         ensures told { B.told board.new ≡ B.told board.old }
     {
-        self.pass(now);
-        self.hear(alloc, board, word, mids, peer, datagram, out)
+        self.pass(arrival.moment);
+        self.hear(board, mids, arrival, out)
     }
 }

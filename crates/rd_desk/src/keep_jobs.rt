@@ -1,7 +1,12 @@
 //! The job that a look leaves its worker with.
-ghost use Rattle.std.specs.Prelude.{◌≡◌, true, IfOk};
+ghost use Rattle.std.specs.Prelude.{◌≡◌, true, Ok, IfOk};
+ghost use Rattle.message_model.specs.Reading.{reading};
+ghost use Rattle.message_model.specs.Spelling.{spelling};
 ghost use Rattle.journal_model.specs.Machine.{is_look_datagram};
+ghost use Rattle.rd_request.specs.Accepted.{message_of};
 
+use rd_request::Request;
+use crate::kept_requests::KeptRequest;
 use rd_base::{Bytes, Peer, Starved, Tag};
 use std::alloc::Global;
 use std::marker::Model;
@@ -13,8 +18,8 @@ use std::sync::Arc;
 pub struct KeepJob {
     /// Who asked.
     pub(crate) peer: Peer,
-    /// The datagram of the look.
-    pub(crate) datagram: Bytes,
+    /// The request of the look.
+    pub(crate) request: KeptRequest,
     /// The listing.
     pub(crate) body: Arc<Bytes>,
     /// Its entity tag.
@@ -22,8 +27,10 @@ pub struct KeepJob {
 }
 
 impl Model for KeepJob {
-    ghost use Rattle.std.specs.Prelude.{◌≡◌, true};
+    ghost use Rattle.std.specs.Prelude.{◌≡◌, true, Ok};
     ghost use Rattle.std.specs.Arc.{arc_value};
+    ghost use Rattle.message_model.specs.Reading.{reading};
+    ghost use Rattle.message_model.specs.Spelling.{spelling};
     ghost use Rattle.journal_model.specs.Machine.{is_look_datagram};
     ghost use Rattle.rd_desk.specs.KeepJobs.{Keep};
 
@@ -31,39 +38,48 @@ impl Model for KeepJob {
 
     ghost view = { λ job. record {
       peer = job.peer;
-      datagram = job.datagram;
+      datagram = spelling job.request;
       answer = record
           { body = arc_value job.body; tag = job.tag.0 };
     } };
 
-    ghost invariant = { λ job. is_look_datagram job.datagram ≡ true };
+    ghost invariant = { λ job. (reading (spelling job.request) ≡ Ok job.request)
+        × (is_look_datagram (spelling job.request) ≡ true) };
 }
 
 impl KeepJob {
-    /// The job to keep a listing that the look by this datagram formed. `Starved`: out of memory.
+    /// The job to keep a listing that the look by this request formed. `Starved`: out of memory.
     pub(crate) fn of(
         alloc: Global,
         peer: Peer,
-        datagram: &[u8],
+        request: &Request<'_>,
         body: Bytes,
         tag: Tag,
     ) -> Result<KeepJob, Starved>
-        requires { is_look_datagram datagram.now ≡ true }
+        requires read { reading (spelling (message_of request.now)) ≡ Ok (message_of request.now) }
+        requires looks { is_look_datagram (spelling (message_of request.now)) ≡ true }
         ensures { IfOk result (λ job. job
             ≡ record {
               peer = peer;
-              datagram = datagram.now;
+              datagram = spelling (message_of request.now);
               answer = record
                   { body = body; tag = tag.0 };
             }) }
     {
-        let datagram = Bytes::copy_of(alloc, datagram)?;
+        let request = KeptRequest::of(alloc, request)?;
         let body = Arc::new(alloc, body)?;
         Ok(KeepJob {
             peer,
-            datagram,
+            request,
             body,
             tag,
         })
+    }
+
+    /// The request of the look.
+    pub(crate) fn request(&self) -> Request<'_>
+        ensures { reading self.now.datagram ≡ Ok (message_of result) }
+    {
+        self.request.request()
     }
 }

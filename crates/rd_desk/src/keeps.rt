@@ -16,10 +16,10 @@ ghost use Rattle.rd_request.specs.Accepted.{message_of};
 ghost use Rattle.rd_desk.specs.Stepping.{is_starved_step};
 ghost use Rattle.rd_desk.specs.UnderWay.{UnderWay, IsCalled, Made};
 
-use crate::looks::{look_request, send_block};
+use crate::looks::send_block;
 use crate::tables::Tables;
 use crate::{KeepJob, Mids, Outbox, Stepped};
-use coap_answers::{answer, answer_starved, body_reply};
+use coap_answers::answer_starved;
 use coap_options::request_key;
 use rd_base::{Bytes, Moment, Peer, Starved, Tag};
 use rd_request::Request;
@@ -59,13 +59,7 @@ pub(crate) fn with_listing(
 impl Tables {
     /// A listing is kept under its tag, and the block of it that the look asked for is sent. What
     /// takes memory comes before anything changes.
-    fn keep_listing(
-        &mut self,
-        alloc: Global,
-        mids: &mut Mids,
-        job: KeepJob,
-        out: &mut Outbox,
-    ) -> Stepped
+    fn keep_listing(&mut self, mids: &mut Mids, job: KeepJob, out: &mut Outbox) -> Stepped
         requires room { length out.old < most_datagrams }
         ensures way { (rows : List Row) (s : Step)
             → s.peer ≡ job.peer
@@ -74,27 +68,22 @@ impl Tables {
             (kept_body (is_starved_step result) s (reading job.datagram) job.answer.body
             job.answer.tag) self.new out.new mids.new }
     {
-        let KeepJob {
-            peer,
-            datagram,
-            body,
-            tag,
-        } = job;
-        let request = look_request(datagram.as_slice());
+        let request = job.request();
+        let view = &request.meaning.view;
         let ready = with_listing(
             &self.transfers,
-            alloc,
+            self.alloc,
             self.moment,
-            peer,
+            job.peer,
             &request,
-            &body,
-            tag,
+            &job.body,
+            job.tag,
         );
         let Ok(ready) = ready else {
-            answer_starved(mids, peer, &request.meaning.view, out);
+            answer_starved(mids, job.peer, view, out);
             return Stepped::Starved;
         };
-        send_block(mids, peer, &request, Some(tag), None, body.as_slice(), out);
+        send_block(mids, job.peer, &request, Some(job.tag), None, job.body.as_slice(), out);
         self.transfers.adopt(ready);
         Stepped::Done
     }
@@ -103,7 +92,6 @@ impl Tables {
     /// that of the tables is lifted to it. `out` is empty.
     pub(crate) fn keep(
         &mut self,
-        alloc: Global,
         now: Moment,
         mids: &mut Mids,
         job: KeepJob,
@@ -119,6 +107,6 @@ impl Tables {
             → Made rows (row rows s (is_starved_step result)) self.new out.new mids.old mids.new }
     {
         self.pass(now);
-        self.keep_listing(alloc, mids, job, out)
+        self.keep_listing(mids, job, out)
     }
 }

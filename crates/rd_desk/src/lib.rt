@@ -3,6 +3,7 @@
 #![tactic(auto)]
 
 mod admissions;
+mod arrivals;
 mod commits;
 mod desk;
 mod entries;
@@ -13,6 +14,7 @@ mod hearing;
 mod jobs;
 mod keep_jobs;
 mod keeps;
+mod kept_requests;
 mod listings;
 mod locations;
 mod looks;
@@ -35,9 +37,11 @@ mod unread_datagrams;
 mod uploads;
 mod watchers;
 mod write_jobs;
+mod writes;
 
 pub use admissions::Admitted;
 pub use coap_answers::{Mids, Outbox};
+pub use arrivals::Arrival;
 pub use desk::{Desk, Unmade};
 pub use jobs::Job;
 pub use keep_jobs::KeepJob;

@@ -15,7 +15,6 @@ ghost use Rattle.rd_request.specs.Accepted.{message_of};
 ghost use Rattle.rd_desk.specs.Lookups.{answer_listed, answer_at, IsFormed, IsReadied, IsJoining};
 ghost use Rattle.rd_desk.specs.Lookups.{IsUsed};
 
-use crate::bodies::szx_of;
 use crate::keeps::with_listing;
 use crate::looks::{listing_at, send_block};
 use crate::{Mids, Outbox};

@@ -1,21 +1,16 @@
 //! Writes on a registration: updates and removals (RFC 9176 sections 5.3.1 and 5.3.2).
-ghost use Rattle.std.specs.Prelude.{◌≡◌, ◌≢◌, ◌<◌, ◌≤◌, ◌^◌, ℕ, [], List, length, None, IfOk};
+ghost use Rattle.std.specs.Prelude.{◌≡◌, ◌<◌, ◌≤◌, ◌^◌, ℕ, [], List, length, IfOk};
 ghost use Rattle.std.specs.Prelude.{false};
-ghost use Rattle.message_model.specs.Codes as codes_of;
 ghost use Rattle.message_model.specs.Request.{queries_in};
-ghost use Rattle.record_model.specs.declared.readings.Reading.TheVariants as reading;
 ghost use Rattle.record_model.specs.AllowedParameters.{IsAllowedChange};
-ghost use Rattle.record_model.specs.Criteria.{fault_of};
 ghost use Rattle.record_model.specs.Parameters.{update_values};
 ghost use Rattle.history_model.specs.Versions.{VersionStandsFor};
 ghost use Rattle.event_model.specs.AdmissionOrder.{IsOpen};
-ghost use Rattle.coap_message.specs.Views.{message_in};
 ghost use Rattle.journal_model.specs.declared.steps.Step.{Step};
 ghost use Rattle.journal_model.specs.declared.rows.Row.{Row};
-ghost use Rattle.journal_model.specs.Commits.{settling, updating, removing, on_location};
+ghost use Rattle.journal_model.specs.Commits as commits_of;
 ghost use Rattle.journal_model.specs.Effects.{nothing};
 ghost use Rattle.journal_model.specs.Journal.{events, entries};
-ghost use Rattle.journal_model.specs.Requests.{method_of};
 ghost use Rattle.journal_model.specs.Rows.{row_moment};
 ghost use Rattle.coap_answers.specs.Outboxes.{most_datagrams};
 ghost use Rattle.coap_answers.specs.Replies.{IsReply};
@@ -30,23 +25,21 @@ ghost use Rattle.rd_desk.specs.Staging.{IsLaid, IsNextOf};
 
 use crate::outcomes::{Outcome, removed, updated};
 use crate::tables::Tables;
+use crate::writes::{Updating, Write};
 use crate::{Mids, Outbox, Stepped};
-use coap_options::{Meaning, queries};
+use coap_options::queries;
 use directory_core::{Board, Directory};
-use message_model::codes::POST;
 use query_text::{QueryBad, update_params};
-use rd_base::{Moment, Peer, Starved, UpdateParams};
-use rd_request::Request;
+use rd_base::{Moment, Starved, UpdateParams};
 use std::alloc::Global;
 
-/// What an update gives whose query options are not refused. `Starved`: out of memory.
-fn given_change(alloc: Global, meaning: &Meaning<'_>) -> Result<UpdateParams, Starved>
-    requires { fault_of reading.Update (queries_in (message_in meaning.now.view)) ≡ None }
+/// What an update gives. `Starved`: out of memory.
+fn given_change(alloc: Global, updating: &Updating<'_>) -> Result<UpdateParams, Starved>
     ensures value { IfOk result (λ change. change
-        ≡ update_values (queries_in (message_in meaning.now.view))) }
+        ≡ update_values (queries_in (message_of updating.now.write.request))) }
     ensures allowed { IfOk result IsAllowedChange }
 {
-    match update_params(alloc, queries(meaning)) {
+    match update_params(alloc, queries(&updating.write.request.meaning)) {
         Ok(change) => Ok(change),
         Err(QueryBad::Starved) => Err(Starved),
         Err(QueryBad::At { .. }) => unreachable!(),
@@ -58,14 +51,11 @@ fn update_outcome(
     alloc: Global,
     version: &Directory,
     now: Moment,
-    peer: Peer,
-    request: &Request<'_>,
-    number: u64,
+    updating: &Updating<'_>,
 ) -> Result<Outcome, Starved>
     requires after_at { version.now.at ≤ now.0 }
     requires after_sweep { version.now.swept ≤ now.0 }
     requires moment { now.0 ≤ 10 ^ 15 }
-    requires good { fault_of reading.Update (queries_in (message_of request.now)) ≡ None }
     ensures reply { IfOk result (λ o. IsReply o.reply) }
     ensures short { IfOk result (λ o. IsShort o.reply) }
     ensures moments { IfOk result (IsTimely now.0) }
@@ -74,68 +64,62 @@ fn update_outcome(
         → IfOk result (IsNextOf history) }
     ensures planned { (rows : List Row) (s : Step)
         → VersionStandsFor 0 (entries rows) version.now
-        → s.peer ≡ peer
+        → s.peer ≡ updating.now.write.peer
         → IfOk result (IsPlanned (entries rows) version.now.swept []
-        (updating rows now.0 s (message_of request.now) number)) }
+        (commits_of.updating rows now.0 s (message_of updating.now.write.request)
+        updating.now.number)) }
 {
-    let change = given_change(alloc, &request.meaning)?;
-    updated(alloc, version, now, number, change, peer)
+    let change = given_change(alloc, updating)?;
+    updated(
+        alloc,
+        version,
+        now,
+        updating.number,
+        change,
+        updating.write.peer,
+    )
 }
 
 impl Tables {
     /// An update of the registration of a number that was admitted is done, or fails where memory
     /// runs out.
-    fn commit_update<B: Board>(
+    pub(crate) fn commit_update<B: Board>(
         &mut self,
-        alloc: Global,
         board: &mut B,
         mids: &mut Mids,
-        peer: Peer,
-        admitted: Moment,
-        request: &Request<'_>,
-        number: u64,
+        updating: &Updating<'_>,
         out: &mut Outbox,
     ) -> Stepped
-        requires good { fault_of reading.Update (queries_in (message_of request.now)) ≡ None }
         requires room { length out.old < most_datagrams }
         requires free { B.has_staged board.old ≡ false }
         requires told { AreToldOf self.old.version (B.told board.old) }
         ensures way { (rows : List Row) (s : Step) (place : ℕ)
-            → s.peer ≡ peer
-            → IsOpen place s.peer (message_of request.now).mid admitted.0 (events rows)
+            → s.peer ≡ updating.now.write.peer
+            → IsOpen place s.peer (message_of updating.now.write.request).mid
+            updating.now.write.admitted.0 (events rows)
             → UnderWay rows s (is_starved_step result) nothing self.old out.old mids.old
             → UnderWay rows s (is_starved_step result)
-            (unless_failing (is_starved_step result) place s (message_of request.now)
-            (settling place s (message_of request.now)
-            (updating rows (row_moment rows s) s (message_of request.now) number)))
+            (unless_failing (is_starved_step result) place s (message_of updating.now.write.request)
+            (commits_of.settling place s (message_of updating.now.write.request)
+            (commits_of.updating rows (row_moment rows s) s
+            (message_of updating.now.write.request) updating.now.number)))
             self.new out.new mids.new }
         ensures laid { IsLaid self.old.version self.new.version (B.staged board.old)
             (B.staged board.new) (B.has_staged board.new) }
         ensures name { B.name board.new ≡ B.name board.old }
         ensures told { B.told board.new ≡ B.told board.old }
     {
-        let planned = update_outcome(alloc, &*self.version, self.moment, peer, request, number);
-        self.finish(
-            board,
-            mids,
-            peer,
-            &request.meaning.view,
-            admitted,
-            planned,
-            out,
-        )
+        let planned = update_outcome(self.alloc, &*self.version, self.moment, updating);
+        self.finish(board, mids, &updating.write, planned, out)
     }
 
     /// A removal of the registration of a number that was admitted is done, or fails where memory
     /// runs out.
-    fn commit_removal<B: Board>(
+    pub(crate) fn commit_removal<B: Board>(
         &mut self,
-        alloc: Global,
         board: &mut B,
         mids: &mut Mids,
-        peer: Peer,
-        admitted: Moment,
-        request: &Request<'_>,
+        write: &Write<'_>,
         number: u64,
         out: &mut Outbox,
     ) -> Stepped
@@ -143,64 +127,20 @@ impl Tables {
         requires free { B.has_staged board.old ≡ false }
         requires told { AreToldOf self.old.version (B.told board.old) }
         ensures way { (rows : List Row) (s : Step) (place : ℕ)
-            → s.peer ≡ peer
-            → IsOpen place s.peer (message_of request.now).mid admitted.0 (events rows)
+            → s.peer ≡ write.now.peer
+            → IsOpen place s.peer (message_of write.now.request).mid write.now.admitted.0
+            (events rows)
             → UnderWay rows s (is_starved_step result) nothing self.old out.old mids.old
             → UnderWay rows s (is_starved_step result)
-            (unless_failing (is_starved_step result) place s (message_of request.now)
-            (settling place s (message_of request.now)
-            (removing rows (row_moment rows s) s number))) self.new out.new mids.new }
+            (unless_failing (is_starved_step result) place s (message_of write.now.request)
+            (commits_of.settling place s (message_of write.now.request)
+            (commits_of.removing rows (row_moment rows s) s number))) self.new out.new mids.new }
         ensures laid { IsLaid self.old.version self.new.version (B.staged board.old)
             (B.staged board.new) (B.has_staged board.new) }
         ensures name { B.name board.new ≡ B.name board.old }
         ensures told { B.told board.new ≡ B.told board.old }
     {
-        let planned = removed(alloc, &*self.version, self.moment, number);
-        self.finish(
-            board,
-            mids,
-            peer,
-            &request.meaning.view,
-            admitted,
-            planned,
-            out,
-        )
-    }
-
-    /// A write on a registration that was admitted is done: POST updates it, and DELETE removes it
-    /// (RFC 9176 sections 5.3.1 and 5.3.2).
-    pub(crate) fn commit_location<B: Board>(
-        &mut self,
-        alloc: Global,
-        board: &mut B,
-        mids: &mut Mids,
-        peer: Peer,
-        admitted: Moment,
-        request: &Request<'_>,
-        number: u64,
-        out: &mut Outbox,
-    ) -> Stepped
-        requires good { request.now.meaning.view.code ≡ codes_of.post
-            → fault_of reading.Update (queries_in (message_of request.now)) ≡ None }
-        requires room { length out.old < most_datagrams }
-        requires free { B.has_staged board.old ≡ false }
-        requires told { AreToldOf self.old.version (B.told board.old) }
-        ensures way { (rows : List Row) (s : Step) (place : ℕ)
-            → s.peer ≡ peer
-            → IsOpen place s.peer (message_of request.now).mid admitted.0 (events rows)
-            → UnderWay rows s (is_starved_step result) nothing self.old out.old mids.old
-            → UnderWay rows s (is_starved_step result)
-            (unless_failing (is_starved_step result) place s (message_of request.now)
-            (on_location (method_of (message_of request.now).code) rows (row_moment rows s)
-            place s (message_of request.now) number)) self.new out.new mids.new }
-        ensures laid { IsLaid self.old.version self.new.version (B.staged board.old)
-            (B.staged board.new) (B.has_staged board.new) }
-        ensures name { B.name board.new ≡ B.name board.old }
-        ensures told { B.told board.new ≡ B.told board.old }
-    {
-        if request.meaning.view.code == POST {
-            return self.commit_update(alloc, board, mids, peer, admitted, request, number, out);
-        }
-        self.commit_removal(alloc, board, mids, peer, admitted, request, number, out)
+        let planned = removed(self.alloc, &*self.version, self.moment, number);
+        self.finish(board, mids, write, planned, out)
     }
 }

@@ -3,6 +3,7 @@
 ghost use Rattle.std.specs.Prelude.{◌≡◌, ◌≤◌, ◌<◌, ◌^◌, ℕ, true, false, List, length, Ok, Some, IfOk};
 ghost use Rattle.std.specs.Option.{ForSome};
 ghost use Rattle.message_model.specs.Reading.{reading};
+ghost use Rattle.message_model.specs.Spelling.{spelling};
 ghost use Rattle.coap_message.specs.Views.{message_in};
 ghost use Rattle.history_model.specs.declared.entries.Entry.{Entry};
 ghost use Rattle.history_model.specs.Listing.{listing, tag};
@@ -19,7 +20,7 @@ ghost use Rattle.coap_answers.specs.Replies.{IsReply, reply_said};
 ghost use Rattle.coap_answers.specs.Sendings.{IsStepOf, Sends};
 ghost use Rattle.rd_request.specs.Accepted.{message_of};
 ghost use Rattle.rd_desk.specs.Looking.{look_found, is_starved_look, look_done, look_left, IsHeld};
-ghost use Rattle.rd_desk.specs.Replies.{tag_octets};
+ghost use Rattle.coap_answers.specs.Replies.{tag_octets};
 
 use crate::{KeepJob, Mids, Outbox};
 use coap_answers::{Reply, answer, answer_starved, body_reply, is_long};
@@ -190,18 +191,18 @@ fn give(
     alloc: Global,
     mids: &mut Mids,
     peer: Peer,
-    datagram: &[u8],
     request: &Request<'_>,
     found: Found,
     out: &mut Outbox,
 ) -> Looked
-    requires looks { is_look_datagram datagram.now ≡ true }
+    requires read { reading (spelling (message_of request.now)) ≡ Ok (message_of request.now) }
+    requires looks { is_look_datagram (spelling (message_of request.now)) ≡ true }
     requires room { length out.old < most_datagrams }
     ensures sends { (s : Step)
         → IsStepOf s peer mids.old
         → Sends (look_done (is_starved_look result) s (message_of request.now)
         (look_found (message_of request.now) found)) out.old out.new mids.old mids.new }
-    ensures held { IsHeld peer datagram.now (look_left (is_starved_look result)
+    ensures held { IsHeld peer (spelling (message_of request.now)) (look_left (is_starved_look result)
         (look_found (message_of request.now) found)) result }
 {
     match found {
@@ -210,7 +211,7 @@ fn give(
             return Looked::Done;
         }
         Found::Listing(tagged) => {
-            return give_listing(alloc, mids, peer, datagram, request, tagged, out);
+            return give_listing(alloc, mids, peer, request, tagged, out);
         }
         Found::OwnLinks(octets) => {
             send_block(mids, peer, request, None, None, octets.as_slice(), out);
@@ -224,19 +225,19 @@ fn give_listing(
     alloc: Global,
     mids: &mut Mids,
     peer: Peer,
-    datagram: &[u8],
     request: &Request<'_>,
     tagged: TaggedListing,
     out: &mut Outbox,
 ) -> Looked
-    requires looks { is_look_datagram datagram.now ≡ true }
+    requires read { reading (spelling (message_of request.now)) ≡ Ok (message_of request.now) }
+    requires looks { is_look_datagram (spelling (message_of request.now)) ≡ true }
     requires room { length out.old < most_datagrams }
     ensures sends { (s : Step)
         → IsStepOf s peer mids.old
         → Sends (look_done (is_starved_look result) s (message_of request.now)
         (look_found (message_of request.now) (Found.Listing tagged))) out.old out.new
         mids.old mids.new }
-    ensures held { IsHeld peer datagram.now (look_left (is_starved_look result)
+    ensures held { IsHeld peer (spelling (message_of request.now)) (look_left (is_starved_look result)
         (look_found (message_of request.now) (Found.Listing tagged))) result }
 {
     let TaggedListing { octets, tag } = tagged;
@@ -244,7 +245,7 @@ fn give_listing(
         send_block(mids, peer, request, Some(tag), None, octets.as_slice(), out);
         return Looked::Done;
     }
-    let Ok(job) = KeepJob::of(alloc, peer, datagram, octets, tag) else {
+    let Ok(job) = KeepJob::of(alloc, peer, request, octets, tag) else {
         answer_starved(mids, peer, &request.meaning.view, out);
         return Looked::Starved;
     };
@@ -255,6 +256,7 @@ fn give_listing(
 pub(crate) fn look_request(datagram: &[u8]) -> Request<'_>
     requires { is_look_datagram datagram.now ≡ true }
     ensures read { reading datagram.now ≡ Ok (message_of result) }
+    ensures spelled { spelling (message_of result) ≡ datagram.now }
     ensures looks { requests_of.only_looks (message_of result) ≡ true }
 {
     let Incoming::Look(request) = read_datagram(datagram) else {
@@ -296,7 +298,7 @@ pub fn look(
         answer_starved(mids, peer, &request.meaning.view, out);
         return Looked::Starved;
     };
-    give(alloc, mids, peer, datagram, &request, found, out)
+    give(alloc, mids, peer, &request, found, out)
 }
 
 /// A request that only looks, for which no version is at hand, is answered 5.00 (RFC 7252 section

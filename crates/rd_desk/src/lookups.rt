@@ -38,7 +38,6 @@ use exchange_core::Token;
 use observation::Joining;
 use rd_base::{Peer, Query, Starved};
 use rd_request::{Request, begins_observation, is_later_block, query_of};
-use std::alloc::Global;
 
 /// How many Observe values there are: they have 24 bits (RFC 7641 section 3.4).
 const OBSERVE_VALUES: u64 = 16_777_216;
@@ -100,12 +99,7 @@ impl Tables {
 
     /// The listing of a lookup of a further block now, to be kept where it has that block.
     /// `Starved`: out of memory.
-    fn form_later(
-        &self,
-        alloc: Global,
-        peer: Peer,
-        request: &Request<'_>,
-    ) -> Result<Formed, Starved>
+    fn form_later(&self, peer: Peer, request: &Request<'_>) -> Result<Formed, Starved>
         requires seeks { seeks_links (path_in (message_of request.now)) ≡ true }
         ensures formed { (history : List Entry)
             → VersionStandsFor 0 history self.now.version
@@ -118,12 +112,12 @@ impl Tables {
         ensures ready { IfOk result (IsReadied self.now.moment peer
             (key_in (message_of request.now)) self.now.transfers.answers) }
     {
-        let query = query_of(alloc, request)?;
-        let listed = listed_at(alloc, &*self.version, self.moment, &query)?;
+        let query = query_of(self.alloc, request)?;
+        let listed = listed_at(self.alloc, &*self.version, self.moment, &query)?;
         let keep = has_asked_block(&request.asked, listed.body.as_slice());
         form(
             &self.transfers,
-            alloc,
+            self.alloc,
             self.moment,
             peer,
             request,
@@ -136,7 +130,6 @@ impl Tables {
     /// it is longer than a block. `Starved`: out of memory.
     fn form_first(
         &self,
-        alloc: Global,
         peer: Peer,
         request: &Request<'_>,
         query: &Query,
@@ -150,11 +143,11 @@ impl Tables {
         ensures ready { IfOk result (IsReadied self.now.moment peer
             (key_in (message_of request.now)) self.now.transfers.answers) }
     {
-        let listed = listed_at(alloc, &*self.version, self.moment, query)?;
+        let listed = listed_at(self.alloc, &*self.version, self.moment, query)?;
         let keep = is_long(&request.asked, listed.body.as_slice());
         form(
             &self.transfers,
-            alloc,
+            self.alloc,
             self.moment,
             peer,
             request,
@@ -164,12 +157,7 @@ impl Tables {
     }
 
     /// What a lookup that asks to observe no more is answered with. `Starved`: out of memory.
-    fn form_unobserved(
-        &self,
-        alloc: Global,
-        peer: Peer,
-        request: &Request<'_>,
-    ) -> Result<Formed, Starved>
+    fn form_unobserved(&self, peer: Peer, request: &Request<'_>) -> Result<Formed, Starved>
         requires seeks { seeks_links (path_in (message_of request.now)) ≡ true }
         ensures formed { (history : List Entry)
             → VersionStandsFor 0 history self.now.version
@@ -182,18 +170,13 @@ impl Tables {
         ensures ready { IfOk result (IsReadied self.now.moment peer
             (key_in (message_of request.now)) self.now.transfers.answers) }
     {
-        let query = query_of(alloc, request)?;
-        self.form_first(alloc, peer, request, &query)
+        let query = query_of(self.alloc, request)?;
+        self.form_first(peer, request, &query)
     }
 
     /// What takes memory for a lookup that asks to observe, but the place of its query. `Starved`:
     /// out of memory.
-    fn form_observed(
-        &self,
-        alloc: Global,
-        peer: Peer,
-        request: &Request<'_>,
-    ) -> Result<Observing, Starved>
+    fn form_observed(&self, peer: Peer, request: &Request<'_>) -> Result<Observing, Starved>
         requires seeks { seeks_links (path_in (message_of request.now)) ≡ true }
         ensures query { IfOk result (λ o. o.query
             ≡ requests_of.query_of (message_of request.now)) }
@@ -210,9 +193,9 @@ impl Tables {
         ensures ready { IfOk result (λ o. IsReadied self.now.moment peer
             (key_in (message_of request.now)) self.now.transfers.answers o.formed) }
     {
-        let query = query_of(alloc, request)?;
-        let formed = self.form_first(alloc, peer, request, &query)?;
-        let joining = joining_by(alloc, peer, request, &formed.listed)?;
+        let query = query_of(self.alloc, request)?;
+        let formed = self.form_first(peer, request, &query)?;
+        let joining = joining_by(self.alloc, peer, request, &formed.listed)?;
         Ok(Observing {
             query,
             joining,
@@ -222,12 +205,7 @@ impl Tables {
 
     /// An observer joins in place of that of its peer and token, where it has room; the Observe
     /// value that it is given then. `Starved`: out of memory, and nothing changed.
-    fn join(
-        &mut self,
-        alloc: Global,
-        query: &Query,
-        joining: Joining,
-    ) -> Result<Option<u32>, Starved>
+    fn join(&mut self, query: &Query, joining: Joining) -> Result<Option<u32>, Starved>
         ensures value { (rows : List Row) (s : Step) (starved : Bool) (out : List (Endpoint
             × List ℕ)) (mids : MidsSeen)
             → UnderWay rows s starved nothing self.old out mids
@@ -247,7 +225,7 @@ impl Tables {
         ensures unchanged { OnErr result (self.new ≡ self.old) }
         ensures version { self.new.version ≡ self.old.version }
     {
-        let added = self.watching.join(alloc, query, joining)?;
+        let added = self.watching.join(self.alloc, query, joining)?;
         if !added {
             return Ok(None);
         }
@@ -258,7 +236,6 @@ impl Tables {
     /// A lookup of a further block: it is a block of the kept answer, or else of the listing now.
     fn answer_later(
         &mut self,
-        alloc: Global,
         mids: &mut Mids,
         peer: Peer,
         request: &Request<'_>,
@@ -275,7 +252,7 @@ impl Tables {
             self.new out.new mids.new }
         ensures version { self.new.version ≡ self.old.version }
     {
-        let Ok(key) = request_key(alloc, &request.meaning) else {
+        let Ok(key) = request_key(self.alloc, &request.meaning) else {
             answer_starved(mids, peer, &request.meaning.view, out);
             return Stepped::Starved;
         };
@@ -290,7 +267,7 @@ impl Tables {
         ) {
             return Stepped::Done;
         }
-        let Ok(formed) = self.form_later(alloc, peer, request) else {
+        let Ok(formed) = self.form_later(peer, request) else {
             answer_starved(mids, peer, &request.meaning.view, out);
             return Stepped::Starved;
         };
@@ -302,7 +279,6 @@ impl Tables {
     /// and one is added where it has room.
     fn answer_observed(
         &mut self,
-        alloc: Global,
         mids: &mut Mids,
         peer: Peer,
         request: &Request<'_>,
@@ -320,7 +296,7 @@ impl Tables {
             self.new out.new mids.new }
         ensures version { self.new.version ≡ self.old.version }
     {
-        let Ok(observing) = self.form_observed(alloc, peer, request) else {
+        let Ok(observing) = self.form_observed(peer, request) else {
             answer_starved(mids, peer, &request.meaning.view, out);
             return Stepped::Starved;
         };
@@ -329,7 +305,7 @@ impl Tables {
             joining,
             formed,
         } = observing;
-        let Ok(value) = self.join(alloc, &query, joining) else {
+        let Ok(value) = self.join(&query, joining) else {
             answer_starved(mids, peer, &request.meaning.view, out);
             return Stepped::Starved;
         };
@@ -341,7 +317,6 @@ impl Tables {
     /// goes.
     fn answer_unobserved(
         &mut self,
-        alloc: Global,
         mids: &mut Mids,
         peer: Peer,
         request: &Request<'_>,
@@ -360,7 +335,7 @@ impl Tables {
             self.new out.new mids.new }
         ensures version { self.new.version ≡ self.old.version }
     {
-        let Ok(formed) = self.form_unobserved(alloc, peer, request) else {
+        let Ok(formed) = self.form_unobserved(peer, request) else {
             answer_starved(mids, peer, &request.meaning.view, out);
             return Stepped::Starved;
         };
@@ -374,7 +349,6 @@ impl Tables {
     /// ignored, or one that begins or ends an observation.
     pub(crate) fn hear_lookup(
         &mut self,
-        alloc: Global,
         mids: &mut Mids,
         peer: Peer,
         request: &Request<'_>,
@@ -392,11 +366,11 @@ impl Tables {
         ensures version { self.new.version ≡ self.old.version }
     {
         if is_later_block(request) {
-            return self.answer_later(alloc, mids, peer, request, out);
+            return self.answer_later(mids, peer, request, out);
         }
         if begins_observation(request.meaning.observe) {
-            return self.answer_observed(alloc, mids, peer, request, out);
+            return self.answer_observed(mids, peer, request, out);
         }
-        self.answer_unobserved(alloc, mids, peer, request, out)
+        self.answer_unobserved(mids, peer, request, out)
     }
 }

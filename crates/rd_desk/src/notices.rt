@@ -38,7 +38,6 @@ use crate::{Mids, Outbox, Stepped};
 use exchange_core::Sent;
 use observation::Watching;
 use rd_base::{Bytes, Starved, Tag};
-use std::alloc::Global;
 use std::sync::Arc;
 use transfers::Answers;
 
@@ -71,7 +70,7 @@ fn index_after(watching: &Watching, index: usize) -> usize
 impl Tables {
     /// The body of the query of the observer with an index. It is kept, so that it is formed once
     /// for all who observe it. `Starved`: out of memory.
-    fn body_for(&mut self, alloc: Global, index: usize) -> Result<Arc<Bytes>, Starved>
+    fn body_for(&mut self, index: usize) -> Result<Arc<Bytes>, Starved>
         requires { index < length self.old.watching.observers }
         ensures body { (rows : List Row) (o : Observed)
             → StandsFor rows self.old
@@ -82,7 +81,13 @@ impl Tables {
         ensures observers { self.new.watching.observers ≡ self.old.watching.observers }
         ensures others { self.new ≡ record self.old { watching = self.new.watching } }
     {
-        let body = formed_body(&self.watching, alloc, &*self.version, self.moment, index)?;
+        let body = formed_body(
+            &self.watching,
+            self.alloc,
+            &*self.version,
+            self.moment,
+            index,
+        )?;
         let kept = Arc::try_clone(&body)?;
         self.watching.keep_body(index, kept);
         Ok(body)
@@ -92,7 +97,6 @@ impl Tables {
     /// flight, is planned: nothing where a notice to its peer is planned. `Starved`: out of memory.
     fn plan_one(
         &mut self,
-        alloc: Global,
         word: u32,
         tag: Tag,
         mids: &Mids,
@@ -122,7 +126,7 @@ impl Tables {
         if plan.waits_for(&observer.peer) {
             return Ok(());
         }
-        let body = self.body_for(alloc, index)?;
+        let body = self.body_for(index)?;
         let Some(observer) = self.watching.at(index) else {
             unreachable!()
         };
@@ -136,7 +140,7 @@ impl Tables {
             tag,
         };
         plan.add_notice(
-            alloc,
+            self.alloc,
             observer,
             occasion,
             mids.after(planned),
@@ -147,14 +151,7 @@ impl Tables {
 
     /// What is done for each observer that is looked at is planned. Nothing changes but bodies that
     /// are kept. `Starved`: out of memory.
-    fn plan_all(
-        &mut self,
-        alloc: Global,
-        word: u32,
-        tag: Tag,
-        mids: &Mids,
-        plan: &mut Plan,
-    ) -> Result<(), Starved>
+    fn plan_all(&mut self, word: u32, tag: Tag, mids: &Mids, plan: &mut Plan) -> Result<(), Starved>
         ensures planned { (rows : List Row) (s : Step) (starved : Bool) (whole first : Effects)
             (out : List (Endpoint
             × List ℕ))
@@ -174,7 +171,7 @@ impl Tables {
                 return Ok(());
             };
             let next = index_after(&self.watching, index);
-            self.plan_one(alloc, word, tag, mids, index, plan)?;
+            self.plan_one(word, tag, mids, index, plan)?;
             from = next;
         }
         Ok(())
@@ -259,13 +256,7 @@ impl Tables {
 
     /// Observers of whom at least one is due and free get a notice, one after the other, at most 64
     /// in all. What takes memory comes before anything changes.
-    fn send_notices(
-        &mut self,
-        alloc: Global,
-        word: u32,
-        mids: &mut Mids,
-        out: &mut Outbox,
-    ) -> Stepped
+    fn send_notices(&mut self, word: u32, mids: &mut Mids, out: &mut Outbox) -> Stepped
         ensures way { (rows : List Row) (s : Step)
             → s.word ≡ word
             → UnderWay rows s (is_starved_step result)
@@ -274,8 +265,8 @@ impl Tables {
             (notices_done (is_starved_step result) rows s) self.new out.new mids.new }
     {
         let tag = self.version.tag(self.moment);
-        let mut plan = Plan::empty(alloc);
-        if self.plan_all(alloc, word, tag, mids, &mut plan).is_err() {
+        let mut plan = Plan::empty(self.alloc);
+        if self.plan_all(word, tag, mids, &mut plan).is_err() {
             return Stepped::Starved;
         }
         let Plan {
@@ -283,7 +274,10 @@ impl Tables {
             peers: _,
             kept,
         } = plan;
-        let Ok(ready) = self.transfers.ready(alloc, self.moment, Answers::of(kept)) else {
+        let Ok(ready) = self
+            .transfers
+            .ready(self.alloc, self.moment, Answers::of(kept))
+        else {
             return Stepped::Starved;
         };
         self.carry_out(items, mids, out);
@@ -293,13 +287,7 @@ impl Tables {
 
     /// The second part of a tick: observers that are due get a notice, one after the other, at most
     /// 64 in all. Where none is due whose peer waits for no notice, it takes no memory.
-    pub(crate) fn notices(
-        &mut self,
-        alloc: Global,
-        word: u32,
-        mids: &mut Mids,
-        out: &mut Outbox,
-    ) -> Stepped
+    pub(crate) fn notices(&mut self, word: u32, mids: &mut Mids, out: &mut Outbox) -> Stepped
         ensures way { (rows : List Row) (s : Step)
             → s.word ≡ word
             → UnderWay rows s (is_starved_step result)
@@ -315,6 +303,6 @@ impl Tables {
         if self.watching.next_due(0).is_none() {
             return Stepped::Done;
         }
-        self.send_notices(alloc, word, mids, out)
+        self.send_notices(word, mids, out)
     }
 }

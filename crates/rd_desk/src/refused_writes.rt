@@ -3,7 +3,6 @@ ghost use Rattle.std.specs.Prelude.{◌≡◌, ◌<◌, ◌≤◌, ℕ, Bool, fa
 ghost use Rattle.message_model.specs.Codes as codes_of;
 ghost use Rattle.message_model.specs.Codes.{is_reserved};
 ghost use Rattle.event_model.specs.AdmissionOrder.{IsOpen};
-ghost use Rattle.coap_message.specs.Views.{message_in};
 ghost use Rattle.journal_model.specs.declared.steps.Step.{Step};
 ghost use Rattle.journal_model.specs.declared.rows.Row.{Row};
 ghost use Rattle.journal_model.specs.Changes.{refused};
@@ -12,14 +11,14 @@ ghost use Rattle.journal_model.specs.Effects.{nothing, diagnostic};
 ghost use Rattle.journal_model.specs.Journal.{events};
 ghost use Rattle.coap_answers.specs.Outboxes.{most_datagrams};
 ghost use Rattle.coap_answers.specs.Replies.{IsReply, reply_said};
+ghost use Rattle.rd_request.specs.Accepted.{message_of};
 ghost use Rattle.rd_desk.specs.Committing.{IsShort};
 ghost use Rattle.rd_desk.specs.UnderWay.{UnderWay};
 
 use crate::tables::Tables;
+use crate::writes::Write;
 use crate::{Mids, Outbox};
 use coap_answers::Reply;
-use coap_message::View;
-use rd_base::{Moment, Peer};
 
 /// A code with the word of a refusal.
 fn refusal(code: u8, word: &'static [u8]) -> Reply<'static>
@@ -47,9 +46,7 @@ impl Tables {
     pub(crate) fn refuse_write(
         &mut self,
         mids: &mut Mids,
-        peer: Peer,
-        view: &View<'_>,
-        admitted: Moment,
+        write: &Write<'_>,
         code: u8,
         word: &'static [u8],
         out: &mut Outbox,
@@ -59,13 +56,14 @@ impl Tables {
         requires word { length word.now ≤ 13 }
         requires room { length out.old < most_datagrams }
         ensures way { (rows : List Row) (s : Step) (starved : Bool) (place : ℕ)
-            → s.peer ≡ peer
-            → IsOpen place peer view.now.mid admitted.0 (events rows)
+            → s.peer ≡ write.now.peer
+            → IsOpen place write.now.peer (message_of write.now.request).mid
+            write.now.admitted.0 (events rows)
             → UnderWay rows s starved nothing self.old out.old mids.old
-            → UnderWay rows s starved (settling place s (message_in view.now)
+            → UnderWay rows s starved (settling place s (message_of write.now.request)
             (refused code word.now)) self.new out.new mids.new }
         ensures version { self.new.version ≡ self.old.version }
     {
-        self.settle(mids, peer, view, admitted, &refusal(code, word), out);
+        self.settle(mids, write, &refusal(code, word), out);
     }
 }

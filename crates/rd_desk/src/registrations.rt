@@ -1,8 +1,5 @@
 //! Registrations: their body comes whole, or in blocks (RFC 9176 section 5, RFC 7959 section 2.5).
 ghost use Rattle.std.specs.Prelude.{◌≡◌, ◌<◌, ◌≤◌, ◌^◌, ℕ, [], List, length, None, IfOk, false};
-ghost use Rattle.message_model.specs.Request.{queries_in};
-ghost use Rattle.record_model.specs.declared.readings.Reading.TheVariants as reading;
-ghost use Rattle.record_model.specs.Criteria.{fault_of};
 ghost use Rattle.history_model.specs.Versions.{VersionStandsFor};
 ghost use Rattle.event_model.specs.AdmissionOrder.{IsOpen};
 ghost use Rattle.journal_model.specs.declared.steps.Step.{Step};
@@ -10,7 +7,7 @@ ghost use Rattle.journal_model.specs.declared.rows.Row.{Row};
 ghost use Rattle.journal_model.specs.Commits.{settling};
 ghost use Rattle.journal_model.specs.Effects.{nothing};
 ghost use Rattle.journal_model.specs.Journal.{events, entries};
-ghost use Rattle.journal_model.specs.Registrations.{registration_outcome, registering};
+ghost use Rattle.journal_model.specs.Registrations as registrations_of;
 ghost use Rattle.journal_model.specs.Rows.{row_moment};
 ghost use Rattle.coap_answers.specs.Outboxes.{most_datagrams};
 ghost use Rattle.coap_answers.specs.Replies.{IsReply};
@@ -25,9 +22,10 @@ ghost use Rattle.rd_desk.specs.Staging.{IsLaid, IsNextOf};
 
 use crate::outcomes::{Outcome, registered};
 use crate::tables::Tables;
+use crate::writes::Registering;
 use crate::{Mids, Outbox, Stepped};
 use directory_core::{Board, Directory};
-use rd_base::{Moment, Peer, Starved};
+use rd_base::{Moment, Starved};
 use rd_request::{Request, given_params};
 use std::alloc::Global;
 
@@ -36,13 +34,11 @@ fn whole_outcome(
     alloc: Global,
     version: &Directory,
     now: Moment,
-    peer: Peer,
-    request: &Request<'_>,
+    registering: &Registering<'_>,
 ) -> Result<Outcome, Starved>
     requires after_at { version.now.at ≤ now.0 }
     requires after_sweep { version.now.swept ≤ now.0 }
     requires moment { now.0 ≤ 10 ^ 15 }
-    requires good { fault_of reading.Register (queries_in (message_of request.now)) ≡ None }
     ensures reply { IfOk result (λ o. IsReply o.reply) }
     ensures short { IfOk result (λ o. IsShort o.reply) }
     ensures moments { IfOk result (IsTimely now.0) }
@@ -51,18 +47,21 @@ fn whole_outcome(
         → IfOk result (IsNextOf history) }
     ensures planned { (rows : List Row) (s : Step)
         → VersionStandsFor 0 (entries rows) version.now
-        → s.peer ≡ peer
+        → s.peer ≡ registering.now.write.peer
         → IfOk result (IsPlanned (entries rows) version.now.swept []
-        (registration_outcome None rows now.0 s (message_of request.now))) }
+        (registrations_of.registration_outcome None rows now.0 s
+        (message_of registering.now.write.request))) }
 {
-    let params = given_params(alloc, &request.meaning, false)?;
+    let write = &registering.write;
+    let meaning = &write.request.meaning;
+    let params = given_params(alloc, meaning, false)?;
     registered(
         alloc,
         version,
         now,
-        peer,
+        write.peer,
         params,
-        request.meaning.view.payload,
+        meaning.view.payload,
         None,
     )
 }
@@ -71,79 +70,65 @@ impl Tables {
     /// A registration whose body came whole is done, or fails where memory runs out.
     fn commit_whole<B: Board>(
         &mut self,
-        alloc: Global,
         board: &mut B,
         mids: &mut Mids,
-        peer: Peer,
-        admitted: Moment,
-        request: &Request<'_>,
+        registering: &Registering<'_>,
         out: &mut Outbox,
     ) -> Stepped
-        requires good { fault_of reading.Register (queries_in (message_of request.now))
-            ≡ None }
         requires room { length out.old < most_datagrams }
         requires free { B.has_staged board.old ≡ false }
         requires told { AreToldOf self.old.version (B.told board.old) }
         ensures way { (rows : List Row) (s : Step) (place : ℕ)
-            → s.peer ≡ peer
-            → IsOpen place s.peer (message_of request.now).mid admitted.0 (events rows)
+            → s.peer ≡ registering.now.write.peer
+            → IsOpen place s.peer (message_of registering.now.write.request).mid
+            registering.now.write.admitted.0 (events rows)
             → UnderWay rows s (is_starved_step result) nothing self.old out.old mids.old
             → UnderWay rows s (is_starved_step result)
-            (unless_failing (is_starved_step result) place s (message_of request.now)
-            (settling place s (message_of request.now)
-            (registration_outcome None rows (row_moment rows s) s
-            (message_of request.now)))) self.new out.new mids.new }
+            (unless_failing (is_starved_step result) place s
+            (message_of registering.now.write.request)
+            (settling place s (message_of registering.now.write.request)
+            (registrations_of.registration_outcome None rows (row_moment rows s) s
+            (message_of registering.now.write.request)))) self.new out.new mids.new }
         ensures laid { IsLaid self.old.version self.new.version (B.staged board.old)
             (B.staged board.new) (B.has_staged board.new) }
         ensures name { B.name board.new ≡ B.name board.old }
         ensures told { B.told board.new ≡ B.told board.old }
     {
-        let planned = whole_outcome(alloc, &*self.version, self.moment, peer, request);
-        self.finish(
-            board,
-            mids,
-            peer,
-            &request.meaning.view,
-            admitted,
-            planned,
-            out,
-        )
+        let planned = whole_outcome(self.alloc, &*self.version, self.moment, registering);
+        self.finish(board, mids, &registering.write, planned, out)
     }
 
     /// A registration that was admitted is done: with its whole body, or as a block of it.
     pub(crate) fn commit_registration<B: Board>(
         &mut self,
-        alloc: Global,
         board: &mut B,
         mids: &mut Mids,
-        peer: Peer,
-        admitted: Moment,
-        request: &Request<'_>,
+        registering: &Registering<'_>,
         out: &mut Outbox,
     ) -> Stepped
-        requires good { fault_of reading.Register (queries_in (message_of request.now))
-            ≡ None }
         requires room { length out.old < most_datagrams }
         requires free { B.has_staged board.old ≡ false }
         requires told { AreToldOf self.old.version (B.told board.old) }
         ensures way { (rows : List Row) (s : Step) (place : ℕ)
-            → s.peer ≡ peer
-            → IsOpen place s.peer (message_of request.now).mid admitted.0 (events rows)
+            → s.peer ≡ registering.now.write.peer
+            → IsOpen place s.peer (message_of registering.now.write.request).mid
+            registering.now.write.admitted.0 (events rows)
             → UnderWay rows s (is_starved_step result) nothing self.old out.old mids.old
             → UnderWay rows s (is_starved_step result)
-            (unless_failing (is_starved_step result) place s (message_of request.now)
-            (settling place s (message_of request.now)
-            (registering rows (row_moment rows s) s (message_of request.now)))) self.new
-            out.new mids.new }
+            (unless_failing (is_starved_step result) place s
+            (message_of registering.now.write.request)
+            (settling place s (message_of registering.now.write.request)
+            (registrations_of.registering rows (row_moment rows s) s
+            (message_of registering.now.write.request)))) self.new out.new mids.new }
         ensures laid { IsLaid self.old.version self.new.version (B.staged board.old)
             (B.staged board.new) (B.has_staged board.new) }
         ensures name { B.name board.new ≡ B.name board.old }
         ensures told { B.told board.new ≡ B.told board.old }
     {
-        match request.sent {
-            None => return self.commit_whole(alloc, board, mids, peer, admitted, request, out),
+        match registering.write.request.sent {
+            None => return self.commit_whole(board, mids, registering, out),
             Some(block) => {
-                return self.commit_block(alloc, board, mids, peer, admitted, request, &block, out);
+                return self.commit_block(board, mids, registering, &block, out);
             }
         }
     }

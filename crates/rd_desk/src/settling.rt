@@ -14,15 +14,17 @@ ghost use Rattle.journal_model.specs.UnfinishedRow.{making};
 ghost use Rattle.coap_answers.specs.Outboxes.{most_datagrams};
 ghost use Rattle.coap_answers.specs.Replies.{IsReply, reply_said};
 ghost use Rattle.coap_answers.specs.Sendings.{IsStepOf, Sends};
+ghost use Rattle.rd_request.specs.Accepted.{message_of};
 ghost use Rattle.rd_desk.specs.Committing.{answering_settled, failing, IsShort};
 ghost use Rattle.rd_desk.specs.UnderWay.{UnderWay};
 
 use crate::tables::Tables;
+use crate::writes::Write;
 use crate::{Mids, Outbox};
 use coap_answers::{Reply, answer, begin_answer, internal_server_error};
 use coap_message::View;
 use exchange_core::Octets;
-use rd_base::{Moment, Peer};
+use rd_base::Peer;
 
 /// The number in a location is one of 64 bits, so it has at most 20 digits.
 fn known_number(location: Option<u64>)
@@ -63,9 +65,7 @@ impl Tables {
     pub(crate) fn settle(
         &mut self,
         mids: &mut Mids,
-        peer: Peer,
-        view: &View<'_>,
-        admitted: Moment,
+        write: &Write<'_>,
         reply: &Reply<'_>,
         out: &mut Outbox,
     )
@@ -73,39 +73,38 @@ impl Tables {
         requires short { IsShort reply.now }
         requires room { length out.old < most_datagrams }
         ensures way { (rows : List Row) (s : Step) (starved : Bool) (done : Effects) (place : ℕ)
-            → s.peer ≡ peer
+            → s.peer ≡ write.now.peer
             → done.drew ≡ 0
-            → IsOpen place peer view.now.mid admitted.0 (events (making rows s starved done))
+            → IsOpen place write.now.peer (message_of write.now.request).mid
+            write.now.admitted.0 (events (making rows s starved done))
             → UnderWay rows s starved done self.old out.old mids.old
             → UnderWay rows s starved (joined done
-            (answering_settled place s (message_in view.now) (reply_said reply.now))) self.new
-            out.new mids.new }
+            (answering_settled place s (message_of write.now.request) (reply_said reply.now)))
+            self.new out.new mids.new }
         ensures version { self.new.version ≡ self.old.version }
     {
-        let octets = answer_short(mids, peer, view, reply, out);
-        self.exchanges.settle(peer, view.mid, admitted, octets);
+        let view = &write.request.meaning.view;
+        let octets = answer_short(mids, write.peer, view, reply, out);
+        self.exchanges
+            .settle(write.peer, view.mid, write.admitted, octets);
     }
 
     /// An admitted write for which memory ran out is answered 5.00, and is forgotten, so that it
     /// may come again as a new one. Takes no memory.
-    pub(crate) fn fail(
-        &mut self,
-        mids: &mut Mids,
-        peer: Peer,
-        view: &View<'_>,
-        admitted: Moment,
-        out: &mut Outbox,
-    )
+    pub(crate) fn fail(&mut self, mids: &mut Mids, write: &Write<'_>, out: &mut Outbox)
         requires room { length out.old < most_datagrams }
         ensures way { (rows : List Row) (s : Step) (starved : Bool) (place : ℕ)
-            → s.peer ≡ peer
-            → IsOpen place peer view.now.mid admitted.0 (events rows)
+            → s.peer ≡ write.now.peer
+            → IsOpen place write.now.peer (message_of write.now.request).mid
+            write.now.admitted.0 (events rows)
             → UnderWay rows s starved nothing self.old out.old mids.old
-            → UnderWay rows s starved (failing place s (message_in view.now)) self.new out.new
+            → UnderWay rows s starved (failing place s (message_of write.now.request)) self.new
+            out.new
             mids.new }
         ensures version { self.new.version ≡ self.old.version }
     {
-        answer(mids, peer, view, &internal_server_error(), out);
-        self.exchanges.forget(peer, view.mid, admitted);
+        let view = &write.request.meaning.view;
+        answer(mids, write.peer, view, &internal_server_error(), out);
+        self.exchanges.forget(write.peer, view.mid, write.admitted);
     }
 }

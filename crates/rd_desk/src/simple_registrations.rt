@@ -2,11 +2,7 @@
 //! (RFC 9176 section 5.1).
 ghost use Rattle.std.specs.Prelude.{◌≡◌, ◌<◌, ◌+◌, ℕ, Bool, [], ◌∷◌, ◌++◌, List, length, None};
 ghost use Rattle.message_model.specs.Codes as codes_of;
-ghost use Rattle.message_model.specs.Request.{queries_in};
-ghost use Rattle.record_model.specs.declared.readings.Reading.TheVariants as reading;
-ghost use Rattle.record_model.specs.Criteria.{fault_of};
 ghost use Rattle.event_model.specs.AdmissionOrder.{IsOpen};
-ghost use Rattle.coap_message.specs.Views.{message_in};
 ghost use Rattle.journal_model.specs.declared.steps.Step.{Step};
 ghost use Rattle.journal_model.specs.declared.rows.Row.{Row};
 ghost use Rattle.journal_model.specs.Commits.{settling, registering_simply};
@@ -24,14 +20,13 @@ ghost use Rattle.rd_desk.specs.UnderWay.{UnderWay};
 use crate::heard_responses::ask_next;
 use crate::settling::answer_short;
 use crate::tables::Tables;
+use crate::writes::{RegisteringSimply, Write};
 use crate::{Mids, Outbox, Stepped};
 use coap_answers::Reply;
-use coap_message::{Kind4, View};
 use message_model::codes::{CHANGED, SERVICE_UNAVAILABLE};
-use rd_base::{Moment, Peer};
 use rd_request::{Request, given_params};
 use simple_registration::{AllowedParams, StartFault};
-use std::alloc::Global;
+use coap_message::Kind4;
 
 /// 2.04 alone.
 fn changed() -> Reply<'static>
@@ -64,29 +59,25 @@ fn drawn_for(kind: Kind4) -> u64
 impl Tables {
     /// The 2.04 is sent and settles the write, where the fetch that comes after it started already:
     /// whatever fetches the tables have, these stay.
-    fn settle_beside_fetch(
-        &mut self,
-        mids: &mut Mids,
-        peer: Peer,
-        view: &View<'_>,
-        admitted: Moment,
-        out: &mut Outbox,
-    )
+    fn settle_beside_fetch(&mut self, mids: &mut Mids, write: &Write<'_>, out: &mut Outbox)
         requires room { length out.old < most_datagrams }
         ensures way { (fetches : Table) (rows : List Row) (s : Step) (starved : Bool) (place : ℕ)
-            → s.peer ≡ peer
-            → IsOpen place peer view.now.mid admitted.0 (events rows)
+            → s.peer ≡ write.now.peer
+            → IsOpen place write.now.peer (message_of write.now.request).mid
+            write.now.admitted.0 (events rows)
             → UnderWay rows s starved nothing (record self.old { fetches = fetches }) out.old
             mids.old
-            → UnderWay rows s starved (settling place s (message_in view.now)
+            → UnderWay rows s starved (settling place s (message_of write.now.request)
             (record { reply = effects.bare codes_of.changed; notes = [] }))
             (record self.new { fetches = fetches }) out.new mids.new }
         ensures fetches { self.new.fetches ≡ self.old.fetches }
         ensures one { length out.new ≡ length out.old + 1 }
         ensures version { self.new.version ≡ self.old.version }
     {
-        let octets = answer_short(mids, peer, view, &changed(), out);
-        self.exchanges.settle(peer, view.mid, admitted, octets);
+        let view = &write.request.meaning.view;
+        let octets = answer_short(mids, write.peer, view, &changed(), out);
+        self.exchanges
+            .settle(write.peer, view.mid, write.admitted, octets);
     }
 
     /// A simple registration that was admitted is done: it is answered, and a fetch of the links of
@@ -95,68 +86,51 @@ impl Tables {
     /// where it runs out, the write fails.
     pub(crate) fn commit_simple(
         &mut self,
-        alloc: Global,
         word: u32,
         mids: &mut Mids,
-        peer: Peer,
-        admitted: Moment,
-        request: &Request<'_>,
+        registering: &RegisteringSimply<'_>,
         out: &mut Outbox,
     ) -> Stepped
-        requires good { fault_of reading.Simple (queries_in (message_of request.now)) ≡ None }
         requires room { length out.old + 1 < most_datagrams }
         ensures way { (rows : List Row) (s : Step) (place : ℕ)
-            → s.peer ≡ peer
+            → s.peer ≡ registering.now.write.peer
             → s.word ≡ word
-            → IsOpen place s.peer (message_of request.now).mid admitted.0 (events rows)
+            → IsOpen place s.peer (message_of registering.now.write.request).mid
+            registering.now.write.admitted.0 (events rows)
             → UnderWay rows s (is_starved_step result) nothing self.old out.old mids.old
             → UnderWay rows s (is_starved_step result)
-            (unless_failing (is_starved_step result) place s (message_of request.now)
-            (registering_simply (events rows) place s (message_of request.now))) self.new
-            out.new mids.new }
+            (unless_failing (is_starved_step result) place s
+            (message_of registering.now.write.request)
+            (registering_simply (events rows) place s
+            (message_of registering.now.write.request))) self.new out.new mids.new }
         ensures version { self.new.version ≡ self.old.version }
     {
-        let Ok(params) = given_params(alloc, &request.meaning, true) else {
-            self.fail(mids, peer, &request.meaning.view, admitted, out);
+        let write = &registering.write;
+        let Ok(params) = given_params(self.alloc, &write.request.meaning, true) else {
+            self.fail(mids, write, out);
             return Stepped::Starved;
         };
         let params = AllowedParams::of(params);
-        let mid = mids.after(drawn_for(request.meaning.view.kind));
+        let mid = mids.after(drawn_for(write.request.meaning.view.kind));
         match self
             .fetches
-            .start(alloc, self.moment, word, mid, peer, params)
+            .start(self.alloc, self.moment, word, mid, write.peer, params)
         {
             Ok(ask) => {
-                self.settle_beside_fetch(mids, peer, &request.meaning.view, admitted, out);
+                self.settle_beside_fetch(mids, write, out);
                 ask_next(mids, &ask, out);
                 return Stepped::Done;
             }
             Err(StartFault::Fetching(_)) => {
-                self.refuse_write(
-                    mids,
-                    peer,
-                    &request.meaning.view,
-                    admitted,
-                    SERVICE_UNAVAILABLE,
-                    b"fetching",
-                    out,
-                );
+                self.refuse_write(mids, write, SERVICE_UNAVAILABLE, b"fetching", out);
                 return Stepped::Done;
             }
             Err(StartFault::FullFetches) => {
-                self.refuse_write(
-                    mids,
-                    peer,
-                    &request.meaning.view,
-                    admitted,
-                    SERVICE_UNAVAILABLE,
-                    b"fetches",
-                    out,
-                );
+                self.refuse_write(mids, write, SERVICE_UNAVAILABLE, b"fetches", out);
                 return Stepped::Done;
             }
             Err(StartFault::Starved) => {
-                self.fail(mids, peer, &request.meaning.view, admitted, out);
+                self.fail(mids, write, out);
                 return Stepped::Starved;
             }
         }

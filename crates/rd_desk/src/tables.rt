@@ -22,6 +22,8 @@ use transfers::Transfers;
 /// is under way, what was done of its row so far.
 #[derive(Drop)]
 pub(crate) struct Tables {
+    /// Where memory comes from.
+    pub(crate) alloc: Global,
     /// The greatest moment that was handed in, at most 10^15.
     pub(crate) moment: Moment,
     /// The registrations.
@@ -73,6 +75,7 @@ impl Tables {
         let watching = Watching::make(alloc)?;
         let fetches = Fetches::make(alloc)?;
         Ok(Tables {
+            alloc,
             moment: Moment(0),
             version,
             exchanges,

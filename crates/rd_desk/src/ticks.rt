@@ -61,14 +61,15 @@ impl Tables {
     }
 
     /// Registrations that have lapsed are dropped from the version, where memory suffices.
-    fn sweep(&mut self, alloc: Global)
+    fn sweep(&mut self)
         ensures { (rows : List Row) (s : Step) (starved : Bool) (done : Effects)
             (out : List (Endpoint
             × List ℕ)) (mids : Drawn)
             → UnderWay rows s starved done self.old out mids
             → UnderWay rows s starved done self.new out mids }
     {
-        let Ok(version) = swept::<Brand>(Blank::new(1), alloc, &*self.version, self.moment) else {
+        let Ok(version) = swept::<Brand>(Blank::new(1), self.alloc, &*self.version, self.moment)
+        else {
             return;
         };
         self.version = version;
@@ -81,7 +82,6 @@ impl Tables {
     /// is needed: a sweep that finds none leaves what has lapsed. `out` is empty.
     pub(crate) fn tick(
         &mut self,
-        alloc: Global,
         now: Moment,
         word: u32,
         mids: &mut Mids,
@@ -102,10 +102,10 @@ impl Tables {
     {
         self.pass(now);
         self.notices_again(out);
-        let stepped = self.notices(alloc, word, mids, out);
+        let stepped = self.notices(word, mids, out);
         self.requests_again(out);
         self.drop_old_exchanges();
-        self.sweep(alloc);
+        self.sweep();
         stepped
     }
 }

@@ -5,15 +5,12 @@ ghost use Rattle.rd_base.specs.declared.peers.Peer.{Peer};
 ghost use Rattle.message_model.specs.Blocks.{IsBlock};
 ghost use Rattle.message_model.specs.Codes as codes_of;
 ghost use Rattle.message_model.specs.Request.{queries_in};
-ghost use Rattle.record_model.specs.declared.readings.Reading.TheVariants as reading;
-ghost use Rattle.record_model.specs.Criteria.{fault_of};
 ghost use Rattle.record_model.specs.Parameters.{registration_values};
 ghost use Rattle.history_model.specs.declared.entries.Entry.{Entry};
 ghost use Rattle.history_model.specs.Versions.{VersionStandsFor};
 ghost use Rattle.event_model.specs.declared.notes.Note.{Note};
 ghost use Rattle.event_model.specs.declared.notes.Note.TheVariants as note;
 ghost use Rattle.event_model.specs.AdmissionOrder.{IsOpen};
-ghost use Rattle.coap_message.specs.Views.{message_in};
 ghost use Rattle.journal_model.specs.declared.steps.Step.{Step};
 ghost use Rattle.journal_model.specs.declared.rows.Row.{Row};
 ghost use Rattle.journal_model.specs.Changes as changes;
@@ -38,9 +35,9 @@ ghost use Rattle.rd_desk.specs.Staging.{IsLaid, IsLeftBy, IsNextOf};
 use crate::outcomes::{Outcome, registered};
 use crate::staging::staged;
 use crate::tables::Tables;
+use crate::writes::{Registering, Write};
 use crate::{Mids, Outbox, Stepped};
 use coap_answers::Reply;
-use coap_message::View;
 use coap_options::request_key;
 use directory_core::{Board, Directory};
 use message_model::Block;
@@ -72,22 +69,30 @@ fn continued(block: Block) -> Reply<'static>
     }
 }
 
+/// The body of a registration whose last block came.
+#[derive(Clone, Copy, Debug)]
+pub(crate) struct WholeBody<'a> {
+    /// The key of the requests that its blocks came by (RFC 7959 section 2.5).
+    pub key: &'a Key,
+    /// Its last block.
+    pub last: Block,
+    /// Its octets.
+    pub octets: &'a [u8],
+}
+
 /// What comes of a registration by the last of its blocks, which makes its body whole. `Starved`:
 /// out of memory.
 fn body_outcome(
     alloc: Global,
     version: &Directory,
     now: Moment,
-    peer: Peer,
-    request: &Request<'_>,
-    block: &Block,
-    body: &[u8],
+    registering: &Registering<'_>,
+    body: &WholeBody<'_>,
 ) -> Result<Outcome, Starved>
     requires after_at { version.now.at ≤ now.0 }
     requires after_sweep { version.now.swept ≤ now.0 }
     requires moment { now.0 ≤ 10 ^ 15 }
-    requires good { fault_of reading.Register (queries_in (message_of request.now)) ≡ None }
-    requires block { IsBlock block.now }
+    requires block { IsBlock body.now.last }
     ensures moments { IfOk result (IsTimely now.0) }
     ensures reply { IfOk result (λ o. IsReply o.reply) }
     ensures short { IfOk result (λ o. IsShort o.reply) }
@@ -96,27 +101,29 @@ fn body_outcome(
         → IfOk result (IsNextOf history) }
     ensures planned { (history : List Entry) (s : Step) (further : List Note)
         → VersionStandsFor 0 history version.now
-        → s.peer ≡ peer
+        → s.peer ≡ registering.now.write.peer
         → IfOk result (IsPlanned history version.now.swept further
         (registration history now.0 s (registration_values
-        (queries_in (message_of request.now))) body.now (block1_option block.now)
-        further)) }
+        (queries_in (message_of registering.now.write.request))) body.now.octets.now
+        (block1_option body.now.last) further)) }
 {
-    let params = given_params(alloc, &request.meaning, false)?;
-    registered(alloc, version, now, peer, params, body, Some(*block))
+    let write = &registering.write;
+    let params = given_params(alloc, &write.request.meaning, false)?;
+    registered(
+        alloc,
+        version,
+        now,
+        write.peer,
+        params,
+        body.octets,
+        Some(body.last),
+    )
 }
 
 impl Tables {
     /// How a block is answered that comes from a peer, under the key of its request. One that more
     /// follow is collected where it is answered by `More`; after any other answer all is as before.
-    fn take_block(
-        &mut self,
-        alloc: Global,
-        peer: Peer,
-        key: &Key,
-        block: &Block,
-        piece: &[u8],
-    ) -> Upload
+    fn take_block(&mut self, peer: Peer, key: &Key, block: &Block, piece: &[u8]) -> Upload
         ensures answer { (rows : List Row) (s : Step) (starved : Bool) (out : List (Peer
             × List ℕ)) (mids : Mids)
             → s.peer ≡ peer
@@ -137,7 +144,7 @@ impl Tables {
         ensures version { self.new.version ≡ self.old.version }
     {
         self.transfers
-            .upload(alloc, self.moment, peer, key, block, piece)
+            .upload(self.alloc, self.moment, peer, key, block, piece)
     }
 
     /// The upload of a registration that is accepted ends. Takes no memory.
@@ -160,9 +167,7 @@ impl Tables {
     fn settle_upload(
         &mut self,
         mids: &mut Mids,
-        peer: Peer,
-        view: &View<'_>,
-        admitted: Moment,
+        write: &Write<'_>,
         key: &Key,
         outcome: Outcome,
         out: &mut Outbox,
@@ -173,87 +178,68 @@ impl Tables {
         requires room { length out.old < most_datagrams }
         ensures way { (rows : List Row) (s : Step) (starved : Bool) (place : ℕ)
             (meant : changes.Outcome)
-            → s.peer ≡ peer
-            → IsOpen place peer view.now.mid admitted.0 (events rows)
+            → s.peer ≡ write.now.peer
+            → IsOpen place write.now.peer (message_of write.now.request).mid
+            write.now.admitted.0 (events rows)
             → IsMadeAt (row_moment rows s) meant
             → IsPlanned (entries rows) self.old.version.swept (note.Finished s.peer key.now ∷ [])
             meant outcome
             → UnderWay rows s starved nothing self.old out.old mids.old
-            → UnderWay rows s starved (settling place s (message_in view.now) meant) self.new
+            → UnderWay rows s starved (settling place s (message_of write.now.request) meant)
+            self.new
             out.new mids.new }
         ensures version { IsLeftBy self.old.version self.new.version outcome.entering }
     {
         let Outcome { reply, entering } = outcome;
         let Some(entering) = entering else {
-            self.settle(mids, peer, view, admitted, &reply, out);
+            self.settle(mids, write, &reply, out);
             return;
         };
         self.enter(entering);
-        self.end_upload(peer, key);
-        self.settle(mids, peer, view, admitted, &reply, out);
+        self.end_upload(write.peer, key);
+        self.settle(mids, write, &reply, out);
     }
 
     /// A registration whose last block came is done with its whole body. What takes memory comes
     /// before anything changes; where it runs out, the write fails.
     fn commit_body<B: Board>(
         &mut self,
-        alloc: Global,
         board: &mut B,
         mids: &mut Mids,
-        peer: Peer,
-        admitted: Moment,
-        request: &Request<'_>,
-        block: &Block,
-        key: &Key,
-        body: &[u8],
+        registering: &Registering<'_>,
+        body: &WholeBody<'_>,
         out: &mut Outbox,
     ) -> Stepped
-        requires good { fault_of reading.Register (queries_in (message_of request.now))
-            ≡ None }
-        requires block { IsBlock block.now }
+        requires block { IsBlock body.now.last }
         requires room { length out.old < most_datagrams }
         requires free { B.has_staged board.old ≡ false }
         requires told { AreToldOf self.old.version (B.told board.old) }
         ensures way { (rows : List Row) (s : Step) (place : ℕ)
-            → s.peer ≡ peer
-            → IsOpen place peer request.now.meaning.view.mid admitted.0 (events rows)
+            → s.peer ≡ registering.now.write.peer
+            → IsOpen place registering.now.write.peer (message_of registering.now.write.request).mid
+            registering.now.write.admitted.0 (events rows)
             → UnderWay rows s (is_starved_step result) nothing self.old out.old mids.old
             → UnderWay rows s (is_starved_step result)
-            (unless_failing (is_starved_step result) place s (message_of request.now)
-            (settling place s (message_of request.now)
+            (unless_failing (is_starved_step result) place s
+            (message_of registering.now.write.request)
+            (settling place s (message_of registering.now.write.request)
             (registration (entries rows) (row_moment rows s) s
-            (registration_values (queries_in (message_of request.now))) body.now
-            (block1_option block.now) (note.Finished s.peer key.now ∷ [])))) self.new out.new
-            mids.new }
+            (registration_values (queries_in (message_of registering.now.write.request)))
+            body.now.octets.now (block1_option body.now.last)
+            (note.Finished s.peer body.now.key.now ∷ [])))) self.new out.new mids.new }
         ensures laid { IsLaid self.old.version self.new.version (B.staged board.old)
             (B.staged board.new) (B.has_staged board.new) }
         ensures name { B.name board.new ≡ B.name board.old }
         ensures told { B.told board.new ≡ B.told board.old }
     {
-        let planned = body_outcome(
-            alloc,
-            &*self.version,
-            self.moment,
-            peer,
-            request,
-            block,
-            body,
-        );
+        let planned = body_outcome(self.alloc, &*self.version, self.moment, registering, body);
         match staged(board, planned) {
             Ok(outcome) => {
-                self.settle_upload(
-                    mids,
-                    peer,
-                    &request.meaning.view,
-                    admitted,
-                    key,
-                    outcome,
-                    out,
-                );
+                self.settle_upload(mids, &registering.write, body.key, outcome, out);
                 return Stepped::Done;
             }
             Err(_) => {
-                self.fail(mids, peer, &request.meaning.view, admitted, out);
+                self.fail(mids, &registering.write, out);
                 return Stepped::Starved;
             }
         }
@@ -263,103 +249,64 @@ impl Tables {
     /// takes memory comes before anything changes; where it runs out, the write fails.
     pub(crate) fn commit_block<B: Board>(
         &mut self,
-        alloc: Global,
         board: &mut B,
         mids: &mut Mids,
-        peer: Peer,
-        admitted: Moment,
-        request: &Request<'_>,
+        registering: &Registering<'_>,
         block: &Block,
         out: &mut Outbox,
     ) -> Stepped
-        requires good { fault_of reading.Register (queries_in (message_of request.now))
-            ≡ None }
         requires block { IsBlock block.now }
         requires room { length out.old < most_datagrams }
         requires free { B.has_staged board.old ≡ false }
         requires told { AreToldOf self.old.version (B.told board.old) }
         ensures way { (rows : List Row) (s : Step) (place : ℕ)
-            → s.peer ≡ peer
-            → IsOpen place s.peer (message_of request.now).mid admitted.0 (events rows)
+            → s.peer ≡ registering.now.write.peer
+            → IsOpen place s.peer (message_of registering.now.write.request).mid
+            registering.now.write.admitted.0 (events rows)
             → UnderWay rows s (is_starved_step result) nothing self.old out.old mids.old
             → UnderWay rows s (is_starved_step result)
-            (unless_failing (is_starved_step result) place s (message_of request.now)
-            (settling place s (message_of request.now)
-            (block_uploaded rows (row_moment rows s) s (message_of request.now)
+            (unless_failing (is_starved_step result) place s
+            (message_of registering.now.write.request)
+            (settling place s (message_of registering.now.write.request)
+            (block_uploaded rows (row_moment rows s) s (message_of registering.now.write.request)
             block.now))) self.new out.new mids.new }
         ensures laid { IsLaid self.old.version self.new.version (B.staged board.old)
             (B.staged board.new) (B.has_staged board.new) }
         ensures name { B.name board.new ≡ B.name board.old }
         ensures told { B.told board.new ≡ B.told board.old }
     {
-        let Ok(key) = request_key(alloc, &request.meaning) else {
-            self.fail(mids, peer, &request.meaning.view, admitted, out);
+        let write = &registering.write;
+        let Ok(key) = request_key(self.alloc, &write.request.meaning) else {
+            self.fail(mids, write, out);
             return Stepped::Starved;
         };
-        match self.take_block(alloc, peer, &key, block, request.meaning.view.payload) {
+        match self.take_block(write.peer, &key, block, write.request.meaning.view.payload) {
             Upload::More => {
-                self.settle(
-                    mids,
-                    peer,
-                    &request.meaning.view,
-                    admitted,
-                    &continued(*block),
-                    out,
-                );
+                self.settle(mids, write, &continued(*block), out);
                 return Stepped::Done;
             }
-            Upload::Whole(body) => {
-                return self.commit_body(
-                    alloc,
-                    board,
-                    mids,
-                    peer,
-                    admitted,
-                    request,
-                    block,
-                    &key,
-                    body.as_slice(),
-                    out,
-                );
+            Upload::Whole(octets) => {
+                let body = WholeBody {
+                    key: &key,
+                    last: *block,
+                    octets: octets.as_slice(),
+                };
+                return self.commit_body(board, mids, registering, &body, out);
             }
             Upload::OutOfOrder => {
-                self.refuse_write(
-                    mids,
-                    peer,
-                    &request.meaning.view,
-                    admitted,
-                    REQUEST_ENTITY_INCOMPLETE,
-                    b"order",
-                    out,
-                );
+                self.refuse_write(mids, write, REQUEST_ENTITY_INCOMPLETE, b"order", out);
                 return Stepped::Done;
             }
             Upload::TooLarge => {
-                self.refuse_write(
-                    mids,
-                    peer,
-                    &request.meaning.view,
-                    admitted,
-                    REQUEST_ENTITY_TOO_LARGE,
-                    b"size",
-                    out,
-                );
+                self.refuse_write(mids, write, REQUEST_ENTITY_TOO_LARGE, b"size", out);
                 return Stepped::Done;
             }
             Upload::FullUploads => {
-                self.refuse_write(
-                    mids,
-                    peer,
-                    &request.meaning.view,
-                    admitted,
-                    SERVICE_UNAVAILABLE,
-                    b"uploads",
-                    out,
-                );
+                self.refuse_write(mids, write, SERVICE_UNAVAILABLE, b"uploads", out);
                 return Stepped::Done;
             }
             Upload::Starved => {
-                self.fail(mids, peer, &request.meaning.view, admitted, out);
+                self.fail(mids, write, out);
                 return Stepped::Starved;
             }
         }

@@ -5,8 +5,9 @@ ghost use Rattle.message_model.specs.Request.{path_in};
 ghost use Rattle.rd_request.specs.Accepted.{message_of};
 ghost use Rattle.rd_request.specs.WriteRequests.{is_write_path, is_write_datagram};
 
-use rd_base::{Bytes, Moment, Peer};
+use rd_base::{Moment, Peer};
 use rd_request::{Incoming, Request, read_datagram};
+use crate::kept_requests::KeptRequest;
 use std::marker::Model;
 
 /// A write that was admitted, to be done by the next step of its worker but ticks. Nothing refuses
@@ -15,36 +16,37 @@ use std::marker::Model;
 pub struct WriteJob {
     /// Who wrote.
     pub(crate) peer: Peer,
-    /// The datagram of the request.
-    pub(crate) datagram: Bytes,
+    /// Its request.
+    pub(crate) request: KeptRequest,
     /// When it was admitted.
     pub(crate) admitted: Moment,
 }
 
 impl Model for WriteJob {
-    ghost use Rattle.std.specs.Prelude.{◌≡◌, true};
-    ghost use Rattle.rd_request.specs.WriteRequests.{is_write_datagram};
-    ghost use Rattle.rd_desk.specs.WriteJobs.{Write};
+ghost use Rattle.std.specs.Prelude.{◌≡◌, true, Ok};
+ghost use Rattle.rd_request.specs.WriteRequests.{is_write_datagram};
+ghost use Rattle.rd_desk.specs.WriteJobs.{Write};
+ghost use Rattle.message_model.specs.Reading.{reading};
+ghost use Rattle.message_model.specs.Spelling.{spelling};
 
     ghost Value = { Write };
 
     ghost view = { λ job. record {
       peer = job.peer;
-      datagram = job.datagram;
+      datagram = spelling job.request;
       admitted = job.admitted.0;
     } };
 
-    ghost invariant = { λ job. is_write_datagram job.datagram ≡ true };
+    ghost invariant = { λ job. (reading (spelling job.request) ≡ Ok job.request)
+        × (is_write_datagram (spelling job.request) ≡ true) };
 }
 
-/// The request of the datagram of a write.
-pub(crate) fn write_request(datagram: &[u8]) -> Request<'_>
-    requires { is_write_datagram datagram.now ≡ true }
-    ensures read { reading datagram.now ≡ Ok (message_of result) }
-    ensures writes { is_write_path (path_in (message_of result)) ≡ true }
-{
-    let Incoming::Write(request) = read_datagram(datagram) else {
-        unreachable!()
-    };
-    request
+impl WriteJob {
+    /// Its request.
+    pub(crate) fn request(&self) -> Request<'_>
+        ensures read { reading self.now.datagram ≡ Ok (message_of result) }
+        ensures writes { is_write_path (path_in (message_of result)) ≡ true }
+    {
+        self.request.request()
+    }
 }

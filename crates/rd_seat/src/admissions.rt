@@ -10,8 +10,7 @@ use crate::gates::{Gate, Place};
 use crate::shared_desk::SharedDesk;
 use crate::shares::Share;
 use crate::turns::{begin, end};
-use rd_base::{Moment, Peer};
-use rd_desk::{Admitted, Mids, Outbox};
+use rd_desk::{Admitted, Arrival, Mids, Outbox};
 use std::marker::Brand;
 use std::snapshot::Snapshot;
 use std::sync::Wait;
@@ -21,10 +20,7 @@ use turn_lock::TurnLock;
 #[derive(Drop)]
 struct Parts<'a> {
     mids: Snapshot<Mids>,
-    now: Moment,
-    word: u32,
-    peer: Peer,
-    datagram: &'a [u8],
+    arrival: Arrival<'a>,
     is_starved: bool,
 }
 
@@ -46,19 +42,17 @@ impl Share {
         rt: &R,
         lock: &TurnLock<SharedDesk>,
         gate: &G,
-        now: Moment,
-        word: u32,
-        peer: Peer,
-        datagram: &[u8],
+        arrival: Arrival<'_>,
         out: &mut Outbox,
     ) -> Admitted
         requires lock { lock_of self.old.pass ≡ id_of lock.now }
         requires rest { Rests self.old }
-        requires moment { now.0 ≤ 10 ^ 15 }
-        requires other { is_look_datagram datagram.now ≡ false }
+        requires moment { arrival.moment.0 ≤ 10 ^ 15 }
+        requires other { is_look_datagram arrival.datagram.now ≡ false }
         requires empty { out.old ≡ [] }
         ensures { HasAdmitted self.old
-            (admit_step self.old.mids.worker now word peer datagram.now self.old.mids.drawn)
+            (admit_step self.old.mids.worker arrival.moment arrival.word arrival.peer
+            arrival.datagram.now self.old.mids.drawn)
             (is_starved_admission result) out.new result self.new }
     {
         gate.pass(rt, Place::BeforeTake);
@@ -67,14 +61,18 @@ impl Share {
         let mids = Snapshot::of(&self.mids);
         let admitted = shared
             .desk
-            .admit(now, word, &mut self.mids, peer, datagram, out);
+            .admit(
+                arrival.moment,
+                arrival.word,
+                &mut self.mids,
+                arrival.peer,
+                arrival.datagram,
+                out,
+            );
         self.last = self.last.later(shared.desk.moment());
         let parts = Parts {
             mids,
-            now,
-            word,
-            peer,
-            datagram,
+            arrival,
             is_starved: is_starved(&admitted),
         };
         end::<Brand, Brand, R, Parts>(rt, lock, &mut self.pass, &mut self.looker, shared, &parts);

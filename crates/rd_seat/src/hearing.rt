@@ -17,7 +17,7 @@ use crate::gates::{Gate, Place};
 use crate::halls::Hall;
 use crate::seats::Seat;
 use rd_base::{Moment, Peer};
-use rd_desk::{Admitted, Job, Looked, Outbox, Stepped, is_look};
+use rd_desk::{Admitted, Arrival, Job, Looked, Outbox, Stepped, is_look};
 use std::sync::Wait;
 
 /// What comes of a datagram that a seat hears.
@@ -96,7 +96,13 @@ impl Seat {
             gate.pass(rt, Place::BeforeLook);
             return of_look(self.lookup(now, peer, datagram, out));
         }
-        of_admission(self.admit(rt, hall, gate, now, word, peer, datagram, out))
+        let arrival = Arrival {
+            moment: now,
+            word,
+            peer,
+            datagram,
+        };
+        of_admission(self.admit(rt, hall, gate, arrival, out))
     }
 
     /// The step that does a job, at a turn of the seat, for which it waits. The admission of a

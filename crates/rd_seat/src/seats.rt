@@ -18,7 +18,7 @@ use crate::halls::Hall;
 use crate::shared_desk::SharedDesk;
 use crate::shares::Share;
 use rd_base::{Moment, Peer};
-use rd_desk::{Admitted, KeepJob, Looked, Mids, Outbox, Stepped, WriteJob};
+use rd_desk::{Admitted, Arrival, KeepJob, Looked, Mids, Outbox, Stepped, WriteJob};
 use std::alloc::Global;
 use std::marker::Model;
 use std::sync::Wait;
@@ -97,27 +97,24 @@ impl Seat {
         rt: &R,
         hall: &Hall,
         gate: &G,
-        now: Moment,
-        word: u32,
-        peer: Peer,
-        datagram: &[u8],
+        arrival: Arrival<'_>,
         out: &mut Outbox,
     ) -> Admitted
         requires hall { self.old.hall ≡ hall.now }
-        requires moment { now.0 ≤ 10 ^ 15 }
-        requires other { is_look_datagram datagram.now ≡ false }
+        requires moment { arrival.moment.0 ≤ 10 ^ 15 }
+        requires other { is_look_datagram arrival.datagram.now ≡ false }
         requires empty { out.old ≡ [] }
         ensures hall { self.new.hall ≡ self.old.hall }
         ensures met { IsFront self.old.met self.new.met }
         ensures made { MakesStep self.old
-            (admit_step self.old.worker now word peer datagram.now self.old.drawn)
+            (admit_step self.old.worker arrival.moment arrival.word arrival.peer
+            arrival.datagram.now self.old.drawn)
             (is_starved_admission result) out.new self.new }
         ensures left { LeavesJob result self.new.seen }
         ensures opens { OpensJob result self.new }
     {
         let lock = hall.lock();
-        self.share
-            .admit(rt, lock, gate, now, word, peer, datagram, out)
+        self.share.admit(rt, lock, gate, arrival, out)
     }
 
     /// The step that does a write, at a turn of the seat.

@@ -1,16 +1,22 @@
 -- What of a fetch may be sent and registered (RFC 9176 section 5.1).
-use Rattle.std.specs.Prelude.{◌≡◌, ℕ, ◌≤◌, true, List, length}
+use Rattle.std.specs.Prelude.{◌≡◌, ℕ, ◌≤◌, List, length, Option}
+use Rattle.message_model.specs.declared.blocks.Block.{Block}
+use Rattle.message_model.specs.FetchRequests.{fetch_request}
+use Rattle.message_model.specs.Message.{longest_token}
+use Rattle.message_model.specs.Spelling.{spelling}
 use Rattle.coap_message.specs.PartialMessages.{longest_datagram}
 use Rattle.record_model.specs.AllowedParameters.{AreAllowed}
-use Rattle.journal_model.specs.Ticks.{is_confirmable_with}
 use Rattle.simple_registration.specs.declared.hearing.Heard.{Heard}
 use Rattle.simple_registration.specs.declared.hearing.Heard.TheVariants as heard
 
--- a request that can be sent: it is a confirmable message with its Message ID, and no longer than a
--- datagram may be
+-- a request that can be sent: it is the request of a fetch under its Message ID, with a token as
+-- long as one may be, and no longer than a datagram may be
 pub record IsSendable (mid : ℕ) (octets : List ℕ) : Type 0 where
+  pub token : List ℕ
+  pub block : Option Block
+  pub short : length token ≤ longest_token
+  pub spelled : octets ≡ spelling (fetch_request mid token block)
   pub fits : length octets ≤ longest_datagram
-  pub confirmable : is_confirmable_with mid octets ≡ true
 
 -- what comes of a response: the next request can be sent, and the parameters of a whole body are
 -- allowed

@@ -111,7 +111,6 @@ pub(crate) fn drop_upload(uploads: &mut Vec<Collected>, peer: Peer, key: &Key)
 #[tactic(auto, unfolding(crate::specs::Uploading::begun))]
 fn begin(
     uploads: &mut Vec<Collected>,
-    alloc: Global,
     now: Moment,
     peer: Peer,
     key: &Key,
@@ -124,7 +123,7 @@ fn begin(
     ensures err { OnErr result (uploads.new.items ≡ uploads.old.items) }
     ensures capacity { vec_capacity uploads.new ≡ vec_capacity uploads.old }
 {
-    let upload = Collected::begin(alloc, now, peer, key, piece)?;
+    let upload = Collected::begin(*uploads.allocator(), now, peer, key, piece)?;
     keep_others(uploads, now, peer, key);
     uploads.push_reserved(upload);
     Ok(())
@@ -158,7 +157,6 @@ fn go_on(
 #[tactic(auto, unfolding(crate::specs::Uploading::gone_on))]
 fn take(
     uploads: &mut Vec<Collected>,
-    alloc: Global,
     now: Moment,
     peer: Peer,
     key: &Key,
@@ -175,7 +173,7 @@ fn take(
     ensures capacity { vec_capacity uploads.new ≡ vec_capacity uploads.old }
 {
     if block.num == 0 {
-        return begin(uploads, alloc, now, peer, key, piece);
+        return begin(uploads, now, peer, key, piece);
     }
     go_on(uploads, now, index, piece)
 }
@@ -244,7 +242,7 @@ pub(crate) fn upload(
     let Upload::More = answer else {
         return answer;
     };
-    match take(uploads, alloc, now, peer, key, index, block, piece) {
+    match take(uploads, now, peer, key, index, block, piece) {
         Ok(()) => Upload::More,
         Err(_) => Upload::Starved,
     }

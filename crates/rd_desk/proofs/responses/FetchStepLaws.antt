@@ -31,6 +31,7 @@ use Rattle.std.proofs.Common.{
   refl,
   ap,
   eq-eqb,
+  ◌∙◌,
   arith,
 }
 use Rattle.std.specs.Prelude.{is_none, nat_le, unwrap_or}
@@ -103,6 +104,7 @@ use Rattle.simple_registration.specs.declared.hearing.Heard.{Heard}
 use Rattle.simple_registration.specs.declared.hearing.Heard.TheVariants as heard
 use Rattle.simple_registration.specs.declared.starts.StartFault.TheVariants as fault
 use Rattle.simple_registration.specs.Responses.{heard_part, heard_block, heard_by}
+use Rattle.simple_registration.specs.Sendable.{IsSendable}
 use Rattle.simple_registration.specs.Table.{Table}
 use Rattle.simple_registration.specs.FetchEvents.{
   FetchesStandFor,
@@ -263,6 +265,13 @@ request_confirmable mid token b short = rw (first, second) refl
 
     second : (mid / 256 * 256 + mid % 256 == mid) ≡ true
     second = eq-eqb (mid / 256 * 256 + mid % 256) mid (omega arith)
+
+-- a request that can be sent is one
+pub sendable_confirmable : (mid : ℕ) (octets : List ℕ)
+    → IsSendable mid octets
+    → is_confirmable_with mid octets ≡ true
+sendable_confirmable mid octets it =
+    ap (is_confirmable_with mid) it.spelled ∙ request_confirmable mid it.token it.block it.short
 
 -- and a message of another type is none
 pub other_kind : (mid : ℕ) (m : Message)

@@ -28,14 +28,16 @@ use Rattle.message_model.specs.OptionTable.{first_bad_option}
 use Rattle.event_model.specs.Events.{Event}
 use Rattle.event_model.specs.Fetches.{Request, last_request, gathered, collected}
 use Rattle.journal_model.specs.declared.steps.Step.{Step}
-use Rattle.journal_model.specs.Responses.{request_of, block_in, is_elsewhere, ends_fetch}
+use Rattle.journal_model.specs.Responses.{ends_fetch}
+use Rattle.event_model.specs.Fetches.{request_of}
+use Rattle.message_model.specs.Responses.{block_in, is_elsewhere}
 use Rattle.journal_model.specs.Responses as responses
 use Rattle.simple_registration.specs.declared.asks.Ask.{Ask}
 use Rattle.simple_registration.specs.declared.hearing.Heard.{Heard}
 use Rattle.simple_registration.specs.declared.hearing.Heard.TheVariants as heard
 use Rattle.simple_registration.specs.Responses.{request_after, heard_part, heard_block, heard_by}
 use Rattle.simple_registration.specs.FetchEvents.{belongs_after, heard_after}
-use Rattle.simple_registration.proofs.StepLaws.{fetch_of-belongs}
+use Rattle.rd_desk.proofs.responses.FetchStepLaws.{fetch_of-belongs}
 
 -- one that belongs to the fetch of its peer, and has no unrecognized critical option, is to its
 -- last request

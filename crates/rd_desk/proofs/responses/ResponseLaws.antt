@@ -106,7 +106,11 @@ use Rattle.simple_registration.specs.FetchEvents.{
 }
 use Rattle.simple_registration.specs.Sendable.{IsSendable}
 use Rattle.simple_registration.proofs.CallLaws.{belongs}
-use Rattle.rd_desk.proofs.responses.FetchStepLaws.{other_kind, octets_sent-here}
+use Rattle.rd_desk.proofs.responses.FetchStepLaws.{
+  other_kind,
+  octets_sent-here,
+  sendable_confirmable,
+}
 use Rattle.coap_answers.specs.declared.mids.Mids.{Mids}
 use Rattle.coap_answers.specs.Sendings.{Sends, AreRequestsSent}
 use Rattle.coap_answers.proofs.SendingLaws.{sends_nothing, sends_octets}
@@ -542,7 +546,8 @@ way_next rows s starved m request ask sender word mid x d t out between sent mid
     let drawn_here : mid ≡ mid_of s.worker s.drawn =
     drawn ∙ ap₂ (λ w n. mid_of w n) way.worker way.drawn in
     let it : is_confirmable_with (mid_of s.worker s.drawn) ask.bytes ≡ true =
-    ap (λ n. is_confirmable_with n ask.bytes) (sym drawn_here) ∙ sendable.confirmable in
+    ap (λ n. is_confirmable_with n ask.bytes) (sym drawn_here)
+    ∙ sendable_confirmable mid ask.bytes sendable in
     let moment : x.moment ≡ row_moment rows s =
     ap (λ (y : Seen). y.moment) seen
     ∙ way_moment rows s starved nothing d out mids_before way in

@@ -1,4 +1,5 @@
 use Rattle.std.proofs.Common.{[], Some, subst}
+use Rattle.message_model.specs.Spelling.{spelling}
 use Rattle.coap_message.specs.Views.{message_in}
 use Rattle.journal_model.specs.Looks.{Look, look_sent, body_held}
 use Rattle.coap_answers.specs.Replies.{reply_said}
@@ -25,7 +26,7 @@ pub returns-then-not-is_long-clause-held : goal.returns-then-not-is_long-clause-
 returns-then-not-is_long-clause-held c =
     let m = message_in c.args.request.now.meaning.view in
     subst (λ (given : Look).
-    IsHeld c.args.peer c.args.datagram.now (body_held (Some given)) ended.Done)
+    IsHeld c.args.peer (spelling m) (body_held (Some given)) ended.Done)
     (given_whole m c.args.tagged.octets c.args.tagged.tag.0 c.as_slice.result.now
     c.as_slice-then-not-is_long.result.now c.args.request.now.asked c.is_long.result
     c.args.request.now.asked_said c.as_slice.ensures.value c.is_long.ensures c.if-not-is_long.true
@@ -48,7 +49,7 @@ pub returns-clause-held : goal.returns-clause-held
 returns-clause-held c =
     let m = message_in c.args.request.now.meaning.view in
     subst (λ (given : Look).
-    IsHeld c.args.peer c.args.datagram.now (body_held (Some given))
+    IsHeld c.args.peer (spelling m) (body_held (Some given))
     (ended.Held c.in-Ok.job))
     (given_held m c.args.tagged.octets c.args.tagged.tag.0 c.as_slice.result.now
     c.args.request.now.asked c.is_long.result c.args.request.now.asked_said

@@ -4,7 +4,7 @@ use Rattle.coap_message.specs.Views.{message_in}
 use Rattle.journal_model.specs.Bodies.{body_reply}
 use Rattle.journal_model.specs.Effects.{Reply, answering}
 use Rattle.coap_answers.specs.Sendings.{Sends}
-use Rattle.rd_desk.specs.Replies.{tag_octets}
+use Rattle.coap_answers.specs.Replies.{tag_octets}
 use Rattle.rd_desk.proofs.looks.send_block.Goals as goal
 
 pub returns : goal.returns

@@ -9,8 +9,9 @@ use Rattle.rd_desk.proofs.tables.Tables.admit.Goals as goal
 
 pub returns-clause-made : goal.returns-clause-made
 returns-clause-made g c rows s kind of datagram worded call =
-    admission_made rows s (is_starved_admission c.hear.result) c.args.now
-    (reading c.args.datagram.now) c.args.self.now c.hear.new.self c.hear.new.out c.args.mids.now
+    admission_made rows s (is_starved_admission c.hear.result) c.args.arrival.moment
+    (reading c.args.arrival.datagram.now) c.args.self.now c.hear.new.self c.hear.new.out
+    c.args.mids.now
     c.hear.new.mids kind (ap reading datagram) call
     (c.hear.ensures.way rows s of worded
     (c.pass.ensures.way rows s (is_starved_admission c.hear.result) c.args.out.now
@@ -19,7 +20,7 @@ returns-clause-made g c rows s kind of datagram worded call =
 pub returns-clause-held : goal.returns-clause-held
 returns-clause-held g c rows s kind of datagram call =
     admission_notes rows s (is_starved_admission c.hear.result) c.hear.result
-    (reading c.args.datagram.now) kind (ap reading datagram)
+    (reading c.args.arrival.datagram.now) kind (ap reading datagram)
     (c.hear.ensures.held rows s of datagram
     (c.pass.ensures.way rows s (is_starved_admission c.hear.result) c.args.out.now
     c.args.mids.now c.requires.empty call))

@@ -24,13 +24,14 @@ pub returns-in_default-clause-way : goal.returns-in_default-clause-way
 returns-in_default-clause-way g c =
     λ rows s place of opened way.
     c.fail.ensures.way rows s true place of
-    (opened_by rows s place (message_in c.args.request.now.meaning.view) c.args.peer
-    c.args.admitted.0 of opened) way
+    (opened_by rows s place (message_in c.args.registering.now.write.request.meaning.view)
+    c.args.registering.now.write.peer
+    c.args.registering.now.write.admitted.0 of opened) way
 
 pub returns-in-More-clause-way : goal.returns-in-More-clause-way
 returns-in-More-clause-way g c =
     λ rows s place of opened way.
-    let m = message_in c.args.request.now.meaning.view in
+    let m = message_in c.args.registering.now.write.request.meaning.view in
     let b = c.args.block.now in
     let piece = joined nothing (noting (note.Piece s.peer c.in-Ok.key b.num m.payload ∷ [])) in
     let fed : c.take_block.result ≢ answer.Starved =
@@ -39,45 +40,48 @@ returns-in-More-clause-way g c =
     in
     settled_piece rows s place m b (reply_said c.continued.result) c.take_block.result c.in-Ok.key
     c.settle.new.self c.settle.new.out c.settle.new.mids
-    (c.in-Ok.ensures.key m (is_meaning c.args.request.now.meaning)) c.in-More.is
+    (c.in-Ok.ensures.key m (is_meaning c.args.registering.now.write.request.meaning)) c.in-More.is
     c.continued.ensures.said
     (c.take_block.ensures.answer rows s false c.args.out.now c.args.mids.now of way fed)
     (c.settle.ensures.way rows s false piece place of refl
-    (open_more rows s false piece place c.args.peer m.mid c.args.admitted.0 refl
-    (opened_by rows s place m c.args.peer c.args.admitted.0 of opened))
+    (open_more rows s false piece place c.args.registering.now.write.peer m.mid
+    c.args.registering.now.write.admitted.0 refl
+    (opened_by rows s place m c.args.registering.now.write.peer
+    c.args.registering.now.write.admitted.0 of opened))
     (c.take_block.ensures.more rows s false c.args.out.now c.args.mids.now of c.in-More.is way))
 
 pub returns-in-Whole-clause-way : goal.returns-in-Whole-clause-way
 returns-in-Whole-clause-way g c =
     λ rows s place of opened way.
-    let m = message_in c.args.request.now.meaning.view in
+    let m = message_in c.args.registering.now.write.request.meaning.view in
     let b = c.args.block.now in
     let fed : c.take_block.result ≢ answer.Starved =
     λ e.
-    (let other : ◌≡◌ {A = Upload} (answer.Whole c.in-Whole.body) answer.Starved = sym
+    (let other : ◌≡◌ {A = Upload} (answer.Whole c.in-Whole.octets) answer.Starved = sym
     c.in-Whole.is ∙ e in cc) in
     let still : c.take_block.result ≢ answer.More =
     λ e.
-    (let other : ◌≡◌ {A = Upload} (answer.Whole c.in-Whole.body) answer.More = sym
+    (let other : ◌≡◌ {A = Upload} (answer.Whole c.in-Whole.octets) answer.More = sym
     c.in-Whole.is ∙ e in cc) in
     let begun =
     unchanged rows s (is_starved_step c.commit_body.result) c.args.self.now
     c.take_block.new.self c.args.out.now c.args.mids.now (c.take_block.ensures.other still)
     way in
     settled_whole (is_starved_step c.commit_body.result) rows s place m b c.take_block.result
-    c.in-Whole.body c.as_slice.result.now c.in-Ok.key c.commit_body.new.self
+    c.in-Whole.octets c.as_slice.result.now c.in-Ok.key c.commit_body.new.self
     c.commit_body.new.out c.commit_body.new.mids
-    (c.in-Ok.ensures.key m (is_meaning c.args.request.now.meaning)) c.in-Whole.is
+    (c.in-Ok.ensures.key m (is_meaning c.args.registering.now.write.request.meaning)) c.in-Whole.is
     c.as_slice.ensures.value
     (c.take_block.ensures.answer rows s (is_starved_step c.commit_body.result) c.args.out.now
     c.args.mids.now of way fed)
     (c.commit_body.ensures.way rows s place of
-    (opened_by rows s place m c.args.peer c.args.admitted.0 of opened) begun)
+    (opened_by rows s place m c.args.registering.now.write.peer
+    c.args.registering.now.write.admitted.0 of opened) begun)
 
 pub returns-in-OutOfOrder-clause-way : goal.returns-in-OutOfOrder-clause-way
 returns-in-OutOfOrder-clause-way g c =
     λ rows s place of opened way.
-    let m = message_in c.args.request.now.meaning.view in
+    let m = message_in c.args.registering.now.write.request.meaning.view in
     let b = c.args.block.now in
     let fed : c.take_block.result ≢ answer.Starved =
     λ e.
@@ -89,17 +93,19 @@ returns-in-OutOfOrder-clause-way g c =
     in cc) in
     settled_block rows s place m b c.take_block.result answer.OutOfOrder c.in-Ok.key
     c.refuse_write.new.self c.refuse_write.new.out c.refuse_write.new.mids
-    (c.in-Ok.ensures.key m (is_meaning c.args.request.now.meaning)) c.in-OutOfOrder.is
+    (c.in-Ok.ensures.key m (is_meaning c.args.registering.now.write.request.meaning))
+    c.in-OutOfOrder.is
     (c.take_block.ensures.answer rows s false c.args.out.now c.args.mids.now of way fed)
     (c.refuse_write.ensures.way rows s false place of
-    (opened_by rows s place m c.args.peer c.args.admitted.0 of opened)
+    (opened_by rows s place m c.args.registering.now.write.peer
+    c.args.registering.now.write.admitted.0 of opened)
     (unchanged rows s false c.args.self.now c.take_block.new.self c.args.out.now c.args.mids.now
     (c.take_block.ensures.other still) way))
 
 pub returns-in-TooLarge-clause-way : goal.returns-in-TooLarge-clause-way
 returns-in-TooLarge-clause-way g c =
     λ rows s place of opened way.
-    let m = message_in c.args.request.now.meaning.view in
+    let m = message_in c.args.registering.now.write.request.meaning.view in
     let b = c.args.block.now in
     let fed : c.take_block.result ≢ answer.Starved =
     λ e.
@@ -112,17 +118,19 @@ returns-in-TooLarge-clause-way g c =
     settled_block rows s place m b c.take_block.result answer.TooLarge c.in-Ok.key
     c.refuse_write-in-TooLarge.new.self c.refuse_write-in-TooLarge.new.out
     c.refuse_write-in-TooLarge.new.mids
-    (c.in-Ok.ensures.key m (is_meaning c.args.request.now.meaning)) c.in-TooLarge.is
+    (c.in-Ok.ensures.key m (is_meaning c.args.registering.now.write.request.meaning))
+    c.in-TooLarge.is
     (c.take_block.ensures.answer rows s false c.args.out.now c.args.mids.now of way fed)
     (c.refuse_write-in-TooLarge.ensures.way rows s false place of
-    (opened_by rows s place m c.args.peer c.args.admitted.0 of opened)
+    (opened_by rows s place m c.args.registering.now.write.peer
+    c.args.registering.now.write.admitted.0 of opened)
     (unchanged rows s false c.args.self.now c.take_block.new.self c.args.out.now c.args.mids.now
     (c.take_block.ensures.other still) way))
 
 pub returns-in-FullUploads-clause-way : goal.returns-in-FullUploads-clause-way
 returns-in-FullUploads-clause-way g c =
     λ rows s place of opened way.
-    let m = message_in c.args.request.now.meaning.view in
+    let m = message_in c.args.registering.now.write.request.meaning.view in
     let b = c.args.block.now in
     let fed : c.take_block.result ≢ answer.Starved =
     λ e.
@@ -135,23 +143,26 @@ returns-in-FullUploads-clause-way g c =
     settled_block rows s place m b c.take_block.result answer.FullUploads c.in-Ok.key
     c.refuse_write-in-FullUploads.new.self c.refuse_write-in-FullUploads.new.out
     c.refuse_write-in-FullUploads.new.mids
-    (c.in-Ok.ensures.key m (is_meaning c.args.request.now.meaning)) c.in-FullUploads.is
+    (c.in-Ok.ensures.key m (is_meaning c.args.registering.now.write.request.meaning))
+    c.in-FullUploads.is
     (c.take_block.ensures.answer rows s false c.args.out.now c.args.mids.now of way fed)
     (c.refuse_write-in-FullUploads.ensures.way rows s false place of
-    (opened_by rows s place m c.args.peer c.args.admitted.0 of opened)
+    (opened_by rows s place m c.args.registering.now.write.peer
+    c.args.registering.now.write.admitted.0 of opened)
     (unchanged rows s false c.args.self.now c.take_block.new.self c.args.out.now c.args.mids.now
     (c.take_block.ensures.other still) way))
 
 pub returns-in-Starved-clause-way : goal.returns-in-Starved-clause-way
 returns-in-Starved-clause-way g c =
     λ rows s place of opened way.
-    let m = message_in c.args.request.now.meaning.view in
+    let m = message_in c.args.registering.now.write.request.meaning.view in
     let still : c.take_block.result ≢ answer.More =
     λ e.
     (let other : ◌≡◌ {A = Upload} answer.Starved answer.More = sym c.in-Starved.is ∙ e in
     cc) in
     c.fail-in-Starved.ensures.way rows s true place of
-    (opened_by rows s place m c.args.peer c.args.admitted.0 of opened)
+    (opened_by rows s place m c.args.registering.now.write.peer
+    c.args.registering.now.write.admitted.0 of opened)
     (unchanged rows s true c.args.self.now c.take_block.new.self c.args.out.now c.args.mids.now
     (c.take_block.ensures.other still) way)
 

@@ -53,16 +53,19 @@ settle_upload-requires-clause-short g c =
 pub returns-in-Ok-clause-way : goal.returns-in-Ok-clause-way
 returns-in-Ok-clause-way g c =
     λ rows s place of opened way.
-    let params = registration_values (queries_in (message_in c.args.request.now.meaning.view)) in
-    let options = block1_option c.args.block.now in
-    let further = note.Finished s.peer c.args.key.now ∷ [] in
+    let params =
+    registration_values
+    (queries_in (message_in c.args.registering.now.write.request.meaning.view)) in
+    let options = block1_option c.args.body.now.last in
+    let further = note.Finished s.peer c.args.body.now.key.now ∷ [] in
     c.settle_upload.ensures.way rows s false place
-    (registration (entries rows) (row_moment rows s) s params c.args.body.now options further)
+    (registration (entries rows) (row_moment rows s) s params c.args.body.now.octets.now options
+    further)
     of opened
     (λ entry more noted. registration_enters (entries rows) (row_moment rows s) s params
-    c.args.body.now options further entry more noted)
+    c.args.body.now.octets.now options further entry more noted)
     (planned_here rows s false _ c.args.self.now c.deref.result.now c.args.out.now c.args.mids.now
-    params c.args.body.now options further c.in-Ok.outcome c.self.view_is c.deref.ensures
+    params c.args.body.now.octets.now options further c.in-Ok.outcome c.self.view_is c.deref.ensures
     (λ history h.
     of_laid (λ o. IsPlanned history _ further _ o) c.body_outcome-planned.result c.in-Ok.outcome
     c.in-Ok.ensures.same (c.body_outcome-planned.ensures.planned history s further h of))

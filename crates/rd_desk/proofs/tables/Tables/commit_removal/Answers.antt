@@ -11,7 +11,7 @@ use Rattle.rd_desk.proofs.tables.Tables.commit_removal.Goals as goal
 pub returns-clause-way : goal.returns-clause-way
 returns-clause-way g c =
     λ rows s place of opened way.
-    let m = message_in c.args.request.now.meaning.view in
+    let m = message_in c.args.write.now.request.meaning.view in
     c.finish.ensures.way rows s place (removing rows (row_moment rows s) s c.args.number) of opened
     (removing-at rows (row_moment rows s) s c.args.number)
     (planned_here rows s (is_starved_step c.finish.result) c.args.self.now c.deref.result.now

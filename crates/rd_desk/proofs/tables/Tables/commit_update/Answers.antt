@@ -10,12 +10,13 @@ use Rattle.rd_desk.proofs.tables.Tables.commit_update.Goals as goal
 pub returns-clause-way : goal.returns-clause-way
 returns-clause-way g c =
     λ rows s place of opened way.
-    let m = message_in c.args.request.now.meaning.view in
-    c.finish.ensures.way rows s place (updating rows (row_moment rows s) s m c.args.number) of
-    opened (updating-at rows (row_moment rows s) s m c.args.number)
+    let m = message_in c.args.updating.now.write.request.meaning.view in
+    c.finish.ensures.way rows s place
+    (updating rows (row_moment rows s) s m c.args.updating.now.number) of
+    opened (updating-at rows (row_moment rows s) s m c.args.updating.now.number)
     (planned_here rows s (is_starved_step c.finish.result) c.args.self.now c.deref.result.now
     c.self.inside.moment.0 c.args.out.now c.args.mids.now c.update_outcome-planned.result
-    (λ at. updating rows at s m c.args.number)
+    (λ at. updating rows at s m c.args.updating.now.number)
     (c.deref.ensures ∙ ap (λ (d : Seen). d.version) c.self.view_is)
     (ap (λ (d : Seen). d.moment) c.self.view_is)
     (λ stands. c.update_outcome-planned.ensures.planned rows s stands of) way) way

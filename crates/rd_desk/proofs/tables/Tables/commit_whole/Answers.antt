@@ -10,7 +10,7 @@ use Rattle.rd_desk.proofs.tables.Tables.commit_whole.Goals as goal
 pub returns-clause-way : goal.returns-clause-way
 returns-clause-way g c =
     λ rows s place of opened way.
-    let m = message_in c.args.request.now.meaning.view in
+    let m = message_in c.args.registering.now.write.request.meaning.view in
     c.finish.ensures.way rows s place (registration_outcome None rows (row_moment rows s) s m) of
     opened (whole-at rows (row_moment rows s) s m)
     (planned_here rows s (is_starved_step c.finish.result) c.args.self.now c.deref.result.now

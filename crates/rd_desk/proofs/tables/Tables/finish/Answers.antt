@@ -21,7 +21,9 @@ pub returns-in-Ok-clause-way : goal.returns-in-Ok-clause-way
 returns-in-Ok-clause-way g c =
     λ rows s place meant of opened at planned way.
     c.conclude.ensures.way rows s false place meant of
-    (subst (λ (p : Peer). IsOpen place p c.args.view.now.mid c.args.admitted.0 (events rows)) of
+    (subst (λ (p : Peer).
+    IsOpen place p c.args.write.now.request.meaning.view.mid c.args.write.now.admitted.0
+    (events rows)) of
     opened) at (planned_ok c.args.planned c.in-Ok.outcome
     (IsPlanned (entries rows) c.args.self.now.version.swept [] meant) c.in-Ok.ensures.same
     planned) way
@@ -30,7 +32,9 @@ pub returns-in-Err-clause-way : goal.returns-in-Err-clause-way
 returns-in-Err-clause-way g c =
     λ rows s place meant of opened at planned way.
     c.fail.ensures.way rows s true place of
-    (subst (λ (p : Peer). IsOpen place p c.args.view.now.mid c.args.admitted.0 (events rows)) of
+    (subst (λ (p : Peer).
+    IsOpen place p c.args.write.now.request.meaning.view.mid c.args.write.now.admitted.0
+    (events rows)) of
     opened) way
 
 pub staged-requires-clause-next : goal.staged-requires-clause-next

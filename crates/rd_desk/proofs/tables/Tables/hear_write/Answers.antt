@@ -1,5 +1,6 @@
 use Rattle.std.proofs.Common.{◌≡◌, true, false, sym, ap, ◌∙◌}
 use Rattle.std.specs.List.{list_any}
+use Rattle.message_model.specs.Spelling.{spelling}
 use Rattle.coap_message.specs.Views.{message_in}
 use Rattle.event_model.specs.Repeats.{is_admitting}
 use Rattle.journal_model.specs.Effects.{nothing}
@@ -17,7 +18,7 @@ returns-then-not-admit_write-clause-held c rows s of datagram way =
 
 pub returns-in_default-clause-way : goal.returns-in_default-clause-way
 returns-in_default-clause-way c rows s of way =
-    let m = message_in c.args.view.now in
+    let m = message_in c.args.request.now.meaning.view in
     let unsent = c.admit_write.ensures.unsent c.if-not-admit_write.false in
     let notes =
     rw c.if-not-admit_write.false at c.admit_write.ensures.admitted rows s true of way in
@@ -30,7 +31,7 @@ returns-in_default-clause-way c rows s of way =
 
 pub returns-in_default-clause-held : goal.returns-in_default-clause-held
 returns-in_default-clause-held c rows s of datagram way =
-    ap (list_any is_admitting) (without_memory-notes s (message_in c.args.view.now))
+    ap (list_any is_admitting) (without_memory-notes s (message_in c.args.request.now.meaning.view))
 
 pub returns-in_default-clause-unstarved : goal.returns-in_default-clause-unstarved
 returns-in_default-clause-unstarved c rows s of way silent =
@@ -45,4 +46,4 @@ returns-clause-held c rows s of datagram way =
     ∙ way_moment rows s false nothing c.args.self.now c.args.out.now c.args.mids.now way in
     let notes =
     rw c.if-not-admit_write.false at c.admit_write.ensures.admitted rows s false of way in
-    (c.args.view.now.mid, notes, job_same _ _ (sym of) (c.in-Ok.ensures ∙ sym datagram) moment)
+    (c.args.request.now.meaning.view.mid, notes, job_same _ _ (sym of) (ap spelling c.in-Ok.ensures ∙ sym datagram) moment)

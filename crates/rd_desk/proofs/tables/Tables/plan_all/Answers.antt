@@ -52,7 +52,8 @@ due-preserved c =
           (c.due.invariant.0 rows s starved whole first out word way tag begun)))))),
       λ rows stands. c.plan_one.ensures.stands rows (c.due.invariant.1 rows stands),
       c.plan_one.ensures.others
-          ∙ ap (λ (d : Seen). let y : Seen = record d { watching = c.plan_one.new.self.watching } in y)
+          ∙ ap (λ (d : Seen). let y : Seen = record d { watching = c.plan_one.new.self.watching } in
+          y)
           others,
       c.plan_one.ensures.observers ∙ same,
     )

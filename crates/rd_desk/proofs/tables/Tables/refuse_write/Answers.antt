@@ -10,10 +10,11 @@ use Rattle.rd_desk.proofs.tables.Tables.refuse_write.Goals as goal
 pub returns-clause-way : goal.returns-clause-way
 returns-clause-way c =
     λ rows s starved place of opened way.
-    let m = message_in c.args.view.now in
+    let m = message_in c.args.write.now.request.meaning.view in
     settled_refusal rows s starved place m (reply_said c.refusal.result)
     (refused c.args.code c.args.word.now) c.settle.new.self c.settle.new.out c.settle.new.mids
     c.refusal.ensures.said refl
     (c.settle.ensures.way rows s starved nothing place of refl
-    (open_more rows s starved nothing place c.args.peer m.mid c.args.admitted.0 refl opened)
+    (open_more rows s starved nothing place c.args.write.now.peer m.mid c.args.write.now.admitted.0
+    refl opened)
     way)

@@ -5,8 +5,10 @@ use Rattle.rd_desk.proofs.tables.Tables.settle_beside_fetch.Goals as goal
 
 pub returns-clause-way : goal.returns-clause-way
 returns-clause-way c fetches rows s starved place of opened way =
-    way_changed rows s starved place (message_in c.args.view.now) (reply_said c.changed.result)
-    c.args.peer c.args.admitted.0 c.answer_short-octets.result _ c.args.self.now fetches
+    way_changed rows s starved place (message_in c.args.write.now.request.meaning.view)
+    (reply_said c.changed.result)
+    c.args.write.now.peer c.args.write.now.admitted.0 c.answer_short-octets.result _ c.args.self.now
+    fetches
     c.settle.new.self
     c.args.out.now c.answer_short-octets.new.out c.args.mids.now c.answer_short-octets.new.mids
     c.self.view_is of c.changed.ensures.said opened c.answer_short-octets.ensures.octets
@@ -14,6 +16,7 @@ returns-clause-way c fetches rows s starved place of opened way =
 
 pub returns-clause-one : goal.returns-clause-one
 returns-clause-one c =
-    one_answer (message_in c.args.view.now) (reply_said c.changed.result) c.args.peer c.args.out.now
+    one_answer (message_in c.args.write.now.request.meaning.view) (reply_said c.changed.result)
+    c.args.write.now.peer c.args.out.now
     c.answer_short-octets.new.out c.args.mids.now c.answer_short-octets.new.mids
     c.answer_short-octets.ensures.sends

@@ -16,19 +16,20 @@ use Rattle.rd_desk.proofs.tables.Tables.settle_upload.Goals as goal
 pub returns-in_default-clause-way : goal.returns-in_default-clause-way
 returns-in_default-clause-way c =
     λ rows s starved place meant of opened made planned way.
-    let m = message_in c.args.view.now in
+    let m = message_in c.args.write.now.request.meaning.view in
     settled_refusal rows s starved place m (reply_said c.args.outcome.reply) meant c.settle.new.self
     c.settle.new.out c.settle.new.mids planned.said
     (refused_notes (entries rows) c.args.self.now.version.swept
     (note.Finished s.peer c.args.key.now ∷ []) meant c.args.outcome c.in_default.is planned)
     (c.settle.ensures.way rows s starved nothing place of refl
-    (open_more rows s starved nothing place c.args.peer m.mid c.args.admitted.0 refl opened)
+    (open_more rows s starved nothing place c.args.write.now.peer m.mid c.args.write.now.admitted.0
+    refl opened)
     way)
 
 pub returns-clause-way : goal.returns-clause-way
 returns-clause-way c =
     λ rows s starved place meant of opened made planned way.
-    let m = message_in c.args.view.now in
+    let m = message_in c.args.write.now.request.meaning.view in
     let it =
     accepted_notes (entries rows) c.args.self.now.version.swept
     (note.Finished s.peer c.args.key.now ∷ []) meant c.args.outcome c.in-Some.entering
@@ -38,7 +39,8 @@ returns-clause-way c =
     settled_upload rows s starved place m (reply_said c.args.outcome.reply) it.entry c.args.key.now
     meant c.settle-2.new.self c.settle-2.new.out c.settle-2.new.mids planned.said it.noted
     (c.settle-2.ensures.way rows s starved finished place of refl
-    (open_more rows s starved finished place c.args.peer m.mid c.args.admitted.0 refl opened)
+    (open_more rows s starved finished place c.args.write.now.peer m.mid c.args.write.now.admitted.0
+    refl opened)
     (c.end_upload.ensures.way rows s starved entered c.args.out.now c.args.mids.now of
     (c.enter.ensures.way rows s starved nothing it.entry c.args.out.now c.args.mids.now refl
     (made it.entry (note.Finished s.peer c.args.key.now ∷ []) it.noted) it.is_of way)))

@@ -34,16 +34,17 @@ end-requires-clause-stepped g c =
     ap (λ (m : Mids). m.drawn) c.of-mids.ensures in
     let few : number_of c.begin-shared.new.pass < max_workers =
     subst (λ (n : ℕ). n < max_workers) (sym own) c.args.self.now.mids.few in
-    let s : Step = admit_step (number_of c.begin-shared.new.pass) c.args.now c.args.word
-    c.args.peer c.args.datagram.now c.of-mids.result.value.drawn in
-    let called : IsCalled found s c.args.now c.args.self.now.mids
+    let s : Step =
+        admit_step (number_of c.begin-shared.new.pass) c.args.arrival.moment c.args.arrival.word
+    c.args.arrival.peer c.args.arrival.datagram.now c.of-mids.result.value.drawn in
+    let called : IsCalled found s c.args.arrival.moment c.args.self.now.mids
     c.deref_mut.result.now.tables = step-IsCalled found s c.args.self.now.mids
     c.deref_mut.result.now home refl own drew in
     let may : MayFollow found s = record {
       commits = tt;
       handed =
           record {
-            in_time = turns-NoLaterLook found c.args.now.0
+            in_time = turns-NoLaterLook found c.args.arrival.moment.0
                 home.turns;
             worker = few;
             word = λ h. absurd (false≢true h);
@@ -77,16 +78,17 @@ returns g c =
     ap (λ (m : Mids). m.drawn) c.of-mids.ensures in
     let few : number_of c.begin-shared.new.pass < max_workers =
     subst (λ (n : ℕ). n < max_workers) (sym own) c.args.self.now.mids.few in
-    let s : Step = admit_step (number_of c.begin-shared.new.pass) c.args.now c.args.word
-    c.args.peer c.args.datagram.now c.of-mids.result.value.drawn in
-    let called : IsCalled found s c.args.now c.args.self.now.mids
+    let s : Step =
+        admit_step (number_of c.begin-shared.new.pass) c.args.arrival.moment c.args.arrival.word
+    c.args.arrival.peer c.args.arrival.datagram.now c.of-mids.result.value.drawn in
+    let called : IsCalled found s c.args.arrival.moment c.args.self.now.mids
     c.deref_mut.result.now.tables = step-IsCalled found s c.args.self.now.mids
     c.deref_mut.result.now home refl own drew in
     let may : MayFollow found s = record {
       commits = tt;
       handed =
           record {
-            in_time = turns-NoLaterLook found c.args.now.0
+            in_time = turns-NoLaterLook found c.args.arrival.moment.0
                 home.turns;
             worker = few;
             word = λ h. absurd (false≢true h);
@@ -143,7 +145,8 @@ returns g c =
               mids = c.admit-admitted.new.mids;
               last = c.later-self.result;
             })))
-            (λ i. admit_step (own i) c.args.now c.args.word c.args.peer c.args.datagram.now
+            (λ i. admit_step (own i) c.args.arrival.moment c.args.arrival.word c.args.arrival.peer
+                c.args.arrival.datagram.now
             (drew i)) (turn-MakesStep turn);
       };
       left = subst (LeavesJob c.admit-admitted.result) (sym seen)

@@ -9,15 +9,16 @@ abbrev pub ghosts-end-S-Added : goal.ghosts-end-S-Added
 ghosts-end-S-Added g a =
     record {
       added = Some (row (seen_of a.pass.now)
-          (admit_step (number_of a.pass.now) a._parts.now.now a._parts.now.word a._parts.now.peer
-          a._parts.now.datagram.now a._parts.now.mids.value.drawn) a._parts.now.is_starved);
+          (admit_step (number_of a.pass.now) a._parts.now.arrival.moment a._parts.now.arrival.word
+              a._parts.now.arrival.peer
+          a._parts.now.arrival.datagram.now a._parts.now.mids.value.drawn) a._parts.now.is_starved);
     }
 
 abbrev pub ghosts-end-E-Entering : goal.ghosts-end-E-Entering
 ghosts-end-E-Entering g a =
     record {
       entered = first_entry (entries_of
-          (row (seen_of a.pass.now) (admit_step (number_of a.pass.now) a._parts.now.now
-          a._parts.now.word a._parts.now.peer a._parts.now.datagram.now
+          (row (seen_of a.pass.now) (admit_step (number_of a.pass.now) a._parts.now.arrival.moment
+          a._parts.now.arrival.word a._parts.now.arrival.peer a._parts.now.arrival.datagram.now
           a._parts.now.mids.value.drawn) a._parts.now.is_starved));
     }

@@ -1,7 +1,7 @@
 use Rattle.std.proofs.Common.{ℕ, ◌≤◌, List, length, Some, sym, ap, subst, ◌∙◌}
 use Rattle.message_model.specs.Spelling.{spelling}
 use Rattle.coap_message.specs.PartialMessages.{longest_datagram}
-use Rattle.journal_model.specs.Commits.{fetch_request}
+use Rattle.message_model.specs.FetchRequests.{fetch_request}
 use Rattle.simple_registration.specs.Responses.{block_after}
 use Rattle.simple_registration.proofs.SendableLaws.{request-IsSendable}
 use Rattle.simple_registration.proofs.running.Fetch.ask_next.Goals as goal
