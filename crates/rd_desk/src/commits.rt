@@ -35,7 +35,6 @@ use message_model::codes::POST;
 use rd_base::{Moment, Starved};
 use rd_request::Resource;
 
-
 impl Tables {
     /// What is planned of a write is done: its entry is made, where it makes one, and then its
     /// answer settles it. Takes no memory.

@@ -16,7 +16,7 @@ ghost use Rattle.rd_desk.specs.Staging.{IsLaid};
 use crate::refused_requests::refuse;
 use crate::tables::Tables;
 use crate::unread_datagrams::reject;
-use crate::{Admitted, Mids, Outbox, Stepped, Arrival};
+use crate::{Admitted, Arrival, Mids, Outbox, Stepped};
 use coap_answers::send_empty;
 use coap_message::Kind4;
 use directory_core::Board;

@@ -5,9 +5,9 @@ ghost use Rattle.message_model.specs.Spelling.{spelling};
 ghost use Rattle.journal_model.specs.Machine.{is_look_datagram};
 ghost use Rattle.rd_request.specs.Accepted.{message_of};
 
-use rd_request::Request;
 use crate::kept_requests::KeptRequest;
 use rd_base::{Bytes, Peer, Starved, Tag};
+use rd_request::Request;
 use std::alloc::Global;
 use std::marker::Model;
 use std::sync::Arc;

@@ -83,7 +83,15 @@ impl Tables {
             answer_starved(mids, job.peer, view, out);
             return Stepped::Starved;
         };
-        send_block(mids, job.peer, &request, Some(job.tag), None, job.body.as_slice(), out);
+        send_block(
+            mids,
+            job.peer,
+            &request,
+            Some(job.tag),
+            None,
+            job.body.as_slice(),
+            out,
+        );
         self.transfers.adopt(ready);
         Stepped::Done
     }

@@ -40,8 +40,8 @@ mod write_jobs;
 mod writes;
 
 pub use admissions::Admitted;
-pub use coap_answers::{Mids, Outbox};
 pub use arrivals::Arrival;
+pub use coap_answers::{Mids, Outbox};
 pub use desk::{Desk, Unmade};
 pub use jobs::Job;
 pub use keep_jobs::KeepJob;

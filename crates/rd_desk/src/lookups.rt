@@ -29,7 +29,7 @@ ghost use Rattle.rd_desk.specs.Stepping.{is_starved_step};
 ghost use Rattle.rd_desk.specs.UnderWay.{UnderWay};
 
 use crate::listings::{Formed, form, joining_by, listed_at, send_kept};
-use crate::looks::{query_of, send_block};
+use crate::looks::send_block;
 use crate::tables::Tables;
 use crate::{Mids, Outbox, Stepped};
 use coap_answers::{answer_starved, has_asked_block, is_long};

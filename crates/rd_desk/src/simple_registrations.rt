@@ -23,10 +23,10 @@ use crate::tables::Tables;
 use crate::writes::{RegisteringSimply, Write};
 use crate::{Mids, Outbox, Stepped};
 use coap_answers::Reply;
+use coap_message::Kind4;
 use message_model::codes::{CHANGED, SERVICE_UNAVAILABLE};
 use rd_request::{Request, given_params};
 use simple_registration::{AllowedParams, StartFault};
-use coap_message::Kind4;
 
 /// 2.04 alone.
 fn changed() -> Reply<'static>

@@ -5,9 +5,9 @@ ghost use Rattle.message_model.specs.Request.{path_in};
 ghost use Rattle.rd_request.specs.Accepted.{message_of};
 ghost use Rattle.rd_request.specs.WriteRequests.{is_write_path, is_write_datagram};
 
+use crate::kept_requests::KeptRequest;
 use rd_base::{Moment, Peer};
 use rd_request::{Incoming, Request, read_datagram};
-use crate::kept_requests::KeptRequest;
 use std::marker::Model;
 
 /// A write that was admitted, to be done by the next step of its worker but ticks. Nothing refuses
@@ -23,11 +23,11 @@ pub struct WriteJob {
 }
 
 impl Model for WriteJob {
-ghost use Rattle.std.specs.Prelude.{◌≡◌, true, Ok};
-ghost use Rattle.rd_request.specs.WriteRequests.{is_write_datagram};
-ghost use Rattle.rd_desk.specs.WriteJobs.{Write};
-ghost use Rattle.message_model.specs.Reading.{reading};
-ghost use Rattle.message_model.specs.Spelling.{spelling};
+    ghost use Rattle.std.specs.Prelude.{◌≡◌, true, Ok};
+    ghost use Rattle.rd_request.specs.WriteRequests.{is_write_datagram};
+    ghost use Rattle.rd_desk.specs.WriteJobs.{Write};
+    ghost use Rattle.message_model.specs.Reading.{reading};
+    ghost use Rattle.message_model.specs.Spelling.{spelling};
 
     ghost Value = { Write };
 

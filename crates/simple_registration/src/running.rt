@@ -63,8 +63,8 @@ pub(crate) struct Fetch {
 
 impl Model for Fetch {
     ghost use Rattle.std.specs.Prelude.{◌≤◌, ◌<◌, length};
-ghost use Rattle.message_model.specs.Uploads.{max_body};
-ghost use Rattle.coap_message.specs.PartialMessages.{longest_datagram};
+    ghost use Rattle.message_model.specs.Uploads.{max_body};
+    ghost use Rattle.coap_message.specs.PartialMessages.{longest_datagram};
     ghost use Rattle.event_model.specs.Fetches.{Fetch as Running};
 
     ghost Value = { Running };

@@ -66,7 +66,11 @@ use Rattle.coap_answers.proofs.SendingLaws.{sends_notes}
 use Rattle.observation.specs.Notices.{forming, next_noticed}
 use Rattle.observation.specs.Watching.{Watching, WatchingStandsFor}
 use Rattle.observation.proofs.TickLaws.{
-    IsKeptAs, kept-StandsFor, length-StandsFor, got_inside, got_within
+  IsKeptAs,
+  kept-StandsFor,
+  length-StandsFor,
+  got_inside,
+  got_within,
 }
 use Rattle.rd_desk.specs.declared.planning.Planned.{Planned}
 use Rattle.rd_desk.specs.declared.planning.Planned.TheVariants as planned

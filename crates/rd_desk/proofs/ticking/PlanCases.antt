@@ -118,7 +118,12 @@ use Rattle.coap_answers.specs.Writing.{notice_saying}
 use Rattle.observation.specs.Notices.{forming}
 use Rattle.observation.specs.Watching.{Watching, WatchingStandsFor}
 use Rattle.observation.proofs.TickLaws.{
-    IsKeptAs, kept-StandsFor, length-StandsFor, each_at, got_inside, got_within
+  IsKeptAs,
+  kept-StandsFor,
+  length-StandsFor,
+  each_at,
+  got_inside,
+  got_within,
 }
 use Rattle.observation.proofs.WatchingLaws.{WatchingStandsFor-aside}
 use Rattle.observation.proofs.WatchingNotes.{WatchingStandsFor-unchanged, WatchingStandsFor-formed}

@@ -11,7 +11,12 @@ use Rattle.journal_model.specs.Rows.{row_moment}
 use Rattle.rd_desk.specs.Committing.{unless_failing}
 use Rattle.rd_desk.specs.Stepping.{is_starved_step}
 use Rattle.rd_desk.proofs.changes.CommitLaws.{
-    good_registration, good_simple, good_update, way_job, location_updates, location_removes
+  good_registration,
+  good_simple,
+  good_update,
+  way_job,
+  location_updates,
+  location_removes,
 }
 use Rattle.rd_desk.specs.UnderWay.{UnderWay}
 use Rattle.rd_desk.specs.WriteJobs.{Write}
