@@ -35,7 +35,6 @@
 -- what is dropped at the end (EndLaws),
 --   and that the parts are all that a tick does (WholeTick).
 -- What steps send and note in which memory runs out, computed (examples).
-pub mod answers
 pub mod parts
 pub mod observers
 pub mod changes

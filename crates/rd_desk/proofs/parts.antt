@@ -15,3 +15,4 @@ pub mod LookupLaws
 pub mod HearingLaws
 pub mod RoleLaws
 pub mod LookRows
+pub mod RefusalLaws

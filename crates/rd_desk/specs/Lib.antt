@@ -13,8 +13,6 @@ pub mod Outcomes
 pub mod Committing
 pub mod ChangeKinds
 pub mod Staging
-pub mod KeepJobs
-pub mod Looking
 pub mod Stepping
 pub mod Shown
 pub mod Watchers

@@ -23,13 +23,13 @@ ghost use Rattle.rd_desk.specs.Lookups.{IsUsed};
 
 use crate::joining::Joining;
 use crate::keeps::with_listing;
-use crate::looks::listing_at;
 use crate::{Mids, Outbox};
 use coap_answers::{answer, body_reply, szx_of};
 use coap_options::request_key;
 use directory_core::Directory;
 use exchange_core::Token;
 use rd_base::{Bytes, Key, Moment, Peer, Query, Starved, Tag};
+use rd_look::listing_at;
 use rd_request::Request;
 use std::alloc::Global;
 use std::marker::Brand;

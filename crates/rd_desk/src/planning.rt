@@ -29,7 +29,6 @@ ghost use Rattle.rd_desk.specs.Planning as planning_of;
 ghost use Rattle.rd_desk.specs.UnderWay.{UnderWay};
 ghost use Rattle.rd_desk.specs.Watching.{WatchingStandsFor};
 
-use crate::looks::listing_at;
 use crate::watching::Watching;
 use coap_answers::{body_reply, is_long, spell_notice};
 use coap_message::TokenRef;
@@ -38,6 +37,7 @@ use exchange_core::{Resend, Sent};
 use message_model::Block;
 use observers::Observer;
 use rd_base::{Bytes, Moment, Peer, Starved, Tag};
+use rd_look::listing_at;
 use std::alloc::Global;
 use std::marker::Brand;
 use std::sync::Arc;

@@ -4,10 +4,10 @@ use Rattle.journal_model.specs.Effects.{Reply, answering}
 use Rattle.journal_model.specs.Looks.{look_sent}
 use Rattle.coap_answers.specs.Replies.{reply_said}
 use Rattle.coap_answers.specs.Sendings.{Sends}
-use Rattle.rd_desk.specs.declared.looks.Found.{Found}
-use Rattle.rd_desk.specs.Looking.{look_found, is_starved_look, look_done}
-use Rattle.rd_desk.proofs.answers.LookLaws.{given_links}
-use Rattle.rd_desk.proofs.looks.give.Goals as goal
+use Rattle.rd_look.specs.declared.looks.Found.{Found}
+use Rattle.rd_look.specs.Looking.{look_found, is_starved_look, look_done}
+use Rattle.rd_look.proofs.LookLaws.{given_links}
+use Rattle.rd_look.proofs.looks.give.Goals as goal
 
 pub returns-in-Valid-clause-sends : goal.returns-in-Valid-clause-sends
 returns-in-Valid-clause-sends c s of =

@@ -4,10 +4,10 @@ use Rattle.journal_model.specs.Looks.{Look, look_sent, body_held}
 use Rattle.coap_answers.specs.Replies.{reply_said}
 use Rattle.coap_answers.specs.Sendings.{Sends}
 use Rattle.coap_answers.proofs.SendingLaws.{sends_nothing}
-use Rattle.rd_desk.specs.declared.looks.Looked.TheVariants as ended
-use Rattle.rd_desk.specs.Looking.{IsHeld}
-use Rattle.rd_desk.proofs.answers.LookLaws.{given_whole, given_held}
-use Rattle.rd_desk.proofs.looks.give_listing.Goals as goal
+use Rattle.rd_look.specs.declared.looks.Looked.TheVariants as ended
+use Rattle.rd_look.specs.Looking.{IsHeld}
+use Rattle.rd_look.proofs.LookLaws.{given_whole, given_held}
+use Rattle.rd_look.proofs.looks.give_listing.Goals as goal
 
 pub returns-then-not-is_long-clause-sends : goal.returns-then-not-is_long-clause-sends
 returns-then-not-is_long-clause-sends c s of =

@@ -7,10 +7,10 @@ use Rattle.record_model.specs.Discovery.{discovery}
 use Rattle.journal_model.specs.Requests.{is_discovery}
 use Rattle.journal_model.specs.Looks.{Look, found_under, look}
 use Rattle.rd_request.proofs.ResourceLaws.{core_there}
-use Rattle.rd_desk.specs.declared.looks.Found.{Found}
-use Rattle.rd_desk.specs.Looking.{look_found}
-use Rattle.rd_desk.proofs.answers.LookLaws.{discovered, looked_up}
-use Rattle.rd_desk.proofs.looks.find.Goals as goal
+use Rattle.rd_look.specs.declared.looks.Found.{Found}
+use Rattle.rd_look.specs.Looking.{look_found}
+use Rattle.rd_look.proofs.LookLaws.{discovered, looked_up}
+use Rattle.rd_look.proofs.looks.find.Goals as goal
 
 pub returns-then-is_core : goal.returns-then-is_core
 returns-then-is_core c history stands =

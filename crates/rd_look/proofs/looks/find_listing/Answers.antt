@@ -1,8 +1,8 @@
 use Rattle.std.proofs.Common.{sym, ◌∙◌}
 use Rattle.coap_message.specs.Views.{message_in}
 use Rattle.history_model.specs.Listing.{listing, tag}
-use Rattle.rd_desk.proofs.answers.LookLaws.{found_valid, found_whole}
-use Rattle.rd_desk.proofs.looks.find_listing.Goals as goal
+use Rattle.rd_look.proofs.LookLaws.{found_valid, found_whole}
+use Rattle.rd_look.proofs.looks.find_listing.Goals as goal
 
 pub returns-then-names_tag : goal.returns-then-names_tag
 returns-then-names_tag c history stands =

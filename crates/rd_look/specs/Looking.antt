@@ -15,10 +15,10 @@ use Rattle.journal_model.specs.Looks.{
   look_sent,
   body_held,
 }
-use Rattle.rd_desk.specs.declared.looks.Found.{Found}
-use Rattle.rd_desk.specs.declared.looks.Found.TheVariants as found
-use Rattle.rd_desk.specs.declared.looks.Looked.{Looked}
-use Rattle.rd_desk.specs.declared.looks.Looked.TheVariants as ended
+use Rattle.rd_look.specs.declared.looks.Found.{Found}
+use Rattle.rd_look.specs.declared.looks.Found.TheVariants as found
+use Rattle.rd_look.specs.declared.looks.Looked.{Looked}
+use Rattle.rd_look.specs.declared.looks.Looked.TheVariants as ended
 
 -- what a look gives that found this: 2.03 where the client has it, and else the body, which is held
 -- where it is a listing longer than a block

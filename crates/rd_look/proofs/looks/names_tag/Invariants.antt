@@ -3,7 +3,7 @@ use Rattle.std.specs.List.{list_any}
 use Rattle.message_model.specs.Request.{etags_in}
 use Rattle.coap_message.specs.Views.{message_in}
 use Rattle.coap_options.specs.ValuesLeft.{etags_left}
-use Rattle.rd_desk.proofs.looks.names_tag.Given as goal
+use Rattle.rd_look.proofs.looks.names_tag.Given as goal
 
 -- the tag is among those that are left where it is among all
 abbrev pub invariant-tags : goal.invariant-tags

@@ -12,20 +12,20 @@ use std::sync::Arc;
 #[derive(Drop)]
 pub struct KeepJob {
     /// Who asked.
-    pub(crate) peer: Peer,
+    pub peer: Peer,
     /// The datagram of the look.
-    pub(crate) datagram: Bytes,
+    pub datagram: Bytes,
     /// The listing.
-    pub(crate) body: Arc<Bytes>,
+    pub body: Arc<Bytes>,
     /// Its entity tag.
-    pub(crate) tag: Tag,
+    pub tag: Tag,
 }
 
 impl Model for KeepJob {
     ghost use Rattle.std.specs.Prelude.{◌≡◌, true};
     ghost use Rattle.std.specs.Arc.{arc_value};
     ghost use Rattle.journal_model.specs.Machine.{is_look_datagram};
-    ghost use Rattle.rd_desk.specs.KeepJobs.{Keep};
+    ghost use Rattle.rd_look.specs.KeepJobs.{Keep};
 
     ghost Value = { Keep };
 
@@ -41,7 +41,7 @@ impl Model for KeepJob {
 
 impl KeepJob {
     /// The job to keep a listing that the look by this datagram formed. `Starved`: out of memory.
-    pub(crate) fn of(
+    pub fn of(
         alloc: Global,
         peer: Peer,
         datagram: &[u8],

@@ -14,10 +14,10 @@ ghost use Rattle.coap_answers.specs.Outboxes.{most_datagrams};
 ghost use Rattle.coap_answers.specs.Replies.{IsReply, reply_said};
 ghost use Rattle.coap_answers.specs.Sendings.{IsStepOf, Sends};
 ghost use Rattle.rd_request.specs.Accepted.{message_of};
-ghost use Rattle.rd_desk.specs.Looking.{look_found, is_starved_look, look_done, look_left, IsHeld};
+ghost use Rattle.rd_look.specs.Looking.{look_found, is_starved_look, look_done, look_left, IsHeld};
 
-use crate::{KeepJob, Mids, Outbox};
-use coap_answers::{Reply, answer, answer_starved, body_reply, is_long};
+use crate::KeepJob;
+use coap_answers::{Mids, Outbox, Reply, answer, answer_starved, body_reply, is_long};
 use coap_options::{Meaning, etags};
 use directory_core::Directory;
 use listing::discovery;
@@ -71,7 +71,7 @@ fn names_tag(meaning: &Meaning<'_>, tag: Tag) -> bool
 }
 
 /// The listing of a query at a moment. `Starved`: out of memory.
-pub(crate) fn listing_at<L: Ledger>(
+pub fn listing_at<L: Ledger>(
     blank: Blank,
     version: &Directory,
     now: Moment,
@@ -224,7 +224,7 @@ fn give_listing(
 }
 
 /// The request of a datagram that only looks.
-pub(crate) fn look_request(datagram: &[u8]) -> Request<'_>
+pub fn look_request(datagram: &[u8]) -> Request<'_>
     requires { is_look_datagram datagram.now ≡ true }
     ensures read { reading datagram.now ≡ Ok (message_of result) }
     ensures looks { requests_of.only_looks (message_of result) ≡ true }
@@ -235,7 +235,7 @@ pub(crate) fn look_request(datagram: &[u8]) -> Request<'_>
     request
 }
 
-/// A request that only looks ([`is_look`](crate::is_look)) is answered from a version of the
+/// A request that only looks ([`is_look`](rd_request::is_look)) is answered from a version of the
 /// directory at a moment, which is not before its last entry and its last sweep: 2.05 with what is
 /// found, or 2.03 where the request names the tag of the listing (RFC 7252 section 5.10.6.2). A
 /// listing that is longer than the block that is asked for is not sent: it is held, to be kept

@@ -3,9 +3,9 @@ use Rattle.message_model.specs.Reading.{reading}
 use Rattle.coap_message.specs.Views.{message_in}
 use Rattle.journal_model.specs.Effects.{Effects}
 use Rattle.coap_answers.specs.Sendings.{Sends}
-use Rattle.rd_desk.specs.Looking.{look_found, is_starved_look}
-use Rattle.rd_desk.proofs.answers.LookLaws.{looked_by, looked_starved}
-use Rattle.rd_desk.proofs.looks.look.Goals as goal
+use Rattle.rd_look.specs.Looking.{look_found, is_starved_look}
+use Rattle.rd_look.proofs.LookLaws.{looked_by, looked_starved}
+use Rattle.rd_look.proofs.looks.look.Goals as goal
 
 pub returns-in_default-clause-sends : goal.returns-in_default-clause-sends
 returns-in_default-clause-sends c s history stands of =

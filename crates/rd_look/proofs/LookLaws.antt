@@ -70,8 +70,8 @@ use Rattle.journal_model.specs.Looks.{
   body_held,
   held_after,
 }
-use Rattle.rd_desk.specs.declared.looks.Looked.TheVariants as ended
-use Rattle.rd_desk.specs.Looking.{look_done, look_left, IsHeld}
+use Rattle.rd_look.specs.declared.looks.Looked.TheVariants as ended
+use Rattle.rd_look.specs.Looking.{look_done, look_left, IsHeld}
 
 -- discovery finds the links of the directory itself
 pub discovered : (history : List Entry) (moment : ℕ) (m : Message) (octets : List ℕ)

@@ -3,8 +3,8 @@ use Rattle.message_model.specs.Reading.{reading}
 use Rattle.coap_message.specs.Views.{message_in}
 use Rattle.journal_model.specs.Effects.{Effects}
 use Rattle.coap_answers.specs.Sendings.{Sends}
-use Rattle.rd_desk.proofs.answers.LookLaws.{looked_starved}
-use Rattle.rd_desk.proofs.looks.look_starved.Goals as goal
+use Rattle.rd_look.proofs.LookLaws.{looked_starved}
+use Rattle.rd_look.proofs.looks.look_starved.Goals as goal
 
 -- it is answered as a look for which there was no memory
 pub returns : goal.returns

@@ -1,6 +1,6 @@
 use Rattle.std.proofs.Common.{sym, ◌∙◌}
 use Rattle.rd_request.proofs.IncomingLaws.{looks_is, only_looks_left}
-use Rattle.rd_desk.proofs.looks.look_request.Goals as goal
+use Rattle.rd_look.proofs.looks.look_request.Goals as goal
 
 pub unreachable-requires : goal.unreachable-requires
 unreachable-requires c =
