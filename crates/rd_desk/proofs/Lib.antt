@@ -3,8 +3,8 @@
 -- leaves (AsideLaws), a step under way from its beginning to its row (WayLaws), one part more
 -- (PartLaws); tables of the empty journal (DeskLaws), writes (WriteLaws), one that is forgotten in
 -- its own row (ForgottenLaws), empty messages (EmptyMessageLaws), keeps (KeepLaws), the row of a
--- look, which leaves what a desk stands for (LookRows), lookups with the journal (LookupLaws), how a
--- request is refused (RefusalLaws), and what an admission does and leaves by what it hears
+-- look, which leaves what a desk stands for (LookRows), lookups with the journal (LookupLaws), how
+-- a request is refused (RefusalLaws), and what an admission does and leaves by what it hears
 -- (AdmissionLaws, RoleLaws, HearingLaws).
 -- The watched queries and their observers (observers): marks that are handed on (MarkLaws), which
 -- observer is found (WalkLaws, FoundObservers), each query is watched as often as it
@@ -19,8 +19,8 @@
 --   its exchange (SettlingLaws), how long an answer is that is kept (ShortAnswers), and a commit,
 -- by its query options, its method, its block and its path (CommitLaws);
 --   for the desk above, that a commit is of an open admission (OpenJobs).
---   A block of a registration (UploadLaws), and a simple one, whose fetch starts beside its answer
--- (FetchStartLaws); what a step leaves on a board (StagingLaws). What is shown of an observer is ShownLaws of observers.
+--   A block of a registration (UploadLaws), and a simple one, whose fetch starts beside its
+-- answer (FetchStartLaws); what a step leaves on a board (StagingLaws). What is shown of an observer is ShownLaws of observers.
 -- Ticks (ticking): how many observe and are fetched from (BoundLaws), how long the octets are that
 -- may be sent again (FittingLaws); notices that are sent again (AgainLaws, observer after
 --   observer AgainWalk), requests of fetches that are (RequestWalk); who gets a new notice

@@ -70,6 +70,7 @@ use Rattle.journal_model.specs.Looks.{
   body_held,
   held_after,
 }
+use Rattle.rd_request.proofs.AskedLaws.{none_there}
 use Rattle.rd_look.specs.declared.looks.Looked.TheVariants as ended
 use Rattle.rd_look.specs.Looking.{look_done, look_left, IsHeld}
 
