@@ -7,7 +7,6 @@ pub mod WayLaws
 pub mod PartLaws
 pub mod DeskLaws
 pub mod WriteLaws
-pub mod KeptLaws
 pub mod EmptyMessageLaws
 pub mod KeepLaws
 pub mod AdmissionLaws
@@ -17,3 +16,4 @@ pub mod HearingLaws
 pub mod RoleLaws
 pub mod LookRows
 pub mod ShownLaws
+pub mod RefusalLaws

@@ -1,4 +1,3 @@
-pub mod KeptRequests
 pub mod WriteJobs
 pub mod Admitting
 pub mod Lookups
@@ -8,8 +7,6 @@ pub mod UnderWay
 pub mod Outcomes
 pub mod Committing
 pub mod Staging
-pub mod KeepJobs
-pub mod Looking
 pub mod Stepping
 pub mod Shown
 pub mod Watchers

@@ -18,14 +18,13 @@ ghost use Rattle.rd_desk.specs.Admitting.{is_starved_admission, write_heard, wri
 ghost use Rattle.rd_desk.specs.Admitting.{IsHeldFor};
 ghost use Rattle.rd_desk.specs.UnderWay.{UnderWay};
 
-use crate::kept_requests::KeptRequest;
 use crate::tables::Tables;
 use crate::{Admitted, Mids, Outbox, WriteJob};
 use coap_answers::{answer_full, answer_starved};
 use coap_message::View;
 use exchange_core::Keyed;
 use rd_base::Peer;
-use rd_request::Request;
+use rd_request::{KeptRequest, Request};
 
 impl Tables {
     /// A write that nothing refuses repeats another, or there is no room for it, or it is admitted.

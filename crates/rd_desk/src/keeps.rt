@@ -16,12 +16,12 @@ ghost use Rattle.rd_request.specs.Accepted.{message_of};
 ghost use Rattle.rd_desk.specs.Stepping.{is_starved_step};
 ghost use Rattle.rd_desk.specs.UnderWay.{UnderWay, IsCalled, Made};
 
-use crate::looks::send_block;
 use crate::tables::Tables;
 use crate::{KeepJob, Mids, Outbox, Stepped};
 use coap_answers::answer_starved;
 use coap_options::request_key;
 use rd_base::{Bytes, Moment, Peer, Starved, Tag};
+use rd_look::send_block;
 use rd_request::Request;
 use std::alloc::Global;
 use std::sync::Arc;

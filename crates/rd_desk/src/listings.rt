@@ -16,7 +16,6 @@ ghost use Rattle.rd_desk.specs.Lookups.{answer_listed, answer_at, IsFormed, IsRe
 ghost use Rattle.rd_desk.specs.Lookups.{IsUsed};
 
 use crate::keeps::with_listing;
-use crate::looks::{listing_at, send_block};
 use crate::{Mids, Outbox};
 use coap_answers::{answer, body_reply, szx_of};
 use coap_options::request_key;
@@ -24,6 +23,7 @@ use directory_core::Directory;
 use exchange_core::Token;
 use observation::Joining;
 use rd_base::{Bytes, Key, Moment, Peer, Query, Starved, Tag};
+use rd_look::{listing_at, send_block};
 use rd_request::Request;
 use std::alloc::Global;
 use std::marker::Brand;

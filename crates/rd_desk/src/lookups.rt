@@ -29,7 +29,6 @@ ghost use Rattle.rd_desk.specs.Stepping.{is_starved_step};
 ghost use Rattle.rd_desk.specs.UnderWay.{UnderWay};
 
 use crate::listings::{Formed, form, joining_by, listed_at, send_kept};
-use crate::looks::send_block;
 use crate::tables::Tables;
 use crate::{Mids, Outbox, Stepped};
 use coap_answers::{answer_starved, has_asked_block, is_long};
@@ -37,6 +36,7 @@ use coap_options::request_key;
 use exchange_core::Token;
 use observation::Joining;
 use rd_base::{Peer, Query, Starved};
+use rd_look::send_block;
 use rd_request::{Request, begins_observation, is_later_block, query_of};
 
 /// How many Observe values there are: they have 24 bits (RFC 7641 section 3.4).

@@ -29,7 +29,6 @@ ghost use Rattle.rd_desk.specs.Planning.{notice_spelled, AddsNotice};
 ghost use Rattle.rd_desk.specs.Planning as planning_of;
 ghost use Rattle.rd_desk.specs.UnderWay.{UnderWay};
 
-use crate::looks::listing_at;
 use coap_answers::{body_reply, is_long, spell_notice};
 use coap_message::TokenRef;
 use directory_core::Directory;
@@ -38,6 +37,7 @@ use message_model::{Block, MAX_SZX};
 use observation::Watching;
 use observers::Observer;
 use rd_base::{Bytes, Moment, Peer, Starved, Tag};
+use rd_look::listing_at;
 use std::alloc::Global;
 use std::marker::Brand;
 use std::sync::Arc;

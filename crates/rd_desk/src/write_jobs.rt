@@ -5,9 +5,8 @@ ghost use Rattle.message_model.specs.Request.{path_in};
 ghost use Rattle.rd_request.specs.Accepted.{message_of};
 ghost use Rattle.rd_request.specs.WriteRequests.{is_write_path, is_write_datagram};
 
-use crate::kept_requests::KeptRequest;
 use rd_base::{Moment, Peer};
-use rd_request::{Incoming, Request, read_datagram};
+use rd_request::{KeptRequest, Request};
 use std::marker::Model;
 
 /// A write that was admitted, to be done by the next step of its worker but ticks. Nothing refuses

@@ -3,3 +3,4 @@ pub mod Accepted
 pub mod Asking
 pub mod WriteRequests
 pub mod Incoming
+pub mod KeptRequests

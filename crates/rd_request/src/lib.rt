@@ -4,6 +4,7 @@
 
 mod accepted;
 mod incoming;
+mod kept_requests;
 mod lookup_queries;
 mod parameters;
 mod requests;
@@ -11,6 +12,7 @@ mod resources;
 
 pub use accepted::Request;
 pub use incoming::{Incoming, is_look, read_datagram};
+pub use kept_requests::KeptRequest;
 pub use lookup_queries::query_of;
 pub use parameters::given_params;
 pub use requests::{Refused, begins_observation, is_heeded, is_later_block};

@@ -57,8 +57,8 @@ use Rattle.journal_model.proofs.entries.QuietSteps.{
 }
 use Rattle.journal_model.proofs.EntriesNoted.{entries_in}
 use Rattle.coap_answers.specs.declared.mids.Mids.{Mids}
+use Rattle.rd_look.specs.KeepJobs.{Keep}
 use Rattle.rd_desk.specs.Desks.{StandsFor}
-use Rattle.rd_desk.specs.KeepJobs.{Keep}
 use Rattle.rd_desk.specs.UnderWay.{IsCalled}
 use Rattle.rd_desk.specs.Shown.{Shown, AreToldOf}
 use Rattle.rd_desk.specs.Staging.{staged_after, LeavesStaged}

@@ -7,7 +7,7 @@ use Rattle.history_model.specs.declared.entries.Change.TheVariants as change
 use Rattle.history_model.specs.declared.entries.Entry.{Entry}
 use Rattle.journal_model.specs.declared.steps.Step.{Step}
 use Rattle.journal_model.specs.declared.steps.StepKind.TheVariants as step
-use Rattle.rd_desk.specs.KeepJobs.{Keep}
+use Rattle.rd_look.specs.KeepJobs.{Keep}
 
 -- the peer of a tick, which has none
 abbrev pub nobody : Peer

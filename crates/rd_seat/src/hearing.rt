@@ -3,8 +3,8 @@ ghost use Rattle.std.specs.Prelude.{◌≡◌, ◌≤◌, ◌^◌, ℕ, [], true
 ghost use Rattle.history_model.specs.Live.{IsFront};
 ghost use Rattle.journal_model.specs.Machine.{is_look_datagram};
 ghost use Rattle.journal_model.specs.declared.rows.Row.{Row};
+ghost use Rattle.rd_look.specs.Looking.{is_starved_look};
 ghost use Rattle.rd_desk.specs.Admitting.{is_starved_admission};
-ghost use Rattle.rd_desk.specs.Looking.{is_starved_look};
 ghost use Rattle.rd_desk.specs.Stepping.{is_starved_step};
 ghost use Rattle.rd_seat.specs.Jobs.{LeavesJob, OpensJob};
 ghost use Rattle.rd_seat.specs.Looks.{answer_held, IsJobOf};

@@ -1,7 +1,7 @@
 //! Looks: they take no turn, and wait for nobody.
 ghost use Rattle.std.specs.Prelude.{◌≡◌, ◌≤◌, ◌^◌, [], true};
 ghost use Rattle.journal_model.specs.Machine.{is_look_datagram};
-ghost use Rattle.rd_desk.specs.Looking.{is_starved_look};
+ghost use Rattle.rd_look.specs.Looking.{is_starved_look};
 ghost use Rattle.rd_seat.specs.Looks.{answer_held, IsJobOf};
 ghost use Rattle.rd_seat.specs.Shares.{Rests, HasLooked};
 ghost use Rattle.rd_seat.specs.Steps.{look_step};

@@ -3,8 +3,8 @@ ghost use Rattle.std.specs.Prelude.{◌≡◌, ◌<◌, ◌≤◌, ◌^◌, ℕ,
 ghost use Rattle.history_model.specs.Live.{IsFront};
 ghost use Rattle.journal_model.specs.DeskJournal.{max_workers};
 ghost use Rattle.journal_model.specs.Machine.{is_look_datagram};
+ghost use Rattle.rd_look.specs.Looking.{is_starved_look};
 ghost use Rattle.rd_desk.specs.Admitting.{is_starved_admission};
-ghost use Rattle.rd_desk.specs.Looking.{is_starved_look};
 ghost use Rattle.rd_desk.specs.Stepping.{is_starved_step};
 ghost use Rattle.turn_lock.specs.Shown.{lock_of, number_of, label_of, is_holding, seen_of, mine_of};
 ghost use Rattle.version_board.specs.Ends.{new_looker};

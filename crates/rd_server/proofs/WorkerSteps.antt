@@ -65,12 +65,12 @@ use Rattle.journal_model.proofs.entries.JournalLaws.{desk-AreRows}
 use Rattle.journal_model.proofs.notes.SilentSteps.{looked_notes}
 use Rattle.coap_answers.specs.declared.mids.Mids.{Mids}
 use Rattle.coap_answers.specs.Sendings.{IsStepOf, Sends}
+use Rattle.rd_look.specs.declared.looks.Looked.TheVariants as looked_as
+use Rattle.rd_look.specs.KeepJobs.{Keep}
+use Rattle.rd_look.specs.Looking.{IsHeld}
 use Rattle.rd_desk.specs.declared.jobs.Job.{Job}
 use Rattle.rd_desk.specs.declared.jobs.Job.TheVariants as job
-use Rattle.rd_desk.specs.declared.looks.Looked.TheVariants as looked_as
 use Rattle.rd_desk.specs.Desks.{Seen}
-use Rattle.rd_desk.specs.KeepJobs.{Keep}
-use Rattle.rd_desk.specs.Looking.{IsHeld}
 use Rattle.rd_desk.specs.UnderWay.{IsCalled, Made}
 use Rattle.rd_desk.specs.WriteJobs.{Write}
 use Rattle.rd_desk.proofs.changes.OpenJobs.{job-IsOpen}

@@ -56,8 +56,8 @@ use Rattle.transfers.specs.TransferEvents.{
 use Rattle.transfers.proofs.TransferLaws.{UploadsStandFor-noted}
 use Rattle.coap_answers.specs.declared.mids.Mids.{Mids}
 use Rattle.coap_answers.specs.Sendings.{IsStepOf, Sends}
+use Rattle.rd_look.specs.KeepJobs.{Keep}
 use Rattle.rd_desk.specs.Desks.{Seen}
-use Rattle.rd_desk.specs.KeepJobs.{Keep}
 use Rattle.rd_desk.specs.UnderWay.{UnderWay, IsCalled, Made}
 use Rattle.rd_desk.proofs.parts.NoteTopics as topic
 use Rattle.rd_desk.proofs.parts.NoteTopics.{AreAbout}

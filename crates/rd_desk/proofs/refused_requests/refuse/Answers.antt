@@ -4,7 +4,7 @@ use Rattle.journal_model.specs.Effects.{Effects, Reply, answering}
 use Rattle.coap_answers.specs.Sendings.{Sends}
 use Rattle.coap_answers.proofs.SendingLaws.{sends_nothing}
 use Rattle.rd_request.specs.Asking.{refused_with}
-use Rattle.rd_desk.proofs.answers.RefusalLaws.{passed_over, answered}
+use Rattle.rd_desk.proofs.parts.RefusalLaws.{passed_over, answered}
 use Rattle.rd_desk.proofs.refused_requests.refuse.Goals as goal
 
 pub returns-then-is_passed_over : goal.returns-then-is_passed_over

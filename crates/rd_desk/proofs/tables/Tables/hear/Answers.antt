@@ -43,7 +43,7 @@ use Rattle.rd_desk.proofs.parts.HearingLaws.{
   jobless_held,
 }
 use Rattle.rd_desk.proofs.parts.RoleLaws.{heard_for, admits_for, takes_for}
-use Rattle.rd_desk.proofs.parts.KeptLaws.{spelled_by, read_again}
+use Rattle.rd_request.proofs.KeptRequestLaws.{spelled_by, read_again}
 use Rattle.rd_desk.proofs.parts.PartLaws.{only_silent}
 use Rattle.rd_desk.proofs.parts.WayLaws.{step_of}
 use Rattle.rd_desk.proofs.changes.StagingLaws.{laid_none}

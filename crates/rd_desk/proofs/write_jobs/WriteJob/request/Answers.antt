@@ -2,7 +2,7 @@ use Rattle.std.proofs.Common.{ap, sym, ◌∙◌}
 use Rattle.message_model.specs.Reading.{reading}
 use Rattle.rd_request.specs.Accepted.{message_of}
 use Rattle.rd_desk.specs.WriteJobs.{Write}
-use Rattle.rd_desk.proofs.parts.KeptLaws.{read_kept, writes_kept}
+use Rattle.rd_request.proofs.KeptRequestLaws.{read_kept, writes_kept}
 use Rattle.rd_desk.proofs.write_jobs.WriteJob.request.Goals as goal
 
 pub returns-clause-read : goal.returns-clause-read

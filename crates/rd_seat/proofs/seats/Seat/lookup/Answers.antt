@@ -1,6 +1,6 @@
 use Rattle.std.proofs.Common.{subst}
 use Rattle.history_model.specs.Live.{IsFront}
-use Rattle.rd_desk.specs.Looking.{is_starved_look}
+use Rattle.rd_look.specs.Looking.{is_starved_look}
 use Rattle.rd_seat.specs.Looks.{answer_held}
 use Rattle.rd_seat.specs.Seats.{SeatSeen, LooksAtMet}
 use Rattle.rd_seat.specs.Shares.{share_shown}

@@ -26,7 +26,7 @@ use Rattle.journal_model.specs.declared.steps.Step.{Step}
 use Rattle.journal_model.specs.Effects.{Effects}
 use Rattle.journal_model.specs.Looks.{looked, held_after}
 use Rattle.coap_answers.specs.Sendings.{Sends}
-use Rattle.rd_desk.specs.Looking.{is_starved_look, IsHeld}
+use Rattle.rd_look.specs.Looking.{is_starved_look, IsHeld}
 use Rattle.rd_seat.specs.Looks.{answer_held}
 use Rattle.rd_seat.specs.Seats.{SeatSeen}
 use Rattle.rd_seat.specs.Shares.{share_shown}

@@ -1,4 +1,0 @@
-use Rattle.rd_desk.proofs.looks.listing_at.Goals as goal
-
-pub returns : goal.returns
-returns g c history stands = c.lookup.ensures.listing 0 history stands

@@ -1,0 +1,268 @@
+-- What a look gives, by what is found, and what it does that gives this.
+use Rattle.std.proofs.Common.{
+  ◌≡◌,
+  ℕ,
+  Bool,
+  true,
+  false,
+  not,
+  ◌&&◌,
+  ◌||◌,
+  List,
+  Option,
+  Some,
+  None,
+  option_map,
+  is_none,
+  Result,
+  Ok,
+  Err,
+  refl,
+  sym,
+  ap,
+  subst,
+  ◌∙◌,
+}
+use Rattle.std.proofs.lemmas.Bool.{and_parts}
+use Rattle.rd_base.specs.declared.peers.Peer.{Peer}
+use Rattle.message_model.specs.declared.blocks.Block.{Block}
+use Rattle.message_model.specs.declared.messages.Role.{Role}
+use Rattle.message_model.specs.declared.messages.Role.TheVariants as role
+use Rattle.message_model.specs.declared.messages.Unread.{Unread}
+use Rattle.message_model.specs.declared.requests.Path.{Path}
+use Rattle.message_model.specs.declared.requests.Path.TheVariants as path
+use Rattle.message_model.specs.Message.{Message, role_of}
+use Rattle.message_model.specs.Reading.{reading}
+use Rattle.message_model.specs.Request.{path_in, observe_in}
+use Rattle.record_model.specs.Discovery.{discovery}
+use Rattle.history_model.specs.declared.entries.Entry.{Entry}
+use Rattle.history_model.specs.Listing.{listing, tag}
+use Rattle.journal_model.specs.declared.steps.Step.{Step}
+use Rattle.journal_model.specs.Effects.{Reply, without_memory}
+use Rattle.journal_model.specs.Requests.{
+  is_lookup,
+  is_discovery,
+  is_later_block,
+  is_heeded,
+  only_looks,
+  query_of,
+  asked_block,
+  refusal_of_request,
+  is_look_request,
+}
+use Rattle.journal_model.specs.Bodies.{body_reply, is_long}
+use Rattle.journal_model.specs.Machine.{is_look_message, is_look_reading, is_look_datagram}
+use Rattle.journal_model.specs.Sought.{sought_at}
+use Rattle.journal_model.specs.Looks.{
+  Look,
+  answered,
+  held,
+  names_tag,
+  still_valid,
+  unless_long,
+  unless_valid,
+  found_under,
+  look_for,
+  look,
+  look_sent,
+  look_effects,
+  looked,
+  body_held,
+  held_after,
+}
+use Rattle.rd_request.proofs.AskedLaws.{none_there}
+use Rattle.rd_look.specs.declared.looks.Looked.TheVariants as ended
+use Rattle.rd_look.specs.Looking.{look_done, look_left, IsHeld}
+
+-- discovery finds the links of the directory itself
+pub discovered : (history : List Entry) (moment : ℕ) (m : Message) (octets : List ℕ)
+    → is_discovery (path_in m) ≡ true
+    → octets ≡ discovery (query_of m)
+    → look history moment m ≡ Some (answered (body_reply None None (asked_block m) octets))
+unfolding look
+discovered history moment m octets is same = at (path_in m) is where
+  at : (p : Path)
+      → is_discovery p ≡ true
+      → option_map (look_for history moment m) (sought_at p (query_of m))
+      ≡ Some (answered (body_reply None None (asked_block m) octets))
+  at path.Core h =
+      ap (λ (what : List ℕ). Some (answered (body_reply None None (asked_block m) what))) (sym same)
+  at path.SimpleRd h = cc
+  at path.Rd h = cc
+  at (path.Location number) h = cc
+  at path.Res h = cc
+  at path.Ep h = cc
+  at path.Other h = cc
+
+-- any other look finds a listing
+pub looked_up : (history : List Entry) (moment : ℕ) (m : Message)
+    → only_looks m ≡ true
+    → is_discovery (path_in m) ≡ false
+    → look history moment m
+    ≡ Some (found_under (Some (tag history moment)) m (listing (query_of m) history moment))
+unfolding look
+looked_up history moment m looks other =
+    at (path_in m) (not (is_later_block m)) (not (is_heeded (observe_in m))) looks other where
+      at : (p : Path) (first plain : Bool)
+          → (is_discovery p || (is_lookup p && first && plain)) ≡ true
+          → is_discovery p ≡ false
+          → option_map (look_for history moment m) (sought_at p (query_of m))
+          ≡ Some (found_under (Some (tag history moment)) m (listing (query_of m) history moment))
+      at path.Core first plain looks other = cc
+      at path.SimpleRd first plain looks other = cc
+      at path.Rd first plain looks other = cc
+      at (path.Location number) first plain looks other = cc
+      at path.Res first plain looks other = refl
+      at path.Ep first plain looks other = refl
+      at path.Other first plain looks other = cc
+
+-- the client has it, where it names the tag
+pub found_valid : (m : Message) (given current what : List ℕ)
+    → given ≡ current
+    → names_tag given m ≡ true
+    → found_under (Some current) m what ≡ answered (still_valid given)
+found_valid m given current what same named =
+    subst (λ (t : List ℕ). found_under (Some t) m what ≡ answered (still_valid given)) same
+    (ap (λ b. unless_valid b m (record { body = what; tag = given })) named)
+
+-- and else it gets it, or it is held
+pub found_whole : (m : Message) (given current octets what : List ℕ)
+    → given ≡ current
+    → octets ≡ what
+    → names_tag given m ≡ false
+    → found_under (Some current) m what
+    ≡ unless_long (is_long (asked_block m) octets) m (record { body = octets; tag = given })
+found_whole m given current octets what same whole unnamed =
+    subst (λ (t : List ℕ).
+    found_under (Some t) m what
+    ≡ unless_long (is_long (asked_block m) octets) m
+    (record { body = octets; tag = given })) same
+    (subst (λ (w : List ℕ).
+    found_under (Some given) m w
+    ≡ unless_long (is_long (asked_block m) octets) m
+    (record { body = octets; tag = given })) whole
+    (ap (λ b. unless_valid b m (record { body = octets; tag = given })) unnamed))
+
+-- ---- what is given
+
+-- it was told whether the listing is long
+is_measured : (m : Message) (octets shown : List ℕ) (asked : Option Block) (long : Bool)
+    → asked ≡ asked_block m
+    → shown ≡ octets
+    → long ≡ is_long asked shown
+    → long ≡ is_long (asked_block m) octets
+is_measured m octets shown asked long same all measured =
+    measured
+    ∙ (ap (λ (b : Option Block). is_long b shown) same
+    ∙ ap (λ (body : List ℕ). is_long (asked_block m) body) all)
+
+-- a listing that is not long
+pub given_whole : (m : Message) (octets current shown body : List ℕ) (asked : Option Block)
+    (long : Bool)
+    → asked ≡ asked_block m
+    → shown ≡ octets
+    → long ≡ is_long asked shown
+    → long ≡ false
+    → body ≡ octets
+    → answered (body_reply (Some current) None (asked_block m) body)
+    ≡ unless_long (is_long (asked_block m) octets) m (record { body = octets; tag = current })
+given_whole m octets current shown body asked long same all measured short whole =
+    ap (λ (b : List ℕ). answered (body_reply (Some current) None (asked_block m) b)) whole
+    ∙ ap (λ (b : Bool). unless_long b m (record { body = octets; tag = current }))
+    (sym short ∙ is_measured m octets shown asked long same all measured)
+
+-- one that is
+pub given_held : (m : Message) (octets current shown : List ℕ) (asked : Option Block) (long : Bool)
+    → asked ≡ asked_block m
+    → shown ≡ octets
+    → long ≡ is_long asked shown
+    → long ≡ true
+    → held (record { body = octets; tag = current })
+    ≡ unless_long (is_long (asked_block m) octets) m (record { body = octets; tag = current })
+given_held m octets current shown asked long same all measured yes_long =
+    ap (λ (b : Bool). unless_long b m (record { body = octets; tag = current }))
+    (sym yes_long ∙ is_measured m octets shown asked long same all measured)
+
+-- nothing refuses the request of a look, and it only looks
+look_request : (m : Message)
+    → is_look_request m ≡ true
+    → (refusal_of_request m ≡ None) × (only_looks m ≡ true)
+unfolding is_look_request
+look_request m h =
+    let both = and_parts (is_none (refusal_of_request m)) (only_looks m) h in
+    (none_there (refusal_of_request m) both.0, both.1)
+
+look_message : (r : Role) (m : Message)
+    → is_look_message r m ≡ true
+    → (refusal_of_request m ≡ None) × (only_looks m ≡ true)
+look_message role.Ping m h = cc
+look_message role.Acknowledgement m h = cc
+look_message role.Reset m h = cc
+look_message role.Request m h = look_request m h
+look_message role.Response m h = cc
+look_message role.Ignored m h = cc
+
+pub look_in : (datagram : List ℕ) (m : Message)
+    → reading datagram ≡ Ok m
+    → is_look_datagram datagram ≡ true
+    → (refusal_of_request m ≡ None) × (only_looks m ≡ true)
+unfolding is_look_datagram
+look_in datagram m is h =
+    look_message (role_of m.kind m.code) m
+    (subst (λ (r : Result Message Unread). is_look_reading r ≡ true) is h)
+
+-- and its datagram can be read
+pub look_readable : (datagram : List ℕ) (fault : Unread)
+    → reading datagram ≡ Err fault
+    → is_look_datagram datagram ≡ true
+    → ⊥
+unfolding is_look_datagram
+look_readable datagram fault is h =
+    let none : false ≡ true =
+    subst (λ (r : Result Message Unread). is_look_reading r ≡ true) is h in
+    cc
+
+-- what a look does that gives this is what is done after looking so
+pub looked_by : (starved : Bool) (history : List Entry) (moment : ℕ) (s : Step)
+    (read : Result Message Unread) (m : Message) (given : Look)
+    → read ≡ Ok m
+    → look history moment m ≡ Some given
+    → look_done starved s m given ≡ looked starved history moment s read
+unfolding look_effects
+looked_by starved history moment s read m given is gives =
+    subst (λ (r : Result Message Unread).
+    look_done starved s m given ≡ looked starved history moment s r) (sym is) (by starved)
+  where
+    by : (b : Bool) → look_done b s m given ≡ looked b history moment s (Ok m)
+    by true = refl
+    by false = ap (look_sent s m) (sym gives)
+
+-- and the body that it leaves
+pub left_by : (starved : Bool) (history : List Entry) (moment : ℕ) (read : Result Message Unread)
+    (m : Message) (given : Look)
+    → read ≡ Ok m
+    → look history moment m ≡ Some given
+    → look_left starved given ≡ held_after starved history moment read
+left_by starved history moment read m given is gives =
+    subst (λ (r : Result Message Unread).
+    look_left starved given ≡ held_after starved history moment r) (sym is) (by starved)
+  where
+    by : (b : Bool) → look_left b given ≡ held_after b history moment (Ok m)
+    by true = refl
+    by false = ap body_held (sym gives)
+
+-- out of memory it is answered 5.00
+pub looked_starved : (history : List Entry) (moment : ℕ) (s : Step) (read : Result Message Unread)
+    (m : Message)
+    → read ≡ Ok m
+    → without_memory s m ≡ looked true history moment s read
+looked_starved history moment s read m is =
+    subst (λ (r : Result Message Unread). without_memory s m ≡ looked true history moment s r)
+    (sym is) refl
+
+-- and nothing is held
+pub none_held : (peer : Peer) (datagram : List ℕ) (history : List Entry) (moment : ℕ)
+    (read : Result Message Unread)
+    → IsHeld peer datagram (held_after true history moment read) ended.Starved
+none_held peer datagram history moment (Err fault) = tt
+none_held peer datagram history moment (Ok m) = tt

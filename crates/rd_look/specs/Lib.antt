@@ -1,0 +1,2 @@
+pub mod KeepJobs
+pub mod Looking

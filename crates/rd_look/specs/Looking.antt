@@ -1,0 +1,59 @@
+-- What is found by a look, and how the look ends.
+use Rattle.std.specs.Prelude.{◌≡◌, ℕ, Bool, true, false, List, Option, Some, None}
+use Rattle.rd_base.specs.declared.peers.Peer.{Peer}
+use Rattle.message_model.specs.Message.{Message}
+use Rattle.event_model.specs.KeptAnswers.{Answer}
+use Rattle.journal_model.specs.declared.steps.Step.{Step}
+use Rattle.journal_model.specs.Effects.{Effects, without_memory}
+use Rattle.journal_model.specs.Requests.{asked_block}
+use Rattle.journal_model.specs.Bodies.{body_reply, is_long}
+use Rattle.journal_model.specs.Looks.{
+  Look,
+  answered,
+  still_valid,
+  unless_long,
+  look_sent,
+  body_held,
+}
+use Rattle.rd_look.specs.declared.looks.Found.{Found}
+use Rattle.rd_look.specs.declared.looks.Found.TheVariants as found
+use Rattle.rd_look.specs.declared.looks.Looked.{Looked}
+use Rattle.rd_look.specs.declared.looks.Looked.TheVariants as ended
+
+-- what a look gives that found this: 2.03 where the client has it, and else the body, which is held
+-- where it is a listing longer than a block
+abbrev pub look_found : Message → Found → Look
+look_found m (found.Valid current) = answered (still_valid current.0)
+look_found m (found.Listing listing) =
+    unless_long (is_long (asked_block m) listing.octets) m
+    (record { body = listing.octets; tag = listing.tag.0 })
+look_found m (found.OwnLinks octets) = answered (body_reply None None (asked_block m) octets)
+
+-- it ran out of memory
+abbrev pub is_starved_look : Looked → Bool
+is_starved_look ended.Done = false
+is_starved_look (ended.Held job) = false
+is_starved_look ended.Starved = true
+
+-- what a look does that gives this, or ran out of memory
+abbrev pub look_done : Bool → Step → Message → Look → Effects
+look_done true s m given = without_memory s m
+look_done false s m given = look_sent s m (Some given)
+
+-- the body that it leaves to be kept
+abbrev pub look_left : Bool → Look → Option Answer
+look_left true given = None
+look_left false given = body_held (Some given)
+
+-- the worker is left with this body to keep, which a peer asked for by a datagram, or with nothing
+abbrev pub IsHeld : Peer → List ℕ → Option Answer → Looked → Type 0
+IsHeld peer datagram None ended.Done = Unit {0}
+IsHeld peer datagram None ended.Starved = Unit {0}
+IsHeld peer datagram None (ended.Held job) = ⊥
+IsHeld peer datagram (Some answer) (ended.Held job) = job ≡ record {
+  peer = peer;
+  datagram = datagram;
+  answer = answer;
+}
+IsHeld peer datagram (Some answer) ended.Done = ⊥
+IsHeld peer datagram (Some answer) ended.Starved = ⊥

@@ -1,0 +1,9 @@
+//! Lookups and discovery that are answered from one version of the directory, and the job that a
+//! long listing leaves (RFC 9176 sections 4.1 and 6, RFC 7959 section 2.4).
+#![tactic(auto)]
+
+mod keep_jobs;
+mod looks;
+
+pub use keep_jobs::KeepJob;
+pub use looks::{Looked, listing_at, look, look_starved, send_block};
