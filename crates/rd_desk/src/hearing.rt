@@ -46,22 +46,22 @@ impl Tables {
         requires free { B.has_staged board.old ≡ false }
         requires told { AreToldOf self.old.version (B.told board.old) }
         ensures way { (rows : List Row) (s : Step)
-            → s.peer ≡ arrival.peer
-            → s.word ≡ arrival.word
+            → s.peer ≡ arrival.entry.peer
+            → s.word ≡ arrival.entry.word
             → UnderWay rows s (is_starved_admission result) nothing self.old out.old mids.old
             → UnderWay rows s (is_starved_admission result)
             (heard (is_starved_admission result) rows (row_moment rows s) s
-            (reading arrival.datagram.now)) self.new out.new mids.new }
+            (reading arrival.entry.datagram.now)) self.new out.new mids.new }
         ensures held { (rows : List Row) (s : Step)
-            → s.peer ≡ arrival.peer
-            → s.datagram ≡ arrival.datagram.now
+            → s.peer ≡ arrival.entry.peer
+            → s.datagram ≡ arrival.entry.datagram.now
             → UnderWay rows s (is_starved_admission result) nothing self.old out.old mids.old
             → IsHeldFor result (heard (is_starved_admission result) rows (row_moment rows s) s
-            (reading arrival.datagram.now)).notes s (row_moment rows s) }
+            (reading arrival.entry.datagram.now)).notes s (row_moment rows s) }
         ensures unstarved { (rows : List Row) (s : Step)
-            → s.peer ≡ arrival.peer
+            → s.peer ≡ arrival.entry.peer
             → UnderWay rows s false nothing self.old out.old mids.old
-            → takes_memory rows (row_moment rows s) s (reading arrival.datagram.now) ≡ false
+            → takes_memory rows (row_moment rows s) s (reading arrival.entry.datagram.now) ≡ false
             → is_starved_admission result ≡ false }
         ensures laid { IsLaid self.old.version self.new.version (B.staged board.old)
             (B.staged board.new) (B.has_staged board.new) }
@@ -126,24 +126,24 @@ impl Tables {
         requires told { AreToldOf self.old.version (B.told board.old) }
         ensures made { (rows : List Row) (s : Step)
             → s.kind ≡ step.Admit
-            → s.peer ≡ arrival.peer
-            → s.datagram ≡ arrival.datagram.now
-            → s.word ≡ arrival.word
-            → IsCalled rows s arrival.moment mids.old self.old
+            → s.peer ≡ arrival.entry.peer
+            → s.datagram ≡ arrival.entry.datagram.now
+            → s.word ≡ arrival.entry.word
+            → IsCalled rows s arrival.entry.moment mids.old self.old
             → Made rows (row rows s (is_starved_admission result)) self.new out.new mids.old
             mids.new }
         ensures held { (rows : List Row) (s : Step)
             → s.kind ≡ step.Admit
-            → s.peer ≡ arrival.peer
-            → s.datagram ≡ arrival.datagram.now
-            → IsCalled rows s arrival.moment mids.old self.old
+            → s.peer ≡ arrival.entry.peer
+            → s.datagram ≡ arrival.entry.datagram.now
+            → IsCalled rows s arrival.entry.moment mids.old self.old
             → IsHeldFor result (row rows s (is_starved_admission result)).notes s
             (row_moment rows s) }
         ensures unstarved { (rows : List Row) (s : Step)
-            → s.peer ≡ arrival.peer
-            → s.datagram ≡ arrival.datagram.now
-            → IsCalled rows s arrival.moment mids.old self.old
-            → takes_memory rows (row_moment rows s) s (reading arrival.datagram.now) ≡ false
+            → s.peer ≡ arrival.entry.peer
+            → s.datagram ≡ arrival.entry.datagram.now
+            → IsCalled rows s arrival.entry.moment mids.old self.old
+            → takes_memory rows (row_moment rows s) s (reading arrival.entry.datagram.now) ≡ false
             → is_starved_admission result ≡ false }
         ensures laid { IsLaid self.old.version self.new.version (B.staged board.old)
             (B.staged board.new) (B.has_staged board.new) }

@@ -51,24 +51,22 @@ impl Share {
         requires other { is_look_datagram arrival.datagram.now ≡ false }
         requires empty { out.old ≡ [] }
         ensures { HasAdmitted self.old
-            (admit_step self.old.mids.worker arrival.moment arrival.word arrival.peer
-            arrival.datagram.now self.old.mids.drawn)
+            (admit_step self.old.mids.worker arrival.entry.moment arrival.entry.word arrival.entry.peer
+            arrival.entry.datagram.now self.old.mids.drawn)
             (is_starved_admission result) out.new result self.new }
     {
         gate.pass(rt, Place::BeforeTake);
         let mut shared = begin(rt, lock, &mut self.pass, &mut self.looker);
         gate.pass(rt, Place::Holding);
         let mids = Snapshot::of(&self.mids);
-        let admitted = shared
-            .desk
-            .admit(
-                arrival.moment,
-                arrival.word,
-                &mut self.mids,
-                arrival.peer,
-                arrival.datagram,
-                out,
-            );
+        let admitted = shared.desk.admit(
+            arrival.moment,
+            arrival.word,
+            &mut self.mids,
+            arrival.peer,
+            arrival.datagram,
+            out,
+        );
         self.last = self.last.later(shared.desk.moment());
         let parts = Parts {
             mids,

@@ -107,8 +107,8 @@ impl Seat {
         ensures hall { self.new.hall ≡ self.old.hall }
         ensures met { IsFront self.old.met self.new.met }
         ensures made { MakesStep self.old
-            (admit_step self.old.worker arrival.moment arrival.word arrival.peer
-            arrival.datagram.now self.old.drawn)
+            (admit_step self.old.worker arrival.entry.moment arrival.entry.word arrival.entry.peer
+            arrival.entry.datagram.now self.old.drawn)
             (is_starved_admission result) out.new self.new }
         ensures left { LeavesJob result self.new.seen }
         ensures opens { OpensJob result self.new }

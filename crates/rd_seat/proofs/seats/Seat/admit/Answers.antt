@@ -15,6 +15,6 @@ returns-clause-met g c = subst (λ (v : SeatSeen). IsFront v.met c.admit.new.sel
 pub returns-clause-made : goal.returns-clause-made
 returns-clause-made g c =
     subst (λ (v : SeatSeen). MakesStep v
-            (admit_step v.worker c.args.arrival.moment c.args.arrival.word c.args.arrival.peer
+    (admit_step v.worker c.args.arrival.moment c.args.arrival.word c.args.arrival.peer
     c.args.arrival.datagram.now v.drawn) (is_starved_admission c.admit.result) c.admit.new.out
     (share_shown c.admit.new.self)) c.self.view_is c.admit.ensures.turned.made

@@ -35,7 +35,7 @@ end-requires-clause-stepped g c =
     let few : number_of c.begin-shared.new.pass < max_workers =
     subst (λ (n : ℕ). n < max_workers) (sym own) c.args.self.now.mids.few in
     let s : Step =
-        admit_step (number_of c.begin-shared.new.pass) c.args.arrival.moment c.args.arrival.word
+    admit_step (number_of c.begin-shared.new.pass) c.args.arrival.moment c.args.arrival.word
     c.args.arrival.peer c.args.arrival.datagram.now c.of-mids.result.value.drawn in
     let called : IsCalled found s c.args.arrival.moment c.args.self.now.mids
     c.deref_mut.result.now.tables = step-IsCalled found s c.args.self.now.mids
@@ -79,7 +79,7 @@ returns g c =
     let few : number_of c.begin-shared.new.pass < max_workers =
     subst (λ (n : ℕ). n < max_workers) (sym own) c.args.self.now.mids.few in
     let s : Step =
-        admit_step (number_of c.begin-shared.new.pass) c.args.arrival.moment c.args.arrival.word
+    admit_step (number_of c.begin-shared.new.pass) c.args.arrival.moment c.args.arrival.word
     c.args.arrival.peer c.args.arrival.datagram.now c.of-mids.result.value.drawn in
     let called : IsCalled found s c.args.arrival.moment c.args.self.now.mids
     c.deref_mut.result.now.tables = step-IsCalled found s c.args.self.now.mids
@@ -146,7 +146,7 @@ returns g c =
               last = c.later-self.result;
             })))
             (λ i. admit_step (own i) c.args.arrival.moment c.args.arrival.word c.args.arrival.peer
-                c.args.arrival.datagram.now
+            c.args.arrival.datagram.now
             (drew i)) (turn-MakesStep turn);
       };
       left = subst (LeavesJob c.admit-admitted.result) (sym seen)

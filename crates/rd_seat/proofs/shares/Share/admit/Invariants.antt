@@ -10,7 +10,7 @@ ghosts-end-S-Added g a =
     record {
       added = Some (row (seen_of a.pass.now)
           (admit_step (number_of a.pass.now) a._parts.now.arrival.moment a._parts.now.arrival.word
-              a._parts.now.arrival.peer
+          a._parts.now.arrival.peer
           a._parts.now.arrival.datagram.now a._parts.now.mids.value.drawn) a._parts.now.is_starved);
     }
 
