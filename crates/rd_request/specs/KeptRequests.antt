@@ -21,7 +21,7 @@ use Rattle.message_model.specs.Message.{Message}
 use Rattle.message_model.specs.Request as request
 use Rattle.coap_message.specs.OptionsAt.{options_at}
 use Rattle.journal_model.specs.Requests as requests_of
-use Rattle.rd_desk.specs.declared.resources.Resource.{Resource}
+use Rattle.rd_request.specs.declared.resources.Resource.{Resource}
 use Rattle.rd_request.specs.Resources.{is_at}
 
 -- the message with this header and token whose options, as they are spelled, and whose payload are
