@@ -5,7 +5,7 @@ use Rattle.journal_model.specs.Bodies.{body_reply}
 use Rattle.journal_model.specs.Effects.{Reply, answering}
 use Rattle.coap_answers.specs.Sendings.{Sends}
 use Rattle.coap_answers.specs.Replies.{tag_octets}
-use Rattle.rd_desk.proofs.looks.send_block.Goals as goal
+use Rattle.rd_look.proofs.looks.send_block.Goals as goal
 
 pub returns : goal.returns
 returns c s notes of =
