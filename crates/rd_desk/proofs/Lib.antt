@@ -20,7 +20,8 @@
 -- by its query options, its method, its block and its path (CommitLaws);
 --   for the desk above, that a commit is of an open admission (OpenJobs).
 --   A block of a registration (UploadLaws), and a simple one, whose fetch starts beside its
--- answer (FetchStartLaws); what a step leaves on a board (StagingLaws). What is shown of an observer is ShownLaws of observers.
+-- answer (FetchStartLaws); what a step leaves on a board (StagingLaws). What is shown of an
+-- observer is ShownLaws of observers.
 -- Ticks (ticking): how many observe and are fetched from (BoundLaws), how long the octets are that
 -- may be sent again (FittingLaws); notices that are sent again (AgainLaws, observer after
 --   observer AgainWalk), requests of fetches that are (RequestWalk); who gets a new notice
