@@ -1,5 +1,5 @@
--- What a tick does with the notice in flight to an observer, and which observer comes next (RFC 7641
--- sections 1.3 and 4.5).
+-- What a tick does with the notice in flight to an observer, and which observer comes next (RFC
+-- 7641 sections 1.3 and 4.5).
 use Rattle.std.specs.Prelude.{ℕ, ◌+◌, Bool, true, false, [], ◌∷◌, Option, Some}
 use Rattle.event_model.specs.declared.notes.Note.TheVariants as note
 use Rattle.event_model.specs.Flights.{Sent}

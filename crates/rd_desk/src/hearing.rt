@@ -20,6 +20,7 @@ use crate::{Admitted, Arrival, Mids, Outbox, Stepped};
 use coap_answers::send_empty;
 use coap_message::Kind4;
 use directory_core::Board;
+use rd_base::Peer;
 use rd_request::{Incoming, read_datagram};
 
 /// What comes of a datagram that leaves no job.
@@ -37,43 +38,39 @@ impl Tables {
     fn hear<B: Board>(
         &mut self,
         board: &mut B,
+        word: u32,
         mids: &mut Mids,
-        arrival: Arrival<'_>,
+        peer: Peer,
+        datagram: &[u8],
         out: &mut Outbox,
     ) -> Admitted
-        requires other { is_look_datagram arrival.datagram.now ≡ false }
+        requires other { is_look_datagram datagram.now ≡ false }
         requires empty { out.old ≡ [] }
         requires free { B.has_staged board.old ≡ false }
         requires told { AreToldOf self.old.version (B.told board.old) }
         ensures way { (rows : List Row) (s : Step)
-            → s.peer ≡ arrival.entry.peer
-            → s.word ≡ arrival.entry.word
+            → s.peer ≡ peer
+            → s.word ≡ word
             → UnderWay rows s (is_starved_admission result) nothing self.old out.old mids.old
             → UnderWay rows s (is_starved_admission result)
             (heard (is_starved_admission result) rows (row_moment rows s) s
-            (reading arrival.entry.datagram.now)) self.new out.new mids.new }
+            (reading datagram.now)) self.new out.new mids.new }
         ensures held { (rows : List Row) (s : Step)
-            → s.peer ≡ arrival.entry.peer
-            → s.datagram ≡ arrival.entry.datagram.now
+            → s.peer ≡ peer
+            → s.datagram ≡ datagram.now
             → UnderWay rows s (is_starved_admission result) nothing self.old out.old mids.old
             → IsHeldFor result (heard (is_starved_admission result) rows (row_moment rows s) s
-            (reading arrival.entry.datagram.now)).notes s (row_moment rows s) }
+            (reading datagram.now)).notes s (row_moment rows s) }
         ensures unstarved { (rows : List Row) (s : Step)
-            → s.peer ≡ arrival.entry.peer
+            → s.peer ≡ peer
             → UnderWay rows s false nothing self.old out.old mids.old
-            → takes_memory rows (row_moment rows s) s (reading arrival.entry.datagram.now) ≡ false
+            → takes_memory rows (row_moment rows s) s (reading datagram.now) ≡ false
             → is_starved_admission result ≡ false }
         ensures laid { IsLaid self.old.version self.new.version (B.staged board.old)
             (B.staged board.new) (B.has_staged board.new) }
         ensures name { B.name board.new ≡ B.name board.old }
         ensures told { B.told board.new ≡ B.told board.old }
     {
-        let Arrival {
-            moment: _,
-            word,
-            peer,
-            datagram,
-        } = arrival;
         match read_datagram(datagram) {
             Incoming::Unread(fault) => {
                 reject(peer, fault, out);
@@ -151,6 +148,13 @@ impl Tables {
         ensures told { B.told board.new ≡ B.told board.old }
     {
         self.pass(arrival.moment);
-        self.hear(board, mids, arrival, out)
+        self.hear(
+            board,
+            arrival.word,
+            mids,
+            arrival.peer,
+            arrival.datagram,
+            out,
+        )
     }
 }

@@ -1,6 +1,7 @@
 //! Lookups and discovery that are answered from one version of the directory (RFC 9176 sections 4.1
 //! and 6, RFC 7252 section 5.10.6.2).
-ghost use Rattle.std.specs.Prelude.{◌≡◌, ◌≤◌, ◌<◌, ◌^◌, ℕ, true, false, List, length, Ok, Some, IfOk};
+ghost use Rattle.std.specs.Prelude.{◌≡◌, ◌≤◌, ◌<◌, ◌^◌, ℕ, true, false, List, length, Ok, Some};
+ghost use Rattle.std.specs.Prelude.{IfOk};
 ghost use Rattle.std.specs.Option.{ForSome};
 ghost use Rattle.message_model.specs.Reading.{reading};
 ghost use Rattle.message_model.specs.Spelling.{spelling};
@@ -202,7 +203,8 @@ fn give(
         → IsStepOf s peer mids.old
         → Sends (look_done (is_starved_look result) s (message_of request.now)
         (look_found (message_of request.now) found)) out.old out.new mids.old mids.new }
-    ensures held { IsHeld peer (spelling (message_of request.now)) (look_left (is_starved_look result)
+    ensures held { IsHeld peer (spelling (message_of request.now))
+        (look_left (is_starved_look result)
         (look_found (message_of request.now) found)) result }
 {
     match found {
@@ -237,7 +239,8 @@ fn give_listing(
         → Sends (look_done (is_starved_look result) s (message_of request.now)
         (look_found (message_of request.now) (Found.Listing tagged))) out.old out.new
         mids.old mids.new }
-    ensures held { IsHeld peer (spelling (message_of request.now)) (look_left (is_starved_look result)
+    ensures held { IsHeld peer (spelling (message_of request.now))
+        (look_left (is_starved_look result)
         (look_found (message_of request.now) (Found.Listing tagged))) result }
 {
     let TaggedListing { octets, tag } = tagged;

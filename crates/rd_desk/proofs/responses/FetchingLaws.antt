@@ -1,5 +1,5 @@
--- What comes of a response to a fetch: which fetch it is to, the request for the next block, and the
--- parameters of a whole body.
+-- What comes of a response to a fetch: which fetch it is to, the request for the next block, and
+-- the parameters of a whole body.
 use Rattle.std.proofs.Common.{
   ◌≡◌,
   ℕ,

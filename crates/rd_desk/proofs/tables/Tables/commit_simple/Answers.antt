@@ -33,11 +33,12 @@ returns-in-Ok-start-clause-way c =
     λ rows s place of fed opened way.
     let m = message_in c.args.registering.now.write.request.meaning.view in
     way_started rows s place m _ c.args.self.now c.settle_beside_fetch.new.self c.start.new.self
-    c.in-Ok-start.ask c.in-Ok.params c.after-mid.result c.args.word
+    c.in-Ok-start.ask c.of-params.result c.after-mid.result c.args.word
     c.args.registering.now.write.peer
     c.args.out.now c.settle_beside_fetch.new.out c.ask_next.new.out c.args.mids.now
     c.settle_beside_fetch.new.mids c.ask_next.new.mids c.self.view_is of fed
-    c.args.registering.now.write.request.meaning.view.token.short c.in-Ok.ensures.value
+    c.args.registering.now.write.request.meaning.view.token.short
+    (c.of-params.ensures ∙ c.in-Ok.ensures.value)
     (c.after-mid.ensures
     ∙ ap (λ (n : ℕ). mid_of c.args.mids.now.worker (c.args.mids.now.drawn + n))
     c.drawn_for.ensures) c.in-Ok-start.ensures.refused c.in-Ok-start.ensures.ask

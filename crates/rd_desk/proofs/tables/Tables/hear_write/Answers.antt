@@ -45,5 +45,9 @@ returns-clause-held c rows s of datagram way =
     ap (λ (d : Seen). d.moment) (c.self.view_is ∙ c.admit_write.ensures.alone)
     ∙ way_moment rows s false nothing c.args.self.now c.args.out.now c.args.mids.now way in
     let notes =
-    rw c.if-not-admit_write.false at c.admit_write.ensures.admitted rows s false of way in
-    (c.args.request.now.meaning.view.mid, notes, job_same _ _ (sym of) (ap spelling c.in-Ok.ensures ∙ sym datagram) moment)
+    rw c.if-not-admit_write.false at c.admit_write.ensures.admitted rows s false of way in (
+      c.args.request.now.meaning.view.mid,
+      notes,
+      job_same _ _ (sym of)
+          (ap spelling c.in-Ok.ensures ∙ sym datagram) moment,
+    )
