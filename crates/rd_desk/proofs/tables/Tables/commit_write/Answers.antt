@@ -46,8 +46,8 @@ returns-in-SimpleRegistration-clause-way g c =
     (sym (simple_path request c.in-SimpleRegistration.is)) by opened
     (λ mine own. c.commit_simple.ensures.way rows s place mine word own way)
 
-pub returns-in-Location-then-request-eq-POST-clause-way : goal.returns-in-Location-then-request-eq-POST-clause-way
-returns-in-Location-then-request-eq-POST-clause-way g c =
+pub returns-then-request-eq-POST-clause-way : goal.returns-then-request-eq-POST-clause-way
+returns-then-request-eq-POST-clause-way g c =
     λ rows s place m by word read opened way.
     let request = c.request-request.result in
     let number = c.in-Location.number in
@@ -83,3 +83,39 @@ returns-in-Location-clause-way g c =
     c.commit_removal.new.self c.commit_removal.new.out c.commit_removal.new.mids)
     (location_removes rows (row_moment rows s) place s own number c.if-request-eq-POST.false)
     (c.commit_removal.ensures.way rows s place mine at way))
+
+pub invariant_of-commit_registration : goal.invariant_of-commit_registration
+invariant_of-commit_registration g c =
+    let request = c.request-request.result in
+    let none =
+    none_there (refusal_of_request (message_of request)) request.accepted in
+    record {
+      good =
+          ap is_none
+          (good_registration (message_of request) none
+          (registration_path request c.in-Registration.is));
+    }
+
+pub invariant_of-commit_simple : goal.invariant_of-commit_simple
+invariant_of-commit_simple g c =
+    let request = c.request-request.result in
+    let none =
+    none_there (refusal_of_request (message_of request)) request.accepted in
+    record {
+      good =
+          ap is_none
+          (good_simple (message_of request) none
+          (simple_path request c.in-SimpleRegistration.is));
+    }
+
+pub invariant_of-updating : goal.invariant_of-updating
+invariant_of-updating g c =
+    let request = c.request-request.result in
+    let none =
+    none_there (refusal_of_request (message_of request)) request.accepted in
+    record {
+      good =
+          ap is_none
+          (good_update (message_of request) c.in-Location.number none
+          (location_path request c.in-Location.number c.in-Location.is) c.if-request-eq-POST.true);
+    }
