@@ -58,9 +58,10 @@ bench: build-rd_serve
 	done
 	@bin/rd_bench > /dev/null
 	@bin/seat_bench > /dev/null
-	@python3 bench/traces.py bin/rd_replay
+	@python3 bench/traces.py --table bench/figures/traces.tsv bin/rd_replay
 	@python3 bench/plain.py bin/rd_replay
-	@python3 bench/serve.py bin/rd_serve
+	@python3 bench/serve.py --table bench/figures/serve.tsv bin/rd_serve
+	@python3 bench/plot.py
 
 test:
 	rt ci

@@ -1,5 +1,5 @@
 #!/usr/bin/env python3
-"""What the server costs: `bench/serve.py [--quick] [PROGRAM]`.
+"""What the server costs: `bench/serve.py [--quick] [--table FILE] [PROGRAM]`.
 
 rd_serve is measured on 127.0.0.1 beside coap-rd of libcoap and beside a plain echo of datagrams
 (bench/echo.c), under requests of bench/load.c; both are built into bin/. The table has a row for
@@ -13,7 +13,8 @@ processors of their own.
 Registrations are few at a time, since a directory accepts 4,096 writes in 247 seconds (RFC 7252
 section 4.8.2). So a server that is to accept 4,096 more is left alone for so long: the last row
 comes minutes after the others; --quick leaves it out. The status is 1 where requests were not
-answered as they should.
+answered as they should. --table writes the figures that bench/plot.py draws, for which coap-rd is
+asked for lookups among as many registrations and from as many ports too.
 """
 
 import argparse
@@ -29,6 +30,8 @@ import time
 from dataclasses import dataclass
 from pathlib import Path
 from typing import Callable, Iterator
+
+from tables import Figure, write_table
 
 HERE = Path(__file__).resolve().parent
 BIN = HERE.parent / "bin"
@@ -48,6 +51,7 @@ FEW, SOME, MOST = 64, 1_000, 4_096
 # Requests in one measure, rounds of it, and registrations that come at once.
 WRITES = 4_096
 LOOKUPS = 40_000
+FEWER_LOOKUPS = 10_000
 ROUNDS = 3
 BURST = 1_024
 
@@ -255,6 +259,17 @@ def cost(kinds: list[Callable[[], Server]], measure: Callable[[Server, int], Ans
     return [total.microseconds() for total in sums]
 
 
+# The pictures, and what is said of their figures.
+BY_SIZE, BY_PORTS = "cpu-by-registrations", "cpu-by-peers"
+HEAD = "bench/serve.py, microseconds of the server for each answered request, on {} processors"
+
+# Lookups that coap-rd is asked for beside the rows: the picture, its line and the number there, and
+# how many registrations stand and how many ports ask.
+BESIDE = [
+    *((BY_SIZE, "coap-rd", names, names, PORTS) for names in (FEW, SOME, MOST)),
+    *((BY_PORTS, "a lookup, coap-rd", ports, SOME, ports) for ports in (PORTS, MANY_PORTS)),
+]
+
 # The table.
 
 COLUMNS = "{:<58}{:>12}  {:<24}{:>6}  {:<15}{}"
@@ -266,6 +281,11 @@ def print_row(name: str, figure: str, beside: str, ratio: float | None, wanted: 
     times = "" if ratio is None else f"{ratio:.2f}"
     judged = {True: "yes", False: "no", None: "not judged"}[holds]
     print(COLUMNS.format(name, figure, beside, times, wanted, judged), flush=True)
+
+
+def figures_of(picture: str, line: str, numbers: list[int], costs: list[float]) -> list[Figure]:
+    """The figures of a line of a picture."""
+    return [Figure(picture, line, *at) for at in zip(numbers, costs)]
 
 
 def print_cost(name: str, figure: float, beside: str, other: float, most: float):
@@ -290,7 +310,7 @@ def looked_up(server: Server, _: int) -> Answers:
     return server.look(SOME)
 
 
-def print_lookups(program: str, libcoap: str):
+def print_lookups(program: str, libcoap: str) -> list[Figure]:
     """Lookups with one hit, beside coap-rd and the echo."""
     kinds = [rd_serve(program), echo] + ([coap_rd(libcoap)] if libcoap else [])
     ours, plain, *other = cost(kinds, looked_up)
@@ -298,11 +318,12 @@ def print_lookups(program: str, libcoap: str):
     if other:
         print_cost(name, ours, "coap-rd", other[0], 0.1)
     print_cost(name, ours, "echo", plain, 3)
+    return figures_of(BY_SIZE, "rd_serve", [SOME], [ours])
 
 
-def print_ports(program: str):
+def print_ports(program: str) -> list[Figure]:
     """Requests from many ports beside those from few."""
-    ports = [MANY_PORTS, PORTS]
+    ports, figures = [MANY_PORTS, PORTS], []
 
     def look(server: Server, place: int) -> Answers:
         server.register(SOME)
@@ -311,13 +332,14 @@ def print_ports(program: str):
     def register(server: Server, place: int) -> Answers:
         return server.load(REGISTRATION, MANY_PORTS, MANY_PORTS, ports[place])
 
-    for name, measure in ((f"a lookup, from {MANY_PORTS:,} ports", look),
-                          (f"a registration of a new name, from {MANY_PORTS:,} ports", register)):
+    for name, measure in (("a lookup", look), ("a registration of a new name", register)):
         many, few = cost([rd_serve(program)] * 2, measure)
-        print_cost(name, many, f"from {PORTS} ports", few, 1.2)
+        print_cost(f"{name}, from {MANY_PORTS:,} ports", many, f"from {PORTS} ports", few, 1.2)
+        figures += figures_of(BY_PORTS, f"{name}, rd_serve", ports, [many, few])
+    return figures
 
 
-def print_sizes(program: str):
+def print_sizes(program: str) -> list[Figure]:
     """Lookups among many registrations beside those among few."""
     sizes = [MOST, FEW]
 
@@ -327,6 +349,29 @@ def print_sizes(program: str):
 
     most, few = cost([rd_serve(program)] * 2, look)
     print_cost(f"a lookup, with {MOST:,} registrations", most, f"with {FEW}", few, 1.5)
+    return figures_of(BY_SIZE, "rd_serve", sizes, [most, few])
+
+
+def asked(names: int, ports: int) -> Callable[[Server, int], Answers]:
+    """The measure of lookups among so many registrations, from so many ports."""
+    def measure(server: Server, _: int) -> Answers:
+        server.register(names)
+        return server.load(server.lookup, FEWER_LOOKUPS, names, ports)
+
+    return measure
+
+
+def measured_beside(libcoap: str) -> list[Figure]:
+    """What coap-rd costs for lookups among so many registrations, and from so many ports. What it
+    does not answer is left out, and told."""
+    figures = []
+    for picture, line, number, names, ports in BESIDE:
+        try:
+            costs = cost([coap_rd(libcoap)], asked(names, ports), rounds=1)
+            figures += figures_of(picture, line, [number], costs)
+        except Missing as missing:
+            print(f"{line} is not drawn at {number:,}: {missing}", flush=True)
+    return figures
 
 
 def print_full(program: str, full: Server, filled_at: float):
@@ -382,23 +427,24 @@ def print_idle(program: str):
               seconds < 1)
 
 
-def print_table(program: str, libcoap: str, is_quick: bool):
-    """Measures all and prints the table."""
+def print_table(program: str, libcoap: str, is_quick: bool) -> list[Figure]:
+    """Measures all, prints the table, and gives the figures that are drawn."""
     print(COLUMNS.format("", "", "beside", "times", "wanted", "holds"))
     with running(rd_serve(program)) as full:
         full.register(MOST)
         filled_at = time.monotonic()
         if libcoap:
             print_registrations(program, libcoap)
-        print_lookups(program, libcoap)
-        print_ports(program)
-        print_sizes(program)
+        figures = print_lookups(program, libcoap)
+        figures += print_ports(program)
+        figures += print_sizes(program)
         print_workers(program)
         for workers in (1, WORKERS):
             print_burst(program, workers)
         print_idle(program)
         if not is_quick:
             print_full(program, full, filled_at)
+    return figures
 
 
 def print_head(libcoap: str):
@@ -426,6 +472,7 @@ def build():
 def main():
     parser = argparse.ArgumentParser(description="What the server costs.")
     parser.add_argument("program", nargs="?", default="bin/rd_serve")
+    parser.add_argument("--table", type=Path, metavar="FILE", help="writes what is drawn")
     parser.add_argument("--quick", action="store_true", help="without the row that takes minutes")
     words = parser.parse_args()
     signal.signal(signal.SIGTERM, lambda *_: sys.exit(1))
@@ -437,7 +484,10 @@ def main():
     build()
     print_head(libcoap)
     try:
-        print_table(program, libcoap, words.quick)
+        figures = print_table(program, libcoap, words.quick)
+        if words.table:
+            figures += measured_beside(libcoap) if libcoap else []
+            write_table(words.table, [HEAD.format(len(processors()))], figures)
     except Missing as missing:
         sys.exit(str(missing))
 

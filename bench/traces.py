@@ -1,5 +1,5 @@
 #!/usr/bin/env python3
-"""What a call costs, by replayed traces: `bench/traces.py [--times] [PROGRAM]`.
+"""What a call costs, by replayed traces: `bench/traces.py [--times] [--table FILE] [PROGRAM]`.
 
 For each kind of call two traces are made: the set-up alone, and the set-up with some calls of that
 kind after it. The difference of what the program (bin/rd_replay) takes for both, divided by the
@@ -8,7 +8,8 @@ written. Costs are instructions, counted by callgrind, which are the same on a b
 valgrind is not installed, or with --times, they are nanoseconds, by the least of five runs of each
 trace. The table has each kind at growing numbers of registrations that stand, and in parentheses
 how many times the cost at the first number it is. Each call's answers are counted too, and the
-script ends with status 1 where some are missing.
+script ends with status 1 where some are missing. --table writes the figures that bench/plot.py
+draws.
 """
 
 import argparse
@@ -26,6 +27,8 @@ from concurrent.futures import ThreadPoolExecutor
 from dataclasses import dataclass, replace
 from pathlib import Path
 from typing import Callable
+
+from tables import Figure, write_table
 
 SIZES = [64, 1_024, 4_096]
 
@@ -414,6 +417,15 @@ KINDS = [
     Kind("a tick that sweeps one", sweeps, FEW, CONTENT, answers=0),
 ]
 
+# Kinds of calls whose costs are drawn.
+DRAWN = [
+    "registration of a new name",
+    "a registration that is repeated",
+    "update of a lease",
+    "removal",
+    "lookup by rt, one listed",
+]
+
 
 def run(words: list[str], trace: bytes) -> subprocess.CompletedProcess:
     """A run of the program over a trace, that has to end well."""
@@ -511,16 +523,23 @@ def lines_of(devices: int) -> int:
     return 2 * devices + devices // 10 + devices // 100 + 1
 
 
-def print_table(bench: Bench, unit: str):
-    """Measures all kinds of calls at all sizes, and prints the table."""
+def print_table(bench: Bench, unit: str) -> list[Figure]:
+    """Measures all kinds of calls at all sizes, prints the table, and gives the figures of those
+    that are drawn."""
     runs = {(kind, size): bench.begin_kind(kind, size) for kind in KINDS for size in SIZES}
     whole = {size: bench.begin([f"--make={devices_of(size)}"]) for size in SIZES}
     head = f"{SIZES[0]:>11,}" + "".join(f"{size:>13,}{'':>9}" for size in SIZES[1:])
     print(f"{f'{unit} a call, with so many registrations':<52}{head}".rstrip(), flush=True)
+    figures = []
     for kind in KINDS:
-        print(row_of(kind.name, [cost_of(kind, runs[kind, size]) for size in SIZES]), flush=True)
+        costs = [cost_of(kind, runs[kind, size]) for size in SIZES]
+        print(row_of(kind.name, costs), flush=True)
+        if kind.name in DRAWN:
+            picture = f"{unit}-by-registrations"
+            figures += [Figure(picture, kind.name, *at) for at in zip(SIZES, costs)]
     costs = [whole[size].result()[0] / lines_of(devices_of(size)) for size in SIZES]
     print(row_of("a line of --make, of so many devices (4,000 at most)", costs))
+    return figures
 
 
 def print_leases(bench: Bench, unit: str):
@@ -565,22 +584,30 @@ def main():
     parser = argparse.ArgumentParser(description="What a call costs, by replayed traces.")
     parser.add_argument("program", nargs="?", default="bin/rd_replay")
     parser.add_argument("--times", action="store_true", help="nanoseconds, not instructions")
+    parser.add_argument("--table", type=Path, metavar="FILE", help="writes what is drawn")
     words = parser.parse_args()
     program = str(Path(words.program).resolve())
-    memory = peak_memory(program, settled(MOST).text())
+    memory = [peak_memory(program, settled(size).text()) for size in SIZES]
     memory_linked = peak_memory(program, linked().text())
     is_counted = shutil.which("valgrind") and not words.times
     bench = Bench(program, instructions if is_counted else nanoseconds)
     try:
         unit = "instructions" if is_counted else "nanoseconds"
-        print_table(bench, unit)
+        figures = print_table(bench, unit)
         print_leases(bench, unit)
         if is_counted:
             print_leases(replace(bench, measure=allocations), "allocations")
     finally:
         bench.pool.shutdown(cancel_futures=True)
-    print(f"memory at most, with {MOST:,} registrations of one link: {memory:.1f} MiB")
+    for size, peak in zip(SIZES, memory):
+        print(f"memory at most, with {size:,} registrations of one link: {peak:.1f} MiB")
+        figures.append(Figure("memory-by-registrations", "one link each", size, peak))
     print(f"with {MOST:,} registrations of {LINKS_EACH} links: {memory_linked:.1f} MiB")
+    figures.append(
+        Figure("memory-by-registrations", f"{LINKS_EACH} links each", MOST, memory_linked))
+    if words.table:
+        head = f"bench/traces.py, {unit} and MiB of {Path(program).name}"
+        write_table(words.table, [head], figures)
 
 
 if __name__ == "__main__":
