@@ -1,0 +1,63 @@
+#!/usr/bin/env python3
+"""Compares docs/REFUSALS.md with the stored cases: `examples/refusals.py`.
+
+Each word of that page is to be the whole payload of an answer that the case refusals/every_word
+expects, under the same code, and the case is to have no other word; but for those words that no
+trace reaches, which are named here. Each stored case that the page names as an example is to be
+there, and to be listed for rd_rows. The status is 1 where something is missing.
+"""
+
+import re
+import sys
+from pathlib import Path
+
+TOP = Path(__file__).resolve().parent.parent
+ROWS = TOP / "crates" / "rd_rows"
+
+# Words that no trace reaches: 2^48 - 1 changes are before the first.
+UNREACHED = {("5.03", "entries")}
+
+PAYLOAD = "ff"
+
+
+def listed(page: str) -> set[tuple[str, str]]:
+    """The codes and words of the page's tables."""
+    return set(re.findall(r"(?m)^\| (\d\.\d\d) `([a-z]+)` \|", page))
+
+
+def expected(case: str) -> set[tuple[str, str]]:
+    """The codes and payloads of the refusals that a case expects."""
+    answers = set()
+    for octets in re.findall(r"(?m)^> out \d+ \S+ ([0-9a-f]+)$", case):
+        # Type and length of the token, code, Message ID and token (RFC 7252 section 3).
+        code, rest = int(octets[2:4], 16), octets[8 + 2 * int(octets[1], 16):]
+        if code >> 5 in (4, 5) and rest.startswith(PAYLOAD):
+            word = bytes.fromhex(rest[len(PAYLOAD):]).decode()
+            answers.add((f"{code >> 5}.{code & 31:02}", word))
+    return answers
+
+
+def examples(page: str) -> set[str]:
+    """The stored cases that the page names."""
+    groups = "|".join(sorted(folder.name for folder in (ROWS / "data").iterdir()))
+    return set(re.findall(rf"`((?:{groups})/\w+)`", page))
+
+
+def main():
+    page = (TOP / "docs" / "REFUSALS.md").read_text()
+    cases = set((ROWS / "stdin").read_text().split())
+    faults = []
+    come = expected((ROWS / "data" / "refusals" / "every_word.case").read_text())
+    for code, word in sorted(listed(page) - UNREACHED - come):
+        faults.append(f"{code} {word} of docs/REFUSALS.md comes in no answer")
+    for code, word in sorted(come - listed(page)):
+        faults.append(f"{code} {word} comes, and is not in docs/REFUSALS.md")
+    for name in sorted(examples(page)):
+        if name not in cases or not (ROWS / "data" / f"{name}.case").is_file():
+            faults.append(f"docs/REFUSALS.md names {name}, which is no stored case")
+    if faults:
+        sys.exit("\n".join(faults))
+
+
+if __name__ == "__main__":
+    main()
