@@ -33,8 +33,10 @@ fn payload_at(bytes: &[u8]) -> Option<&[u8]>
     Some(bytes)
 }
 
-/// The options and the payload that follow a token (RFC 7252 section 3).
-fn tail_at(bytes: &[u8]) -> Option<(&[u8], &[u8])>
+/// The octets of the options that follow a token, and the payload (RFC 7252 section 3). None: an
+/// option is cut off, begins with a nibble of 15, or passes number 65,535; or nothing follows the
+/// marker.
+pub fn tail_at(bytes: &[u8]) -> Option<(&[u8], &[u8])>
     ensures { option_map (λ x. (options_at 0 x.0.now, x.1.now)) result
         ≡ reading.tail_at 0 bytes.now }
 {

@@ -11,9 +11,9 @@ mod spellings;
 mod views;
 mod writers;
 
-pub use datagrams::view;
+pub use datagrams::{tail_at, view};
 pub use message_model::{Kind4, Role, Unread};
-pub use options::{Opt, OptionsIter, options_of};
+pub use options::{Opt, OptionsIter, options_in, options_of};
 pub use roles::role_of;
 pub use views::{TokenRef, View};
 pub use writers::{TooLong, Writer};

@@ -1,6 +1,7 @@
 //! The options of a message, one after the other.
 
 ghost use Rattle.std.specs.Prelude.{◌≡◌, ◌≤◌, ◌<◌, ◌^◌, length};
+ghost use Rattle.coap_message.specs.OptionsAt.{options_at};
 ghost use Rattle.coap_message.specs.Views.{message_in};
 ghost use Rattle.coap_message.specs.OptionsLeft.{options_left, octets_left};
 
@@ -32,6 +33,17 @@ pub fn options_of<'a>(view: &View<'a>) -> OptionsIter<'a>
     OptionsIter {
         before: 0,
         rest: view.options,
+    }
+}
+
+/// The options that these octets are, in order, of those that
+/// [`tail_at`](crate::tail_at) cut from the payload.
+pub fn options_in(octets: &[u8]) -> OptionsIter<'_>
+    ensures { options_left result ≡ options_at 0 octets.now }
+{
+    OptionsIter {
+        before: 0,
+        rest: octets,
     }
 }
 

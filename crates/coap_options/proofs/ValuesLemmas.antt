@@ -85,6 +85,10 @@ pub etags_repeat : MayRepeat table.etag
 unfolding definition_of
 etags_repeat is_further size = refl
 
+pub locations_repeat : MayRepeat table.location_path
+unfolding definition_of
+locations_repeat is_further size = refl
+
 same_test : (number : ℕ) (before : List Opt) (option : Opt)
     → MayRepeat number
     → (is_recognized before option.0 (length option.1) && (option.0 == number))
@@ -138,6 +142,10 @@ queries_all options = values_left-all table.uri_query options queries_repeat
 
 pub etags_all : (options : List Opt) → values_left table.etag options ≡ values table.etag options
 etags_all options = values_left-all table.etag options etags_repeat
+
+pub locations_all : (options : List Opt)
+    → values_left table.location_path options ≡ values table.location_path options
+locations_all options = values_left-all table.location_path options locations_repeat
 
 -- ---- how many they are
 

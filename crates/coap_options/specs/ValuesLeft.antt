@@ -6,6 +6,7 @@ use Rattle.message_model.specs.OptionTable.{definition_of, is_allowed_by}
 use Rattle.coap_message.specs.OptionsLeft.{options_left}
 use Rattle.coap_options.specs.declared.values.QueryIter.{QueryIter}
 use Rattle.coap_options.specs.declared.values.EtagIter.{EtagIter}
+use Rattle.coap_options.specs.declared.values.LocationIter.{LocationIter}
 
 -- The values of a number that may be repeated, in order: those of a length that the table allows.
 abbrev pub values_left : ℕ → List Opt → List (List ℕ)
@@ -21,3 +22,7 @@ queries_left it = values_left table.uri_query (options_left it.options)
 -- The entity tags that will come, in order.
 abbrev pub etags_left : EtagIter → List (List ℕ)
 etags_left it = values_left table.etag (options_left it.options)
+
+-- The segments of a location that will come, in order.
+abbrev pub locations_left : LocationIter → List (List ℕ)
+locations_left it = values_left table.location_path (options_left it.options)

@@ -22,4 +22,4 @@ pub use message_model::{Path, Refusal};
 pub use methods::allowed;
 pub use option_walks::meaning;
 pub use requests::request;
-pub use values::{EtagIter, QueryIter, etags, queries};
+pub use values::{EtagIter, LocationIter, QueryIter, etags, locations, queries};

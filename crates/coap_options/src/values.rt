@@ -7,11 +7,12 @@ ghost use Rattle.message_model.specs.OptionTable.{definition_of, is_allowed_by};
 ghost use Rattle.coap_message.specs.Views.{message_in};
 ghost use Rattle.coap_message.specs.OptionsLeft.{options_left};
 ghost use Rattle.coap_options.specs.ValuesLeft.{values_left, queries_left, etags_left};
+ghost use Rattle.coap_options.specs.ValuesLeft.{locations_left};
 
 use crate::meanings::Meaning;
 use crate::table::is_recognized;
 use coap_message::{Opt, OptionsIter, options_of};
-use message_model::options::{ETAG, URI_QUERY};
+use message_model::options::{ETAG, LOCATION_PATH, URI_QUERY};
 use rd_base::Pieces;
 
 /// The query options that are left, in order (RFC 7252 section 5.10.1): a contract sees them by
@@ -25,6 +26,13 @@ pub struct QueryIter<'a> {
 /// `etags_left`.
 #[derive(Clone, Copy, Debug)]
 pub struct EtagIter<'a> {
+    options: OptionsIter<'a>,
+}
+
+/// The segments of a location that are left, in order (RFC 7252 section 5.10.7): a contract sees
+/// them by `locations_left`.
+#[derive(Clone, Copy, Debug)]
+pub struct LocationIter<'a> {
     options: OptionsIter<'a>,
 }
 
@@ -77,6 +85,16 @@ pub fn etags<'a>(meaning: &Meaning<'a>) -> EtagIter<'a>
     }
 }
 
+/// The segments of the location that an answer names, in order: those that are recognized (RFC
+/// 7252 sections 5.4 and 5.10.7).
+pub fn locations<'a>(meaning: &Meaning<'a>) -> LocationIter<'a>
+    ensures { locations_left result ≡ request.locations_in (message_in meaning.now.view) }
+{
+    LocationIter {
+        options: options_of(&meaning.view),
+    }
+}
+
 impl<'a> Iterator for QueryIter<'a> {
     ghost use Rattle.std.specs.Iterator.{YieldsFirstBy, item_count};
     ghost use Rattle.coap_options.specs.ValuesLeft.{queries_left};
@@ -106,6 +124,23 @@ impl<'a> Iterator for EtagIter<'a> {
 
     fn next(&mut self) -> Option<&'a [u8]> {
         let (value, left) = next_value(self.options, ETAG)?;
+        self.options = left;
+        Some(value)
+    }
+}
+
+impl<'a> Iterator for LocationIter<'a> {
+    ghost use Rattle.std.specs.Iterator.{YieldsFirstBy, item_count};
+    ghost use Rattle.coap_options.specs.ValuesLeft.{locations_left};
+
+    type Item = &'a [u8];
+
+    ghost next_gives = { YieldsFirstBy (λ value. value.now) locations_left };
+
+    ghost remaining = { item_count locations_left };
+
+    fn next(&mut self) -> Option<&'a [u8]> {
+        let (value, left) = next_value(self.options, LOCATION_PATH)?;
         self.options = left;
         Some(value)
     }

@@ -1,5 +1,6 @@
 //! Messages that wait for their acknowledgement, and when they are sent again.
 ghost use Rattle.std.specs.Prelude.{◌≡◌, []};
+ghost use Rattle.event_model.specs.Flights.{first_wait};
 ghost use Rattle.event_model.specs.Events.{Event};
 ghost use Rattle.exchange_core.specs.Retransmissions.{Resends, kept_due, kept_after};
 
@@ -44,10 +45,12 @@ impl Model for Resend {
 impl Resend {
     /// Of a message that is sent first now, with the word that its first wait is made from.
     pub fn start(now: Moment, word: u32) -> Resend
-        ensures { (first : Event)
+        ensures first { (first : Event)
             → first.moment ≡ now.0
             → first.word ≡ word
             → Resends first [] result }
+        ensures waits { result.now
+            ≡ record { sent = now.0; wait = first_wait word; again = 0 } }
     {
         Resend {
             sent: now,

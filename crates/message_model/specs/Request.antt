@@ -128,6 +128,10 @@ block2_in m = first_of (values table.block2 m.options)
 abbrev pub etags_in : Message → List (List ℕ)
 etags_in m = values table.etag m.options
 
+-- The segments of the location that an answer names, in order (RFC 7252 section 5.10.7).
+abbrev pub locations_in : Message → List (List ℕ)
+locations_in m = values table.location_path m.options
+
 -- A proxy is asked for (RFC 7252 section 5.10.2).
 abbrev pub has_proxy : Message → Bool
 has_proxy m =

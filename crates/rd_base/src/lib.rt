@@ -53,4 +53,4 @@ pub use steps::Steps;
 pub use submitted_links::{SubmittedLink, SubmittedLinks};
 pub use sure_ends::{SureSink, SureSource};
 pub use tags::Tag;
-pub use texts::Text;
+pub use texts::{Text, Texts};

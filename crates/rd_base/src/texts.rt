@@ -12,7 +12,7 @@ ghost use Rattle.std.proofs.lemmas.Cmp.{nat_list_eq_equiv, nat_list_cmp_total};
 ghost use lib.Pointwise.{pointwise};
 ghost use Rattle.std.specs.Hash as fed;
 
-use crate::Starved;
+use crate::{List, Starved};
 use arrayvec::ArrayString;
 use std::alloc::{AllocError, Global};
 use std::cmp::Ordering;
@@ -36,6 +36,9 @@ enum Spelled {
 pub struct Text {
     spelled: Spelled,
 }
+
+/// Texts in order, seen by contracts as the list of them.
+pub type Texts = List<Text>;
 
 impl Model for Text {
     ghost use Rattle.std.specs.Prelude.{ℕ, List};

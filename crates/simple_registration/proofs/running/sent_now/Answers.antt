@@ -9,4 +9,4 @@ pub returns : goal.returns
 returns c =
     ap (λ (r : Retransmission). record { mid = c.args.mid; octets = c.args.bytes; resend = r })
     (sent_is c.args.now.0 c.args.word c.start.result
-    (c.start.ensures (event_at 0 c.args.now.0 c.args.word (note.Failed 0)) refl refl))
+    (c.start.ensures.first (event_at 0 c.args.now.0 c.args.word (note.Failed 0)) refl refl))
