@@ -24,7 +24,8 @@ use Rattle.journal_model.specs.declared.rows.Row.{Row}
 use Rattle.journal_model.specs.Journal.{entries}
 use Rattle.journal_model.specs.Requests.{query_of, asked_block}
 use Rattle.journal_model.specs.PlacedRows.{Within, Placed}
-use Rattle.journal_model.specs.TagsDecideStates.{AreBlocksOfOne, TagsDecideStates}
+use Rattle.journal_model.specs.BlocksOfOne.{AreBlocksOfOne}
+use Rattle.journal_model.specs.TagsDecideStates.{TagsDecideStates}
 use Rattle.journal_model.specs.SentDatagrams.{IsAnswer, IsForRequest, AreForRequests}
 use Rattle.journal_model.specs.Headline.{Headline, DeskHeadline}
 use Rattle.journal_model.specs.AskedListings.{Asked}

@@ -56,7 +56,7 @@ use Rattle.journal_model.specs.declared.rows.Row.{Row}
 use Rattle.journal_model.specs.Journal.{entries}
 use Rattle.journal_model.specs.Requests.{query_of, asked_block}
 use Rattle.journal_model.specs.PlacedRows.{Placed}
-use Rattle.journal_model.specs.TagsDecideStates.{AreBlocksOfOne}
+use Rattle.journal_model.specs.BlocksOfOne.{AreBlocksOfOne}
 use Rattle.journal_model.specs.Headline.{Headline}
 use Rattle.headline_law.proofs.entries.FailedLaws.{within_cases, nothing_within}
 

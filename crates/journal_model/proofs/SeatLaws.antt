@@ -173,7 +173,8 @@ looks_from-IsSeat before after s starved sent held was looks =
     subst IsSeat (sym looks.seat) (record {
       mine = was.mine;
       moments =
-          All-from_recursion (λ (r : Row). r.moment.0 ≤ look_moment before s looks.front) before.mine
+          All-from_recursion (λ (r : Row). r.moment.0 ≤ look_moment before s looks.front)
+          before.mine
           (not_later before.mine before.last (look_moment before s looks.front)
           (look_moment-last before s looks.front) was.moments);
       shown =
@@ -182,9 +183,11 @@ looks_from-IsSeat before after s starved sent held was looks =
             IsFront-refl looks.front,
             each_weaker (λ (front : List Entry). IsFront front before.front)
                 (λ (front : List Entry). IsFront front looks.front)
-                (λ front begins. IsFront-trans front before.front looks.front begins looks.holds_shown)
+                (λ front begins. IsFront-trans front before.front looks.front begins
+                looks.holds_shown)
                 before.shown
-                (recursion_from_All (λ (front : List Entry). IsFront front before.front) before.shown
+                (recursion_from_All (λ (front : List Entry). IsFront front before.front)
+                before.shown
                 was.shown),
           );
     })

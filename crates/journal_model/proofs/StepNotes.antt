@@ -73,6 +73,7 @@ use Rattle.journal_model.specs.Lookups.{
   first_block_effects,
   block_effects,
   lookup_effects,
+  observing_by,
 }
 use Rattle.journal_model.specs.Writes.{again_answered, admitted_unless, write_unless, write_effects}
 use Rattle.journal_model.specs.EmptyMessages.{waited_for, acknowledged, reset}
@@ -97,6 +98,7 @@ use Rattle.journal_model.specs.Ticks.{
   fetch_again,
   requests_again,
   tick_effects,
+  due_by,
 }
 use Rattle.std.proofs.lemmas.Bool.{and_from}
 use Rattle.journal_model.proofs.NoteKinds.{
@@ -183,7 +185,8 @@ pub lookup_effects-notes : (rows : List Row) (moment : ℕ) (s : Step) (m : Mess
 unfolding lookup_effects observed unobserved
 lookup_effects-notes rows moment s m = by _
   where
-    value : (b c : Bool) → are of_lookup (observation_effects b c rows moment s m).notes ≡ true
+    value : (b c : Bool)
+        → are of_lookup (observation_effects (observing_by b c) rows moment s m).notes ≡ true
     value true c =
         observed_if-notes
         (has_room_for (query_of m) (without (s.peer, m.token) (observers (events rows)))) rows s
@@ -283,7 +286,7 @@ notices_again-notes rows moment =
     (λ o. flying o (flight o (events rows))) (observers (events rows))
   where
     again : (b c : Bool) (o : Observer) (f : Flight)
-        → are of_again (notice_again b c rows o f).notes ≡ true
+        → are of_again (notice_again (due_by b c) rows o f).notes ≡ true
     again false c o f = refl
     again true true o f = refl
     again true false o f = sent_again-notes of_again _ _ refl
@@ -331,7 +334,7 @@ requests_again-notes rows moment =
     (λ peer. running peer (last_request peer (events rows))) (fetches (events rows))
   where
     again : (b c : Bool) (peer : Peer) (e : Event) (request : Option Request)
-        → are of_resent (request_again b c rows peer e request).notes ≡ true
+        → are of_resent (request_again (due_by b c) rows peer e request).notes ≡ true
     again false c peer e request = refl
     again true c peer e None = refl
     again true true peer e (Some request) = refl

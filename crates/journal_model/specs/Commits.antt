@@ -75,14 +75,26 @@ asking s drawn token params number b = record {
   drew = 1;
 }
 
+-- whether there is room for a fetch
+pub data FetchRoom : Type 0 where
+  runs_with_peer : FetchRoom
+  runs_as_many : FetchRoom
+  may_start : FetchRoom
+
+-- whether one with its peer runs, and else whether as many run as may
+abbrev pub fetch_room : Bool → Bool → FetchRoom
+fetch_room true many = runs_with_peer
+fetch_room false true = runs_as_many
+fetch_room false false = may_start
+
 -- a simple registration is refused while a fetch with its peer runs, or while as many run as may;
 -- else its 2.04 is sent, and a fetch starts after it (RFC 9176 section 5.1)
-abbrev pub simple_unless : Bool → Bool → List Event → ℕ → Step → Message → Effects
-simple_unless true too_many events place s m =
+abbrev pub simple_unless : FetchRoom → List Event → ℕ → Step → Message → Effects
+simple_unless runs_with_peer events place s m =
     settling place s m (refused codes_of.service_unavailable (codes "fetching"))
-simple_unless false true events place s m =
+simple_unless runs_as_many events place s m =
     settling place s m (refused codes_of.service_unavailable (codes "fetches"))
-simple_unless false false events place s m =
+simple_unless may_start events place s m =
     joined (settling place s m (record { reply = bare codes_of.changed; notes = [] }))
     (asking s (s.drawn + drawn_for m.kind) (next_token events) (registration_values (queries_in m))
     0 None)
@@ -90,7 +102,8 @@ simple_unless false false events place s m =
 -- a simple registration
 abbrev pub registering_simply : List Event → ℕ → Step → Message → Effects
 registering_simply events place s m =
-    simple_unless (is_fetching s.peer events) (nat_le max_fetches (length (fetches events))) events
+    simple_unless
+    (fetch_room (is_fetching s.peer events) (nat_le max_fetches (length (fetches events)))) events
     place s m
 
 -- a write on a registration, by its method: POST updates it, and DELETE removes it; any other is

@@ -27,6 +27,7 @@ pub mod BodyFormers
 pub mod AskedListings
 pub mod CarriedBlocks
 pub mod AnswersAsFormed
+pub mod BlocksOfOne
 pub mod TagsDecideStates
 pub mod ObserversKnow
 pub mod SentDatagrams

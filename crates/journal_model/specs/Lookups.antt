@@ -133,17 +133,29 @@ observed rows moment s m =
 unfoldable pub unobserved : List Row → ℕ → Step → Message → Effects
 unobserved rows moment s m = observed_if false rows s m (listing_now rows moment m)
 
+-- what a value of Observe asks for (RFC 7641 section 2)
+pub data Observing : Type 0 where
+  begin_observing : Observing
+  end_observing : Observing
+  neither : Observing
+
+-- by whether it begins an observation, and else whether it ends one
+abbrev pub observing_by : Bool → Bool → Observing
+observing_by true ends = begin_observing
+observing_by false true = end_observing
+observing_by false false = neither
+
 -- a lookup that asks to begin an observation, to end it, or neither
-abbrev pub observation_effects : Bool → Bool → List Row → ℕ → Step → Message → Effects
-observation_effects true _ rows moment s m = observed rows moment s m
-observation_effects false true rows moment s m = unobserved rows moment s m
-observation_effects false false rows moment s m = look_effects (entries rows) moment s m
+abbrev pub observation_effects : Observing → List Row → ℕ → Step → Message → Effects
+observation_effects begin_observing rows moment s m = observed rows moment s m
+observation_effects end_observing rows moment s m = unobserved rows moment s m
+observation_effects neither rows moment s m = look_effects (entries rows) moment s m
 
 -- a lookup of a first block, by its Observe value
 abbrev pub first_block_effects : Option ℕ → List Row → ℕ → Step → Message → Effects
 first_block_effects None rows moment s m = look_effects (entries rows) moment s m
 first_block_effects (Some value) rows moment s m =
-    observation_effects (value == register) (value == deregister) rows moment s m
+    observation_effects (observing_by (value == register) (value == deregister)) rows moment s m
 
 -- a lookup of a further block, beside which Observe is ignored, or of a first one
 abbrev pub block_effects : Bool → List Row → ℕ → Step → Message → Effects

@@ -47,14 +47,25 @@ block_taken false rows moment s m b body =
     registration (entries rows) moment s (registration_values (queries_in m)) body (block1_option b)
     (note.Finished s.peer (key_in m) ∷ [])
 
--- why a block is refused that goes on with what is collected: too much is collected, or too many
--- uploads live
-abbrev pub block_unless : Bool → Bool → List Row → ℕ → Step → Message → Block → List ℕ → Outcome
-block_unless true too_many rows moment s m b body =
+-- whether there is room for a block that goes on with what is collected
+pub data BlockRoom : Type 0 where
+  collects_too_much : BlockRoom
+  lives_with_too_many : BlockRoom
+  fits_in : BlockRoom
+
+-- whether too much would be collected, and else whether too many uploads would live
+abbrev pub block_room : Bool → Bool → BlockRoom
+block_room true many = collects_too_much
+block_room false true = lives_with_too_many
+block_room false false = fits_in
+
+-- a block that goes on with what is collected, by the room for it
+abbrev pub block_unless : BlockRoom → List Row → ℕ → Step → Message → Block → List ℕ → Outcome
+block_unless collects_too_much rows moment s m b body =
     refused codes_of.request_entity_too_large (codes "size")
-block_unless false true rows moment s m b body =
+block_unless lives_with_too_many rows moment s m b body =
     refused codes_of.service_unavailable (codes "uploads")
-block_unless false false rows moment s m b body = block_taken b.more rows moment s m b body
+block_unless fits_in rows moment s m b body = block_taken b.more rows moment s m b body
 
 -- a block, by what is collected before it: refused where that does not end where the block begins
 abbrev pub block_after : Option (List ℕ)
@@ -68,8 +79,9 @@ abbrev pub block_after : Option (List ℕ)
 block_after None upload rows moment s m b =
     refused codes_of.request_entity_incomplete (codes "order")
 block_after (Some collected) upload rows moment s m b =
-    block_unless (nat_lt max_body (length collected + length m.payload))
-    (is_one_too_many b upload (live_uploads moment (events rows)))
+    block_unless
+    (block_room (nat_lt max_body (length collected + length m.payload))
+    (is_one_too_many b upload (live_uploads moment (events rows))))
     rows moment s m b (collected ++ m.payload)
 
 -- a block of a registration, by the live upload of its name

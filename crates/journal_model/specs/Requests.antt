@@ -17,6 +17,7 @@ use Rattle.std.specs.Prelude.{
   is_some,
   is_none,
   option_and_then,
+  unwrap_or,
   if◌then◌else◌,
 }
 use Rattle.rd_base.specs.declared.queries.Kind.{Kind}
@@ -55,30 +56,25 @@ method_of code =
     else if code == codes_of.delete then delete
     else other_method
 
+-- what a resource of the directory takes and gives (RFC 9176 sections 4.1, 5, 5.1, 5.3 and 6)
+pub record Resource : Type 0 where
+  -- the kind of what is looked up there, where anything is
+  pub looked_up : Option Kind
+  -- it is a registration
+  pub is_registration : Bool
+  -- as what the query options of a request on it are read, by its method
+  pub read_as : Method → Option Reading
+  -- a request on it has no payload, by its method
+  pub takes_no_payload : Method → Bool
+
 -- as what the query options of a request on a registration are read: those of an update alone are
 -- read
-abbrev pub reading_on_location : Method → Option Reading
-reading_on_location get = None
-reading_on_location post = Some reading.Update
-reading_on_location put = None
-reading_on_location delete = None
-reading_on_location other_method = None
-
--- as what the query options of a request are read
-abbrev pub reading_of : Path → ℕ → Option Reading
-reading_of path.Core code = Some reading.Lookup
-reading_of path.SimpleRd code = Some reading.Simple
-reading_of path.Rd code = Some reading.Register
-reading_of (path.Location number) code = reading_on_location (method_of code)
-reading_of path.Res code = Some reading.Lookup
-reading_of path.Ep code = Some reading.Lookup
-reading_of path.Other code = None
-
--- the query options of a request are refused
-abbrev pub has_bad_query : Message → Bool
-has_bad_query m =
-    is_some (option_and_then (λ as_what. fault_of as_what (queries_in m))
-    (reading_of (path_in m) m.code))
+abbrev pub reading_on_registration : Method → Option Reading
+reading_on_registration get = None
+reading_on_registration post = Some reading.Update
+reading_on_registration put = None
+reading_on_registration delete = None
+reading_on_registration other_method = None
 
 -- an update has no payload (RFC 9176 section 5.3.1)
 abbrev pub is_update : Method → Bool
@@ -88,15 +84,59 @@ is_update put = false
 is_update delete = false
 is_update other_method = false
 
+-- where links are looked up: its query options are criteria, and a payload is passed over
+abbrev pub lookup_of : Kind → Resource
+lookup_of what = record {
+  looked_up = Some what;
+  is_registration = false;
+  read_as = λ method. Some reading.Lookup;
+  takes_no_payload = λ method. false;
+}
+
+-- the resource at a path: discovery, simple registration, registration, a registration, the two
+-- lookups, and none
+abbrev pub resource_at : Path → Resource
+resource_at path.Core = lookup_of kind.Discovery
+resource_at path.SimpleRd = record {
+  looked_up = None;
+  is_registration = false;
+  read_as = λ method. Some reading.Simple;
+  takes_no_payload = λ method. true;
+}
+resource_at path.Rd = record {
+  looked_up = None;
+  is_registration = false;
+  read_as = λ method. Some reading.Register;
+  takes_no_payload = λ method. false;
+}
+resource_at (path.Location number) = record {
+  looked_up = None;
+  is_registration = true;
+  read_as = reading_on_registration;
+  takes_no_payload = is_update;
+}
+resource_at path.Res = lookup_of kind.Resource
+resource_at path.Ep = lookup_of kind.Endpoint
+resource_at path.Other = record {
+  looked_up = None;
+  is_registration = false;
+  read_as = λ method. None;
+  takes_no_payload = λ method. false;
+}
+
+-- as what the query options of a request are read
+abbrev pub reading_of : Path → ℕ → Option Reading
+reading_of p code = (resource_at p).read_as (method_of code)
+
+-- the query options of a request are refused
+abbrev pub has_bad_query : Message → Bool
+has_bad_query m =
+    is_some (option_and_then (λ as_what. fault_of as_what (queries_in m))
+    (reading_of (path_in m) m.code))
+
 -- an update and a simple registration have no payload (RFC 9176 sections 5.1 and 5.3.1)
 abbrev pub takes_no_payload : Path → ℕ → Bool
-takes_no_payload path.Core code = false
-takes_no_payload path.SimpleRd code = true
-takes_no_payload path.Rd code = false
-takes_no_payload (path.Location number) code = is_update (method_of code)
-takes_no_payload path.Res code = false
-takes_no_payload path.Ep code = false
-takes_no_payload path.Other code = false
+takes_no_payload p code = (resource_at p).takes_no_payload (method_of code)
 
 -- the request has a payload, and its path takes none
 abbrev pub has_bad_payload : Message → Bool
@@ -119,45 +159,35 @@ refusal_or_next None m = refusal_of_query_or_payload m
 unfoldable pub refusal_of_request : Message → Option Reply
 refusal_of_request m = refusal_or_next (refusal_of m) m
 
+-- resources or endpoints are looked up (RFC 9176 section 6)
+abbrev pub is_of_registrations : Option Kind → Bool
+is_of_registrations None = false
+is_of_registrations (Some kind.Discovery) = false
+is_of_registrations (Some kind.Resource) = true
+is_of_registrations (Some kind.Endpoint) = true
+
+-- the directory itself is looked up (RFC 9176 section 4.1)
+abbrev pub is_of_directory : Option Kind → Bool
+is_of_directory None = false
+is_of_directory (Some kind.Discovery) = true
+is_of_directory (Some kind.Resource) = false
+is_of_directory (Some kind.Endpoint) = false
+
 -- a lookup of resources or of endpoints (RFC 9176 section 6)
 abbrev pub is_lookup : Path → Bool
-is_lookup path.Core = false
-is_lookup path.SimpleRd = false
-is_lookup path.Rd = false
-is_lookup (path.Location number) = false
-is_lookup path.Res = true
-is_lookup path.Ep = true
-is_lookup path.Other = false
+is_lookup p = is_of_registrations (resource_at p).looked_up
 
 -- discovery (RFC 9176 section 4.1)
 abbrev pub is_discovery : Path → Bool
-is_discovery path.Core = true
-is_discovery path.SimpleRd = false
-is_discovery path.Rd = false
-is_discovery (path.Location number) = false
-is_discovery path.Res = false
-is_discovery path.Ep = false
-is_discovery path.Other = false
+is_discovery p = is_of_directory (resource_at p).looked_up
 
 -- the location of a registration (RFC 9176 section 5.3)
 abbrev pub is_location : Path → Bool
-is_location path.Core = false
-is_location path.SimpleRd = false
-is_location path.Rd = false
-is_location (path.Location number) = true
-is_location path.Res = false
-is_location path.Ep = false
-is_location path.Other = false
+is_location p = (resource_at p).is_registration
 
 -- the kind of what is looked up at a path
 abbrev pub kind_of : Path → Kind
-kind_of path.Core = kind.Discovery
-kind_of path.SimpleRd = kind.Discovery
-kind_of path.Rd = kind.Discovery
-kind_of (path.Location number) = kind.Discovery
-kind_of path.Res = kind.Resource
-kind_of path.Ep = kind.Endpoint
-kind_of path.Other = kind.Discovery
+kind_of p = unwrap_or (resource_at p).looked_up kind.Discovery
 
 -- what a lookup or a discovery asks for
 abbrev pub query_of : Message → Query

@@ -106,19 +106,33 @@ abbrev pub more_follow : Option Block → Bool
 more_follow None = false
 more_follow (Some b) = b.more
 
+-- what a response is to a fetch
+pub data ResponseUse : Type 0 where
+  of_elsewhere : ResponseUse
+  the_end : ResponseUse
+  next_part : ResponseUse
+
+-- by whether its block begins elsewhere than what is collected ends, and else whether it ends the
+-- fetch without a registration
+abbrev pub response_use : Bool → Bool → ResponseUse
+response_use true ends = of_elsewhere
+response_use false true = the_end
+response_use false false = next_part
+
 -- a response to a fetch: passed over, or the end, or the next block
-abbrev pub response_taken : Bool → Bool → List Row → ℕ → Step → Message → Request → Effects
-response_taken true ends rows moment s m request = nothing
-response_taken false true rows moment s m request = noting (note.Ceased s.peer ∷ [])
-response_taken false false rows moment s m request =
+abbrev pub response_taken : ResponseUse → List Row → ℕ → Step → Message → Request → Effects
+response_taken of_elsewhere rows moment s m request = nothing
+response_taken the_end rows moment s m request = noting (note.Ceased s.peer ∷ [])
+response_taken next_part rows moment s m request =
     gathering (more_follow (block_in m)) (block_in m) rows moment s m request
 
 -- a response to this request of a fetch
 abbrev pub response_to : List Row → ℕ → Step → Message → Request → Effects
 response_to rows moment s m request =
-    response_taken (is_elsewhere (block_in m) (length (collected s.peer (events rows))))
-    (ends_fetch m (gathered s.peer (events rows)) (length (collected s.peer (events rows)))) rows
-    moment s m request
+    response_taken
+    (response_use (is_elsewhere (block_in m) (length (collected s.peer (events rows))))
+    (ends_fetch m (gathered s.peer (events rows)) (length (collected s.peer (events rows)))))
+    rows moment s m request
 
 -- a response, by the request that it answers
 abbrev pub response_to_request : Option Request → List Row → ℕ → Step → Message → Effects

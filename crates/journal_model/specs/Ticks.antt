@@ -101,19 +101,32 @@ abbrev pub each_of : {A : Type 0} → (A → Effects) → List A → Effects
 each_of does [] = nothing
 each_of does (x ∷ xs) = joined (does x) (each_of does xs)
 
+-- what is due of a message that waits for its acknowledgement (RFC 7252 section 4.2)
+pub data Due : Type 0 where
+  not_yet : Due
+  retransmission : Due
+  giving_up : Due
+
+-- by whether its wait has ended, and whether that was the last one
+abbrev pub due_by : Bool → Bool → Due
+due_by false last = not_yet
+due_by true true = giving_up
+due_by true false = retransmission
+
 -- a notice whose wait has ended is sent again; after the last time its observer is removed
-abbrev pub notice_again : Bool → Bool → List Row → Observer → Flight → Effects
-notice_again false given_up rows o f = nothing
-notice_again true true rows o f = noting (note.Unwatched o.peer o.token ∷ [])
-notice_again true false rows o f =
+abbrev pub notice_again : Due → List Row → Observer → Flight → Effects
+notice_again not_yet rows o f = nothing
+notice_again giving_up rows o f = noting (note.Unwatched o.peer o.token ∷ [])
+notice_again retransmission rows o f =
     repeating rows f.formed.place o.peer f.mid (note.Again o.peer f.mid)
 
 -- the notice in flight to an observer, at a moment
 abbrev pub flight_again : List Row → ℕ → Observer → Option Flight → Effects
 flight_again rows moment o None = nothing
 flight_again rows moment o (Some f) =
-    notice_again (nat_le (deadline f.formed f.again) moment) (nat_le max_again (length f.again))
-    rows o f
+    notice_again
+    (due_by (nat_le (deadline f.formed f.again) moment) (nat_le max_again (length f.again))) rows o
+    f
 
 -- the first thing that a tick does: notices in flight whose wait has ended are sent again
 unfoldable pub notices_again : List Row → ℕ → Effects
@@ -232,19 +245,20 @@ notices t done = fold (notice_next t) done (observers (events_with t done))
 
 -- a request of a fetch whose wait has ended is sent again; after the last time, and where the
 -- response came apart and did not come, the fetch ends
-abbrev pub request_again : Bool → Bool → List Row → Peer → Event → Option Request → Effects
-request_again false given_up rows peer e request = nothing
-request_again true given_up rows peer e None = nothing
-request_again true true rows peer e (Some request) = noting (note.Ceased peer ∷ [])
-request_again true false rows peer e (Some request) =
+abbrev pub request_again : Due → List Row → Peer → Event → Option Request → Effects
+request_again due rows peer e None = nothing
+request_again not_yet rows peer e (Some request) = nothing
+request_again giving_up rows peer e (Some request) = noting (note.Ceased peer ∷ [])
+request_again retransmission rows peer e (Some request) =
     repeating rows e.place peer request.mid (note.Resent peer)
 
 -- the fetch with a peer, at a moment
 abbrev pub fetch_again : List Row → ℕ → Peer → Option Event → Effects
 fetch_again rows moment peer None = nothing
 fetch_again rows moment peer (Some e) =
-    request_again (nat_le (fetch_deadline peer e (events rows)) moment)
-    (is_waiting peer (events rows) || nat_le max_again (length (resendings peer (events rows))))
+    request_again
+    (due_by (nat_le (fetch_deadline peer e (events rows)) moment)
+    (is_waiting peer (events rows) || nat_le max_again (length (resendings peer (events rows)))))
     rows peer e (request_noted e.note)
 
 -- the third thing that a tick does: requests of fetches whose wait has ended are sent again

@@ -1,5 +1,6 @@
 //! Datagrams that come in (RFC 7252 section 4).
 use rd_base::{Moment, Peer};
+use rd_request::Incoming;
 
 /// A datagram that came.
 #[derive(Clone, Copy, Debug)]
@@ -12,4 +13,6 @@ pub struct Arrival<'a> {
     pub peer: Peer,
     /// Its octets.
     pub datagram: &'a [u8],
+    /// What it is to the directory, as it was read.
+    pub incoming: Incoming<'a>,
 }

@@ -15,6 +15,7 @@ ghost use Rattle.journal_model.specs.declared.rows.Row.{Row};
 ghost use Rattle.journal_model.specs.Journal.{is_look, events};
 ghost use Rattle.journal_model.specs.Machine.{is_look_datagram};
 ghost use Rattle.journal_model.specs.Rows.{row, row_moment};
+ghost use Rattle.rd_request.specs.Incoming.{IsIncoming};
 ghost use Rattle.rd_desk.specs.Admitting.{is_starved_admission, takes_memory, IsHeldFor};
 ghost use Rattle.rd_desk.specs.Desks.{StandsFor};
 ghost use Rattle.rd_desk.specs.Shown.{AreToldOf};
@@ -28,6 +29,7 @@ use crate::tables::Tables;
 use crate::{Admitted, Arrival, KeepJob, Mids, Outbox, Stepped, Watcher, WriteJob};
 use directory_core::{Board, Directory};
 use rd_base::{Moment, Peer, Starved};
+use rd_request::read_datagram;
 use std::alloc::Global;
 use std::marker::Model;
 use std::sync::Arc;
@@ -156,7 +158,57 @@ impl<B: Board> Desk<B> {
             word,
             peer,
             datagram,
+            incoming: read_datagram(datagram),
         };
+        self.admit_arrival(mids, arrival, out)
+    }
+
+    /// The same step for a datagram that was read already: each clause says of it what that of
+    /// [`Desk::admit`] says.
+    pub fn admit_arrival(
+        &mut self,
+        mids: &mut Mids,
+        arrival: Arrival<'_>,
+        out: &mut Outbox,
+    ) -> Admitted
+        requires moment { arrival.moment.0 ≤ 10 ^ 15 }
+        requires read { IsIncoming arrival.datagram.now arrival.incoming }
+        requires other { is_look_datagram arrival.datagram.now ≡ false }
+        requires empty { out.old ≡ [] }
+        requires free { B.has_staged self.old.board ≡ false }
+        requires told { AreToldOf self.old.tables.version (B.told self.old.board) }
+        ensures made { (rows : List Row) (s : Step)
+            → s.kind ≡ step.Admit
+            → s.peer ≡ arrival.entry.peer
+            → s.datagram ≡ arrival.entry.datagram.now
+            → s.word ≡ arrival.entry.word
+            → IsCalled rows s arrival.entry.moment mids.old self.old.tables
+            → Made rows (row rows s (is_starved_admission result)) self.new.tables out.new mids.old
+            mids.new }
+        ensures held { (rows : List Row) (s : Step)
+            → s.kind ≡ step.Admit
+            → s.peer ≡ arrival.entry.peer
+            → s.datagram ≡ arrival.entry.datagram.now
+            → IsCalled rows s arrival.entry.moment mids.old self.old.tables
+            → IsHeldFor result (row rows s (is_starved_admission result)).notes s
+            (row_moment rows s) }
+        ensures unstarved { (rows : List Row) (s : Step)
+            → s.peer ≡ arrival.entry.peer
+            → s.datagram ≡ arrival.entry.datagram.now
+            → IsCalled rows s arrival.entry.moment mids.old self.old.tables
+            → takes_memory rows (row_moment rows s) s (reading arrival.entry.datagram.now) ≡ false
+            → is_starved_admission result ≡ false }
+        ensures staged { (rows : List Row) (s : Step)
+            → s.kind ≡ step.Admit
+            → s.peer ≡ arrival.entry.peer
+            → s.datagram ≡ arrival.entry.datagram.now
+            → s.word ≡ arrival.entry.word
+            → IsCalled rows s arrival.entry.moment mids.old self.old.tables
+            → LeavesStaged (row rows s (is_starved_admission result)).notes self.new.tables.version
+            (B.staged self.old.board) (B.staged self.new.board) (B.has_staged self.new.board) }
+        ensures name { B.name self.new.board ≡ B.name self.old.board }
+        ensures told { B.told self.new.board ≡ B.told self.old.board }
+    {
         self.tables.admit(&mut self.board, mids, arrival, out)
     }
 

@@ -7,6 +7,7 @@ ghost use Rattle.journal_model.specs.declared.rows.Row.{Row};
 ghost use Rattle.journal_model.specs.Effects.{nothing};
 ghost use Rattle.journal_model.specs.Machine.{is_look_datagram};
 ghost use Rattle.journal_model.specs.Rows.{heard, row_moment, row};
+ghost use Rattle.rd_request.specs.Incoming.{IsIncoming};
 ghost use Rattle.rd_desk.specs.Admitting.{is_starved_admission, IsHeldFor, jobless};
 ghost use Rattle.rd_desk.specs.Admitting.{takes_memory};
 ghost use Rattle.rd_desk.specs.UnderWay.{UnderWay, IsCalled, Made};
@@ -20,8 +21,7 @@ use crate::{Admitted, Arrival, Mids, Outbox, Stepped};
 use coap_answers::send_empty;
 use coap_message::Kind4;
 use directory_core::Board;
-use rd_base::Peer;
-use rd_request::{Incoming, read_datagram};
+use rd_request::Incoming;
 
 /// What comes of a datagram that leaves no job.
 fn without_job(stepped: Stepped) -> Admitted
@@ -38,40 +38,40 @@ impl Tables {
     fn hear<B: Board>(
         &mut self,
         board: &mut B,
-        word: u32,
         mids: &mut Mids,
-        peer: Peer,
-        datagram: &[u8],
+        arrival: Arrival<'_>,
         out: &mut Outbox,
     ) -> Admitted
-        requires other { is_look_datagram datagram.now ≡ false }
+        requires read { IsIncoming arrival.datagram.now arrival.incoming }
+        requires other { is_look_datagram arrival.datagram.now ≡ false }
         requires empty { out.old ≡ [] }
         requires free { B.has_staged board.old ≡ false }
         requires told { AreToldOf self.old.version (B.told board.old) }
         ensures way { (rows : List Row) (s : Step)
-            → s.peer ≡ peer
-            → s.word ≡ word
+            → s.peer ≡ arrival.entry.peer
+            → s.word ≡ arrival.entry.word
             → UnderWay rows s (is_starved_admission result) nothing self.old out.old mids.old
             → UnderWay rows s (is_starved_admission result)
             (heard (is_starved_admission result) rows (row_moment rows s) s
-            (reading datagram.now)) self.new out.new mids.new }
+            (reading arrival.entry.datagram.now)) self.new out.new mids.new }
         ensures held { (rows : List Row) (s : Step)
-            → s.peer ≡ peer
-            → s.datagram ≡ datagram.now
+            → s.peer ≡ arrival.entry.peer
+            → s.datagram ≡ arrival.entry.datagram.now
             → UnderWay rows s (is_starved_admission result) nothing self.old out.old mids.old
             → IsHeldFor result (heard (is_starved_admission result) rows (row_moment rows s) s
-            (reading datagram.now)).notes s (row_moment rows s) }
+            (reading arrival.entry.datagram.now)).notes s (row_moment rows s) }
         ensures unstarved { (rows : List Row) (s : Step)
-            → s.peer ≡ peer
+            → s.peer ≡ arrival.entry.peer
             → UnderWay rows s false nothing self.old out.old mids.old
-            → takes_memory rows (row_moment rows s) s (reading datagram.now) ≡ false
+            → takes_memory rows (row_moment rows s) s (reading arrival.entry.datagram.now) ≡ false
             → is_starved_admission result ≡ false }
         ensures laid { IsLaid self.old.version self.new.version (B.staged board.old)
             (B.staged board.new) (B.has_staged board.new) }
         ensures name { B.name board.new ≡ B.name board.old }
         ensures told { B.told board.new ≡ B.told board.old }
     {
-        match read_datagram(datagram) {
+        let peer = arrival.peer;
+        match arrival.incoming {
             Incoming::Unread(fault) => {
                 reject(peer, fault, out);
                 Admitted::Done
@@ -89,7 +89,7 @@ impl Tables {
                 Admitted::Done
             }
             Incoming::Response(view) => {
-                without_job(self.hear_response(board, word, mids, peer, &view, out))
+                without_job(self.hear_response(board, arrival.word, mids, peer, &view, out))
             }
             Incoming::Refused(view, refused) => {
                 refuse(mids, peer, &view, refused, out);
@@ -117,6 +117,7 @@ impl Tables {
         out: &mut Outbox,
     ) -> Admitted
         requires moment { arrival.moment.0 ≤ 10 ^ 15 }
+        requires read { IsIncoming arrival.datagram.now arrival.incoming }
         requires other { is_look_datagram arrival.datagram.now ≡ false }
         requires empty { out.old ≡ [] }
         requires free { B.has_staged board.old ≡ false }
@@ -148,13 +149,6 @@ impl Tables {
         ensures told { B.told board.new ≡ B.told board.old }
     {
         self.pass(arrival.moment);
-        self.hear(
-            board,
-            arrival.word,
-            mids,
-            arrival.peer,
-            arrival.datagram,
-            out,
-        )
+        self.hear(board, mids, arrival, out)
     }
 }

@@ -6,4 +6,4 @@ mod keep_jobs;
 mod looks;
 
 pub use keep_jobs::KeepJob;
-pub use looks::{Looked, listing_at, look, look_starved, send_block};
+pub use looks::{Looked, answer_look, listing_at, look, look_request, look_starved, send_block};

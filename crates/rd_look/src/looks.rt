@@ -255,8 +255,8 @@ fn give_listing(
     Looked::Held(job)
 }
 
-/// The request of a datagram that only looks.
-fn look_request(datagram: &[u8]) -> Request<'_>
+/// The request of a datagram that only looks ([`is_look`](rd_request::is_look)).
+pub fn look_request(datagram: &[u8]) -> Request<'_>
     requires { is_look_datagram datagram.now ≡ true }
     ensures read { reading datagram.now ≡ Ok (message_of result) }
     ensures spelled { spelling (message_of result) ≡ datagram.now }
@@ -266,6 +266,40 @@ fn look_request(datagram: &[u8]) -> Request<'_>
         unreachable!()
     };
     request
+}
+
+/// A request that only looks, read already, is answered as [`look`] answers its datagram.
+pub fn answer_look(
+    alloc: Global,
+    version: &Directory,
+    now: Moment,
+    mids: &mut Mids,
+    peer: Peer,
+    request: &Request<'_>,
+    out: &mut Outbox,
+) -> Looked
+    requires read { reading (spelling (message_of request.now)) ≡ Ok (message_of request.now) }
+    requires looks { is_look_datagram (spelling (message_of request.now)) ≡ true }
+    requires after_at { version.now.at ≤ now.0 }
+    requires after_sweep { version.now.swept ≤ now.0 }
+    requires room { length out.old < most_datagrams }
+    ensures sends { (s : Step) (history : List Entry)
+        → VersionStandsFor 0 history version.now
+        → IsStepOf s peer mids.old
+        → Sends (looks_of.looked (is_starved_look result) history now.0 s
+        (reading (spelling (message_of request.now))))
+        out.old out.new mids.old mids.new }
+    ensures held { (history : List Entry)
+        → VersionStandsFor 0 history version.now
+        → IsHeld peer (spelling (message_of request.now)) (looks_of.held_after
+        (is_starved_look result) history now.0
+        (reading (spelling (message_of request.now)))) result }
+{
+    let Ok(found) = find(alloc, version, now, request) else {
+        answer_starved(mids, peer, &request.meaning.view, out);
+        return Looked::Starved;
+    };
+    give(alloc, mids, peer, request, found, out)
 }
 
 /// A request that only looks ([`is_look`](rd_request::is_look)) is answered from a version of the
@@ -297,22 +331,20 @@ pub fn look(
         (reading datagram.now)) result }
 {
     let request = look_request(datagram);
-    let Ok(found) = find(alloc, version, now, &request) else {
-        answer_starved(mids, peer, &request.meaning.view, out);
-        return Looked::Starved;
-    };
-    give(alloc, mids, peer, &request, found, out)
+    answer_look(alloc, version, now, mids, peer, &request, out)
 }
 
 /// A request that only looks, for which no version is at hand, is answered 5.00 (RFC 7252 section
 /// 5.9.3.1). `out` has room for one datagram more.
-pub fn look_starved(mids: &mut Mids, peer: Peer, datagram: &[u8], out: &mut Outbox)
-    requires looks { is_look_datagram datagram.now ≡ true }
+pub fn look_starved(mids: &mut Mids, peer: Peer, request: &Request<'_>, out: &mut Outbox)
+    requires read { reading (spelling (message_of request.now)) ≡ Ok (message_of request.now) }
+    requires looks { is_look_datagram (spelling (message_of request.now)) ≡ true }
     requires room { length out.old < most_datagrams }
-    ensures sends { (s : Step) (history : List Entry) (moment : ℕ) → IsStepOf s peer mids.old →
-        Sends (looks_of.looked true history moment s (reading datagram.now))
+    ensures sends { (s : Step) (history : List Entry) (moment : ℕ)
+        → IsStepOf s peer mids.old
+        → Sends (looks_of.looked true history moment s
+        (reading (spelling (message_of request.now))))
         out.old out.new mids.old mids.new }
 {
-    let request = look_request(datagram);
     answer_starved(mids, peer, &request.meaning.view, out);
 }

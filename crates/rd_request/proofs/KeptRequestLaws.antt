@@ -1,27 +1,32 @@
 -- A request that is kept: what is read of the datagram that it spells.
 use Rattle.std.proofs.Common.{◌≡◌, ℕ, true, List, Result, Ok, ap, sym, subst, ◌∙◌}
+use Rattle.message_model.specs.declared.messages.Role.{Role}
 use Rattle.message_model.specs.declared.messages.Unread.{Unread}
 use Rattle.message_model.specs.Message.{Message}
-use Rattle.message_model.specs.Numbers.{AreBytes}
 use Rattle.message_model.specs.Reading.{reading}
 use Rattle.message_model.specs.Request.{path_in}
 use Rattle.message_model.specs.Spelling.{spelling}
-use Rattle.message_model.proofs.MessageLaws.{reading_takes}
+use Rattle.journal_model.specs.Machine.{is_look_datagram}
+use Rattle.rd_request.specs.declared.accepted.Request.{Request}
+use Rattle.rd_request.specs.declared.incoming.Incoming.TheVariants as incoming
+use Rattle.rd_request.specs.Accepted.{message_of}
+use Rattle.rd_request.specs.Incoming.{IsFor, IsIncoming}
 use Rattle.rd_request.specs.WriteRequests.{is_write_path, is_write_datagram}
+use Rattle.rd_request.proofs.IncomingLaws.{looks_is}
 use Rattle.rd_request.proofs.WriteRequestLaws.{write_in}
 
--- what is read of a datagram is spelled by it, and read again
-pub spelled_by : (datagram : List ℕ) (m : Message)
-    → AreBytes datagram
-    → reading datagram ≡ Ok m
-    → spelling m ≡ datagram
-spelled_by datagram m fits read = (reading_takes datagram m fits read).1
-
-pub read_again : (datagram : List ℕ) (m : Message)
-    → AreBytes datagram
-    → reading datagram ≡ Ok m
+-- the spelling of what a datagram is read as is read as it again
+pub spelling_read : (r : Role) (datagram : List ℕ) (m : Message)
+    → IsFor r datagram m
     → reading (spelling m) ≡ Ok m
-read_again datagram m fits read = ap reading (spelled_by datagram m fits read) ∙ read
+spelling_read r datagram m is = ap reading is.spelled ∙ is.read
+
+-- and it only looks, where the datagram does
+pub spelling_looks : (datagram : List ℕ) (request : Request)
+    → IsIncoming datagram (incoming.Look request)
+    → is_look_datagram (spelling (message_of request)) ≡ true
+spelling_looks datagram request is =
+    ap is_look_datagram is.0.spelled ∙ looks_is datagram (incoming.Look request) is
 
 -- the message that is lent is the one that is read of its spelling
 pub read_kept : (kept own : Message)

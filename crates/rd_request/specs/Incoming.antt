@@ -4,6 +4,7 @@ use Rattle.message_model.specs.declared.messages.Role.{Role}
 use Rattle.message_model.specs.declared.messages.Role.TheVariants as role
 use Rattle.message_model.specs.Message.{Message, role_of}
 use Rattle.message_model.specs.Reading.{reading}
+use Rattle.message_model.specs.Spelling.{spelling}
 use Rattle.message_model.specs.Request.{path_in}
 use Rattle.coap_message.specs.Views.{message_in}
 use Rattle.journal_model.specs.Requests.{refusal_of_request, is_lookup, only_looks}
@@ -14,9 +15,10 @@ use Rattle.rd_request.specs.Accepted.{message_of}
 use Rattle.rd_request.specs.Asking.{refused_with, IsRefusedBy}
 use Rattle.rd_request.specs.WriteRequests.{is_write_path}
 
--- the datagram is this message, which is for that (RFC 7252 section 4)
+-- the datagram is this message, and spells it; the message is for that (RFC 7252 section 4)
 pub record IsFor (r : Role) (datagram : List ℕ) (m : Message) : Type 0 where
   pub read : reading datagram ≡ Ok m
+  pub spelled : spelling m ≡ datagram
   pub role_is : role_of m.kind m.code ≡ r
 
 -- a request that is refused for itself (RFC 7252 sections 5.4 and 5.9)

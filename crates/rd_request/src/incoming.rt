@@ -1,6 +1,7 @@
 //! What a datagram is to the directory. It is read here, and nowhere else (RFC 7252 section 4).
 ghost use Rattle.std.specs.Prelude.{◌≡◌, ◌&&◌, ℕ, not, List, Ok};
 ghost use Rattle.message_model.specs.Reading.{reading};
+ghost use Rattle.message_model.specs.Spelling.{spelling};
 ghost use Rattle.message_model.specs.Request.{observe_in};
 ghost use Rattle.message_model.specs.declared.messages.Role.TheVariants as role;
 ghost use Rattle.coap_message.specs.Views.{message_in};
@@ -16,7 +17,7 @@ use coap_message::{Unread, View, role_of, view};
 use message_model::Role;
 
 /// What a datagram is to the directory.
-#[derive(Drop)]
+#[derive(Clone, Copy, Debug)]
 pub enum Incoming<'a> {
     /// No message (RFC 7252 section 3).
     Unread(Unread),
@@ -88,6 +89,7 @@ fn requested<'a>(view: &View<'a>) -> Incoming<'a>
 fn told<'a>(view: &View<'a>) -> Incoming<'a>
     ensures { (datagram : List ℕ)
         → reading datagram ≡ Ok (message_in view.now)
+        → spelling (message_in view.now) ≡ datagram
         → IsIncoming datagram result }
 {
     match role_of(view) {

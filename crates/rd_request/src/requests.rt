@@ -128,7 +128,7 @@ fn takes_no_payload(path: &Path, code: u8) -> bool
 }
 
 /// A refusal that a request alone decides.
-#[derive(Drop)]
+#[derive(Clone, Copy, Debug)]
 pub enum Refused {
     /// For its options, its path, its method, a block or a format.
     Request(Refusal),

@@ -1,6 +1,7 @@
 //! The turn in which a datagram is heard that is no look.
 ghost use Rattle.std.specs.Prelude.{◌≡◌, ◌≤◌, ◌^◌, [], false};
 ghost use Rattle.journal_model.specs.Machine.{is_look_datagram};
+ghost use Rattle.rd_request.specs.Incoming.{IsIncoming};
 ghost use Rattle.rd_desk.specs.Admitting.{is_starved_admission};
 ghost use Rattle.turn_lock.specs.Shown.{id_of, lock_of};
 ghost use Rattle.rd_seat.specs.Shares.{Rests, HasAdmitted};
@@ -48,25 +49,19 @@ impl Share {
         requires lock { lock_of self.old.pass ≡ id_of lock.now }
         requires rest { Rests self.old }
         requires moment { arrival.moment.0 ≤ 10 ^ 15 }
+        requires read { IsIncoming arrival.datagram.now arrival.incoming }
         requires other { is_look_datagram arrival.datagram.now ≡ false }
         requires empty { out.old ≡ [] }
         ensures { HasAdmitted self.old
-            (admit_step self.old.mids.worker arrival.entry.moment arrival.entry.word arrival.entry.peer
-            arrival.entry.datagram.now self.old.mids.drawn)
+            (admit_step self.old.mids.worker arrival.entry.moment arrival.entry.word
+            arrival.entry.peer arrival.entry.datagram.now self.old.mids.drawn)
             (is_starved_admission result) out.new result self.new }
     {
         gate.pass(rt, Place::BeforeTake);
         let mut shared = begin(rt, lock, &mut self.pass, &mut self.looker);
         gate.pass(rt, Place::Holding);
         let mids = Snapshot::of(&self.mids);
-        let admitted = shared.desk.admit(
-            arrival.moment,
-            arrival.word,
-            &mut self.mids,
-            arrival.peer,
-            arrival.datagram,
-            out,
-        );
+        let admitted = shared.desk.admit_arrival(&mut self.mids, arrival, out);
         self.last = self.last.later(shared.desk.moment());
         let parts = Parts {
             mids,

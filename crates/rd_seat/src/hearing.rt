@@ -17,7 +17,7 @@ use crate::gates::{Gate, Place};
 use crate::halls::Hall;
 use crate::seats::Seat;
 use rd_base::{Moment, Peer};
-use rd_desk::{Admitted, Arrival, Job, Looked, Outbox, Stepped, is_look};
+use rd_desk::{Admitted, Arrival, Incoming, Job, Looked, Outbox, Stepped, read_datagram};
 use std::sync::Wait;
 
 /// What comes of a datagram that a seat hears.
@@ -92,17 +92,19 @@ impl Seat {
             (is_starved_hearing result) out.new (answer_left result) self.new }
         ensures keeps { is_look_datagram datagram.now ≡ true → IsKeepOf peer datagram.now result }
     {
-        if is_look(datagram) {
-            gate.pass(rt, Place::BeforeLook);
-            return of_look(self.lookup(now, peer, datagram, out));
-        }
-        let arrival = Arrival {
-            moment: now,
-            word,
-            peer,
-            datagram,
+        let incoming = read_datagram(datagram);
+        let Incoming::Look(request) = incoming else {
+            let arrival = Arrival {
+                moment: now,
+                word,
+                peer,
+                datagram,
+                incoming,
+            };
+            return of_admission(self.admit(rt, hall, gate, arrival, out));
         };
-        of_admission(self.admit(rt, hall, gate, arrival, out))
+        gate.pass(rt, Place::BeforeLook);
+        of_look(self.answer_look(now, peer, &request, out))
     }
 
     /// The step that does a job, at a turn of the seat, for which it waits. The admission of a

@@ -1,6 +1,9 @@
 //! Looks: they take no turn, and wait for nobody.
-ghost use Rattle.std.specs.Prelude.{◌≡◌, ◌≤◌, ◌^◌, [], true};
+ghost use Rattle.std.specs.Prelude.{◌≡◌, ◌≤◌, ◌^◌, [], true, Ok};
+ghost use Rattle.message_model.specs.Reading.{reading};
+ghost use Rattle.message_model.specs.Spelling.{spelling};
 ghost use Rattle.journal_model.specs.Machine.{is_look_datagram};
+ghost use Rattle.rd_request.specs.Accepted.{message_of};
 ghost use Rattle.rd_look.specs.Looking.{is_starved_look};
 ghost use Rattle.rd_seat.specs.Looks.{answer_held, IsJobOf};
 ghost use Rattle.rd_seat.specs.Shares.{Rests, HasLooked};
@@ -8,7 +11,7 @@ ghost use Rattle.rd_seat.specs.Steps.{look_step};
 
 use crate::shares::Share;
 use rd_base::{Moment, Peer};
-use rd_desk::{Looked, Outbox, look, look_starved};
+use rd_desk::{Looked, Outbox, Request, answer_look, look_starved};
 
 impl Share {
     /// A request that only looks is answered from the version that was published last. Where no
@@ -17,21 +20,24 @@ impl Share {
         &mut self,
         now: Moment,
         peer: Peer,
-        datagram: &[u8],
+        request: &Request<'_>,
         out: &mut Outbox,
     ) -> Looked
         requires rest { Rests self.old }
-        requires look { is_look_datagram datagram.now ≡ true }
+        requires read { reading (spelling (message_of request.now))
+            ≡ Ok (message_of request.now) }
+        requires look { is_look_datagram (spelling (message_of request.now)) ≡ true }
         requires moment { now.0 ≤ 10 ^ 15 }
         requires empty { out.old ≡ [] }
         ensures looked { HasLooked self.old
-            (look_step self.old.mids.worker now 0 peer datagram.now self.old.mids.drawn)
+            (look_step self.old.mids.worker now 0 peer (spelling (message_of request.now))
+            self.old.mids.drawn)
             (is_starved_look result) out.new (answer_held result) self.new }
-        ensures job { IsJobOf peer datagram.now result }
+        ensures job { IsJobOf peer (spelling (message_of request.now)) result }
     {
         let Ok(()) = self.looker.refresh() else {
             self.last = now.later(self.last);
-            look_starved(&mut self.mids, peer, datagram, out);
+            look_starved(&mut self.mids, peer, request, out);
             return Looked::Starved;
         };
         let Some(version) = self.looker.version() else {
@@ -39,13 +45,13 @@ impl Share {
         };
         let moment = now.later(self.last).later(version.at());
         self.last = moment;
-        look(
+        answer_look(
             self.alloc,
             version,
             moment,
             &mut self.mids,
             peer,
-            datagram,
+            request,
             out,
         )
     }

@@ -1,8 +1,12 @@
 //! A seat: what one worker has of a hall, as it is between two calls.
-ghost use Rattle.std.specs.Prelude.{◌≡◌, ◌<◌, ◌≤◌, ◌^◌, ℕ, [], false, true};
+ghost use Rattle.std.specs.Prelude.{◌≡◌, ◌<◌, ◌≤◌, ◌^◌, ℕ, [], false, true, Ok};
+ghost use Rattle.message_model.specs.Reading.{reading};
+ghost use Rattle.message_model.specs.Spelling.{spelling};
 ghost use Rattle.history_model.specs.Live.{IsFront};
 ghost use Rattle.journal_model.specs.DeskJournal.{max_workers};
 ghost use Rattle.journal_model.specs.Machine.{is_look_datagram};
+ghost use Rattle.rd_request.specs.Accepted.{message_of};
+ghost use Rattle.rd_request.specs.Incoming.{IsIncoming};
 ghost use Rattle.rd_look.specs.Looking.{is_starved_look};
 ghost use Rattle.rd_desk.specs.Admitting.{is_starved_admission};
 ghost use Rattle.rd_desk.specs.Stepping.{is_starved_step};
@@ -18,7 +22,8 @@ use crate::halls::Hall;
 use crate::shared_desk::SharedDesk;
 use crate::shares::Share;
 use rd_base::{Moment, Peer};
-use rd_desk::{Admitted, Arrival, KeepJob, Looked, Mids, Outbox, Stepped, WriteJob};
+use rd_desk::{Admitted, Arrival, KeepJob, Looked, Mids, Outbox, Request, Stepped, WriteJob};
+use rd_desk::look_request;
 use std::alloc::Global;
 use std::marker::Model;
 use std::sync::Wait;
@@ -102,6 +107,7 @@ impl Seat {
     ) -> Admitted
         requires hall { self.old.hall ≡ hall.now }
         requires moment { arrival.moment.0 ≤ 10 ^ 15 }
+        requires read { IsIncoming arrival.datagram.now arrival.incoming }
         requires other { is_look_datagram arrival.datagram.now ≡ false }
         requires empty { out.old ≡ [] }
         ensures hall { self.new.hall ≡ self.old.hall }
@@ -182,6 +188,32 @@ impl Seat {
             (is_starved_look result) out.new (answer_held result) self.new }
         ensures job { IsJobOf peer datagram.now result }
     {
-        self.share.look(now, peer, datagram, out)
+        let request = look_request(datagram);
+        self.answer_look(now, peer, &request, out)
+    }
+
+    /// A request that only looks, read already, is answered as [`Seat::lookup`] answers its
+    /// datagram.
+    pub(crate) fn answer_look(
+        &mut self,
+        now: Moment,
+        peer: Peer,
+        request: &Request<'_>,
+        out: &mut Outbox,
+    ) -> Looked
+        requires read { reading (spelling (message_of request.now))
+            ≡ Ok (message_of request.now) }
+        requires look { is_look_datagram (spelling (message_of request.now)) ≡ true }
+        requires moment { now.0 ≤ 10 ^ 15 }
+        requires empty { out.old ≡ [] }
+        ensures hall { self.new.hall ≡ self.old.hall }
+        ensures met { IsFront self.old.met self.new.met }
+        ensures looks { LooksAtMet self.old
+            (look_step self.old.worker now 0 peer (spelling (message_of request.now))
+            self.old.drawn)
+            (is_starved_look result) out.new (answer_held result) self.new }
+        ensures job { IsJobOf peer (spelling (message_of request.now)) result }
+    {
+        self.share.look(now, peer, request, out)
     }
 }

@@ -1,17 +1,22 @@
 //! The workers of a replay: each draws Message IDs of its own, and holds one job at most.
 ghost use Rattle.std.specs.Prelude.{◌≡◌, ◌≤◌, ◌<◌, ◌^◌, ℕ, true, false, [], List, IfOk, IfSome};
 ghost use Rattle.std.specs.Prelude.{Some, Ok, is_some};
+ghost use Rattle.message_model.specs.Reading.{reading};
+ghost use Rattle.message_model.specs.Spelling.{spelling};
 ghost use Rattle.journal_model.specs.declared.rows.Row.{Row};
 ghost use Rattle.journal_model.specs.declared.steps.Step.{Step};
 ghost use Rattle.journal_model.specs.declared.steps.StepKind.TheVariants as step;
 ghost use Rattle.journal_model.specs.DeskJournal.{max_workers};
 ghost use Rattle.journal_model.specs.Machine.{is_look_datagram, job_of, hearing};
+ghost use Rattle.rd_request.specs.Accepted.{message_of};
+ghost use Rattle.rd_request.specs.Incoming.{IsIncoming};
 ghost use Rattle.rd_desk.specs.Stepping.{is_starved_step};
 ghost use Rattle.rd_server.specs.Machines.{IsWorkerAt, MayStep, Steps};
 
 use directory_core::NoBoard;
 use rd_base::{Moment, Peer, Starved};
-use rd_desk::{Admitted, Desk, Job, Looked, Mids, Outbox, Stepped, is_look, look};
+use rd_desk::{Admitted, Arrival, Desk, Incoming, Job, Looked, Mids, Outbox, Request, Stepped};
+use rd_desk::{answer_look, read_datagram};
 use std::alloc::Global;
 use std::mem;
 
@@ -63,28 +68,30 @@ impl Worker {
         desk: &Desk<NoBoard>,
         now: Moment,
         peer: Peer,
-        datagram: &[u8],
+        request: &Request<'_>,
         out: &mut Outbox,
     ) -> Result<(), Starved>
-        requires looks { is_look_datagram datagram.now ≡ true }
+        requires read { reading (spelling (message_of request.now))
+            ≡ Ok (message_of request.now) }
+        requires looks { is_look_datagram (spelling (message_of request.now)) ≡ true }
         requires after_at { desk.now.tables.version.at ≤ now.0 }
         requires after_sweep { desk.now.tables.version.swept ≤ now.0 }
         requires empty { out.old ≡ [] }
         ensures { IfOk result (λ _. (rows : List Row) (s : Step)
             → s.kind ≡ step.Look
             → s.peer ≡ peer
-            → s.datagram ≡ datagram.now
+            → s.datagram ≡ spelling (message_of request.now)
             → s.word ≡ 0
             → MayStep rows s now desk.now.tables self.old
             → Steps rows s desk.now.tables self.new out.new) }
     {
-        match look(
+        match answer_look(
             alloc,
             &**desk.version(),
             now,
             &mut self.mids,
             peer,
-            datagram,
+            request,
             out,
         ) {
             Looked::Done => Ok(()),
@@ -100,23 +107,23 @@ impl Worker {
     fn admit(
         &mut self,
         desk: &mut Desk<NoBoard>,
-        now: Moment,
-        peer: Peer,
-        datagram: &[u8],
+        arrival: Arrival<'_>,
         out: &mut Outbox,
     ) -> Result<(), Starved>
-        requires moment { now.0 ≤ 10 ^ 15 }
-        requires other { is_look_datagram datagram.now ≡ false }
+        requires moment { arrival.moment.0 ≤ 10 ^ 15 }
+        requires word { arrival.word ≡ 0 }
+        requires read { IsIncoming arrival.datagram.now arrival.incoming }
+        requires other { is_look_datagram arrival.datagram.now ≡ false }
         requires empty { out.old ≡ [] }
         ensures { IfOk result (λ _. (rows : List Row) (s : Step)
             → s.kind ≡ step.Admit
-            → s.peer ≡ peer
-            → s.datagram ≡ datagram.now
+            → s.peer ≡ arrival.entry.peer
+            → s.datagram ≡ arrival.entry.datagram.now
             → s.word ≡ 0
-            → MayStep rows s now desk.old.tables self.old
+            → MayStep rows s arrival.entry.moment desk.old.tables self.old
             → Steps rows s desk.new.tables self.new out.new) }
     {
-        match desk.admit(now, 0, &mut self.mids, peer, datagram, out) {
+        match desk.admit_arrival(&mut self.mids, arrival, out) {
             Admitted::Done => Ok(()),
             Admitted::Held(job) => {
                 self.job = Some(Job::Write(job));
@@ -148,10 +155,18 @@ impl Worker {
             → MayStep rows s now desk.old.tables self.old
             → Steps rows s desk.new.tables self.new out.new) }
     {
-        if is_look(datagram) {
-            return self.look(alloc, &*desk, now, peer, datagram, out);
-        }
-        self.admit(desk, now, peer, datagram, out)
+        let incoming = read_datagram(datagram);
+        let Incoming::Look(request) = incoming else {
+            let arrival = Arrival {
+                moment: now,
+                word: 0,
+                peer,
+                datagram,
+                incoming,
+            };
+            return self.admit(desk, arrival, out);
+        };
+        self.look(alloc, &*desk, now, peer, &request, out)
     }
 
     /// It does the job that it holds; where it holds none, nothing happens. `Starved`: out of

@@ -72,6 +72,7 @@ use Rattle.journal_model.specs.Registrations.{
   block_uploaded,
   registration_outcome,
   registering,
+  block_room,
 }
 use Rattle.journal_model.specs.Commits.{
   settling,
@@ -81,6 +82,7 @@ use Rattle.journal_model.specs.Commits.{
   commit_effects,
   updating,
   removing,
+  fetch_room,
 }
 use Rattle.journal_model.specs.Responses.{
   fetch_of,
@@ -94,6 +96,7 @@ use Rattle.journal_model.specs.Responses.{
   response_to,
   response_to_request,
   response_effects,
+  response_use,
 }
 use Rattle.journal_model.specs.Rows.{row_moment, row, AreRows}
 use Rattle.journal_model.specs.PlacedRows.{Within}
@@ -228,7 +231,8 @@ registering-enters rows moment s m = by (sent_block m) refl
     unless : (too_long too_many : Bool) (b : Block) (before : List ℕ)
         → sent_block m ≡ Some b
         → collected_before b (live_upload moment (s.peer, key_in m) (events rows)) ≡ Some before
-        → AllEnter P (block_unless too_long too_many rows moment s m b (before ++ m.payload)).notes
+        → AllEnter P (block_unless (block_room too_long too_many) rows moment s m b
+        (before ++ m.payload)).notes
     unless true too_many b before is e = tt
     unless false true b before is e = tt
     unless false false b before is e = taken b.more b before refl is e
@@ -293,7 +297,7 @@ commit_enters rows moment place s m = by (path_in m)
 
     simple : (running too_many : Bool)
         → AllEnter (OfRequest path.SimpleRd rows moment s m)
-        (simple_unless running too_many (events rows) place s m).notes
+        (simple_unless (fetch_room running too_many) (events rows) place s m).notes
     simple true too_many = (tt, tt)
     simple false true = (tt, tt)
     simple false false = (tt, (tt, tt))
@@ -393,7 +397,7 @@ response_enters rows moment s m P good = by (fetch_of s m (events rows)) refl
     taken : (elsewhere over : Bool) (request : Request) → fetch_of s m (events rows) ≡ Some request
         → is_elsewhere (block_in m) size ≡ elsewhere
         → ends_fetch m (gathered s.peer (events rows)) size ≡ over
-        → AllEnter P (response_taken elsewhere over rows moment s m request).notes
+        → AllEnter P (response_taken (response_use elsewhere over) rows moment s m request).notes
     taken true over request e joins goes_on = tt
     taken false true request e joins goes_on = (tt, tt)
     taken false false request e joins goes_on =

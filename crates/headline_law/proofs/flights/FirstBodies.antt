@@ -53,10 +53,12 @@ first_forms rows moment notes (quiet h) =
 first_forms rows moment notes (adds o front back body is before after listed silent) =
     subst FormsFirst (sym is) (record {
       none =
-          list_any-append is_notice front (note.Watched o ∷ note.Formed o.peer o.token body None ∷ back)
+          list_any-append is_notice front
+          (note.Watched o ∷ note.Formed o.peer o.token body None ∷ back)
           ∙ rw (first.0, last.0) refl;
       added =
-          each_append (OfWatched P) front (note.Watched o ∷ note.Formed o.peer o.token body None ∷ back)
+          each_append (OfWatched P) front
+          (note.Watched o ∷ note.Formed o.peer o.token body None ∷ back)
           first.1 (
             list_any-append (is_forming_for (name_of o)) front
                 (note.Watched o ∷ note.Formed o.peer o.token body None ∷ back)

@@ -28,12 +28,8 @@ use Rattle.journal_model.specs.PlacedRows.{Within, Placed, last_row}
 use Rattle.journal_model.specs.BodyFormers.{former_of_body, former_of_kept, former_of_notice}
 use Rattle.journal_model.specs.BodyFormers.{reads_further_block, sends_again, former_of_further}
 use Rattle.journal_model.specs.BodyFormers.{former_at}
-use Rattle.journal_model.specs.TagsDecideStates.{
-  query_of_sent,
-  AreBlocksOfOne,
-  TagsDecideStates,
-  FormedTagsDecideStates,
-}
+use Rattle.journal_model.specs.BlocksOfOne.{query_of_sent, AreBlocksOfOne}
+use Rattle.journal_model.specs.TagsDecideStates.{TagsDecideStates, FormedTagsDecideStates}
 use Rattle.journal_model.specs.CarriedBlocks.{FormedAs, IsBlockOf, Sent}
 use Rattle.journal_model.specs.AskedListings.{Asked}
 use Rattle.journal_model.proofs.entries.JournalLaws.{journal-AreRows, desk-AreRows}

@@ -79,6 +79,7 @@ use Rattle.journal_model.specs.Lookups.{
   first_block_effects,
   block_effects,
   lookup_effects,
+  observing_by,
 }
 use Rattle.journal_model.proofs.sends.BodyAnswers.{
   Wanted,
@@ -290,7 +291,8 @@ lookup_outcome rows moment s m small lists = by (is_later_block m) refl
             refl,
             body_bears (answer_kind m.kind) (answer_mid s m m.kind) m.token
                 (tag (entries rows) moment) (Some (observe_value (events rows))) (asked_block m)
-                (listing (query_of m) (entries rows) moment) small (tag-length (entries rows) moment)
+                (listing (query_of m) (entries rows) moment) small
+                (tag-length (entries rows) moment)
                 (request-usable m),
           ),
           tt,
@@ -302,7 +304,8 @@ lookup_outcome rows moment s m small lists = by (is_later_block m) refl
             refl,
             body_bears (answer_kind m.kind) (answer_mid s m m.kind) m.token
                 (tag (entries rows) moment) None (asked_block m)
-                (listing (query_of m) (entries rows) moment) small (tag-length (entries rows) moment)
+                (listing (query_of m) (entries rows) moment) small
+                (tag-length (entries rows) moment)
                 (request-usable m),
           ),
           tt,
@@ -312,7 +315,8 @@ lookup_outcome rows moment s m small lists = by (is_later_block m) refl
     only_looked = now (ap (list_any reads_kept) (look_effects-notes (entries rows) moment s m))
         (look_lists (entries rows) moment s m small lists)
 
-    valued : (b c : Bool) → LookupOutcome rows moment s m (observation_effects b c rows moment s m)
+    valued : (b c : Bool)
+        → LookupOutcome rows moment s m (observation_effects (observing_by b c) rows moment s m)
     valued true c =
         added (has_room_for (query_of m) (without (s.peer, m.token) (observers (events rows))))
     valued false true = added false

@@ -50,6 +50,7 @@ use Rattle.journal_model.specs.Commits.{
   on_location,
   write_done,
   commit_effects,
+  fetch_room,
 }
 use Rattle.journal_model.specs.Responses.{
   fetch_of,
@@ -62,6 +63,7 @@ use Rattle.journal_model.specs.Responses.{
   response_to,
   response_to_request,
   response_effects,
+  response_use,
 }
 use Rattle.journal_model.proofs.NoteKinds.{are}
 use Rattle.journal_model.proofs.notes.ChangeNotes.{change_made-notes, registering-notes}
@@ -110,8 +112,8 @@ commit_plain rows moment place s m = by (path_in m)
     }
 
     simple : (running too_many : Bool)
-        → CommitsPlainly (simple_unless running too_many (events rows) place s m).sent
-        (simple_unless running too_many (events rows) place s m).notes
+        → CommitsPlainly (simple_unless (fetch_room running too_many) (events rows) place s m).sent
+        (simple_unless (fetch_room running too_many) (events rows) place s m).notes
     simple true too_many = record {
       sends = (record { no_content = refl; no_valid = refl }, tt);
       settles = (record { no_content = refl; no_valid = refl }, tt);
@@ -193,7 +195,7 @@ response_plain rows moment s m = by (fetch_of s m (events rows))
     gathers true (Some b) request = (record { no_content = refl; no_valid = refl }, tt)
 
     taken : (elsewhere over : Bool) (request : Request)
-        → ArePlain (response_taken elsewhere over rows moment s m request).sent
+        → ArePlain (response_taken (response_use elsewhere over) rows moment s m request).sent
     taken true over request = tt
     taken false true request = tt
     taken false false request = gathers (more_follow (block_in m)) (block_in m) request

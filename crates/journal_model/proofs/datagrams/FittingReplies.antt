@@ -109,6 +109,7 @@ use Rattle.journal_model.specs.Registrations.{
   block_uploaded,
   registration_outcome,
   registering,
+  block_room,
 }
 use Rattle.journal_model.specs.SentDatagrams.{IsFitting}
 use Rattle.journal_model.proofs.MessageSizeLaws.{room_for, spelling-most}
@@ -476,7 +477,7 @@ good_registering rows moment s m = by (sent_block m)
         (block1_option b) (note.Finished s.peer (key_in m) ∷ []) (one_block b)
 
     unless : (too_long too_many : Bool) (b : Block) (body : List ℕ)
-        → IsGoodReply (block_unless too_long too_many rows moment s m b body).reply
+        → IsGoodReply (block_unless (block_room too_long too_many) rows moment s m b body).reply
     unless true too_many b body =
         good_word codes_of.request_entity_too_large (codes "size") refl
         (λ e. absurd (omega (arith, e))) (omega arith)

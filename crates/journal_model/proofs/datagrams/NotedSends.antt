@@ -109,6 +109,7 @@ use Rattle.journal_model.specs.Lookups.{
   first_block_effects,
   block_effects,
   lookup_effects,
+  observing_by,
 }
 use Rattle.journal_model.specs.Writes.{write_effects}
 use Rattle.journal_model.specs.EmptyMessages.{acknowledged, reset}
@@ -134,6 +135,7 @@ use Rattle.journal_model.specs.Commits.{
   on_location,
   write_done,
   commit_effects,
+  fetch_room,
 }
 use Rattle.journal_model.specs.SentDatagrams.{
   IsFitting,
@@ -454,8 +456,8 @@ lookup_facts rows moment s m read lookup = by (is_later_block m) refl
 
     valued : (b c : Bool)
         → number_of (asked_block m) ≡ 0
-        → NoteFacts step.Admit s (observation_effects b c rows moment s m).sent
-        (observation_effects b c rows moment s m).notes
+        → NoteFacts step.Admit s (observation_effects (observing_by b c) rows moment s m).sent
+        (observation_effects (observing_by b c) rows moment s m).notes
     valued true c first =
         with_value (has_room_for (query_of m) (without (s.peer, m.token) (observers (events rows))))
         first
@@ -545,8 +547,8 @@ commit_facts rows moment place s m read asks = by (path_in m)
 
     simple : (running too_many : Bool)
         → NoteFacts (step.Commit place) s
-        (simple_unless running too_many (events rows) place s m).sent
-        (simple_unless running too_many (events rows) place s m).notes
+        (simple_unless (fetch_room running too_many) (events rows) place s m).sent
+        (simple_unless (fetch_room running too_many) (events rows) place s m).notes
     simple true too_many = (
       settled_by place s m (diagnostic codes_of.service_unavailable (codes "fetching")) read asks
           (good_unavailable (codes "fetching") (omega arith)),

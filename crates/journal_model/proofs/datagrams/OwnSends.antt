@@ -144,6 +144,7 @@ use Rattle.journal_model.specs.Lookups.{
   first_block_effects,
   block_effects,
   lookup_effects,
+  observing_by,
 }
 use Rattle.journal_model.specs.Writes.{again_answered, admitted_unless, write_unless, write_effects}
 use Rattle.journal_model.specs.Changes.{Outcome}
@@ -156,6 +157,7 @@ use Rattle.journal_model.specs.Commits.{
   on_location,
   write_done,
   commit_effects,
+  fetch_room,
 }
 use Rattle.journal_model.specs.EmptyMessages.{acknowledged, reset}
 use Rattle.journal_model.specs.Responses.{
@@ -171,6 +173,7 @@ use Rattle.journal_model.specs.Responses.{
   response_to,
   response_to_request,
   response_effects,
+  response_use,
 }
 use Rattle.journal_model.specs.Rows.{
   served,
@@ -510,7 +513,8 @@ lookup_own rows moment s m past read asks = by (is_later_block m)
         (good_body_reply (Some (tag (entries rows) moment)) None (asked_block m)
         (listing_now rows moment m).body short (usable m))
 
-    valued : (b c : Bool) → AreOwn rows s (observation_effects b c rows moment s m).sent
+    valued : (b c : Bool)
+        → AreOwn rows s (observation_effects (observing_by b c) rows moment s m).sent
     valued true c =
         with_value (has_room_for (query_of m) (without (s.peer, m.token) (observers (events rows))))
     valued false true = with_value false
@@ -581,7 +585,7 @@ commit_own rows moment place s m read asks = by (path_in m)
     outcome o good = (own_answer rows s m o.reply read asks good, tt)
 
     simple : (running too_many : Bool)
-        → AreOwn rows s (simple_unless running too_many (events rows) place s m).sent
+        → AreOwn rows s (simple_unless (fetch_room running too_many) (events rows) place s m).sent
     simple true too_many = (
       own_answer rows s m (diagnostic codes_of.service_unavailable (codes "fetching")) read asks
           (good_unavailable (codes "fetching") (omega arith)),
@@ -689,7 +693,7 @@ response_own rows moment s m read = by (fetch_of s m (events rows)) refl
 
     taken : (elsewhere over : Bool) (request : Request)
         → length request.token ≤ 8
-        → AreOwn rows s (response_taken elsewhere over rows moment s m request).sent
+        → AreOwn rows s (response_taken (response_use elsewhere over) rows moment s m request).sent
     taken true over request small = tt
     taken false true request small = tt
     taken false false request small = gathers (more_follow (block_in m)) (block_in m) request small

@@ -81,6 +81,7 @@ use Rattle.journal_model.specs.Ticks.{
   fetch_again,
   requests_again,
   tick_effects,
+  due_by,
 }
 use Rattle.journal_model.specs.SentDatagrams.{IsFitting, is_response}
 use Rattle.journal_model.specs.CarriedBlocks.{is_content}
@@ -150,7 +151,8 @@ notices_ticked rows moment all =
     each_of_sent IsTicked (λ o. flight_again rows moment o (flight o (events rows)))
     (observers (events rows)) (each (observers (events rows)))
   where
-    again : (b c : Bool) (o : Observer) (f : Flight) → AreTicked (notice_again b c rows o f).sent
+    again : (b c : Bool) (o : Observer) (f : Flight)
+        → AreTicked (notice_again (due_by b c) rows o f).sent
     again false c o f = tt
     again true true o f = tt
     again true false o f = again_one rows f.formed.place o.peer f.mid (note.Again o.peer f.mid) all
@@ -175,7 +177,7 @@ requests_ticked rows moment all =
     (fetches (events rows)) (each (fetches (events rows)))
   where
     again : (b c : Bool) (peer : Peer) (e : Event) (request : Option Request)
-        → AreTicked (request_again b c rows peer e request).sent
+        → AreTicked (request_again (due_by b c) rows peer e request).sent
     again false c peer e request = tt
     again true c peer e None = tt
     again true true peer e (Some request) = tt

@@ -78,6 +78,7 @@ use Rattle.journal_model.specs.Commits.{
   commit_effects,
   updating,
   removing,
+  fetch_room,
 }
 use Rattle.journal_model.specs.Rows.{
   served,
@@ -297,7 +298,7 @@ commit_ends_it rows moment place s m it = by (path_in m) it
 
     simple : (running too_many : Bool)
         → list_any (is_ending_of place)
-        (simple_unless running too_many (events rows) place s m).notes
+        (simple_unless (fetch_room running too_many) (events rows) place s m).notes
         ≡ true
     simple true too_many = rw (eqb-refl place) refl
     simple false true = rw (eqb-refl place) refl

@@ -52,6 +52,7 @@ use Rattle.journal_model.specs.Commits.{
   commit_effects,
   updating,
   removing,
+  fetch_room,
 }
 use Rattle.journal_model.specs.Writes.{again_answered, admitted_unless, write_unless, write_effects}
 use Rattle.journal_model.specs.Rows.{effects, row_moment, row}
@@ -168,7 +169,8 @@ commit_ends rows moment place s m = by (path_in m)
         (its (spelling (answer s m outcome.reply)))
 
     simple : (running too_many : Bool)
-        → are (ends_at place) (simple_unless running too_many (events rows) place s m).notes ≡ true
+        → are (ends_at place) (simple_unless (fetch_room running too_many) (events rows) place s
+        m).notes ≡ true
     simple true too_many = rw (eqb-refl place) refl
     simple false true = rw (eqb-refl place) refl
     simple false false = rw (eqb-refl place) refl

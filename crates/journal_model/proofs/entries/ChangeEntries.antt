@@ -89,6 +89,7 @@ use Rattle.journal_model.specs.Registrations.{
   block_uploaded,
   registration_outcome,
   registering,
+  block_room,
 }
 use Rattle.journal_model.specs.Commits.{
   settling,
@@ -98,6 +99,7 @@ use Rattle.journal_model.specs.Commits.{
   on_location,
   write_done,
   commit_effects,
+  fetch_room,
 }
 use Rattle.journal_model.specs.PlacedRows.{code_sent}
 use Rattle.journal_model.specs.AskedChanges.{names_location, is_code_of_change}
@@ -242,7 +244,8 @@ registering-OutcomeEntry rows moment s m l = by (sent_block m)
         _ (note.Finished s.peer (key_in m) ∷ []) l refl
 
     unless : (too_long too_many : Bool) (b : Block) (body : List ℕ)
-        → OutcomeEntry (entries rows) moment (block_unless too_long too_many rows moment s m b body)
+        → OutcomeEntry (entries rows) moment
+        (block_unless (block_room too_long too_many) rows moment s m b body)
         l
     unless true too_many b body = no_change refl refl
     unless false true b body = no_change refl refl
@@ -288,9 +291,10 @@ commit_effects-ChangeEntry rows moment place s m = by (path_in m)
   where
     simple : (running too_many : Bool)
         → ChangeEntry (entries rows) moment
-        (simple_unless running too_many (events rows) place s m).notes
+        (simple_unless (fetch_room running too_many) (events rows) place s m).notes
         (is_code_of_change
-        (code_sent (simple_unless running too_many (events rows) place s m).sent) false)
+        (code_sent (simple_unless (fetch_room running too_many) (events rows) place s m).sent)
+        false)
     simple true too_many = no_change refl refl
     simple false true = no_change refl refl
     simple false false = no_change refl refl

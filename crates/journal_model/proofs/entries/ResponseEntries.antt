@@ -51,6 +51,7 @@ use Rattle.journal_model.specs.Responses.{
   response_to,
   response_to_request,
   response_effects,
+  response_use,
 }
 use Rattle.journal_model.specs.FetchCompletions.{is_end_of_fetch, EndsBody}
 use Rattle.journal_model.proofs.EntriesNoted.{
@@ -172,7 +173,8 @@ response_effects-EntryHeard rows moment s m = by (fetch_of s m (events rows))
     taken : (elsewhere over : Bool) (request : Request)
         → is_elsewhere (block_in m) size ≡ elsewhere
         → ends_fetch m (gathered s.peer (events rows)) size ≡ over
-        → EntryHeard rows moment s m (response_taken elsewhere over rows moment s m request).notes
+        → EntryHeard rows moment s m (response_taken (response_use elsewhere over) rows moment s m
+        request).notes
     taken true over request joins e = silent refl
     taken false true request joins e = silent refl
     taken false false request joins e =

@@ -54,6 +54,7 @@ use Rattle.journal_model.specs.Ticks.{
   notice_again,
   flight_again,
   notices_again,
+  due_by,
 }
 use Rattle.journal_model.proofs.NoteKinds.{of_again, none_of}
 use Rattle.journal_model.proofs.StepNotes.{notices_again-notes}
@@ -158,7 +159,7 @@ again_sends rows moment =
         → flight o (events rows) ≡ Some f
         → nat_le (deadline f.formed f.again) moment ≡ b
         → nat_le max_again (length f.again) ≡ c
-        → AllByRecursion (AgainSent rows moment) (notice_again b c rows o f).sent
+        → AllByRecursion (AgainSent rows moment) (notice_again (due_by b c) rows o f).sent
     again false c o f stands flies over more = tt
     again true true o f stands flies over more = tt
     again true false o f stands flies over more =
@@ -174,10 +175,11 @@ again_sends rows moment =
             (sym flies)
             (subst (λ b.
             list_any (is_again_of o.peer f.mid)
-            (notice_again b (nat_le max_again (length f.again)) rows o f).notes
+            (notice_again (due_by b (nat_le max_again (length f.again))) rows o f).notes
             ≡ true) (sym over)
             (subst (λ c.
-            list_any (is_again_of o.peer f.mid) (notice_again true c rows o f).notes ≡ true)
+            list_any (is_again_of o.peer f.mid) (notice_again (due_by true c) rows o f).notes
+                ≡ true)
             (sym more) (here o f (confirmable_sent (row_at f.formed.place rows) o.peer f.mid))))
 
         sent : (d : Option (Peer × List ℕ))
@@ -231,7 +233,7 @@ again_notes rows moment =
         → flight o (events rows) ≡ Some f
         → nat_le (deadline f.formed f.again) moment ≡ b
         → nat_le max_again (length f.again) ≡ c
-        → AllByRecursion (AgainNoted rows moment) (notice_again b c rows o f).notes
+        → AllByRecursion (AgainNoted rows moment) (notice_again (due_by b c) rows o f).notes
     again false c o f stands flies over more = tt
     again true true o f stands flies over more = (tt, tt)
     again true false o f stands flies over more =

@@ -50,6 +50,7 @@ use Rattle.journal_model.specs.Ticks.{
   notice_again,
   flight_again,
   notices_again,
+  due_by,
 }
 use Rattle.rd_base.proofs.lemmas.Among.{Among, any_among, among_front, among_filter}
 use Rattle.journal_model.proofs.FlightKeys.{key_of, flight_key}
@@ -169,7 +170,7 @@ again_stays rows moment o f it =
     by : (b c : Bool)
         → b ≡ true
         → c ≡ false
-        → list_any (λ n. is_end_of n (name_of o)) (notice_again b c rows o f).notes ≡ false
+        → list_any (λ n. is_end_of n (name_of o)) (notice_again (due_by b c) rows o f).notes ≡ false
     by false c over again = absurd (false≢true over)
     by true true over again = absurd (false≢true (sym again))
     by true false over again =
@@ -183,7 +184,7 @@ other_stays : (rows : List Row) (moment : ℕ) (o x : Observer)
 other_stays rows moment o x apart = by (flight x (events rows))
   where
     again : (b c : Bool) (f : Flight)
-        → list_any (λ n. is_end_of n (name_of o)) (notice_again b c rows x f).notes ≡ false
+        → list_any (λ n. is_end_of n (name_of o)) (notice_again (due_by b c) rows x f).notes ≡ false
     again false c f = refl
     again true true f = rw apart refl
     again true false f =

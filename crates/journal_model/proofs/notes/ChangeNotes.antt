@@ -84,6 +84,7 @@ use Rattle.journal_model.specs.Registrations.{
   block_uploaded,
   registration_outcome,
   registering,
+  block_room,
 }
 use Rattle.journal_model.specs.Commits.{
   settling,
@@ -93,6 +94,7 @@ use Rattle.journal_model.specs.Commits.{
   on_location,
   write_done,
   commit_effects,
+  fetch_room,
 }
 use Rattle.journal_model.specs.Responses.{
   fetch_of,
@@ -106,6 +108,7 @@ use Rattle.journal_model.specs.Responses.{
   response_to,
   response_to_request,
   response_effects,
+  response_use,
 }
 use Rattle.journal_model.proofs.NoteKinds.{of_commit, of_response, are, are-append}
 
@@ -171,7 +174,7 @@ registering-notes kind entered piece finished rows moment s m = by (sent_block m
         (and_from (kind (note.Finished s.peer (key_in m))) true (finished s.peer (key_in m)) refl)
 
     unless : (too_long too_many : Bool) (b : Block) (body : List ℕ)
-        → are kind (block_unless too_long too_many rows moment s m b body).notes ≡ true
+        → are kind (block_unless (block_room too_long too_many) rows moment s m b body).notes ≡ true
     unless true too_many b body = refl
     unless false true b body = refl
     unless false false b body = taken b.more b body
@@ -212,7 +215,8 @@ commit_effects-done rows moment place s m = by (path_in m)
     settled done h = are-append of_done done.notes _ h refl
 
     simple : (running too_many : Bool)
-        → are of_done (simple_unless running too_many (events rows) place s m).notes ≡ true
+        → are of_done (simple_unless (fetch_room running too_many) (events rows) place s m).notes
+            ≡ true
     simple true too_many = refl
     simple false true = refl
     simple false false = refl
@@ -303,7 +307,8 @@ response_effects-notes rows moment s m = by (fetch_of s m (events rows))
     gathers true (Some b) request = refl
 
     taken : (elsewhere over : Bool) (request : Request)
-        → are of_response (response_taken elsewhere over rows moment s m request).notes ≡ true
+        → are of_response (response_taken (response_use elsewhere over) rows moment s m
+        request).notes ≡ true
     taken true over request = refl
     taken false true request = refl
     taken false false request = gathers (more_follow (block_in m)) (block_in m) request

@@ -94,6 +94,7 @@ use Rattle.journal_model.specs.Lookups.{
   first_block_effects,
   block_effects,
   lookup_effects,
+  observing_by,
 }
 use Rattle.journal_model.proofs.StepNotes.{look_effects-notes}
 use Rattle.journal_model.proofs.sends.BodyAnswers.{szx-usable, request-usable}
@@ -227,7 +228,8 @@ lookup_notes_as_asked rows moment s m lookup small = by (is_later_block m)
         (addition (observer_of s m) (listing_now rows moment m).body
         ++ keeping s m (listing_now rows moment m))
         (removed (is_observer (s.peer, m.token) (observers (events rows))) s.peer m.token) (
-          record { asks = asks; token = small; szx = szx-usable (asked_block m) (request-usable m) },
+          record { asks = asks; token = small; szx = szx-usable (asked_block m) (request-usable m)
+          },
           (tt, keeps (is_long (asked_block m) (listing_now rows moment m).body)),
         )
     added false =
@@ -241,7 +243,8 @@ lookup_notes_as_asked rows moment s m lookup small = by (is_later_block m)
     only_looked =
         subst (NotesAsAsked rows moment) (sym (look_effects-notes (entries rows) moment s m)) tt
 
-    valued : (b c : Bool) → NotesAsAsked rows moment (observation_effects b c rows moment s m).notes
+    valued : (b c : Bool)
+        → NotesAsAsked rows moment (observation_effects (observing_by b c) rows moment s m).notes
     valued true c =
         added (has_room_for (query_of m) (without (s.peer, m.token) (observers (events rows))))
     valued false true = added false

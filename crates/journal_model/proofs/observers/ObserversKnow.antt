@@ -70,6 +70,7 @@ use Rattle.journal_model.specs.Lookups.{
   first_block_effects,
   block_effects,
   lookup_effects,
+  observing_by,
 }
 use Rattle.journal_model.specs.Rows.{effects, row_moment, row, AreRows, empty, added}
 use Rattle.journal_model.specs.Machine.{IsJournal}
@@ -198,8 +199,8 @@ lookup_observer_notes rows moment s m = by (is_later_block m) refl
     added false none = quiet ended
 
     valued : (b c : Bool)
-        → entries_in (observation_effects b c rows moment s m).notes ≡ []
-        → ObserverNotes rows moment (observation_effects b c rows moment s m).notes
+        → entries_in (observation_effects (observing_by b c) rows moment s m).notes ≡ []
+        → ObserverNotes rows moment (observation_effects (observing_by b c) rows moment s m).notes
     valued true c none =
         added (has_room_for (query_of m) (without (s.peer, m.token) (observers (events rows)))) none
     valued false true none = quiet ended

@@ -86,6 +86,7 @@ use Rattle.journal_model.specs.Registrations.{
   block_uploaded,
   registration_outcome,
   registering,
+  block_room,
 }
 use Rattle.journal_model.specs.Writes.{again_answered, admitted_unless, write_unless, write_effects}
 use Rattle.journal_model.specs.Rows.{refusal_answered, unread_answered}
@@ -260,7 +261,8 @@ registering_plain rows moment s m = by (sent_block m)
         (note.Finished s.peer (key_in m) ∷ [])
 
     unless : (too_long too_many : Bool) (b : Block) (body : List ℕ)
-        → IsPlainCode (block_unless too_long too_many rows moment s m b body).reply.code
+        → IsPlainCode (block_unless (block_room too_long too_many) rows moment s m b
+        body).reply.code
     unless true too_many b body = record { no_content = refl; no_valid = refl }
     unless false true b body = record { no_content = refl; no_valid = refl }
     unless false false b body = taken b.more b body

@@ -77,6 +77,7 @@ use Rattle.journal_model.specs.Ticks.{
   fetch_again,
   requests_again,
   tick_effects,
+  due_by,
 }
 use Rattle.message_model.proofs.ReadingLaws.{header_read}
 use Rattle.journal_model.proofs.sends.PlainSteps.{IsPlain, ArePlain}
@@ -172,7 +173,7 @@ requests_plain rows moment asked =
     again : (b c : Bool) (peer : Peer) (e : Event) (request : Option Request)
         → last_request peer (events rows) ≡ Some e
         → request_noted e.note ≡ request
-        → ArePlain (request_again b c rows peer e request).sent
+        → ArePlain (request_again (due_by b c) rows peer e request).sent
     again false c peer e request last noted = tt
     again true c peer e None last noted = tt
     again true true peer e (Some request) last noted = tt
@@ -217,7 +218,8 @@ again_not_valid rows moment confirmables =
     (λ o. flight_again rows moment o (flight o (events rows))) (observers (events rows))
     (each (observers (events rows)))
   where
-    again : (b c : Bool) (o : Observer) (f : Flight) → NoneValid (notice_again b c rows o f).sent
+    again : (b c : Bool) (o : Observer) (f : Flight)
+        → NoneValid (notice_again (due_by b c) rows o f).sent
     again false c o f = tt
     again true true o f = tt
     again true false o f =

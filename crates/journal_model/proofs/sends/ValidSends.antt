@@ -91,6 +91,7 @@ use Rattle.journal_model.specs.Lookups.{
   first_block_effects,
   block_effects,
   lookup_effects,
+  observing_by,
 }
 use Rattle.journal_model.specs.PlacedRows.{code_at, code_sent}
 
@@ -273,7 +274,7 @@ lookup_not_valid rows moment s m lookup other = by (is_later_block m) refl
         → observe_in m ≡ Some value
         → (value == register) ≡ b
         → (value == deregister) ≡ c
-        → NoneValid (observation_effects b c rows moment s m).sent
+        → NoneValid (observation_effects (observing_by b c) rows moment s m).sent
     valued value true c first has begins ends =
         added (has_room_for (query_of m) (without (s.peer, m.token) (observers (events rows))))
     valued value false true first has begins ends = added false

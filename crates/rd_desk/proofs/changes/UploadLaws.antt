@@ -71,6 +71,7 @@ use Rattle.journal_model.specs.Registrations.{
   block_unless,
   block_after,
   block_uploaded,
+  block_room,
 }
 use Rattle.journal_model.specs.Rows.{row_moment}
 use Rattle.journal_model.specs.UnfinishedRow.{making}
@@ -128,7 +129,7 @@ uploaded_by rows moment s m b a is =
 
     unless : (large many more : Bool) (body : List ℕ)
         → b.more ≡ more
-        → block_unless large many rows moment s m b body
+        → block_unless (block_room large many) rows moment s m b body
         ≡ outcome_of (answer_unless large many more body) rows moment s m b
     unless true many more body e = refl
     unless false true more body e = refl

@@ -93,6 +93,7 @@ use Rattle.journal_model.specs.Lookups.{
   block_effects,
   lookup_effects,
   listing_now,
+  observing_by,
 }
 use Rattle.journal_model.specs.Requests.{
   asked_block,
@@ -429,7 +430,8 @@ observed_by rows s m None is first begins = absurd (false≢true begins)
 observed_by rows s m (Some value) is first begins =
     sym (ap (λ b. block_effects b rows (row_moment rows s) s m) first
     ∙ (ap (λ (o : Option ℕ). first_block_effects o rows (row_moment rows s) s m) is
-    ∙ ap (λ b. observation_effects b (value == 1) rows (row_moment rows s) s m) begins))
+    ∙ ap (λ b. observation_effects (observing_by b (value == 1)) rows (row_moment rows s) s m)
+    begins))
 
 -- one that asks to observe no more
 unobserved_by : (rows : List Row) (s : Step) (m : Message) (value : Option ℕ)
@@ -443,8 +445,9 @@ unobserved_by rows s m None is first begins heeded = absurd (false≢true heeded
 unobserved_by rows s m (Some value) is first begins heeded =
     sym (ap (λ b. block_effects b rows (row_moment rows s) s m) first
     ∙ (ap (λ (o : Option ℕ). first_block_effects o rows (row_moment rows s) s m) is
-    ∙ (ap (λ b. observation_effects b (value == 1) rows (row_moment rows s) s m) begins
-    ∙ ap (λ b. observation_effects false b rows (row_moment rows s) s m)
+    ∙ (ap (λ b. observation_effects (observing_by b (value == 1)) rows (row_moment rows s) s m)
+    begins
+    ∙ ap (λ b. observation_effects (observing_by false b) rows (row_moment rows s) s m)
     (other (value == 0) (value == 1) begins heeded))))
   where
     other : (b e : Bool) → b ≡ false → (b || e) ≡ true → e ≡ true

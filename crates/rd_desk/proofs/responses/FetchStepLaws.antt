@@ -86,6 +86,7 @@ use Rattle.journal_model.specs.Responses.{
   gathering,
   response_taken,
   response_to,
+  response_use,
 }
 use Rattle.journal_model.specs.Responses as responses
 use Rattle.journal_model.specs.Ticks.{
@@ -96,6 +97,7 @@ use Rattle.journal_model.specs.Ticks.{
   sent_again,
   request_again,
   fetch_again,
+  due_by,
 }
 use Rattle.journal_model.proofs.EventRows.{row_of}
 use Rattle.exchange_core.specs.declared.resends.Again.{Again}
@@ -177,7 +179,8 @@ response_to-heard rows moment s m request =
     block None = refl
     block (Some b) = part b.more b
 
-    by : (elsewhere ends : Bool) → response_taken elsewhere ends rows moment s m request
+    by : (elsewhere ends : Bool)
+        → response_taken (response_use elsewhere ends) rows moment s m request
         ≡ response_effects_of (heard_by elsewhere ends
         (heard_block (block_in m) (mid_of s.worker s.drawn) s.peer request.token
         request.params (collected s.peer (events rows) ++ m.payload))) (block_in m) rows
@@ -385,7 +388,7 @@ fetch_again-due rows moment peer e request last made =
     || nat_le max_again (length (resendings peer (events rows)))))
   where
     by : (due over : Bool)
-        → request_again due over rows peer e (Some request)
+        → request_again (due_by due over) rows peer e (Some request)
         ≡ due_effects (cond due (cond over again.GaveUp again.Send) again.Wait) rows peer e
         request
     by false over = refl

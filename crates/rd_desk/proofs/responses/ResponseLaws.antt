@@ -87,6 +87,7 @@ use Rattle.journal_model.specs.Responses.{
   response_to,
   response_to_request,
   response_effects,
+  response_use,
 }
 use Rattle.journal_model.specs.Responses as responses
 use Rattle.journal_model.specs.Rows.{row_with, row_moment}
@@ -335,7 +336,7 @@ response_done rows s m request =
         → done_for (heard_by elsewhere ends
         (heard_block (block_in m) (mid_of s.worker s.drawn) s.peer request.token
         request.params body)) (block_in m) rows s m request
-        ≡ response_taken elsewhere ends rows (row_moment rows s) s m request
+        ≡ response_taken (response_use elsewhere ends) rows (row_moment rows s) s m request
     by true ends = refl
     by false true = refl
     by false false = block (block_in m)

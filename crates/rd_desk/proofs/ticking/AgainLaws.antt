@@ -61,6 +61,7 @@ use Rattle.journal_model.specs.Ticks.{
   flight_again,
   repeating,
   notices_again,
+  due_by,
 }
 use Rattle.journal_model.specs.UnfinishedRow.{making}
 use Rattle.journal_model.proofs.UnfinishedRowLaws.{events-making_nothing}
@@ -150,7 +151,7 @@ again_one rows moment o x peer token waits fits = by (flight o (events rows)) wa
     due : (a b : Bool) (f : Flight) (sent : Sent)
         → notice_sent (octets_sent rows) o.peer f ≡ sent
         → is_confirmable_with sent.mid sent.octets ≡ true
-        → notice_again a b rows o f
+        → notice_again (due_by a b) rows o f
         ≡ again_as (cond a (cond b again.GaveUp again.Send) again.Wait) x (Some sent)
     due false b f sent is confirmable = refl
     due true true f sent is confirmable =

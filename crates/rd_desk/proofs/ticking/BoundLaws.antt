@@ -131,6 +131,7 @@ use Rattle.journal_model.specs.Commits.{
   on_location,
   write_done,
   commit_effects,
+  fetch_room,
 }
 use Rattle.journal_model.specs.Lookups.{
   listing_now,
@@ -147,6 +148,7 @@ use Rattle.journal_model.specs.Lookups.{
   first_block_effects,
   block_effects,
   lookup_effects,
+  observing_by,
 }
 use Rattle.journal_model.specs.Lookups as lookups
 use Rattle.journal_model.specs.Bodies.{is_long}
@@ -162,6 +164,7 @@ use Rattle.journal_model.specs.Responses.{
   response_to,
   response_to_request,
   response_effects,
+  response_use,
 }
 use Rattle.journal_model.proofs.NoteKinds.{
   of_lookup,
@@ -402,7 +405,7 @@ lookup_few rows moment place at s m few = by (is_later_block m)
         (is_long (asked_block m) (listing_now rows moment m).body)
 
     valued : (b c : Bool)
-        → length (observers (noted place at s.word (observation_effects b c rows moment s m).notes
+        → length (observers (noted place at s.word (observation_effects (observing_by b c) rows moment s m).notes
         (events rows)))
         ≤ 1_024
     valued true c =
@@ -650,7 +653,8 @@ response_starts rows moment s m = by (fetch_of s m (events rows))
     gathers true (Some b) request = rw (above b.num) refl
 
     taken : (elsewhere over : Bool) (request : Request)
-        → are not_start (response_taken elsewhere over rows moment s m request).notes ≡ true
+        → are not_start (response_taken (response_use elsewhere over) rows moment s m
+        request).notes ≡ true
     taken true over request = refl
     taken false true request = refl
     taken false false request = gathers (more_follow (block_in m)) (block_in m) request
@@ -725,7 +729,7 @@ commit_few rows moment place at s m few = by (path_in m)
     simple : (running too_many : Bool)
         → nat_le max_fetches (length (fetches (events rows))) ≡ too_many
         → length (fetches (noted (length rows) at s.word
-        (simple_unless running too_many (events rows) place s m).notes (events rows)))
+        (simple_unless (fetch_room running too_many) (events rows) place s m).notes (events rows)))
         ≤ 64
     simple true too_many e = settled (refused codes_of.service_unavailable (codes "fetching")) refl
     simple false true e = settled (refused codes_of.service_unavailable (codes "fetches")) refl

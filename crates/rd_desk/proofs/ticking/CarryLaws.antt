@@ -146,11 +146,13 @@ carries_unchanged rows s starved current whole ready b d w out mids from index r
       kept = later;
       answers = h.answers;
       way =
-          more_unformed rows s starved h.done e (with_answers h.answers b) (with_answers h.answers d) w
+          more_unformed rows s starved h.done e (with_answers h.answers b)
+          (with_answers h.answers d) w
           out out mids mids (ap (with_answers h.answers) seen) refl refl stands
           (sends_notes (note.Unchanged o.peer o.token ∷ []) out mids) h.way;
       plan =
-          subst (λ (i : ℕ). AreDone rows s starved current whole (joined h.done e) (i + 1) rest later)
+          subst (λ (i : ℕ). AreDone rows s starved current whole (joined h.done e) (i + 1) rest
+          later)
           index_is h.plan.3;
       becomes =
           ap (λ (ks : List NamedAnswer). kept_each (row_moment rows s) ks h.answers) (sym h.plan.2)
@@ -289,7 +291,8 @@ carries_notice rows s starved current whole ready b d w count out sent_out mids_
           later) index_is h.plan.3;
       becomes =
           sym (kept_each-append (row_moment rows s) own later h.answers)
-          ∙ (ap (λ (ks : List NamedAnswer). kept_each (row_moment rows s) ks h.answers) (sym h.plan.2)
+          ∙ (ap (λ (ks : List NamedAnswer). kept_each (row_moment rows s) ks h.answers)
+          (sym h.plan.2)
           ∙ h.becomes);
     }
   where

@@ -133,6 +133,7 @@ use Rattle.journal_model.specs.Commits.{
   on_location,
   write_done,
   commit_effects,
+  fetch_room,
 }
 use Rattle.journal_model.specs.EmptyMessages.{acknowledged, reset}
 use Rattle.journal_model.specs.Looks.{
@@ -158,6 +159,7 @@ use Rattle.journal_model.specs.Lookups.{
   first_block_effects,
   block_effects,
   lookup_effects,
+  observing_by,
 }
 use Rattle.journal_model.specs.Responses.{
   is_response_to,
@@ -172,6 +174,7 @@ use Rattle.journal_model.specs.Responses.{
   response_to,
   response_to_request,
   response_effects,
+  response_use,
 }
 use Rattle.journal_model.specs.SentDatagrams.{is_response}
 use Rattle.journal_model.specs.Ticks.{confirmable_sent, octets_sent, tick_effects}
@@ -385,7 +388,8 @@ lookup_sends rows moment s m = by (is_later_block m)
     with_value true = one_answer s m _ _
     with_value false = one_answer s m _ _
 
-    valued : (b c : Bool) → AreResendable (observation_effects b c rows moment s m).sent
+    valued : (b c : Bool)
+        → AreResendable (observation_effects (observing_by b c) rows moment s m).sent
     valued true c =
         with_value (has_room_for (query_of m) (without (s.peer, m.token) (observers (events rows))))
     valued false true = with_value false
@@ -461,7 +465,7 @@ commit_sends rows moment place s m = by (path_in m)
     short = omega arith
 
     simple : (running too_many : Bool)
-        → AreResendable (simple_unless running too_many (events rows) place s m).sent
+        → AreResendable (simple_unless (fetch_room running too_many) (events rows) place s m).sent
     simple true too_many = settles (refused codes_of.service_unavailable (codes "fetching"))
     simple false true = settles (refused codes_of.service_unavailable (codes "fetches"))
     simple false false =
@@ -554,7 +558,7 @@ response_sends rows moment s m small = by (fetch_of s m (events rows)) refl
 
     taken : (elsewhere over : Bool) (request : Request)
         → length request.token ≤ 8
-        → AreResendable (response_taken elsewhere over rows moment s m request).sent
+        → AreResendable (response_taken (response_use elsewhere over) rows moment s m request).sent
     taken true over request short = tt
     taken false true request short = tt
     taken false false request short = gathers (more_follow (block_in m)) (block_in m) request short
@@ -673,7 +677,8 @@ commit_settles rows moment place s m = by (path_in m)
         (never_settles o.notes h) (answers_apart s m o.reply, tt)
 
     simple : (running too_many : Bool)
-        → AllByRecursion SettledNever (simple_unless running too_many (events rows) place s m).notes
+        → AllByRecursion SettledNever (simple_unless (fetch_room running too_many) (events rows)
+        place s m).notes
     simple true too_many =
         (answers_apart s m (refused codes_of.service_unavailable (codes "fetching")).reply, tt)
     simple false true =

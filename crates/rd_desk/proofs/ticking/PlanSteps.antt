@@ -225,9 +225,11 @@ planned_adds rows s starved current whole first ws given p after from index x o 
           ∙ ap (λ (b : Bool). is_awaited peer ws || b)
           (sym (ap (list_any (λ (q : Peer). is_same_peer q peer)) g.peers
           ∙ list_any-append (λ (q : Peer). is_same_peer q peer) p.peers.items added))));
-      drew = let before = h.drew in let more = g.drew in let l = len in omega (arith, before, more, l);
+      drew = let before = h.drew in let more = g.drew in let l = len in omega
+      (arith, before, more, l);
       few = let one = g.one in let l = len in omega (arith, few, one, l);
-      sent = each_append (λ (d : Peer × List ℕ). is_awaited d.0 now.observers ≡ true) h.done.sent e.sent
+      sent = each_append (λ (d : Peer × List ℕ). is_awaited d.0 now.observers ≡ true) h.done.sent
+      e.sent
           (each_weaker (λ (d : Peer × List ℕ). is_awaited d.0 h.watching.observers ≡ true)
           (λ (d : Peer × List ℕ). is_awaited d.0 now.observers ≡ true)
           (λ d waits.
@@ -244,10 +246,12 @@ planned_adds rows s starved current whole first ws given p after from index x o 
           let before = h.observed in
           let more = g.observed in let l = len in omega (arith, before, more, l);
       left =
-          planned_left rows s starved current whole first ws given p after from index x o item now desk
+          planned_left rows s starved current whole first ws given p after from index x o item now
+          desk
           is got free few h it;
       plan =
-          planned_plan rows s starved current whole first ws given p after from index x o item now is
+          planned_plan rows s starved current whole first ws given p after from index x o item now
+          is
           got free few h it;
     }
   where

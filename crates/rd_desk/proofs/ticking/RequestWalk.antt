@@ -71,6 +71,7 @@ use Rattle.journal_model.specs.Ticks.{
   request_again,
   fetch_again,
   requests_again,
+  due_by,
 }
 use Rattle.journal_model.specs.UnfinishedRow.{making}
 use Rattle.journal_model.proofs.EventRows.{row_of}
@@ -255,7 +256,7 @@ again_due rows moment peer e request last asked =
     || nat_le max_again (length (resendings peer (events rows)))))
   where
     by : (due over : Bool)
-        → request_again due over rows peer e (Some request)
+        → request_again (due_by due over) rows peer e (Some request)
         ≡ request_as (cond due (cond over again.GaveUp again.Send) again.Wait) rows peer e
         request
     by false over = refl

@@ -72,6 +72,7 @@ use Rattle.journal_model.specs.Ticks.{
   notices,
   requests_again,
   tick_effects,
+  due_by,
 }
 use Rattle.journal_model.specs.Journal.{row_at}
 use Rattle.journal_model.proofs.NoteKinds.{of_again, none_of}
@@ -158,7 +159,8 @@ again_size rows moment = each (observers (events rows))
     sent_one None n = omega arith
     sent_one (Some d) n = omega arith
 
-    due : (a b : Bool) (o : Observer) (f : Flight) → length (notice_again a b rows o f).sent ≤ 1
+    due : (a b : Bool) (o : Observer) (f : Flight)
+        → length (notice_again (due_by a b) rows o f).sent ≤ 1
     due false b o f = omega arith
     due true true o f = omega arith
     due true false o f =
@@ -190,7 +192,7 @@ again_draws rows moment = each (observers (events rows))
     sent_one None n = refl
     sent_one (Some d) n = refl
 
-    due : (a b : Bool) (o : Observer) (f : Flight) → (notice_again a b rows o f).drew ≡ 0
+    due : (a b : Bool) (o : Observer) (f : Flight) → (notice_again (due_by a b) rows o f).drew ≡ 0
     due false b o f = refl
     due true true o f = refl
     due true false o f =

@@ -1,25 +1,24 @@
-use Rattle.std.proofs.Common.{subst}
+use Rattle.std.proofs.Common.{◌≡◌, ℕ, List, subst}
 use Rattle.message_model.specs.Reading.{reading}
-use Rattle.coap_message.specs.Views.{message_in}
-use Rattle.journal_model.specs.Effects.{Effects}
+use Rattle.journal_model.specs.Looks.{looked, held_after}
 use Rattle.coap_answers.specs.Sendings.{Sends}
-use Rattle.rd_look.specs.Looking.{look_found, is_starved_look}
-use Rattle.rd_look.proofs.LookLaws.{looked_by, looked_starved}
+use Rattle.rd_look.specs.Looking.{is_starved_look, IsHeld}
 use Rattle.rd_look.proofs.looks.look.Goals as goal
 
-pub returns-in_default-clause-sends : goal.returns-in_default-clause-sends
-returns-in_default-clause-sends c s history stands of =
-    let m = message_in c.look_request-request.result.meaning.view in
-    subst (λ (e : Effects).
-    Sends e c.args.out.now c.answer_starved.new.out c.args.mids.now
-    c.answer_starved.new.mids)
-    (looked_starved history c.args.now.0 s (reading c.args.datagram.now) m
-    c.look_request-request.ensures.read) (c.answer_starved.ensures.sends s of)
+-- the request that is answered is the one that is read of the datagram
 
 pub returns-clause-sends : goal.returns-clause-sends
 returns-clause-sends c s history stands of =
-    let m = message_in c.look_request-request.result.meaning.view in
-    subst (λ (e : Effects). Sends e c.args.out.now c.give.new.out c.args.mids.now c.give.new.mids)
-    (looked_by (is_starved_look c.give.result) history c.args.now.0 s (reading c.args.datagram.now)
-    m (look_found m c.in-Ok.found) c.look_request-request.ensures.read
-    (c.in-Ok.ensures history stands)) (c.give.ensures.sends s of)
+    let starved = is_starved_look c.answer_look.result in
+    subst (λ (octets : List ℕ).
+    Sends (looked starved history c.args.now.0 s (reading octets)) c.args.out.now
+    c.answer_look.new.out c.args.mids.now c.answer_look.new.mids)
+    c.look_request-request.ensures.spelled (c.answer_look.ensures.sends s history stands of)
+
+pub returns-clause-held : goal.returns-clause-held
+returns-clause-held c history stands =
+    let starved = is_starved_look c.answer_look.result in
+    subst (λ (octets : List ℕ).
+    IsHeld c.args.peer octets (held_after starved history c.args.now.0 (reading octets))
+    c.answer_look.result)
+    c.look_request-request.ensures.spelled (c.answer_look.ensures.held history stands)

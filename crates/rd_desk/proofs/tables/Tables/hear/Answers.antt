@@ -4,7 +4,6 @@ use Rattle.message_model.specs.declared.messages.Role.TheVariants as role
 use Rattle.message_model.specs.OptionTable.{first_bad_option}
 use Rattle.message_model.specs.Reading.{reading}
 use Rattle.message_model.specs.Spelling.{spelling}
-use Rattle.message_model.proofs.ByteLemmas.{AreBytes-from_Fits}
 use Rattle.coap_message.specs.Views.{message_in}
 use Rattle.event_model.specs.Repeats.{is_admitting}
 use Rattle.journal_model.specs.Effects.{Effects, nothing, resetting}
@@ -43,7 +42,7 @@ use Rattle.rd_desk.proofs.parts.HearingLaws.{
   jobless_held,
 }
 use Rattle.rd_desk.proofs.parts.RoleLaws.{heard_for, admits_for, takes_for}
-use Rattle.rd_request.proofs.KeptRequestLaws.{spelled_by, read_again}
+use Rattle.rd_request.proofs.KeptRequestLaws.{spelling_read}
 use Rattle.rd_desk.proofs.parts.PartLaws.{only_silent}
 use Rattle.rd_desk.proofs.parts.WayLaws.{step_of}
 use Rattle.rd_desk.proofs.changes.StagingLaws.{laid_none}
@@ -72,14 +71,14 @@ returns-in-Ping-clause-way g c rows s of worded way =
     let m = message_in c.in-Ping.view in
     subst (λ (e : Effects).
     UnderWay rows s false e c.args.self.now c.send_empty.new.out c.args.mids.now)
-    (heard_for rows s false role.Ping c.args.datagram.now m c.in-Ping.ensures)
+    (heard_for rows s false role.Ping c.args.arrival.datagram.now m c.in-Ping.ensures)
     (only_silent rows s false (resetting s m.mid) c.args.self.now c.args.out.now
     c.send_empty.new.out c.args.mids.now c.args.mids.now refl
     (c.send_empty.ensures.sends s c.args.mids.now of) way)
 
 pub returns-in-Ping-clause-held : goal.returns-in-Ping-clause-held
 returns-in-Ping-clause-held g c rows s of datagram way =
-    admits_for rows s false role.Ping c.args.datagram.now (message_in c.in-Ping.view)
+    admits_for rows s false role.Ping c.args.arrival.datagram.now (message_in c.in-Ping.view)
     c.in-Ping.ensures refl
 
 pub returns-in-Ping-clause-laid : goal.returns-in-Ping-clause-laid
@@ -89,14 +88,14 @@ pub returns-in-Acknowledgement-clause-way : goal.returns-in-Acknowledgement-clau
 returns-in-Acknowledgement-clause-way g c rows s of worded way =
     subst (λ (e : Effects).
     UnderWay rows s false e c.acknowledge.new.self c.args.out.now c.args.mids.now)
-    (heard_for rows s false role.Acknowledgement c.args.datagram.now
+    (heard_for rows s false role.Acknowledgement c.args.arrival.datagram.now
     (message_in c.in-Acknowledgement.view) c.in-Acknowledgement.ensures)
     (c.acknowledge.ensures.way rows s false c.args.out.now c.args.mids.now of way)
 
 pub returns-in-Acknowledgement-clause-held : goal.returns-in-Acknowledgement-clause-held
 returns-in-Acknowledgement-clause-held g c rows s of datagram way =
     let m = message_in c.in-Acknowledgement.view in
-    admits_for rows s false role.Acknowledgement c.args.datagram.now m
+    admits_for rows s false role.Acknowledgement c.args.arrival.datagram.now m
     c.in-Acknowledgement.ensures
     (acknowledged_admits rows s m)
 
@@ -107,14 +106,14 @@ returns-in-Acknowledgement-clause-laid g c =
 pub returns-in-Reset-clause-way : goal.returns-in-Reset-clause-way
 returns-in-Reset-clause-way g c rows s of worded way =
     subst (λ (e : Effects). UnderWay rows s false e c.reset.new.self c.args.out.now c.args.mids.now)
-    (heard_for rows s false role.Reset c.args.datagram.now (message_in c.in-Reset.view)
+    (heard_for rows s false role.Reset c.args.arrival.datagram.now (message_in c.in-Reset.view)
     c.in-Reset.ensures)
     (c.reset.ensures.way rows s false c.args.out.now c.args.mids.now of way)
 
 pub returns-in-Reset-clause-held : goal.returns-in-Reset-clause-held
 returns-in-Reset-clause-held g c rows s of datagram way =
     let m = message_in c.in-Reset.view in
-    admits_for rows s false role.Reset c.args.datagram.now m c.in-Reset.ensures
+    admits_for rows s false role.Reset c.args.arrival.datagram.now m c.in-Reset.ensures
     (reset_admits rows s m)
 
 pub returns-in-Reset-clause-laid : goal.returns-in-Reset-clause-laid
@@ -128,7 +127,7 @@ returns-in-Response-clause-way g c rows s of worded way =
     subst (λ (e : Effects).
     UnderWay rows s starved e c.hear_response.new.self c.hear_response.new.out
     c.hear_response.new.mids)
-    (heard_for rows s starved role.Response c.args.datagram.now m c.in-Response.ensures)
+    (heard_for rows s starved role.Response c.args.arrival.datagram.now m c.in-Response.ensures)
     (jobless_way rows s c.hear_response.result c.without_job.result c.args.self.now
     c.hear_response.new.self c.args.out.now c.hear_response.new.out c.args.mids.now
     c.hear_response.new.mids
@@ -140,9 +139,9 @@ pub returns-in-Response-clause-held : goal.returns-in-Response-clause-held
 returns-in-Response-clause-held g c rows s of datagram way =
     let m = message_in c.in-Response.view in
     jobless_held c.hear_response.result c.without_job.result
-    (λ b. heard b rows (row_moment rows s) s (reading c.args.datagram.now)) s
+    (λ b. heard b rows (row_moment rows s) s (reading c.args.arrival.datagram.now)) s
     (row_moment rows s) c.without_job.ensures
-    (λ b. admits_for rows s b role.Response c.args.datagram.now m c.in-Response.ensures
+    (λ b. admits_for rows s b role.Response c.args.arrival.datagram.now m c.in-Response.ensures
     (response_admits rows s b m))
 
 pub returns-in-Response-clause-unstarved : goal.returns-in-Response-clause-unstarved
@@ -150,7 +149,7 @@ returns-in-Response-clause-unstarved g c rows s of way silent =
     ap is_starved_admission c.without_job.ensures
     ∙ (jobless_starved c.hear_response.result
     ∙ c.hear_response.ensures.unstarved rows s of way
-    (takes_for rows s role.Response c.args.datagram.now (message_in c.in-Response.view)
+    (takes_for rows s role.Response c.args.arrival.datagram.now (message_in c.in-Response.view)
     c.in-Response.ensures silent))
 
 pub returns-in-Refused-clause-way : goal.returns-in-Refused-clause-way
@@ -163,12 +162,12 @@ returns-in-Refused-clause-way g c rows s of worded way =
     subst (λ (f : Effects).
     UnderWay rows s false f c.args.self.now c.refuse.new.out c.refuse.new.mids)
     (request_refused rows s m (refused_with c.in-Refused.refused) is.answer
-    ∙ heard_for rows s false role.Request c.args.datagram.now m is.request)
+    ∙ heard_for rows s false role.Request c.args.arrival.datagram.now m is.request)
     (only_silent rows s false e c.args.self.now c.args.out.now c.refuse.new.out c.args.mids.now
     c.refuse.new.mids
     (refusal_notes m.kind (first_bad_option m.options) s m (refused_with c.in-Refused.refused))
     (c.refuse.ensures.sends s
-    (step_of rows s false nothing c.args.self.now c.args.out.now c.args.mids.now c.args.peer
+    (step_of rows s false nothing c.args.self.now c.args.out.now c.args.mids.now c.args.arrival.peer
     of
     refl way)) way)
 
@@ -176,7 +175,7 @@ pub returns-in-Refused-clause-held : goal.returns-in-Refused-clause-held
 returns-in-Refused-clause-held g c rows s of datagram way =
     let m = message_in c.in-Refused.view in
     let is = c.in-Refused.ensures in
-    admits_for rows s false role.Request c.args.datagram.now m is.request
+    admits_for rows s false role.Request c.args.arrival.datagram.now m is.request
     (ap (λ (e : Effects). list_any is_admitting e.notes)
     (sym (request_refused rows s m (refused_with c.in-Refused.refused) is.answer))
     ∙ refusal_admits s m (refused_with c.in-Refused.refused))
@@ -193,7 +192,7 @@ returns-in-Lookup-clause-way g c rows s of worded way =
     subst (λ (e : Effects).
     UnderWay rows s starved e c.hear_lookup.new.self c.hear_lookup.new.out
     c.hear_lookup.new.mids)
-    (heard_for rows s starved role.Request c.args.datagram.now m is.0)
+    (heard_for rows s starved role.Request c.args.arrival.datagram.now m is.0)
     (jobless_way rows s c.hear_lookup.result c.without_job-in-Lookup.result c.args.self.now
     c.hear_lookup.new.self c.args.out.now c.hear_lookup.new.out c.args.mids.now
     c.hear_lookup.new.mids
@@ -208,9 +207,9 @@ returns-in-Lookup-clause-held g c rows s of datagram way =
     let is = c.in-Lookup.ensures in
     let none = none_there (refusal_of_request m) c.in-Lookup.request.accepted in
     jobless_held c.hear_lookup.result c.without_job-in-Lookup.result
-    (λ b. heard b rows (row_moment rows s) s (reading c.args.datagram.now)) s
+    (λ b. heard b rows (row_moment rows s) s (reading c.args.arrival.datagram.now)) s
     (row_moment rows s) c.without_job-in-Lookup.ensures
-    (λ b. admits_for rows s b role.Request c.args.datagram.now m is.0
+    (λ b. admits_for rows s b role.Request c.args.arrival.datagram.now m is.0
     (served_admits rows s b m none is.2))
 
 pub returns-in-Lookup-clause-unstarved : goal.returns-in-Lookup-clause-unstarved
@@ -219,7 +218,7 @@ returns-in-Lookup-clause-unstarved g c rows s of way silent =
     let is = c.in-Lookup.ensures in
     takes_lookup rows s m (is_starved_admission c.without_job-in-Lookup.result)
     (none_there (refusal_of_request m) c.in-Lookup.request.accepted) is.2
-    (takes_for rows s role.Request c.args.datagram.now m is.0 silent)
+    (takes_for rows s role.Request c.args.arrival.datagram.now m is.0 silent)
 
 pub returns-in-Lookup-clause-laid : goal.returns-in-Lookup-clause-laid
 returns-in-Lookup-clause-laid g c =
@@ -230,15 +229,13 @@ hear_write-requires-clause-write g c =
     let m = message_of c.in-Write.request in
     let is = c.in-Write.ensures in
     write_datagram (spelling m) m
-    (read_again c.args.datagram.now m
-    (AreBytes-from_Fits c.args.datagram.now c.type_inv.datagram) is.0.read)
+    (spelling_read role.Request c.args.arrival.datagram.now m is.0)
     is.0.role_is (none_there (refusal_of_request m) c.in-Write.request.accepted) is.1
 
 pub hear_write-requires-clause-read : goal.hear_write-requires-clause-read
 hear_write-requires-clause-read g c =
-    read_again c.args.datagram.now (message_of c.in-Write.request)
-    (AreBytes-from_Fits c.args.datagram.now c.type_inv.datagram)
-    c.in-Write.ensures.0.read
+    spelling_read role.Request c.args.arrival.datagram.now (message_of c.in-Write.request)
+    c.in-Write.ensures.0
 
 pub returns-in-Write-clause-way : goal.returns-in-Write-clause-way
 returns-in-Write-clause-way g c rows s of worded way =
@@ -250,7 +247,7 @@ returns-in-Write-clause-way g c rows s of worded way =
     c.hear_write.new.mids)
     (request_writes rows s starved m (none_there (refusal_of_request m) c.in-Write.request.accepted)
     is.1
-    ∙ heard_for rows s starved role.Request c.args.datagram.now m is.0)
+    ∙ heard_for rows s starved role.Request c.args.arrival.datagram.now m is.0)
     (c.hear_write.ensures.way rows s of way)
 
 pub returns-in-Write-clause-held : goal.returns-in-Write-clause-held
@@ -261,11 +258,10 @@ returns-in-Write-clause-held g c rows s of datagram way =
     subst (λ (e : Effects). IsHeldFor c.hear_write.result e.notes s (row_moment rows s))
     (request_writes rows s starved m (none_there (refusal_of_request m) c.in-Write.request.accepted)
     is.1
-    ∙ heard_for rows s starved role.Request c.args.datagram.now m is.0)
+    ∙ heard_for rows s starved role.Request c.args.arrival.datagram.now m is.0)
     (c.hear_write.ensures.held rows s of
     (datagram
-    ∙ sym (spelled_by c.args.datagram.now m
-    (AreBytes-from_Fits c.args.datagram.now c.type_inv.datagram) is.0.read)) way)
+    ∙ sym is.0.spelled) way)
 
 pub returns-in-Write-clause-unstarved : goal.returns-in-Write-clause-unstarved
 returns-in-Write-clause-unstarved g c rows s of way silent =
@@ -273,7 +269,7 @@ returns-in-Write-clause-unstarved g c rows s of way silent =
     let is = c.in-Write.ensures in
     c.hear_write.ensures.unstarved rows s of way
     (takes_write rows s m (none_there (refusal_of_request m) c.in-Write.request.accepted) is.1
-    (takes_for rows s role.Request c.args.datagram.now m is.0 silent))
+    (takes_for rows s role.Request c.args.arrival.datagram.now m is.0 silent))
 
 pub returns-in-Write-clause-laid : goal.returns-in-Write-clause-laid
 returns-in-Write-clause-laid g c =
@@ -282,12 +278,12 @@ returns-in-Write-clause-laid g c =
 pub returns-in-Nothing-clause-way : goal.returns-in-Nothing-clause-way
 returns-in-Nothing-clause-way g c rows s of worded way =
     subst (λ (e : Effects). UnderWay rows s false e c.args.self.now c.args.out.now c.args.mids.now)
-    (heard_for rows s false role.Ignored c.args.datagram.now c.in-Nothing.ensures.0
+    (heard_for rows s false role.Ignored c.args.arrival.datagram.now c.in-Nothing.ensures.0
     c.in-Nothing.ensures.1) way
 
 pub returns-in-Nothing-clause-held : goal.returns-in-Nothing-clause-held
 returns-in-Nothing-clause-held g c rows s of datagram way =
-    admits_for rows s false role.Ignored c.args.datagram.now c.in-Nothing.ensures.0
+    admits_for rows s false role.Ignored c.args.arrival.datagram.now c.in-Nothing.ensures.0
     c.in-Nothing.ensures.1 refl
 
 pub returns-in-Nothing-clause-laid : goal.returns-in-Nothing-clause-laid
@@ -295,4 +291,4 @@ returns-in-Nothing-clause-laid g c = laid_none c.args.self.now.version _ _ _ ref
 
 pub unreachable-requires : goal.unreachable-requires
 unreachable-requires g c =
-    look_left c.args.datagram.now c.in-Look.field-0 c.in-Look.ensures c.requires.other
+    look_left c.args.arrival.datagram.now c.in-Look.field-0 c.in-Look.ensures c.requires.other

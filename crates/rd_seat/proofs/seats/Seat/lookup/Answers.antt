@@ -1,21 +1,21 @@
-use Rattle.std.proofs.Common.{subst}
-use Rattle.history_model.specs.Live.{IsFront}
+use Rattle.std.proofs.Common.{ℕ, List, subst}
 use Rattle.rd_look.specs.Looking.{is_starved_look}
-use Rattle.rd_seat.specs.Looks.{answer_held}
-use Rattle.rd_seat.specs.Seats.{SeatSeen, LooksAtMet}
-use Rattle.rd_seat.specs.Shares.{share_shown}
+use Rattle.rd_seat.specs.Looks.{answer_held, IsJobOf}
+use Rattle.rd_seat.specs.Seats.{LooksAtMet}
 use Rattle.rd_seat.specs.Steps.{look_step}
 use Rattle.rd_seat.proofs.seats.Seat.lookup.Goals as goal
 
--- what it had met it has met still
-pub returns-clause-met : goal.returns-clause-met
-returns-clause-met c = subst (λ (v : SeatSeen). IsFront v.met c.look.new.self.looker.seen)
-    c.self.view_is c.look.ensures.looked.goes_on.met
+-- the request that is answered is the one that is read of the datagram
 
--- its share looked
 pub returns-clause-looks : goal.returns-clause-looks
 returns-clause-looks c =
-    subst (λ (v : SeatSeen). LooksAtMet v (look_step v.worker c.args.now 0 c.args.peer
-    c.args.datagram.now v.drawn) (is_starved_look c.look.result) c.look.new.out
-    (answer_held c.look.result) (share_shown c.look.new.self)) c.self.view_is
-    c.look.ensures.looked.looks
+    subst (λ (octets : List ℕ). LooksAtMet c.args.self.now (look_step c.args.self.now.worker
+    c.args.now 0 c.args.peer octets c.args.self.now.drawn)
+    (is_starved_look c.answer_look.result) c.answer_look.new.out
+    (answer_held c.answer_look.result) c.answer_look.new.self)
+    c.look_request-request.ensures.spelled c.answer_look.ensures.looks
+
+pub returns-clause-job : goal.returns-clause-job
+returns-clause-job c =
+    subst (λ (octets : List ℕ). IsJobOf c.args.peer octets c.answer_look.result)
+    c.look_request-request.ensures.spelled c.answer_look.ensures.job

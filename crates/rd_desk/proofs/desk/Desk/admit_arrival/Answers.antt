@@ -6,7 +6,7 @@ use Rattle.rd_desk.specs.Shown.{AreToldOf}
 use Rattle.rd_desk.specs.Staging.{LeavesStaged}
 use Rattle.rd_desk.specs.UnderWay.{IsCalled}
 use Rattle.rd_desk.proofs.changes.StagingLaws.{made_staged}
-use Rattle.rd_desk.proofs.desk.Desk.admit.Goals as goal
+use Rattle.rd_desk.proofs.desk.Desk.admit_arrival.Goals as goal
 
 pub admit-requires-clause-told : goal.admit-requires-clause-told
 admit-requires-clause-told g c =
@@ -16,25 +16,25 @@ admit-requires-clause-told g c =
 pub returns-clause-made : goal.returns-clause-made
 returns-clause-made g c rows s kind of datagram worded called =
     c.admit.ensures.made rows s kind of datagram worded
-    (subst (λ (d : Seen). IsCalled rows s c.args.now c.args.mids.now d)
+    (subst (λ (d : Seen). IsCalled rows s c.args.arrival.moment c.args.mids.now d)
     (sym (ap (λ x. x.tables) c.self.view_is)) called)
 
 pub returns-clause-held : goal.returns-clause-held
 returns-clause-held g c rows s kind of datagram called =
     c.admit.ensures.held rows s kind of datagram
-    (subst (λ (d : Seen). IsCalled rows s c.args.now c.args.mids.now d)
+    (subst (λ (d : Seen). IsCalled rows s c.args.arrival.moment c.args.mids.now d)
     (sym (ap (λ x. x.tables) c.self.view_is)) called)
 
 pub returns-clause-unstarved : goal.returns-clause-unstarved
 returns-clause-unstarved g c rows s of datagram called silent =
     c.admit.ensures.unstarved rows s of datagram
-    (subst (λ (d : Seen). IsCalled rows s c.args.now c.args.mids.now d)
+    (subst (λ (d : Seen). IsCalled rows s c.args.arrival.moment c.args.mids.now d)
     (sym (ap (λ x. x.tables) c.self.view_is)) called) silent
 
 pub returns-clause-staged : goal.returns-clause-staged
 returns-clause-staged g c rows s kind of datagram worded called =
     let here =
-    subst (λ (d : Seen). IsCalled rows s c.args.now c.args.mids.now d)
+    subst (λ (d : Seen). IsCalled rows s c.args.arrival.moment c.args.mids.now d)
     (sym (ap (λ x. x.tables) c.self.view_is)) called in
     let made = c.admit.ensures.made rows s kind of datagram worded here in
     subst (λ x. LeavesStaged
