@@ -27,7 +27,14 @@ pub struct SampleBoard {
 }
 
 /// The draft of the endpoint.
-#[tactic(auto, using(version_board::proofs::Sampled::sample_allowed, version_board::proofs::Sampled::sample_made))]
+#[rattlefmt::skip]
+#[tactic(
+    auto,
+    using(
+        version_board::proofs::Sampled::sample_allowed,
+        version_board::proofs::Sampled::sample_made
+    )
+)]
 fn draft_of(alloc: Global) -> Result<Draft, Starved>
     ensures draft { IfOk result IsDraft }
     ensures made { IfOk result (λ draft. draft ≡ drafted sample_peer sample_params []) }

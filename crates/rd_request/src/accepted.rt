@@ -14,6 +14,7 @@ use message_model::Block;
 
 /// A request that nothing refuses for itself: what its options mean, what it is about, and the
 /// blocks that it names.
+#[rattlefmt::skip]
 #[derive(Clone, Copy, Debug)]
 pub struct Request<'a> {
     /// The message, with what its options mean.
@@ -27,8 +28,10 @@ pub struct Request<'a> {
     pub ghost accepted: { is_none (requests_of.refusal_of_request (message_in meaning.view))
         ≡ true },
     pub ghost here: { is_at resource meaning.path ≡ true },
-    pub ghost asked_said: { asked ≡ requests_of.asked_block (message_in meaning.view) } by { Coded-set asked-code asked (requests_of.asked_block (message_in meaning.view)) },
-    pub ghost sent_said: { sent ≡ requests_of.sent_block (message_in meaning.view) } by { Coded-set sent-code sent (requests_of.sent_block (message_in meaning.view)) },
+    pub ghost asked_said: { asked ≡ requests_of.asked_block (message_in meaning.view) }
+        by { Coded-set asked-code asked (requests_of.asked_block (message_in meaning.view)) },
+    pub ghost sent_said: { sent ≡ requests_of.sent_block (message_in meaning.view) }
+        by { Coded-set sent-code sent (requests_of.sent_block (message_in meaning.view)) },
     pub ghost asked_sound: { ForSome asked IsBlock },
     pub ghost sent_sound: { ForSome sent IsBlock },
 }

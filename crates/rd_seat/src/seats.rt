@@ -22,8 +22,9 @@ use crate::halls::Hall;
 use crate::shared_desk::SharedDesk;
 use crate::shares::Share;
 use rd_base::{Moment, Peer};
-use rd_desk::{Admitted, Arrival, KeepJob, Looked, Mids, Outbox, Request, Stepped, WriteJob};
-use rd_desk::look_request;
+use rd_desk::{
+    Admitted, Arrival, KeepJob, Looked, Mids, Outbox, Request, Stepped, WriteJob, look_request,
+};
 use std::alloc::Global;
 use std::marker::Model;
 use std::sync::Wait;

@@ -15,8 +15,10 @@ ghost use Rattle.rd_server.specs.Machines.{IsWorkerAt, MayStep, Steps};
 
 use directory_core::NoBoard;
 use rd_base::{Moment, Peer, Starved};
-use rd_desk::{Admitted, Arrival, Desk, Incoming, Job, Looked, Mids, Outbox, Request, Stepped};
-use rd_desk::{answer_look, read_datagram};
+use rd_desk::{
+    Admitted, Arrival, Desk, Incoming, Job, Looked, Mids, Outbox, Request, Stepped, answer_look,
+    read_datagram,
+};
 use std::alloc::Global;
 use std::mem;
 
@@ -41,7 +43,11 @@ fn unstarved(stepped: Stepped) -> Result<(), Starved>
 
 impl Worker {
     /// A worker that heard nothing yet.
-    #[tactic(auto, unfolding(journal_model::specs::Machine::mids_drawn, journal_model::specs::Machine::job_of))]
+    #[rattlefmt::skip]
+    #[tactic(
+        auto,
+        unfolding(journal_model::specs::Machine::mids_drawn, journal_model::specs::Machine::job_of)
+    )]
     pub fn of(number: u8) -> Worker
         requires { number < max_workers }
         ensures { IsWorkerAt [] number result }

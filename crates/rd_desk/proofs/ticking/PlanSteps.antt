@@ -226,10 +226,10 @@ planned_adds rows s starved current whole first ws given p after from index x o 
           (sym (ap (list_any (λ (q : Peer). is_same_peer q peer)) g.peers
           ∙ list_any-append (λ (q : Peer). is_same_peer q peer) p.peers.items added))));
       drew = let before = h.drew in let more = g.drew in let l = len in omega
-      (arith, before, more, l);
+          (arith, before, more, l);
       few = let one = g.one in let l = len in omega (arith, few, one, l);
       sent = each_append (λ (d : Peer × List ℕ). is_awaited d.0 now.observers ≡ true) h.done.sent
-      e.sent
+          e.sent
           (each_weaker (λ (d : Peer × List ℕ). is_awaited d.0 h.watching.observers ≡ true)
           (λ (d : Peer × List ℕ). is_awaited d.0 now.observers ≡ true)
           (λ d waits.
