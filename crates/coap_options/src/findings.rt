@@ -1,7 +1,7 @@
 //! What is found in the options up to one of them, and one option more.
 
 ghost use Rattle.std.specs.Prelude.{◌≡◌, ◌||◌, ◌==◌, ℕ, List, [], ◌∷◌, ◌++◌, Some, None};
-ghost use Rattle.std.specs.Prelude.{if◌then◌else◌, IfOk, IfErr};
+ghost use Rattle.std.specs.Prelude.{if◌then◌else◌, OnOk, IfErr};
 ghost use Rattle.std.specs.Option.{option_map, option_or};
 ghost use Rattle.message_model.specs.Message as model;
 ghost use Rattle.message_model.specs.OptionTable as table;
@@ -45,32 +45,30 @@ pub(crate) fn is_last(last: Option<u32>, number: u32) -> bool
     }
 }
 
-/// The first value of an option with the number that is looked for.
-fn first_of<'a>(found: Option<&'a [u8]>, wanted: u32, option: &Opt<'a>) -> Option<&'a [u8]>
-    ensures { option_map (λ v. v.now) result
-        ≡ option_or (option_map (λ v. v.now) found.entry)
+/// The first value of an option with the number that is looked for is kept.
+fn keep_first<'a>(found: &mut Option<&'a [u8]>, wanted: u32, option: &Opt<'a>)
+    ensures { option_map (λ v. v.now) found.new
+        ≡ option_or (option_map (λ v. v.now) found.old)
         (if option.now.number == wanted then Some option.now.value.now else None) }
 {
     if found.is_some() {
-        return found;
+        return;
     }
     if option.number == wanted {
-        return Some(option.value);
+        *found = Some(option.value);
     }
-    None
 }
 
-/// The segments with that of an option, where it has one.
-fn with_path<'a>(segments: Segments<'a>, option: &Opt<'a>) -> Segments<'a>
-    ensures { (values : List (List ℕ)) → AreSegments segments.entry values
-        → AreSegments result (values
+/// The segment of an option is added, where it has one.
+fn add_path<'a>(segments: &mut Segments<'a>, option: &Opt<'a>)
+    ensures { (values : List (List ℕ)) → AreSegments segments.old values
+        → AreSegments segments.new (values
         ++ (if option.now.number
         == table.uri_path then option.now.value.now ∷ [] else [])) }
 {
     if option.number == URI_PATH {
-        return with_segment(segments, option.value);
+        *segments = with_segment(*segments, option.value);
     }
-    segments
 }
 
 /// Whether the option asks for a proxy (RFC 7252 section 5.10.2).
@@ -80,24 +78,31 @@ fn is_proxy(number: u32) -> bool
     number == PROXY_URI || number == PROXY_SCHEME
 }
 
-/// With a recognized option more.
-pub(crate) fn with_recognized<'a>(found: &Found<'a>, option: &Opt<'a>) -> Found<'a>
-    ensures { IsFoundWith found.now (option_in option.now) result }
+/// A recognized option more.
+pub(crate) fn add_recognized<'a>(found: &mut Found<'a>, option: &Opt<'a>)
+    ensures { IsFoundWith found.old (option_in option.now) found.new }
 {
-    Found {
-        last: Some(option.number),
-        segments: with_path(found.segments, option),
-        observe: first_of(found.observe, OBSERVE, option),
-        accept: first_of(found.accept, ACCEPT, option),
-        format: first_of(found.format, CONTENT_FORMAT, option),
-        block1: first_of(found.block1, BLOCK1, option),
-        block2: first_of(found.block2, BLOCK2, option),
-        proxy: found.proxy || is_proxy(option.number),
-    }
+    found.last = Some(option.number);
+    add_path(&mut found.segments, option);
+    keep_first(&mut found.observe, OBSERVE, option);
+    keep_first(&mut found.accept, ACCEPT, option);
+    keep_first(&mut found.format, CONTENT_FORMAT, option);
+    keep_first(&mut found.block1, BLOCK1, option);
+    keep_first(&mut found.block2, BLOCK2, option);
+    found.proxy = found.proxy || is_proxy(option.number);
 }
 
 /// Of no options.
-#[tactic(auto, unfolding(message_model::specs::OptionTable::first_bad_option, message_model::specs::OptionTable::values, message_model::specs::OptionTable::recognized_options, message_model::specs::OptionTable::preceded_options))]
+#[rattlefmt::skip]
+#[tactic(
+    auto,
+    unfolding(
+        message_model::specs::OptionTable::first_bad_option,
+        message_model::specs::OptionTable::values,
+        message_model::specs::OptionTable::recognized_options,
+        message_model::specs::OptionTable::preceded_options
+    )
+)]
 pub(crate) fn nothing_found<'a>() -> Found<'a>
     ensures { IsFound [] result }
 {
@@ -117,24 +122,24 @@ pub(crate) fn nothing_found<'a>() -> Found<'a>
 #[derive(Clone, Copy, Debug, PartialEq, Eq)]
 pub struct BadOption(pub u32);
 
-/// What is found with an option more: it counts where it is recognized, and else passed over,
-/// unless it is critical (RFC 7252 section 5.4.1).
-pub(crate) fn with_option<'a>(found: &Found<'a>, option: &Opt<'a>) -> Result<Found<'a>, BadOption>
-    ensures found { IfOk result (λ more. (before : List model.Opt) → IsFound before found.now
-        → stands_in option.now.number before ≡ is_last found.now.last option.now.number
-        → IsFound (before ++ option_in option.now ∷ []) more) }
-    ensures bad { IfErr result (λ bad. (before : List model.Opt) → IsFound before found.now
-        → stands_in option.now.number before ≡ is_last found.now.last option.now.number
+/// An option more: it counts where it is recognized, and else is passed over, unless it is critical
+/// (RFC 7252 section 5.4.1).
+pub(crate) fn add_option<'a>(found: &mut Found<'a>, option: &Opt<'a>) -> Result<(), BadOption>
+    ensures found { OnOk result ((before : List model.Opt) → IsFound before found.old
+        → stands_in option.now.number before ≡ is_last found.old.last option.now.number
+        → IsFound (before ++ option_in option.now ∷ []) found.new) }
+    ensures bad { IfErr result (λ bad. (before : List model.Opt) → IsFound before found.old
+        → stands_in option.now.number before ≡ is_last found.old.last option.now.number
         → first_bad_option (before ++ option_in option.now ∷ []) ≡ Some bad.0) }
 {
     let is_further = is_last(found.last, option.number);
     if is_recognized(option.number, is_further, option.value.len()) {
-        return Ok(with_recognized(found, option));
+        add_recognized(found, option);
+        return Ok(());
     }
     if is_critical(option.number) {
         return Err(BadOption(option.number));
     }
-    let mut passed = *found;
-    passed.last = Some(option.number);
-    Ok(passed)
+    found.last = Some(option.number);
+    Ok(())
 }

@@ -12,6 +12,7 @@ use message_model::Path;
 
 /// What the recognized options of a message say, each the first of its number (RFC 7252 section
 /// 5.10, RFC 7641 section 2, RFC 7959 section 2.1).
+#[rattlefmt::skip]
 #[derive(Clone, Copy, Debug)]
 pub struct Meaning<'a> {
     /// The message itself.
@@ -30,12 +31,18 @@ pub struct Meaning<'a> {
     pub block2: Option<&'a [u8]>,
     /// Whether it has Proxy-Uri or Proxy-Scheme.
     pub proxy: bool,
-    pub ghost path_said: { path ≡ request.path_in (message_in view) } by { Coded-set path-code path (request.path_in (message_in view)) },
-    pub ghost observe_said: { observe ≡ request.observe_in (message_in view) } by { Prim.hlevel props },
-    pub ghost accept_said: { accept ≡ request.accept_in (message_in view) } by { Prim.hlevel props },
-    pub ghost format_said: { format ≡ request.format_in (message_in view) } by { Prim.hlevel props },
-    pub ghost block1_said: { option_map (λ v. v.now) block1 ≡ request.block1_in (message_in view) } by { Prim.hlevel props },
-    pub ghost block2_said: { option_map (λ v. v.now) block2 ≡ request.block2_in (message_in view) } by { Prim.hlevel props },
+    pub ghost path_said: { path ≡ request.path_in (message_in view) }
+        by { Coded-set path-code path (request.path_in (message_in view)) },
+    pub ghost observe_said: { observe ≡ request.observe_in (message_in view) }
+        by { Prim.hlevel props },
+    pub ghost accept_said: { accept ≡ request.accept_in (message_in view) }
+        by { Prim.hlevel props },
+    pub ghost format_said: { format ≡ request.format_in (message_in view) }
+        by { Prim.hlevel props },
+    pub ghost block1_said: { option_map (λ v. v.now) block1 ≡ request.block1_in (message_in view) }
+        by { Prim.hlevel props },
+    pub ghost block2_said: { option_map (λ v. v.now) block2 ≡ request.block2_in (message_in view) }
+        by { Prim.hlevel props },
     pub ghost proxy_said: { proxy ≡ request.has_proxy (message_in view) },
     pub ghost block1_short: { ForSome block1 (λ v. length v.now ≤ 3) },
     pub ghost block2_short: { ForSome block2 (λ v. length v.now ≤ 3) },

@@ -8,7 +8,7 @@ ghost use Rattle.coap_message.specs.Views.{message_in};
 ghost use Rattle.coap_options.specs.Findings.{IsFound};
 ghost use Rattle.coap_options.specs.Meanings.{HasShortBlocks, IsMeaning};
 
-use crate::findings::{BadOption, Found, nothing_found, with_option};
+use crate::findings::{BadOption, Found, add_option, nothing_found};
 use crate::meanings::Meaning;
 use crate::segments::path_of;
 use crate::uint_values::short_uint_of;
@@ -69,7 +69,7 @@ pub fn meaning<'a>(view: &View<'a>) -> Result<Meaning<'a>, BadOption>
 {
     let mut found = nothing_found();
     'options: for option in options_of(view) {
-        found = with_option(&found, &option)?;
+        add_option(&mut found, &option)?;
     }
     Ok(meaning_of(view, &found))
 }

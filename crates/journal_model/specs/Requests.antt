@@ -69,12 +69,12 @@ pub record Resource : Type 0 where
 
 -- as what the query options of a request on a registration are read: those of an update alone are
 -- read
-abbrev pub reading_on_registration : Method → Option Reading
-reading_on_registration get = None
-reading_on_registration post = Some reading.Update
-reading_on_registration put = None
-reading_on_registration delete = None
-reading_on_registration other_method = None
+abbrev pub reading_on_location : Method → Option Reading
+reading_on_location get = None
+reading_on_location post = Some reading.Update
+reading_on_location put = None
+reading_on_location delete = None
+reading_on_location other_method = None
 
 -- an update has no payload (RFC 9176 section 5.3.1)
 abbrev pub is_update : Method → Bool
@@ -112,7 +112,7 @@ resource_at path.Rd = record {
 resource_at (path.Location number) = record {
   looked_up = None;
   is_registration = true;
-  read_as = reading_on_registration;
+  read_as = reading_on_location;
   takes_no_payload = is_update;
 }
 resource_at path.Res = lookup_of kind.Resource

@@ -123,6 +123,24 @@ pub only_looks_left : (x : Incoming)
 only_looks_left (incoming.Look request) h none = none request refl
 only_looks_left _ h none = cc
 
+-- what is nothing that only looks is no look
+pub looks_not_as : (datagram : List ℕ) (x : Incoming)
+    → IsIncoming datagram x
+    → ((request : Request) → x ≡ incoming.Look request → ⊥)
+    → is_look_datagram datagram ≡ false
+looks_not_as datagram x is none = looks_is datagram x is ∙ other x none where
+  other : (y : Incoming) → ((request : Request) → y ≡ incoming.Look request → ⊥) → looks y ≡ false
+  other (incoming.Unread fault) none = refl
+  other incoming.Nothing none = refl
+  other (incoming.Ping view) none = refl
+  other (incoming.Acknowledgement view) none = refl
+  other (incoming.Reset view) none = refl
+  other (incoming.Response view) none = refl
+  other (incoming.Refused view refused) none = refl
+  other (incoming.Look request) none = absurd (none request refl)
+  other (incoming.Lookup request) none = refl
+  other (incoming.Write request) none = refl
+
 -- what does not only look is no look
 pub look_left : (datagram : List ℕ) (request : Request)
     → IsIncoming datagram (incoming.Look request)

@@ -1,7 +1,7 @@
 use Rattle.std.proofs.Common.{refl, sym, ◌∙◌, length}
 use Rattle.coap_message.specs.OptionsLeft.{option_in}
 use Rattle.coap_options.proofs.FindingLemmas.{found_more, found_passed, bad_found, recognized_there}
-use Rattle.coap_options.proofs.findings.with_option.Goals as goal
+use Rattle.coap_options.proofs.findings.add_option.Goals as goal
 
 pub returns-then-is_recognized-clause-found : goal.returns-then-is_recognized-clause-found
 returns-then-is_recognized-clause-found c before so same =
@@ -9,8 +9,8 @@ returns-then-is_recognized-clause-found c before so same =
     recognized_there before c.args.option.now.number (length c.args.option.now.value.now)
     c.is_last-is_further.result c.is_recognized.result c.args.found.now.last same
     c.is_last-is_further.ensures c.is_recognized.ensures in
-    found_more before (option_in c.args.option.now) c.args.found.now c.with_recognized.result so
-    (there ∙ c.if-is_recognized.true) c.with_recognized.ensures
+    found_more before (option_in c.args.option.now) c.args.found.now c.add_recognized.new.found so
+    (there ∙ c.if-is_recognized.true) c.add_recognized.ensures
 
 pub returns-then-is_critical-clause-bad : goal.returns-then-is_critical-clause-bad
 returns-then-is_critical-clause-bad c before so same =
