@@ -31,9 +31,6 @@ use Rattle.rd_base.specs.declared.peers.Peer.{Peer}
 use Rattle.coap_answers.specs.declared.outbox.Span.{Span}
 use Rattle.coap_answers.specs.Outboxes.{datagram_at, LiesWithin}
 
-at_end : Peer → ℕ → ℕ → Span
-at_end peer start end = record { peer = peer; start = start; end = end }
-
 -- datagrams stay where they are
 as_before : (octets more : List ℕ) (spans : List Span)
     → AllByRecursion (LiesWithin (length octets)) spans

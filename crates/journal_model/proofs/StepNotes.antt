@@ -335,8 +335,8 @@ requests_again-notes rows moment =
   where
     again : (b c : Bool) (peer : Peer) (e : Event) (request : Option Request)
         → are of_resent (request_again (due_by b c) rows peer e request).notes ≡ true
-    again false c peer e request = refl
-    again true c peer e None = refl
+    again b c peer e None = refl
+    again false c peer e (Some request) = refl
     again true true peer e (Some request) = refl
     again true false peer e (Some request) = sent_again-notes of_resent _ _ refl
 

@@ -350,25 +350,3 @@ is_observer-found queries peer token (w ∷ ws) =
     by : (b : Bool) (o : Option Watcher) → (b || is_some o) ≡ is_some (cond b (Some w) o)
     by true o = refl
     by false o = refl
-
--- the one that is found has that name
-pub found_named : (peer : Peer) (token : List ℕ) (ws : List Watcher) (x : Watcher)
-    → find (is_named peer token) ws ≡ Some x
-    → (x.peer ≡ peer) × (x.token ≡ token)
-found_named peer token [] x is = absurd cc
-found_named peer token (w ∷ ws) x is =
-    by (is_named peer token w) refl is (found_named peer token ws x)
-  where
-    by : (b : Bool)
-        → is_named peer token w ≡ b
-        → cond b (Some w) (find (is_named peer token) ws) ≡ Some x
-        → (find (is_named peer token) ws ≡ Some x → (x.peer ≡ peer) × (x.token ≡ token))
-        → (x.peer ≡ peer) × (x.token ≡ token)
-    by true e g more =
-        let same : w ≡ x = cc in
-        let names = (is_same_request-Decides (peer, token) (w.peer, w.token)).0 e in (
-          sym (ap (λ (n : RequestName). n.0) names ∙ ap (λ (y : Watcher). y.peer) same),
-          sym
-              (ap (λ (n : RequestName). n.1) names ∙ ap (λ (y : Watcher). y.token) same),
-        )
-    by false e g more = more g

@@ -9,8 +9,6 @@ use Rattle.std.proofs.Common.{
   suc,
   nat_eq,
   Bool,
-  true,
-  false,
   not,
   ◌&&◌,
   cond,
@@ -19,7 +17,6 @@ use Rattle.std.proofs.Common.{
   ◌∷◌,
   length,
   map,
-  find,
   drop,
   slice_get,
   Option,
@@ -29,7 +26,6 @@ use Rattle.std.proofs.Common.{
   IfSome,
   option_map,
   option_and_then,
-  unwrap_or,
   refl,
   sym,
   ap,
@@ -39,41 +35,16 @@ use Rattle.std.proofs.Common.{
   arith,
 }
 use Rattle.std.specs.List.{AllByRecursion}
-use Rattle.std.proofs.lemmas.Bool.{false≢true, and_parts}
-use Rattle.rd_base.specs.declared.peers.Peer.{Peer}
 use Rattle.rd_base.specs.declared.queries.Query.{Query}
 use Rattle.rd_base.proofs.lemmas.Each.{each_weaker}
-use Rattle.rd_base.proofs.lemmas.Options.{some_same}
 use Rattle.history_model.specs.Listing.{listing}
-use Rattle.event_model.specs.declared.notes.Note.{Note}
-use Rattle.event_model.specs.declared.notes.Note.TheVariants as note
 use Rattle.event_model.specs.declared.notes.Observer.{Observer}
-use Rattle.event_model.specs.Same.{is_same_peer}
 use Rattle.event_model.specs.Observers.{name_of, observers, last_body_formed}
-use Rattle.event_model.specs.Flights.{
-  Sent,
-  Flight,
-  flight,
-  is_waited_for,
-  notice_sent,
-  waiting_notice,
-}
+use Rattle.event_model.specs.Flights.{flight, is_waited_for, waiting_notice}
 use Rattle.event_model.specs.Due.{Watching as Shown, is_due, watching, observers_standing}
-use Rattle.event_model.proofs.SameLaws.{is_same_peer-Decides}
-use Rattle.journal_model.specs.declared.steps.Step.{Step}
 use Rattle.journal_model.specs.declared.rows.Row.{Row}
-use Rattle.journal_model.specs.Effects.{Effects}
-use Rattle.journal_model.specs.Journal.{events, entries, now, row_at, transitions}
-use Rattle.journal_model.specs.Rows.{row_with, row_moment}
-use Rattle.journal_model.specs.Ticks.{
-  is_confirmable_with,
-  confirmable_sent,
-  octets_sent,
-  sent_again,
-  repeating,
-}
-use Rattle.journal_model.specs.UnfinishedRow.{making}
-use Rattle.journal_model.proofs.observers.SentOctets.{octets_sent-before}
+use Rattle.journal_model.specs.Journal.{events, entries, now, transitions}
+use Rattle.journal_model.specs.Ticks.{octets_sent}
 use Rattle.watch_table.specs.WatchedQueries.{
   Watched,
   Table,
@@ -94,10 +65,9 @@ use Rattle.observers.proofs.StandLaws.{
   same_at as shown_at,
 }
 use Rattle.observers.proofs.MarkLaws.{awaited-StandsFor}
-use Rattle.observation.specs.Notices.{sending_again, first_observer, next_noticed}
+use Rattle.observation.specs.Notices.{first_observer, next_noticed}
 use Rattle.observation.specs.Watching.{
   Watching,
-  IsConfirmable,
   IsPlaced,
   HasListing,
   IsUnmarked,
@@ -380,82 +350,3 @@ length-StandsFor rows w h =
     h.observers
 
 -- ---- notices that are sent again
-
--- the message that a row before sent is found by its octets
-found_again : (r : Option Row) (peer : Peer) (mid : ℕ) (octets : List ℕ) (n : Note)
-    → octets ≡ unwrap_or (option_map (λ d. d.1) (confirmable_sent r peer mid)) []
-    → is_confirmable_with mid octets ≡ true
-    → sent_again (confirmable_sent r peer mid) n ≡ record {
-      sent = (peer, octets) ∷ [];
-      notes = n ∷ [];
-      drew = 0;
-    }
-found_again None peer mid octets n is fits =
-    absurd (false≢true (ap (is_confirmable_with mid) (sym is) ∙ fits))
-found_again (Some r) peer mid octets n is fits = by (find test r.sent) refl is
-  where
-    test : Peer × List ℕ → Bool
-    test = λ d. is_same_peer d.0 peer && is_confirmable_with mid d.1
-
-    passes : (ds : List (Peer × List ℕ)) (d : Peer × List ℕ) → find test ds ≡ Some d → test d ≡ true
-    passes [] d e = absurd cc
-    passes (y ∷ ds) d e = one (test y) refl e (passes ds d)
-      where
-        one : (b : Bool)
-            → test y ≡ b
-            → cond b (Some y) (find test ds) ≡ Some d
-            → (find test ds ≡ Some d → test d ≡ true)
-            → test d ≡ true
-        one true g f more = let same : y ≡ d = cc in subst (λ z. test z ≡ true) same g
-        one false g f more = more f
-
-    by : (d : Option (Peer × List ℕ))
-        → find test r.sent ≡ d
-        → octets ≡ unwrap_or (option_map (λ (y : Peer × List ℕ). y.1) d) []
-        → sent_again d n ≡ record {
-          sent = (peer, octets) ∷ [];
-          notes = n ∷ [];
-          drew = 0;
-        }
-    by None e g = absurd (false≢true (ap (is_confirmable_with mid) (sym g) ∙ fits))
-    by (Some d) e g =
-        let named =
-        (is_same_peer-Decides d.0 peer).0
-        (and_parts (is_same_peer d.0 peer) (is_confirmable_with mid d.1) (passes r.sent d
-        e)).0 in
-        ap₂ (λ (p : Peer) (o : List ℕ). record { sent = (p, o) ∷ []; notes = n ∷ []; drew = 0 })
-        named (sym g)
-
--- For the tick: what is sent again of a notice that an earlier row formed is what the table keeps
--- of it.
-pub again-StandsFor : (rows : List Row) (s : Step) (starved : Bool) (done : Effects) (w : Watching)
-    (i : ℕ) (o : Observer) (x : Watcher) (f : Flight) (sent : Sent)
-    → WatchingStandsFor (making rows s starved done) w
-    → slice_get (observers (events (making rows s starved done))) i ≡ Some o
-    → slice_get w.observers i ≡ Some x
-    → flight o (events (making rows s starved done)) ≡ Some f
-    → x.flight ≡ Some sent
-    → f.formed.place < length rows
-    → repeating rows f.formed.place o.peer f.mid (note.Again o.peer f.mid) ≡ sending_again x sent
-unfolding waiting_notice octets_sent
-again-StandsFor rows s starved done w i o x f sent h at there flies kept below =
-    found_again (row_at f.formed.place rows) o.peer f.mid sent.octets (note.Again o.peer f.mid)
-    (sym (ap (λ (y : Sent). y.octets) same)
-    ∙ octets_sent-before rows (row_with s (row_moment rows s) starved done) f.formed.place o.peer
-    f.mid below)
-    (subst (λ mid. is_confirmable_with mid sent.octets ≡ true) (sym (ap (λ (y : Sent). y.mid) same))
-    (each_at IsConfirmable w.observers i x h.confirmable there sent kept))
-    ∙ ap₂ (λ (p : Peer) (mid : ℕ).
-    record { sent = (p, sent.octets) ∷ []; notes = note.Again p mid ∷ []; drew = 0 })
-    it.peer (ap (λ (y : Sent). y.mid) same)
-  where
-    it : IsKeptAs (making rows s starved done) o x
-    it = kept-StandsFor (making rows s starved done) w i o x h at there
-
-    found : Some (notice_sent (octets_sent (making rows s starved done)) o.peer f) ≡ Some sent
-    found =
-        sym (ap (option_map (notice_sent (octets_sent (making rows s starved done)) o.peer)) flies)
-        ∙ (it.waits ∙ kept)
-
-    same : notice_sent (octets_sent (making rows s starved done)) o.peer f ≡ sent
-    same = some_same found

@@ -13,32 +13,25 @@ use Rattle.std.proofs.Common.{
   Some,
   None,
   option_map,
-  is_none,
   Result,
   Ok,
-  Err,
   refl,
   sym,
   ap,
   subst,
   ◌∙◌,
 }
-use Rattle.std.proofs.lemmas.Bool.{and_parts}
-use Rattle.rd_base.specs.declared.peers.Peer.{Peer}
 use Rattle.message_model.specs.declared.blocks.Block.{Block}
-use Rattle.message_model.specs.declared.messages.Role.{Role}
-use Rattle.message_model.specs.declared.messages.Role.TheVariants as role
 use Rattle.message_model.specs.declared.messages.Unread.{Unread}
 use Rattle.message_model.specs.declared.requests.Path.{Path}
 use Rattle.message_model.specs.declared.requests.Path.TheVariants as path
-use Rattle.message_model.specs.Message.{Message, role_of}
-use Rattle.message_model.specs.Reading.{reading}
+use Rattle.message_model.specs.Message.{Message}
 use Rattle.message_model.specs.Request.{path_in, observe_in}
 use Rattle.record_model.specs.Discovery.{discovery}
 use Rattle.history_model.specs.declared.entries.Entry.{Entry}
 use Rattle.history_model.specs.Listing.{listing, tag}
 use Rattle.journal_model.specs.declared.steps.Step.{Step}
-use Rattle.journal_model.specs.Effects.{Reply, without_memory}
+use Rattle.journal_model.specs.Effects.{without_memory}
 use Rattle.journal_model.specs.Requests.{
   is_lookup,
   is_discovery,
@@ -47,11 +40,8 @@ use Rattle.journal_model.specs.Requests.{
   only_looks,
   query_of,
   asked_block,
-  refusal_of_request,
-  is_look_request,
 }
 use Rattle.journal_model.specs.Bodies.{body_reply, is_long}
-use Rattle.journal_model.specs.Machine.{is_look_message, is_look_reading, is_look_datagram}
 use Rattle.journal_model.specs.Sought.{sought_at}
 use Rattle.journal_model.specs.Looks.{
   Look,
@@ -67,12 +57,8 @@ use Rattle.journal_model.specs.Looks.{
   look_sent,
   look_effects,
   looked,
-  body_held,
-  held_after,
 }
-use Rattle.rd_request.proofs.AskedLaws.{none_there}
-use Rattle.rd_look.specs.declared.looks.Looked.TheVariants as ended
-use Rattle.rd_look.specs.Looking.{look_done, look_left, IsHeld}
+use Rattle.rd_look.specs.Looking.{look_done}
 
 -- discovery finds the links of the directory itself
 pub discovered : (history : List Entry) (moment : ℕ) (m : Message) (octets : List ℕ)
@@ -183,45 +169,6 @@ given_held m octets current shown asked long same all measured yes_long =
     ap (λ (b : Bool). unless_long b m (record { body = octets; tag = current }))
     (sym yes_long ∙ is_measured m octets shown asked long same all measured)
 
--- nothing refuses the request of a look, and it only looks
-look_request : (m : Message)
-    → is_look_request m ≡ true
-    → (refusal_of_request m ≡ None) × (only_looks m ≡ true)
-unfolding is_look_request
-look_request m h =
-    let both = and_parts (is_none (refusal_of_request m)) (only_looks m) h in
-    (none_there (refusal_of_request m) both.0, both.1)
-
-look_message : (r : Role) (m : Message)
-    → is_look_message r m ≡ true
-    → (refusal_of_request m ≡ None) × (only_looks m ≡ true)
-look_message role.Ping m h = cc
-look_message role.Acknowledgement m h = cc
-look_message role.Reset m h = cc
-look_message role.Request m h = look_request m h
-look_message role.Response m h = cc
-look_message role.Ignored m h = cc
-
-pub look_in : (datagram : List ℕ) (m : Message)
-    → reading datagram ≡ Ok m
-    → is_look_datagram datagram ≡ true
-    → (refusal_of_request m ≡ None) × (only_looks m ≡ true)
-unfolding is_look_datagram
-look_in datagram m is h =
-    look_message (role_of m.kind m.code) m
-    (subst (λ (r : Result Message Unread). is_look_reading r ≡ true) is h)
-
--- and its datagram can be read
-pub look_readable : (datagram : List ℕ) (fault : Unread)
-    → reading datagram ≡ Err fault
-    → is_look_datagram datagram ≡ true
-    → ⊥
-unfolding is_look_datagram
-look_readable datagram fault is h =
-    let none : false ≡ true =
-    subst (λ (r : Result Message Unread). is_look_reading r ≡ true) is h in
-    cc
-
 -- what a look does that gives this is what is done after looking so
 pub looked_by : (starved : Bool) (history : List Entry) (moment : ℕ) (s : Step)
     (read : Result Message Unread) (m : Message) (given : Look)
@@ -237,20 +184,6 @@ looked_by starved history moment s read m given is gives =
     by true = refl
     by false = ap (look_sent s m) (sym gives)
 
--- and the body that it leaves
-pub left_by : (starved : Bool) (history : List Entry) (moment : ℕ) (read : Result Message Unread)
-    (m : Message) (given : Look)
-    → read ≡ Ok m
-    → look history moment m ≡ Some given
-    → look_left starved given ≡ held_after starved history moment read
-left_by starved history moment read m given is gives =
-    subst (λ (r : Result Message Unread).
-    look_left starved given ≡ held_after starved history moment r) (sym is) (by starved)
-  where
-    by : (b : Bool) → look_left b given ≡ held_after b history moment (Ok m)
-    by true = refl
-    by false = ap body_held (sym gives)
-
 -- out of memory it is answered 5.00
 pub looked_starved : (history : List Entry) (moment : ℕ) (s : Step) (read : Result Message Unread)
     (m : Message)
@@ -259,10 +192,3 @@ pub looked_starved : (history : List Entry) (moment : ℕ) (s : Step) (read : Re
 looked_starved history moment s read m is =
     subst (λ (r : Result Message Unread). without_memory s m ≡ looked true history moment s r)
     (sym is) refl
-
--- and nothing is held
-pub none_held : (peer : Peer) (datagram : List ℕ) (history : List Entry) (moment : ℕ)
-    (read : Result Message Unread)
-    → IsHeld peer datagram (held_after true history moment read) ended.Starved
-none_held peer datagram history moment (Err fault) = tt
-none_held peer datagram history moment (Ok m) = tt

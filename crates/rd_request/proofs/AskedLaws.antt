@@ -31,7 +31,6 @@ use Rattle.journal_model.specs.Requests.{
   is_later_block,
   is_heeded,
   only_looks,
-  is_look_request,
 }
 use Rattle.rd_request.specs.Asking.{seeks_links}
 
@@ -60,11 +59,6 @@ pub none_refused : (m : Message)
     → refusal_of_request m ≡ None
 unfolding refusal_of_request
 none_refused m none good fine = rw none (rw good (rw fine refl))
-
--- a request that nothing refuses is a look where it only looks
-pub looks_by : (m : Message) → refusal_of_request m ≡ None → is_look_request m ≡ only_looks m
-unfolding is_look_request
-looks_by m none = rw none refl
 
 -- where nothing is refused, the query options are not
 pub good_request : (m : Message) → refusal_of_request m ≡ None → has_bad_query m ≡ false

@@ -28,19 +28,14 @@ use Rattle.message_model.specs.Request.{path_in}
 use Rattle.coap_message.specs.Views.{message_in}
 use Rattle.journal_model.specs.Effects.{Reply}
 use Rattle.journal_model.specs.Machine.{is_look_message, is_look_reading, is_look_datagram}
-use Rattle.journal_model.specs.Requests.{refusal_of_request, is_lookup, only_looks, is_look_request}
+use Rattle.journal_model.specs.Requests.{refusal_of_request, only_looks, is_look_request}
 use Rattle.rd_request.specs.declared.accepted.Request.{Request}
 use Rattle.rd_request.specs.declared.incoming.Incoming.{Incoming}
 use Rattle.rd_request.specs.declared.incoming.Incoming.TheVariants as incoming
 use Rattle.rd_request.specs.Accepted.{message_of}
 use Rattle.rd_request.specs.Asking.{seeks_links}
-use Rattle.rd_request.specs.Incoming.{IsFor, IsIncoming, looks, writes}
-use Rattle.rd_request.specs.WriteRequests.{
-  is_write_path,
-  is_write_message,
-  is_write_reading,
-  is_write_datagram,
-}
+use Rattle.rd_request.specs.Incoming.{IsFor, IsIncoming, looks}
+use Rattle.rd_request.specs.WriteRequests.{is_write_path}
 use Rattle.rd_request.proofs.AskedLaws.{looks_seek}
 
 -- ---- what only looks
@@ -76,12 +71,6 @@ writes_seek path.Rd h = refl
 writes_seek path.SimpleRd h = refl
 writes_seek (path.Location number) h = refl
 writes_seek _ h = cc
-
-seeks_write : (p : Path) → seeks_links p ≡ true → is_write_path p ≡ false
-seeks_write path.Core h = refl
-seeks_write path.Res h = refl
-seeks_write path.Ep h = refl
-seeks_write _ h = cc
 
 looks_not : (m : Message) (b : Bool)
     → only_looks m ≡ b
@@ -150,68 +139,3 @@ look_left datagram request is other =
     false≢true (sym other ∙ looks_is datagram (incoming.Look request) is)
 
 -- ---- what writes
-
-write_for : (r : Role) (datagram : List ℕ) (m : Message)
-    → IsFor r datagram m
-    → is_write_datagram datagram ≡ is_write_message r m
-unfolding is_write_datagram
-write_for r datagram m is =
-    ap is_write_reading is.read ∙ ap (λ (x : Role). is_write_message x m) is.role_is
-
-write_unread : (datagram : List ℕ) (fault : Unread)
-    → reading datagram ≡ Err fault
-    → is_write_datagram datagram ≡ false
-unfolding is_write_datagram
-write_unread datagram fault unread = ap is_write_reading unread
-
-refused_writes : (m : Message) (reply : Reply)
-    → refusal_of_request m ≡ Some reply
-    → is_write_message role.Request m ≡ false
-refused_writes m reply refused =
-    ap (λ (o : Option Reply). is_none o && is_write_path (path_in m)) refused
-
-accepted_writes : (m : Message)
-    → is_none (refusal_of_request m) ≡ true
-    → is_write_message role.Request m ≡ is_write_path (path_in m)
-accepted_writes m accepted = ap (λ (b : Bool). b && is_write_path (path_in m)) accepted
-
--- a lookup seeks links
-lookup_seeks : (p : Path) → is_lookup p ≡ true → seeks_links p ≡ true
-lookup_seeks path.Res h = refl
-lookup_seeks path.Ep h = refl
-lookup_seeks _ h = cc
-
-pub writes_is : (datagram : List ℕ) (x : Incoming)
-    → IsIncoming datagram x
-    → is_write_datagram datagram ≡ writes x
-writes_is datagram (incoming.Unread fault) is = write_unread datagram fault is
-writes_is datagram incoming.Nothing is = write_for role.Ignored datagram is.0 is.1
-writes_is datagram (incoming.Ping view) is = write_for role.Ping datagram (message_in view) is
-writes_is datagram (incoming.Acknowledgement view) is =
-    write_for role.Acknowledgement datagram (message_in view) is
-writes_is datagram (incoming.Reset view) is = write_for role.Reset datagram (message_in view) is
-writes_is datagram (incoming.Response view) is =
-    write_for role.Response datagram (message_in view) is
-writes_is datagram (incoming.Refused view refused) is =
-    write_for role.Request datagram (message_in view) is.request
-    ∙ refused_writes (message_in view) _ is.answer
-writes_is datagram (incoming.Look request) is =
-    write_for role.Request datagram (message_of request) is.0
-    ∙ (accepted_writes (message_of request) request.accepted
-    ∙ seeks_write (path_in (message_of request)) (looks_seek (message_of request) is.1))
-writes_is datagram (incoming.Lookup request) is =
-    write_for role.Request datagram (message_of request) is.0
-    ∙ (accepted_writes (message_of request) request.accepted
-    ∙ seeks_write (path_in (message_of request))
-    (lookup_seeks (path_in (message_of request)) is.2))
-writes_is datagram (incoming.Write request) is =
-    write_for role.Request datagram (message_of request) is.0
-    ∙ (accepted_writes (message_of request) request.accepted ∙ is.1)
-
--- where it does, nothing else is left
-pub only_writes_left : (x : Incoming)
-    → writes x ≡ true
-    → ((request : Request) → x ≡ incoming.Write request → ⊥)
-    → ⊥
-only_writes_left (incoming.Write request) h none = none request refl
-only_writes_left _ h none = cc

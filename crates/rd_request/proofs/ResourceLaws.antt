@@ -18,8 +18,6 @@ use Rattle.std.proofs.Common.{
 }
 use Rattle.std.specs.Prelude.{if◌then◌else◌}
 use Rattle.std.proofs.lemmas.Bool.Decides.{nat_tests}
-use Rattle.std.proofs.lemmas.Option.{same_Some}
-use Rattle.rd_base.specs.declared.queries.Kind.{Kind}
 use Rattle.rd_base.specs.declared.queries.Kind.TheVariants as kind
 use Rattle.message_model.specs.declared.requests.Path.{Path}
 use Rattle.message_model.specs.declared.requests.Path.TheVariants as path
@@ -34,35 +32,12 @@ use Rattle.message_model.specs.Refusals.{
   option_refusal_or,
 }
 use Rattle.message_model.specs.Request.{path_in, has_proxy}
-use Rattle.journal_model.specs.Requests.{
-  refusal_of_request,
-  refusal_or_next,
-  is_lookup,
-  is_discovery,
-  kind_of,
-}
+use Rattle.journal_model.specs.Requests.{refusal_of_request, refusal_or_next, is_discovery, kind_of}
 use Rattle.rd_request.specs.declared.accepted.Request.{Request}
 use Rattle.rd_request.specs.declared.resources.Resource.{Resource}
 use Rattle.rd_request.specs.declared.resources.Resource.TheVariants as resource
 use Rattle.rd_request.specs.Accepted.{message_of}
 use Rattle.rd_request.specs.Resources.{resource_at, is_at, kind_at, is_core}
-
-same_number : (n : ℕ) → (n == n) ≡ true
-same_number n = grind arith
-
--- what a path names is there
-pub found_there : (p : Path) (r : Resource) → resource_at p ≡ Some r → is_at r p ≡ true
-found_there path.Core r e =
-    subst (λ (x : Resource). is_at x path.Core ≡ true) (same_Some _ _ e) refl
-found_there path.SimpleRd r e =
-    subst (λ (x : Resource). is_at x path.SimpleRd ≡ true) (same_Some _ _ e) refl
-found_there path.Rd r e = subst (λ (x : Resource). is_at x path.Rd ≡ true) (same_Some _ _ e) refl
-found_there (path.Location number) r e =
-    subst (λ (x : Resource). is_at x (path.Location number) ≡ true) (same_Some _ _ e)
-    (same_number number)
-found_there path.Res r e = subst (λ (x : Resource). is_at x path.Res ≡ true) (same_Some _ _ e) refl
-found_there path.Ep r e = subst (λ (x : Resource). is_at x path.Ep ≡ true) (same_Some _ _ e) refl
-found_there path.Other r e = cc
 
 -- a path that names nothing is refused
 names_none : (p : Path) → resource_at p ≡ None → is_nowhere p ≡ true
@@ -126,14 +101,6 @@ endpoints_at _ h = cc
 nothing_at : (p : Path) → is_at (resource.Lookup kind.Discovery) p ≡ true → ⊥
 nothing_at p h = cc
 
--- a lookup
-pub lookup_at : (what : Kind) (p : Path)
-    → is_at (resource.Lookup what) p ≡ true
-    → is_lookup p ≡ true
-lookup_at kind.Resource p h = ap is_lookup (links_at p h)
-lookup_at kind.Endpoint p h = ap is_lookup (endpoints_at p h)
-lookup_at kind.Discovery p h = absurd (nothing_at p h)
-
 -- the kind of what is looked up
 pub kind_there : (r : Resource) (p : Path) → is_at r p ≡ true → kind_at r ≡ kind_of p
 kind_there resource.Core p h = ap kind_of (sym (core_at p h))
@@ -181,16 +148,3 @@ pub location_path : (request : Request) (number : ℕ)
 location_path request number is =
     sym request.meaning.path_said
     ∙ location_at number request.meaning.path (there request (resource.Location number) is)
-
-pub core_path : (request : Request)
-    → request.resource ≡ resource.Core
-    → path_in (message_of request) ≡ path.Core
-core_path request is =
-    sym request.meaning.path_said ∙ core_at request.meaning.path (there request resource.Core is)
-
-pub lookup_path : (request : Request) (what : Kind)
-    → request.resource ≡ resource.Lookup what
-    → is_lookup (path_in (message_of request)) ≡ true
-lookup_path request what is =
-    ap is_lookup (sym request.meaning.path_said)
-    ∙ lookup_at what request.meaning.path (there request (resource.Lookup what) is)

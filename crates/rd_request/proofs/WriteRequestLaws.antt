@@ -11,7 +11,6 @@ use Rattle.std.proofs.Common.{
   is_none,
   Result,
   Ok,
-  Err,
   refl,
   subst,
   sym,
@@ -71,12 +70,3 @@ unfolding is_write_datagram
 write_in datagram m is h =
     write_message (role_of m.kind m.code) m
     (subst (λ (r : Result Message Unread). is_write_reading r ≡ true) is h)
-
--- and its datagram can be read
-pub write_readable : (datagram : List ℕ) (fault : Unread)
-    → reading datagram ≡ Err fault
-    → is_write_datagram datagram ≡ true
-    → ⊥
-unfolding is_write_datagram
-write_readable datagram fault is h =
-    false≢true (subst (λ (r : Result Message Unread). is_write_reading r ≡ true) is h)

@@ -1,35 +1,14 @@
 -- What a request asks, and the refusals that it alone decides, as the code says them.
-use Rattle.std.specs.Prelude.{
-  ◌≡◌,
-  ℕ,
-  Bool,
-  true,
-  false,
-  not,
-  ◌&&◌,
-  ◌||◌,
-  ◌==◌,
-  codes,
-  Option,
-  Some,
-  None,
-}
+use Rattle.std.specs.Prelude.{◌≡◌, ℕ, Bool, true, false, ◌||◌, ◌==◌, codes, Option, Some, None}
 use Rattle.message_model.specs.declared.messages.Kind4.{Kind4}
 use Rattle.message_model.specs.declared.messages.Kind4.TheVariants.{Non}
 use Rattle.message_model.specs.declared.requests.Path.{Path}
 use Rattle.message_model.specs.declared.requests.Refusal.TheVariants as refusal
 use Rattle.message_model.specs.Codes as codes_of
 use Rattle.message_model.specs.Message.{Message}
-use Rattle.message_model.specs.Request.{path_in, observe_in}
 use Rattle.message_model.specs.Refusals.{refusal_of, refusal_code, refusal_word}
 use Rattle.journal_model.specs.Effects.{Reply, diagnostic}
-use Rattle.journal_model.specs.Requests.{
-  is_discovery,
-  is_lookup,
-  is_later_block,
-  is_heeded,
-  register,
-}
+use Rattle.journal_model.specs.Requests.{is_discovery, is_lookup, register}
 use Rattle.rd_request.specs.declared.requests.Refused.{Refused}
 use Rattle.rd_request.specs.declared.requests.Refused.TheVariants as refused
 
@@ -41,11 +20,6 @@ seeks_links p = is_discovery p || is_lookup p
 abbrev pub begins_observation : Option ℕ → Bool
 begins_observation None = false
 begins_observation (Some value) = value == register
-
--- a lookup of a first block that neither begins nor ends an observation
-abbrev pub is_plain_lookup : Message → Bool
-is_plain_lookup m =
-    is_lookup (path_in m) && not (is_later_block m) && not (is_heeded (observe_in m))
 
 -- the answer to a refusal (RFC 7252 section 5.5.2)
 abbrev pub refused_with : Refused → Reply

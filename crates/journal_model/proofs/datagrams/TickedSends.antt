@@ -178,8 +178,8 @@ requests_ticked rows moment all =
   where
     again : (b c : Bool) (peer : Peer) (e : Event) (request : Option Request)
         → AreTicked (request_again (due_by b c) rows peer e request).sent
-    again false c peer e request = tt
-    again true c peer e None = tt
+    again b c peer e None = tt
+    again false c peer e (Some request) = tt
     again true true peer e (Some request) = tt
     again true false peer e (Some request) =
         again_one rows e.place peer request.mid (note.Resent peer) all

@@ -174,8 +174,8 @@ requests_plain rows moment asked =
         → last_request peer (events rows) ≡ Some e
         → request_noted e.note ≡ request
         → ArePlain (request_again (due_by b c) rows peer e request).sent
-    again false c peer e request last noted = tt
-    again true c peer e None last noted = tt
+    again b c peer e None last noted = tt
+    again false c peer e (Some request) last noted = tt
     again true true peer e (Some request) last noted = tt
     again true false peer e (Some request) last noted =
         again_sent (λ (d : Peer × List ℕ). IsPlain d.1)
