@@ -5,8 +5,8 @@ use Rattle.coap_options.proofs.OptionOrder.{options_ascend}
 use Rattle.coap_options.proofs.OptionWalks.{walked_further, walked_more, walked_bad}
 use Rattle.coap_options.proofs.option_walks.meaning.Goals as goal
 
-pub returns-in_err-found-clause-bad : goal.returns-in_err-found-clause-bad
-returns-in_err-found-clause-bad c =
+pub returns-in_err-add_option-clause-bad : goal.returns-in_err-add_option-clause-bad
+returns-in_err-add_option-clause-bad c =
     let option = option_in c.in-Some.option in
     let left = options_left c.next.new.self in
     let further =
@@ -15,9 +15,9 @@ returns-in_err-found-clause-bad c =
     (options_ascend c.args.view.now.options.now) c.in-Some.ensures.steps in
     let bad =
     walked_bad (options_at 0 c.args.view.now.options.now) option left
-    (options_left c.options.option-iterator) c.options.found c.in_err-found.field-0.0.0
+    (options_left c.options.option-iterator) c.options.found c.in_err-add_option.field-0.0.0
     c.options.invariant c.in-Some.ensures.steps
-    (c.in_err-found.ensures.bad c.options.invariant.front c.options.invariant.found further)
+    (c.in_err-add_option.ensures.bad c.options.invariant.front c.options.invariant.found further)
     in
     search (rules, bad)
 
@@ -30,6 +30,6 @@ options-preserved c =
     (options_left c.options.option-iterator) c.options.found c.options.invariant
     (options_ascend c.args.view.now.options.now) c.in-Some.ensures.steps in
     walked_more (options_at 0 c.args.view.now.options.now) option left
-    (options_left c.options.option-iterator) c.options.found c.in_ok-found.found
+    (options_left c.options.option-iterator) c.options.found c.add_option.new.found
     c.options.invariant c.in-Some.ensures.steps
-    (c.in_ok-found.ensures.found c.options.invariant.front c.options.invariant.found further)
+    (c.in_ok-add_option.ensures.found c.options.invariant.front c.options.invariant.found further)
