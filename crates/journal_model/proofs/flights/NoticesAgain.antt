@@ -179,7 +179,7 @@ again_sends rows moment =
             ≡ true) (sym over)
             (subst (λ c.
             list_any (is_again_of o.peer f.mid) (notice_again (due_by true c) rows o f).notes
-                ≡ true)
+            ≡ true)
             (sym more) (here o f (confirmable_sent (row_at f.formed.place rows) o.peer f.mid))))
 
         sent : (d : Option (Peer × List ℕ))

@@ -216,7 +216,7 @@ commit_effects-done rows moment place s m = by (path_in m)
 
     simple : (running too_many : Bool)
         → are of_done (simple_unless (fetch_room running too_many) (events rows) place s m).notes
-            ≡ true
+        ≡ true
     simple true too_many = refl
     simple false true = refl
     simple false false = refl

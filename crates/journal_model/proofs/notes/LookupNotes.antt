@@ -228,7 +228,10 @@ lookup_notes_as_asked rows moment s m lookup small = by (is_later_block m)
         (addition (observer_of s m) (listing_now rows moment m).body
         ++ keeping s m (listing_now rows moment m))
         (removed (is_observer (s.peer, m.token) (observers (events rows))) s.peer m.token) (
-          record { asks = asks; token = small; szx = szx-usable (asked_block m) (request-usable m)
+          record {
+            asks = asks;
+            token = small;
+            szx = szx-usable (asked_block m) (request-usable m);
           },
           (tt, keeps (is_long (asked_block m) (listing_now rows moment m).body)),
         )
