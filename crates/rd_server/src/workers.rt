@@ -6,7 +6,7 @@ ghost use Rattle.journal_model.specs.declared.steps.Step.{Step};
 ghost use Rattle.journal_model.specs.declared.steps.StepKind.TheVariants as step;
 ghost use Rattle.journal_model.specs.DeskJournal.{max_workers};
 ghost use Rattle.journal_model.specs.Machine.{is_look_datagram, job_of, hearing};
-ghost use Rattle.rd_desk.specs.Stepping.{is_starved_step};
+ghost use Rattle.rd_desk.specs.calls.Stepping.{is_starved_step};
 ghost use Rattle.rd_server.specs.Machines.{IsWorkerAt, MayStep, Steps};
 
 use directory_core::NoBoard;

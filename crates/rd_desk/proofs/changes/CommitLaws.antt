@@ -105,13 +105,14 @@ use Rattle.journal_model.specs.Rows.{row_moment, effects, done, row}
 use Rattle.coap_answers.specs.declared.mids.Mids.{Mids}
 use Rattle.coap_answers.specs.Replies.{reply_said}
 use Rattle.rd_request.proofs.AskedLaws.{good_request}
-use Rattle.rd_desk.specs.declared.outcomes.Entering.{Entering}
-use Rattle.rd_desk.specs.declared.outcomes.Outcome as planned
-use Rattle.rd_desk.specs.Committing.{answering_settled, unless_failing}
-use Rattle.rd_desk.specs.Desks.{Seen}
-use Rattle.rd_desk.specs.Outcomes.{IsEntering, AreNotes, IsPlanned, IsMadeAt}
-use Rattle.rd_desk.specs.UnderWay.{UnderWay, IsCalled, Made}
-use Rattle.rd_desk.specs.WriteJobs.{Write}
+use Rattle.rd_desk.specs.declared.write.outcomes.Entering.{Entering}
+use Rattle.rd_desk.specs.declared.write.outcomes.Outcome as planned
+use Rattle.rd_desk.specs.parts.Committing.{answering_settled, unless_failing}
+use Rattle.rd_desk.specs.calls.Desks.{Seen}
+use Rattle.rd_desk.specs.parts.Outcomes.{IsEntering, AreNotes, IsPlanned, IsMadeAt}
+use Rattle.rd_desk.specs.parts.UnderWay.{UnderWay}
+use Rattle.rd_desk.specs.calls.Steps.{IsCalled, Made}
+use Rattle.rd_desk.specs.calls.WriteJobs.{Write}
 use Rattle.rd_desk.proofs.changes.SettlingLaws.{settling-refused, settling-entered}
 use Rattle.rd_desk.proofs.parts.MakingLaws.{entries-making_nothing}
 use Rattle.rd_desk.proofs.parts.WayLaws.{way_moment, ended}

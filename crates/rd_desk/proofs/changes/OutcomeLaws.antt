@@ -70,9 +70,9 @@ use Rattle.coap_answers.specs.declared.replies.Reply.{Reply}
 use Rattle.coap_answers.specs.Replies.{IsReply, reply_said}
 use Rattle.observation.specs.declared.change_kinds.ChangeKind.TheVariants as kind_of_change
 use Rattle.observation.specs.ChangeKinds.{kind_of}
-use Rattle.rd_desk.specs.declared.outcomes.Entering.{Entering}
-use Rattle.rd_desk.specs.declared.outcomes.Outcome.{Outcome}
-use Rattle.rd_desk.specs.Outcomes.{HasEntry, IsEntering, IsPlanned, IsBadBody}
+use Rattle.rd_desk.specs.declared.write.outcomes.Entering.{Entering}
+use Rattle.rd_desk.specs.declared.write.outcomes.Outcome.{Outcome}
+use Rattle.rd_desk.specs.parts.Outcomes.{HasEntry, IsEntering, IsPlanned, IsBadBody}
 
 -- ---- bodies
 

@@ -50,7 +50,7 @@ use Rattle.coap_answers.specs.Replies.{
   options_of,
   reply_said,
 }
-use Rattle.rd_desk.specs.Committing.{IsShort}
+use Rattle.rd_desk.specs.parts.Committing.{IsShort}
 
 -- few octets extend a small delta or length
 extension_none : (n : ℕ) → n < 13 → extension_size n ≡ 0

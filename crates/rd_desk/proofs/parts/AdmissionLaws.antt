@@ -26,7 +26,7 @@ use Rattle.journal_model.specs.Rows.{
 }
 use Rattle.journal_model.specs.Writes.{write_effects}
 use Rattle.rd_request.specs.WriteRequests.{is_write_path}
-use Rattle.rd_desk.specs.Admitting.{write_heard}
+use Rattle.rd_desk.specs.parts.Hearing.{write_heard}
 
 -- an admission hears what is read of its datagram
 pub admission_hears : (rows : List Row) (s : Step) (starved : Bool) (read : Result Message Unread)

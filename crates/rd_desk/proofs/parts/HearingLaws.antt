@@ -79,21 +79,22 @@ use Rattle.rd_desk.specs.declared.admissions.Admitted.{Admitted}
 use Rattle.rd_desk.specs.declared.admissions.Admitted.TheVariants as admitted
 use Rattle.rd_desk.specs.declared.steps.Stepped.{Stepped}
 use Rattle.rd_desk.specs.declared.steps.Stepped.TheVariants as stepped
-use Rattle.rd_desk.specs.Admitting.{
+use Rattle.rd_desk.specs.calls.Admitting.{
   is_starved_admission,
   IsHeldFor,
-  jobless,
   write_takes,
   served_takes,
   request_takes,
   message_takes,
 }
-use Rattle.rd_desk.specs.WriteJobs.{Write}
-use Rattle.rd_desk.specs.Desks.{Seen}
-use Rattle.rd_desk.specs.Lookups.{lookup_heard}
-use Rattle.rd_desk.specs.Responding.{response_heard}
-use Rattle.rd_desk.specs.Stepping.{is_starved_step}
-use Rattle.rd_desk.specs.UnderWay.{UnderWay, IsCalled, Made}
+use Rattle.rd_desk.specs.parts.Hearing.{jobless}
+use Rattle.rd_desk.specs.calls.WriteJobs.{Write}
+use Rattle.rd_desk.specs.calls.Desks.{Seen}
+use Rattle.rd_desk.specs.parts.Lookups.{lookup_heard}
+use Rattle.rd_desk.specs.parts.Responding.{response_heard}
+use Rattle.rd_desk.specs.calls.Stepping.{is_starved_step}
+use Rattle.rd_desk.specs.parts.UnderWay.{UnderWay}
+use Rattle.rd_desk.specs.calls.Steps.{IsCalled, Made}
 use Rattle.rd_desk.proofs.parts.AdmissionLaws.{admission_hears}
 use Rattle.rd_desk.proofs.parts.WayLaws.{ended}
 use Rattle.rd_desk.proofs.parts.WriteLaws.{without_memory-notes}

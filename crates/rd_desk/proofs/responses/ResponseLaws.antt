@@ -114,11 +114,11 @@ use Rattle.rd_desk.proofs.responses.FetchStepLaws.{
 use Rattle.coap_answers.specs.declared.mids.Mids.{Mids}
 use Rattle.coap_answers.specs.Sendings.{Sends, AreRequestsSent}
 use Rattle.coap_answers.proofs.SendingLaws.{sends_nothing, sends_octets}
-use Rattle.rd_desk.specs.declared.outcomes.Outcome.{Outcome as Planned}
-use Rattle.rd_desk.specs.Desks.{Seen}
-use Rattle.rd_desk.specs.Outcomes.{IsPlanned}
-use Rattle.rd_desk.specs.Responding.{asking_next, unless_starved, response_heard}
-use Rattle.rd_desk.specs.UnderWay.{UnderWay}
+use Rattle.rd_desk.specs.declared.write.outcomes.Outcome.{Outcome as Planned}
+use Rattle.rd_desk.specs.calls.Desks.{Seen}
+use Rattle.rd_desk.specs.parts.Outcomes.{IsPlanned}
+use Rattle.rd_desk.specs.parts.Responding.{asking_next, unless_starved, response_heard}
+use Rattle.rd_desk.specs.parts.UnderWay.{UnderWay}
 use Rattle.rd_desk.proofs.parts.EffectLaws.{joined-nothing, joined-assoc, drawing-more}
 use Rattle.rd_desk.proofs.parts.EmptyMessageLaws.{fetch_more}
 use Rattle.rd_desk.proofs.parts.MakingLaws.{entries-making_nothing}

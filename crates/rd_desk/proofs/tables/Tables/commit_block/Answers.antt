@@ -6,9 +6,9 @@ use Rattle.journal_model.specs.Effects.{nothing, joined, noting}
 use Rattle.transfers.specs.declared.collecting.Upload.{Upload}
 use Rattle.transfers.specs.declared.collecting.Upload.TheVariants as answer
 use Rattle.coap_answers.specs.Replies.{reply_said}
-use Rattle.rd_desk.specs.Stepping.{is_starved_step}
+use Rattle.rd_desk.specs.calls.Stepping.{is_starved_step}
 use Rattle.history_model.specs.Versions.{Version}
-use Rattle.rd_desk.specs.Shown.{AreToldOf}
+use Rattle.rd_desk.specs.calls.Shown.{AreToldOf}
 use Rattle.rd_desk.proofs.changes.StagingLaws.{laid_none, laid_from}
 use Rattle.rd_desk.proofs.changes.SettlingLaws.{open_more}
 use Rattle.rd_desk.proofs.changes.UploadLaws.{

@@ -9,10 +9,10 @@ use Rattle.journal_model.specs.Journal.{entries}
 use Rattle.journal_model.specs.Registrations.{block1_option}
 use Rattle.journal_model.specs.Rows.{row_moment}
 use Rattle.coap_answers.specs.Replies.{IsReply}
-use Rattle.rd_desk.specs.Committing.{IsShort}
-use Rattle.rd_desk.specs.Desks.{Seen}
-use Rattle.rd_desk.specs.Outcomes.{IsPlanned, IsTimely}
-use Rattle.rd_desk.specs.Staging.{IsNextOf}
+use Rattle.rd_desk.specs.parts.Committing.{IsShort}
+use Rattle.rd_desk.specs.calls.Desks.{Seen}
+use Rattle.rd_desk.specs.parts.Outcomes.{IsPlanned, IsTimely}
+use Rattle.rd_desk.specs.parts.Laying.{IsNextOf}
 use Rattle.rd_desk.proofs.changes.StagingLaws.{
   next_told,
   swept_planned,

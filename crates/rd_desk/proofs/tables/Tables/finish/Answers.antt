@@ -1,8 +1,8 @@
 use Rattle.std.proofs.Common.{[], true, false, subst}
 use Rattle.coap_answers.specs.Replies.{IsReply}
-use Rattle.rd_desk.specs.Committing.{IsShort}
-use Rattle.rd_desk.specs.Outcomes.{IsTimely}
-use Rattle.rd_desk.specs.Staging.{IsNextOf}
+use Rattle.rd_desk.specs.parts.Committing.{IsShort}
+use Rattle.rd_desk.specs.parts.Outcomes.{IsTimely}
+use Rattle.rd_desk.specs.parts.Laying.{IsNextOf}
 use Rattle.rd_desk.proofs.changes.StagingLaws.{
   next_told,
   swept_planned,
@@ -13,7 +13,7 @@ use Rattle.rd_desk.proofs.changes.StagingLaws.{
 use Rattle.rd_base.specs.declared.peers.Peer.{Peer}
 use Rattle.event_model.specs.AdmissionOrder.{IsOpen}
 use Rattle.journal_model.specs.Journal.{events, entries}
-use Rattle.rd_desk.specs.Outcomes.{IsPlanned}
+use Rattle.rd_desk.specs.parts.Outcomes.{IsPlanned}
 use Rattle.rd_desk.proofs.changes.CommitLaws.{planned_ok}
 use Rattle.rd_desk.proofs.tables.Tables.finish.Goals as goal
 

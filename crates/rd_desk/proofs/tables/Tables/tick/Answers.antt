@@ -2,8 +2,8 @@ use Rattle.std.proofs.Common.{false}
 use Rattle.journal_model.specs.Effects.{joined}
 use Rattle.journal_model.specs.Rows.{row_moment}
 use Rattle.journal_model.specs.Ticks.{requests_again}
-use Rattle.rd_desk.specs.Planning.{notices_done}
-use Rattle.rd_desk.specs.Stepping.{is_starved_step}
+use Rattle.rd_desk.specs.parts.Planning.{notices_done}
+use Rattle.rd_desk.specs.calls.Stepping.{is_starved_step}
 use Rattle.rd_desk.proofs.ticking.WholeTick.{notices_leave, requests_room, tick_made}
 use Rattle.rd_desk.proofs.tables.Tables.tick.Goals as goal
 
