@@ -7,6 +7,7 @@ pub(crate) mod locations;
 pub(crate) mod outcomes;
 pub(crate) mod refusals;
 pub(crate) mod registrations;
+pub(crate) mod replies;
 pub(crate) mod settling;
 pub(crate) mod simple_registrations;
 pub(crate) mod staging;

@@ -1,5 +1,5 @@
 -- How a write that was admitted is done: it is settled by its answer, or it fails.
-use Rattle.std.specs.Prelude.{◌≡◌, ℕ, ◌≤◌, Bool, true, false, [], ◌∷◌, length, None}
+use Rattle.std.specs.Prelude.{ℕ, Bool, true, false, [], ◌∷◌}
 use Rattle.message_model.specs.Codes as codes_of
 use Rattle.message_model.specs.Message.{Message}
 use Rattle.message_model.specs.Spelling.{spelling}
@@ -7,7 +7,6 @@ use Rattle.event_model.specs.declared.notes.Note.TheVariants as note
 use Rattle.journal_model.specs.declared.steps.Step.{Step}
 use Rattle.journal_model.specs.Effects as effects
 use Rattle.journal_model.specs.Effects.{Effects, bare, answer, answering}
-use Rattle.coap_answers.specs.declared.replies.Reply.{Reply}
 
 -- a request is answered, and its write, which was admitted at a place, is settled by that
 abbrev pub answering_settled : ℕ → Step → Message → effects.Reply → Effects
@@ -23,10 +22,3 @@ failing place s m = answering s m (bare codes_of.internal_server_error) (note.Fa
 abbrev pub unless_failing : Bool → ℕ → Step → Message → Effects → Effects
 unless_failing true place s m e = failing place s m
 unless_failing false place s m e = e
-
--- an answer that is kept for repeats of its write: no body, and a payload of one word
-pub record IsShort (r : Reply) : Type 0 where
-  pub tag : r.tag ≡ None
-  pub observe : r.observe ≡ None
-  pub block2 : r.block2 ≡ None
-  pub payload : length r.payload.now ≤ 13

@@ -9,12 +9,12 @@ use Rattle.history_model.specs.Versions.{Version, VersionStandsFor}
 use Rattle.event_model.specs.declared.notes.Note.{Note}
 use Rattle.event_model.specs.declared.notes.Note.TheVariants as note
 use Rattle.journal_model.specs.Changes as changes
-use Rattle.coap_answers.specs.declared.replies.Reply.{Reply}
-use Rattle.coap_answers.specs.Replies.{IsReply, reply_said}
 use Rattle.observation.specs.declared.change_kinds.ChangeKind.{ChangeKind}
 use Rattle.observation.specs.ChangeKinds.{kind_of}
 use Rattle.rd_desk.specs.declared.write.outcomes.Entering.{Entering}
 use Rattle.rd_desk.specs.declared.write.outcomes.Outcome.{Outcome}
+use Rattle.rd_desk.specs.declared.write.replies.ShortReply.{ShortReply}
+use Rattle.rd_desk.specs.parts.Replies.{short_said}
 use Rattle.message_model.specs.Codes as codes_of
 use Rattle.history_model.specs.declared.refusals.Refusal.{Refusal}
 use Rattle.journal_model.specs.Effects.{diagnostic}
@@ -53,8 +53,7 @@ AreNotes history swept further notes (Some e) =
 -- what is accepted notes more beside its entry
 pub record IsPlanned (history : List Entry) (swept : ℕ) (further : List Note)
     (meant : changes.Outcome) (o : Outcome) : Type 0 where
-  pub said : reply_said o.reply ≡ meant.reply
-  pub reply : IsReply o.reply
+  pub said : short_said o.reply ≡ meant.reply
   pub notes : AreNotes history swept further meant.notes o.entering
 
 -- what comes of a write is made at a moment: its entry has that, where it makes one
@@ -65,11 +64,11 @@ IsMadeAt moment meant =
     → entry.moment.0 ≡ moment
 
 -- a change is refused, and this is said
-abbrev pub IsRefusedWith : Option Refusal → Reply → Type 0
+abbrev pub IsRefusedWith : Option Refusal → ShortReply → Type 0
 IsRefusedWith None r = ⊥
-IsRefusedWith (Some why) r = reply_said r ≡ (changes.refused_as why).reply
+IsRefusedWith (Some why) r = short_said r ≡ (changes.refused_as why).reply
 
 -- a body is refused, and this is said
-abbrev pub IsBadBody : changes.BodyRead → Reply → Type 0
-IsBadBody (changes.bad_body word) r = reply_said r ≡ diagnostic codes_of.bad_request word
+abbrev pub IsBadBody : changes.BodyRead → ShortReply → Type 0
+IsBadBody (changes.bad_body word) r = short_said r ≡ diagnostic codes_of.bad_request word
 IsBadBody (changes.good_body links) r = ⊥

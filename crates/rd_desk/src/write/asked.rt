@@ -9,7 +9,7 @@ use rd_base::{Moment, Peer};
 use rd_request::Request;
 
 /// A write that was admitted: who wrote, when it was admitted, and what it asks.
-#[derive(Clone, Copy, Debug)]
+#[derive(Clone, Copy)]
 pub(crate) struct Write<'a> {
     /// Who wrote.
     pub peer: Peer,
@@ -20,7 +20,7 @@ pub(crate) struct Write<'a> {
 }
 
 /// A registration (RFC 9176 section 5). Its query options are not refused.
-#[derive(Clone, Copy, Debug)]
+#[derive(Clone, Copy)]
 pub(crate) struct Registering<'a> {
     /// The write.
     pub write: Write<'a>,
@@ -29,7 +29,7 @@ pub(crate) struct Registering<'a> {
 }
 
 /// A simple registration (RFC 9176 section 5.1). Its query options are not refused.
-#[derive(Clone, Copy, Debug)]
+#[derive(Clone, Copy)]
 pub(crate) struct RegisteringSimply<'a> {
     /// The write.
     pub write: Write<'a>,
@@ -38,7 +38,7 @@ pub(crate) struct RegisteringSimply<'a> {
 }
 
 /// An update of a registration (RFC 9176 section 5.3.1). Its query options are not refused.
-#[derive(Clone, Copy, Debug)]
+#[derive(Clone, Copy)]
 pub(crate) struct Updating<'a> {
     /// The write.
     pub write: Write<'a>,

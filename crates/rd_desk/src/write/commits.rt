@@ -14,9 +14,8 @@ ghost use Rattle.journal_model.specs.Effects.{nothing};
 ghost use Rattle.journal_model.specs.Journal.{events, entries};
 ghost use Rattle.journal_model.specs.Rows.{row_moment, done, row};
 ghost use Rattle.coap_answers.specs.Outboxes.{most_datagrams};
-ghost use Rattle.coap_answers.specs.Replies.{IsReply};
 ghost use Rattle.rd_request.specs.Accepted.{message_of};
-ghost use Rattle.rd_desk.specs.parts.Committing.{unless_failing, IsShort};
+ghost use Rattle.rd_desk.specs.parts.Committing.{unless_failing};
 ghost use Rattle.rd_desk.specs.parts.Outcomes.{IsTimely, IsPlanned, IsMadeAt};
 ghost use Rattle.rd_desk.specs.calls.Stepping.{is_starved_step};
 ghost use Rattle.rd_desk.specs.parts.UnderWay.{UnderWay};
@@ -40,8 +39,6 @@ impl Tables {
     /// What is planned of a write is done: its entry is made, where it makes one, and then its
     /// answer settles it. Takes no memory.
     fn conclude(&mut self, mids: &mut Mids, write: &Write<'_>, outcome: Outcome, out: &mut Outbox)
-        requires reply { IsReply outcome.reply }
-        requires short { IsShort outcome.reply }
         requires timely { IsTimely self.old.moment outcome }
         requires room { length out.old < most_datagrams }
         ensures way { (rows : List Row) (s : Step) (starved : Bool) (place : ℕ)
@@ -76,8 +73,6 @@ impl Tables {
         planned: Result<Outcome, Starved>,
         out: &mut Outbox,
     ) -> Stepped
-        requires reply { IfOk planned (λ o. IsReply o.reply) }
-        requires short { IfOk planned (λ o. IsShort o.reply) }
         requires timely { IfOk planned (IsTimely self.old.moment) }
         requires room { length out.old < most_datagrams }
         requires free { B.has_staged board.old ≡ false }

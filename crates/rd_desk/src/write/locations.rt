@@ -13,9 +13,8 @@ ghost use Rattle.journal_model.specs.Effects.{nothing};
 ghost use Rattle.journal_model.specs.Journal.{events, entries};
 ghost use Rattle.journal_model.specs.Rows.{row_moment};
 ghost use Rattle.coap_answers.specs.Outboxes.{most_datagrams};
-ghost use Rattle.coap_answers.specs.Replies.{IsReply};
 ghost use Rattle.rd_request.specs.Accepted.{message_of};
-ghost use Rattle.rd_desk.specs.parts.Committing.{unless_failing, IsShort};
+ghost use Rattle.rd_desk.specs.parts.Committing.{unless_failing};
 ghost use Rattle.rd_desk.specs.parts.Outcomes.{IsTimely, IsPlanned};
 ghost use Rattle.rd_desk.specs.calls.Stepping.{is_starved_step};
 ghost use Rattle.rd_desk.specs.parts.UnderWay.{UnderWay};
@@ -56,8 +55,6 @@ fn update_outcome(
     requires after_at { version.now.at ≤ now.0 }
     requires after_sweep { version.now.swept ≤ now.0 }
     requires moment { now.0 ≤ 10 ^ 15 }
-    ensures reply { IfOk result (λ o. IsReply o.reply) }
-    ensures short { IfOk result (λ o. IsShort o.reply) }
     ensures moments { IfOk result (IsTimely now.0) }
     ensures next { (history : List Entry)
         → VersionStandsFor 0 history version.now

@@ -21,16 +21,18 @@ ghost use Rattle.history_model.specs.Replay.{replay, number_for};
 ghost use Rattle.directory_core.specs.Answers.{IsRefusalOf};
 ghost use Rattle.directory_core.specs.Changes.{IsRegistrationOf};
 ghost use Rattle.registration.specs.Drafts.{IsDraft, IsFaultOf};
-ghost use Rattle.coap_answers.specs.Replies.{IsReply, reply_said, block1_options};
-ghost use Rattle.rd_desk.specs.parts.Committing.{IsShort};
+ghost use Rattle.coap_answers.specs.Replies.{block1_options};
+ghost use Rattle.rd_desk.specs.parts.Replies.{short_said};
 ghost use Rattle.rd_desk.specs.parts.Laying.{IsNextOf};
 ghost use Rattle.rd_desk.specs.parts.Outcomes.{HasEntry, IsTimely, IsPlanned, IsRefusedWith};
 ghost use Rattle.rd_desk.specs.parts.Outcomes.{IsBadBody};
 
-use coap_answers::Reply;
+use crate::write::replies::ShortReply;
 use directory_core::{Directory, Refusal};
 use message_model::Block;
-use message_model::codes::CREATED;
+use message_model::codes::{
+    BAD_REQUEST, CHANGED, CREATED, DELETED, NOT_FOUND, SERVICE_UNAVAILABLE,
+};
 use observation::ChangeKind;
 use rd_base::{Moment, Peer, RegParams, Starved, UpdateParams};
 use registration::{Draft, DraftFault, build};
@@ -52,63 +54,53 @@ pub(crate) struct Entering {
 #[derive(Drop)]
 pub(crate) struct Outcome {
     /// What is answered.
-    pub reply: Reply<'static>,
+    pub reply: ShortReply,
     /// The entry that it makes, where it is accepted.
     pub entering: Option<Entering>,
 }
 
 /// What is answered to a change that is refused (RFC 9176 section 5.3); `Starved` where memory ran
 /// out.
-fn refused_reply(refusal: Refusal) -> Result<Reply<'static>, Starved>
-    ensures said { (history : List Entry) (entry : Entry)
+fn refused_reply(refusal: Refusal) -> Result<ShortReply, Starved>
+    ensures { (history : List Entry) (entry : Entry)
         → IsRefusalOf 0 history entry refusal
         → IfOk result (IsRefusedWith (change_refusal 0 history entry)) }
-    ensures reply { IfOk result IsReply }
-    ensures short { IfOk result IsShort }
 {
     match refusal {
-        Refusal::Gone(_) => Ok(Reply::plain(132, b"registration")),
-        Refusal::FullCount(_) => Ok(Reply::plain(163, b"registrations")),
-        Refusal::FullText(_) => Ok(Reply::plain(163, b"text")),
-        Refusal::FullEntries => Ok(Reply::plain(163, b"entries")),
+        Refusal::Gone(_) => Ok(ShortReply::plain(NOT_FOUND, b"registration")),
+        Refusal::FullCount(_) => Ok(ShortReply::plain(SERVICE_UNAVAILABLE, b"registrations")),
+        Refusal::FullText(_) => Ok(ShortReply::plain(SERVICE_UNAVAILABLE, b"text")),
+        Refusal::FullEntries => Ok(ShortReply::plain(SERVICE_UNAVAILABLE, b"entries")),
         Refusal::Starved => Err(Starved),
     }
 }
 
 /// What is answered to a body that gives no draft (RFC 6690 section 2, RFC 9176 appendix C);
 /// `Starved` where memory ran out.
-fn bad_body_reply(fault: DraftFault) -> Result<Reply<'static>, Starved>
-    ensures said { (body : List ℕ)
+fn bad_body_reply(fault: DraftFault) -> Result<ShortReply, Starved>
+    ensures { (body : List ℕ)
         → IsFaultOf body fault
         → IfOk result (IsBadBody (body_read body)) }
-    ensures reply { IfOk result IsReply }
-    ensures short { IfOk result IsShort }
 {
     match fault {
-        DraftFault::Links(_) => Ok(Reply::plain(128, b"links")),
-        DraftFault::Reference(_) => Ok(Reply::plain(128, b"links")),
-        DraftFault::Limited(_) => Ok(Reply::plain(128, b"limited")),
+        DraftFault::Links(_) => Ok(ShortReply::plain(BAD_REQUEST, b"links")),
+        DraftFault::Reference(_) => Ok(ShortReply::plain(BAD_REQUEST, b"links")),
+        DraftFault::Limited(_) => Ok(ShortReply::plain(BAD_REQUEST, b"limited")),
         DraftFault::Starved => Err(Starved),
     }
 }
 
 /// 2.01 with the location of a registration (RFC 9176 section 5), and the block of the request that
 /// it answers, where it is one.
-fn created(number: u64, block1: Option<Block>) -> Reply<'static>
+fn created(number: u64, block1: Option<Block>) -> ShortReply
     requires { ForSome block1 IsBlock }
-    ensures said { reply_said result ≡ created_at number (block1_options block1) }
-    ensures reply { IsReply result }
-    ensures short { IsShort result }
+    ensures { short_said result ≡ created_at number (block1_options block1) }
 {
-    Reply {
+    ShortReply {
         code: CREATED,
-        tag: None,
-        observe: None,
         location: Some(number),
-        format: false,
-        block2: None,
         block1,
-        payload: b"",
+        word: b"",
     }
 }
 
@@ -119,19 +111,15 @@ fn entered(
     version: Directory,
     number: u64,
     kind: ChangeKind,
-    reply: Reply<'static>,
+    reply: ShortReply,
 ) -> Result<Outcome, Starved>
-    requires reply { IsReply reply }
-    requires short { IsShort reply }
-    ensures reply { IfOk result (λ o. IsReply o.reply) }
-    ensures short { IfOk result (λ o. IsShort o.reply) }
     ensures moments { (moment : ℕ)
         → version.at ≡ moment
         → version.swept ≤ moment
         → IfOk result (IsTimely moment) }
     ensures planned { (history : List Entry) (swept : ℕ) (entry : Entry) (meant : changes.Outcome)
         → HasEntry history swept entry version number kind
-        → reply_said reply.entry ≡ meant.reply
+        → short_said reply ≡ meant.reply
         → IfOk result (IsPlanned history swept meant.notes (change_made history entry meant)) }
 {
     let version = Arc::new(alloc, version)?;
@@ -148,8 +136,6 @@ fn entered(
 
 /// What comes of a change that is refused. `Starved`: out of memory.
 fn refused(refusal: Refusal) -> Result<Outcome, Starved>
-    ensures reply { IfOk result (λ o. IsReply o.reply) }
-    ensures short { IfOk result (λ o. IsShort o.reply) }
     ensures moments { (moment : ℕ) → IfOk result (IsTimely moment) }
     ensures planned { (history : List Entry) (swept : ℕ) (entry : Entry) (meant : changes.Outcome)
         → IsRefusalOf 0 history entry refusal
@@ -164,8 +150,6 @@ fn refused(refusal: Refusal) -> Result<Outcome, Starved>
 
 /// What comes of a body that gives no draft. `Starved`: out of memory.
 fn refused_body(fault: DraftFault) -> Result<Outcome, Starved>
-    ensures reply { IfOk result (λ o. IsReply o.reply) }
-    ensures short { IfOk result (λ o. IsShort o.reply) }
     ensures moments { (moment : ℕ) → IfOk result (IsTimely moment) }
     ensures planned { (history : List Entry) (swept moment : ℕ) (s : Step) (params : RegParams)
         (body : List ℕ) (options : List Opt) (further : List Note)
@@ -194,8 +178,6 @@ fn draft_registered(
     requires moment { now.0 ≤ 10 ^ 15 }
     requires draft { IsDraft draft }
     requires block1 { ForSome block1 IsBlock }
-    ensures reply { IfOk result (λ o. IsReply o.reply) }
-    ensures short { IfOk result (λ o. IsShort o.reply) }
     ensures moments { IfOk result (IsTimely now.0) }
     ensures planned { (history : List Entry) (entry : Entry) (meant : changes.Outcome)
         → VersionStandsFor 0 history version.now
@@ -230,8 +212,6 @@ pub(crate) fn registered(
     requires moment { now.0 ≤ 10 ^ 15 }
     requires allowed { AreAllowed params }
     requires block1 { ForSome block1 IsBlock }
-    ensures reply { IfOk result (λ o. IsReply o.reply) }
-    ensures short { IfOk result (λ o. IsShort o.reply) }
     ensures moments { IfOk result (IsTimely now.0) }
     ensures next { (history : List Entry)
         → VersionStandsFor 0 history version.now
@@ -262,8 +242,6 @@ pub(crate) fn updated(
     requires after_sweep { version.now.swept ≤ now.0 }
     requires moment { now.0 ≤ 10 ^ 15 }
     requires change { IsAllowedChange change }
-    ensures reply { IfOk result (λ o. IsReply o.reply) }
-    ensures short { IfOk result (λ o. IsShort o.reply) }
     ensures moments { IfOk result (IsTimely now.0) }
     ensures next { (history : List Entry)
         → VersionStandsFor 0 history version.now
@@ -277,7 +255,7 @@ pub(crate) fn updated(
 {
     match version.update(now, number, change, peer) {
         Ok(version) => {
-            let reply = Reply::plain(68, b"");
+            let reply = ShortReply::plain(CHANGED, b"");
             entered(alloc, version, number, ChangeKind::Update, reply)
         }
         Err(refusal) => refused(refusal),
@@ -295,8 +273,6 @@ pub(crate) fn removed(
     requires after_at { version.now.at ≤ now.0 }
     requires after_sweep { version.now.swept ≤ now.0 }
     requires moment { now.0 ≤ 10 ^ 15 }
-    ensures reply { IfOk result (λ o. IsReply o.reply) }
-    ensures short { IfOk result (λ o. IsShort o.reply) }
     ensures moments { IfOk result (IsTimely now.0) }
     ensures next { (history : List Entry)
         → VersionStandsFor 0 history version.now
@@ -309,7 +285,7 @@ pub(crate) fn removed(
 {
     match version.remove(now, number) {
         Ok(version) => {
-            let reply = Reply::plain(66, b"");
+            let reply = ShortReply::plain(DELETED, b"");
             entered(alloc, version, number, ChangeKind::Removal, reply)
         }
         Err(refusal) => refused(refusal),

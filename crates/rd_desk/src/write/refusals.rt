@@ -7,39 +7,16 @@ ghost use Rattle.journal_model.specs.declared.steps.Step.{Step};
 ghost use Rattle.journal_model.specs.declared.rows.Row.{Row};
 ghost use Rattle.journal_model.specs.Changes.{refused};
 ghost use Rattle.journal_model.specs.Commits.{settling};
-ghost use Rattle.journal_model.specs.Effects.{nothing, diagnostic};
+ghost use Rattle.journal_model.specs.Effects.{nothing};
 ghost use Rattle.journal_model.specs.Journal.{events};
 ghost use Rattle.coap_answers.specs.Outboxes.{most_datagrams};
-ghost use Rattle.coap_answers.specs.Replies.{IsReply, reply_said};
 ghost use Rattle.rd_request.specs.Accepted.{message_of};
-ghost use Rattle.rd_desk.specs.parts.Committing.{IsShort};
 ghost use Rattle.rd_desk.specs.parts.UnderWay.{UnderWay};
 
 use crate::tables::Tables;
 use crate::write::asked::Write;
+use crate::write::replies::ShortReply;
 use crate::{Mids, Outbox};
-use coap_answers::Reply;
-
-/// A code with the word of a refusal.
-fn refusal(code: u8, word: &'static [u8]) -> Reply<'static>
-    requires class { is_reserved code ≡ false }
-    requires filled { codes_of.empty < code }
-    requires word { length word.now ≤ 13 }
-    ensures said { reply_said result ≡ diagnostic code word.now }
-    ensures reply { IsReply result }
-    ensures short { IsShort result }
-{
-    Reply {
-        code,
-        tag: None,
-        observe: None,
-        location: None,
-        format: false,
-        block2: None,
-        block1: None,
-        payload: word,
-    }
-}
 
 impl Tables {
     /// An admitted write is refused with a code and a word, and settled by that. Takes no memory.
@@ -64,6 +41,6 @@ impl Tables {
             (refused code word.now)) self.new out.new mids.new }
         ensures version { self.new.version ≡ self.old.version }
     {
-        self.settle(mids, write, &refusal(code, word), out);
+        self.settle(mids, write, &ShortReply::plain(code, word), out);
     }
 }

@@ -12,14 +12,15 @@ ghost use Rattle.journal_model.specs.Effects.{Effects, nothing, joined, answerin
 ghost use Rattle.journal_model.specs.Journal.{events};
 ghost use Rattle.journal_model.specs.UnfinishedRow.{making};
 ghost use Rattle.coap_answers.specs.Outboxes.{most_datagrams};
-ghost use Rattle.coap_answers.specs.Replies.{IsReply, reply_said};
 ghost use Rattle.coap_answers.specs.Sendings.{IsStepOf, Sends};
 ghost use Rattle.rd_request.specs.Accepted.{message_of};
-ghost use Rattle.rd_desk.specs.parts.Committing.{answering_settled, failing, IsShort};
+ghost use Rattle.rd_desk.specs.parts.Committing.{answering_settled, failing};
+ghost use Rattle.rd_desk.specs.parts.Replies.{short_said};
 ghost use Rattle.rd_desk.specs.parts.UnderWay.{UnderWay};
 
 use crate::tables::Tables;
 use crate::write::asked::Write;
+use crate::write::replies::ShortReply;
 use crate::{Mids, Outbox};
 use coap_answers::{Reply, answer, begin_answer, internal_server_error};
 use coap_message::View;
@@ -36,23 +37,31 @@ pub(crate) fn answer_short(
     mids: &mut Mids,
     peer: Peer,
     view: &View<'_>,
-    reply: &Reply<'_>,
+    reply: &ShortReply,
     out: &mut Outbox,
 ) -> exchange_core::Reply
-    requires reply { IsReply reply.now }
-    requires short { IsShort reply.now }
     requires room { length out.old < most_datagrams }
     ensures sends { (s : Step) (notes : List Note)
         → IsStepOf s peer mids.old
-        → Sends (answering s (message_in view.now) (reply_said reply.now) notes) out.old out.new
+        → Sends (answering s (message_in view.now) (short_said reply.now) notes) out.old out.new
         mids.old mids.new }
     ensures octets { (s : Step)
         → IsStepOf s peer mids.old
-        → result ≡ spelling (effects.answer s (message_in view.now) (reply_said reply.now)) }
+        → result ≡ spelling (effects.answer s (message_in view.now) (short_said reply.now)) }
 {
     known_number(reply.location);
-    let mut writer = begin_answer(mids, view, reply);
-    let Ok(datagram) = writer.finish(reply.payload) else {
+    let said = Reply {
+        code: reply.code,
+        tag: None,
+        observe: None,
+        location: reply.location,
+        format: false,
+        block2: None,
+        block1: reply.block1,
+        payload: reply.word,
+    };
+    let mut writer = begin_answer(mids, view, &said);
+    let Ok(datagram) = writer.finish(reply.word) else {
         unreachable!()
     };
     out.push(peer, datagram);
@@ -66,11 +75,9 @@ impl Tables {
         &mut self,
         mids: &mut Mids,
         write: &Write<'_>,
-        reply: &Reply<'_>,
+        reply: &ShortReply,
         out: &mut Outbox,
     )
-        requires reply { IsReply reply.now }
-        requires short { IsShort reply.now }
         requires room { length out.old < most_datagrams }
         ensures way { (rows : List Row) (s : Step) (starved : Bool) (done : Effects) (place : ℕ)
             → s.peer ≡ write.now.peer
@@ -79,7 +86,7 @@ impl Tables {
             write.now.admitted.0 (events (making rows s starved done))
             → UnderWay rows s starved done self.old out.old mids.old
             → UnderWay rows s starved (joined done
-            (answering_settled place s (message_of write.now.request) (reply_said reply.now)))
+            (answering_settled place s (message_of write.now.request) (short_said reply.now)))
             self.new out.new mids.new }
         ensures version { self.new.version ≡ self.old.version }
     {

@@ -11,40 +11,21 @@ ghost use Rattle.journal_model.specs.Effects.{nothing};
 ghost use Rattle.journal_model.specs.Journal.{events};
 ghost use Rattle.simple_registration.specs.Table.{Table};
 ghost use Rattle.coap_answers.specs.Outboxes.{most_datagrams};
-ghost use Rattle.coap_answers.specs.Replies.{IsReply, reply_said};
 ghost use Rattle.rd_request.specs.Accepted.{message_of};
-ghost use Rattle.rd_desk.specs.parts.Committing.{unless_failing, IsShort};
+ghost use Rattle.rd_desk.specs.parts.Committing.{unless_failing};
 ghost use Rattle.rd_desk.specs.calls.Stepping.{is_starved_step};
 ghost use Rattle.rd_desk.specs.parts.UnderWay.{UnderWay};
 
 use crate::hear::responses::ask_next;
 use crate::tables::Tables;
 use crate::write::asked::{RegisteringSimply, Write};
+use crate::write::replies::ShortReply;
 use crate::write::settling::answer_short;
 use crate::{Mids, Outbox, Stepped};
-use coap_answers::Reply;
 use coap_message::Kind4;
 use message_model::codes::{CHANGED, SERVICE_UNAVAILABLE};
 use rd_request::{Request, given_params};
 use simple_registration::{AllowedParams, StartFault};
-
-/// 2.04 alone.
-fn changed() -> Reply<'static>
-    ensures said { reply_said result ≡ effects.bare codes_of.changed }
-    ensures reply { IsReply result }
-    ensures short { IsShort result }
-{
-    Reply {
-        code: CHANGED,
-        tag: None,
-        observe: None,
-        location: None,
-        format: false,
-        block2: None,
-        block1: None,
-        payload: b"",
-    }
-}
 
 /// How many Message IDs the answer to a request of this type draws.
 fn drawn_for(kind: Kind4) -> u64
@@ -74,8 +55,9 @@ impl Tables {
         ensures one { length out.new ≡ length out.old + 1 }
         ensures version { self.new.version ≡ self.old.version }
     {
+        let changed = ShortReply::plain(CHANGED, b"");
         let view = &write.request.meaning.view;
-        let octets = answer_short(mids, write.peer, view, &changed(), out);
+        let octets = answer_short(mids, write.peer, view, &changed, out);
         self.exchanges
             .settle(write.peer, view.mid, write.admitted, octets);
     }

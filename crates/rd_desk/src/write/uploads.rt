@@ -23,9 +23,9 @@ ghost use Rattle.journal_model.specs.Rows.{row_moment};
 ghost use Rattle.transfers.specs.TransferEvents.{block_answer};
 ghost use Rattle.coap_answers.specs.declared.mids.Mids.{Mids};
 ghost use Rattle.coap_answers.specs.Outboxes.{most_datagrams};
-ghost use Rattle.coap_answers.specs.Replies.{IsReply, reply_said};
 ghost use Rattle.rd_request.specs.Accepted.{message_of};
-ghost use Rattle.rd_desk.specs.parts.Committing.{unless_failing, IsShort};
+ghost use Rattle.rd_desk.specs.parts.Committing.{unless_failing};
+ghost use Rattle.rd_desk.specs.parts.Replies.{short_said};
 ghost use Rattle.rd_desk.specs.parts.Outcomes.{IsTimely, IsPlanned, IsMadeAt};
 ghost use Rattle.rd_desk.specs.calls.Stepping.{is_starved_step};
 ghost use Rattle.rd_desk.specs.parts.UnderWay.{UnderWay};
@@ -35,9 +35,9 @@ ghost use Rattle.rd_desk.specs.parts.Laying.{IsLaid, IsLeftBy, IsNextOf};
 use crate::tables::Tables;
 use crate::write::asked::{Registering, Write};
 use crate::write::outcomes::{Outcome, registered};
+use crate::write::replies::ShortReply;
 use crate::write::staging::staged;
 use crate::{Mids, Outbox, Stepped};
-use coap_answers::Reply;
 use coap_options::request_key;
 use directory_core::{Board, Directory};
 use message_model::Block;
@@ -50,27 +50,21 @@ use std::alloc::Global;
 use transfers::Upload;
 
 /// 2.31 to a block that is collected, and more follow.
-fn continued(block: Block) -> Reply<'static>
+fn continued(block: Block) -> ShortReply
     requires { IsBlock block }
-    ensures said { reply_said result
+    ensures { short_said result
         ≡ record { code = codes_of.continue; options = block1_option block; payload = [] } }
-    ensures reply { IsReply result }
-    ensures short { IsShort result }
 {
-    Reply {
+    ShortReply {
         code: CONTINUE,
-        tag: None,
-        observe: None,
         location: None,
-        format: false,
-        block2: None,
         block1: Some(block),
-        payload: b"",
+        word: b"",
     }
 }
 
 /// The body of a registration whose last block came.
-#[derive(Clone, Copy, Debug)]
+#[derive(Clone, Copy)]
 pub(crate) struct WholeBody<'a> {
     /// The key of the requests that its blocks came by (RFC 7959 section 2.5).
     pub key: &'a Key,
@@ -94,8 +88,6 @@ fn body_outcome(
     requires moment { now.0 ≤ 10 ^ 15 }
     requires block { IsBlock body.now.last }
     ensures moments { IfOk result (IsTimely now.0) }
-    ensures reply { IfOk result (λ o. IsReply o.reply) }
-    ensures short { IfOk result (λ o. IsShort o.reply) }
     ensures next { (history : List Entry)
         → VersionStandsFor 0 history version.now
         → IfOk result (IsNextOf history) }
@@ -173,8 +165,6 @@ impl Tables {
         out: &mut Outbox,
     )
         requires timely { IsTimely self.old.moment outcome }
-        requires reply { IsReply outcome.reply }
-        requires short { IsShort outcome.reply }
         requires room { length out.old < most_datagrams }
         ensures way { (rows : List Row) (s : Step) (starved : Bool) (place : ℕ)
             (meant : changes.Outcome)

@@ -8,8 +8,6 @@ use Rattle.journal_model.specs.Changes.{registration}
 use Rattle.journal_model.specs.Journal.{entries}
 use Rattle.journal_model.specs.Registrations.{block1_option}
 use Rattle.journal_model.specs.Rows.{row_moment}
-use Rattle.coap_answers.specs.Replies.{IsReply}
-use Rattle.rd_desk.specs.parts.Committing.{IsShort}
 use Rattle.rd_desk.specs.calls.Desks.{Seen}
 use Rattle.rd_desk.specs.parts.Outcomes.{IsPlanned, IsTimely}
 use Rattle.rd_desk.specs.parts.Laying.{IsNextOf}
@@ -39,16 +37,6 @@ settle_upload-requires-clause-timely g c =
     subst (λ (d : Seen). IsTimely d.moment c.in-Ok.outcome) c.self.view_is
     (of_laid (IsTimely _) c.body_outcome-planned.result c.in-Ok.outcome c.in-Ok.ensures.same
     c.body_outcome-planned.ensures.moments)
-
-pub settle_upload-requires-clause-reply : goal.settle_upload-requires-clause-reply
-settle_upload-requires-clause-reply g c =
-    of_laid (λ o. IsReply o.reply) c.body_outcome-planned.result c.in-Ok.outcome
-    c.in-Ok.ensures.same c.body_outcome-planned.ensures.reply
-
-pub settle_upload-requires-clause-short : goal.settle_upload-requires-clause-short
-settle_upload-requires-clause-short g c =
-    of_laid (λ o. IsShort o.reply) c.body_outcome-planned.result c.in-Ok.outcome
-    c.in-Ok.ensures.same c.body_outcome-planned.ensures.short
 
 pub returns-in-Ok-clause-way : goal.returns-in-Ok-clause-way
 returns-in-Ok-clause-way g c =

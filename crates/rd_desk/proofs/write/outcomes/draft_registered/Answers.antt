@@ -10,7 +10,7 @@ returns-in-Ok-clause-planned c history entry meant stands is said =
     (registration-HasEntry history c.args.version.now.swept _ c.args.now c.args.draft entry _ is
     (c.in-Ok.ensures.stands 0 history entry stands is) c.in-Ok.ensures.swept
     (c.in-Ok.ensures.accepted 0 history entry stands is) (c.in-Ok.ensures.number 0 history stands))
-    (c.created-reply.ensures.said
+    (c.created-reply.ensures
     ∙ (ap (λ (n : ℕ). created_at n (block1_options c.args.block1))
     (c.in-Ok.ensures.number 0 history stands)
     ∙ sym said))

@@ -8,6 +8,6 @@ pub returns-clause-planned : goal.returns-clause-planned
 returns-clause-planned c history swept entry meant has said =
     planned-entered history swept entry meant c.args.reply
     (record { version = c.in_ok-version.version; number = c.args.number; kind = c.args.kind })
-    c.requires.reply said
+    said
     (subst (λ (v : Version). HasEntry history swept entry v c.args.number c.args.kind)
     (sym c.in_ok-version.ensures.ok) has)
