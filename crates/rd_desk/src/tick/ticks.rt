@@ -50,8 +50,9 @@ fn swept<L: Ledger>(
 }
 
 impl Tables {
-    /// Exchanges that are older than an exchange lives are dropped. Takes no memory.
-    fn drop_old_exchanges(&mut self)
+    /// What is old is dropped: exchanges that are older than an exchange lives, and, where memory
+    /// suffices, registrations that have lapsed.
+    fn drop_old(&mut self)
         ensures { (rows : List Row) (s : Step) (starved : Bool) (done : Effects)
             (out : List (Endpoint
             × List ℕ)) (mids : Drawn)
@@ -59,16 +60,6 @@ impl Tables {
             → UnderWay rows s starved done self.new out mids }
     {
         self.exchanges.age(self.moment);
-    }
-
-    /// Registrations that have lapsed are dropped from the version, where memory suffices.
-    fn sweep(&mut self)
-        ensures { (rows : List Row) (s : Step) (starved : Bool) (done : Effects)
-            (out : List (Endpoint
-            × List ℕ)) (mids : Drawn)
-            → UnderWay rows s starved done self.old out mids
-            → UnderWay rows s starved done self.new out mids }
-    {
         let Ok(version) = swept::<Brand>(Blank::new(1), self.alloc, &*self.version, self.moment)
         else {
             return;
@@ -105,8 +96,7 @@ impl Tables {
         self.notices_again(out);
         let stepped = self.notices(word, mids, out);
         self.requests_again(out);
-        self.drop_old_exchanges();
-        self.sweep();
+        self.drop_old();
         stepped
     }
 }

@@ -1,15 +1,22 @@
 //! Registrations: their body comes whole, or in blocks (RFC 9176 section 5, RFC 7959 section 2.5).
 ghost use Rattle.std.specs.Prelude.{◌≡◌, ◌<◌, ◌≤◌, ◌^◌, ℕ, [], List, length, None, IfOk, false};
+ghost use Rattle.std.specs.Option.{ForSome};
+ghost use Rattle.message_model.specs.Blocks.{IsBlock};
+ghost use Rattle.message_model.specs.Request.{queries_in};
+ghost use Rattle.record_model.specs.Parameters.{registration_values};
 ghost use Rattle.history_model.specs.Versions.{VersionStandsFor};
+ghost use Rattle.event_model.specs.declared.notes.Note.{Note};
 ghost use Rattle.event_model.specs.AdmissionOrder.{IsOpen};
 ghost use Rattle.journal_model.specs.declared.steps.Step.{Step};
 ghost use Rattle.journal_model.specs.declared.rows.Row.{Row};
+ghost use Rattle.journal_model.specs.Changes.{registration};
 ghost use Rattle.journal_model.specs.Commits.{settling};
 ghost use Rattle.journal_model.specs.Effects.{nothing};
 ghost use Rattle.journal_model.specs.Journal.{events, entries};
 ghost use Rattle.journal_model.specs.Registrations as registrations_of;
 ghost use Rattle.journal_model.specs.Rows.{row_moment};
 ghost use Rattle.coap_answers.specs.Outboxes.{most_datagrams};
+ghost use Rattle.coap_answers.specs.Replies.{block1_options};
 ghost use Rattle.rd_request.specs.Accepted.{message_of};
 ghost use Rattle.rd_desk.specs.parts.Committing.{unless_failing};
 ghost use Rattle.rd_desk.specs.parts.Outcomes.{IsTimely, IsPlanned};
@@ -24,43 +31,40 @@ use crate::write::asked::Registering;
 use crate::write::outcomes::{Outcome, registered};
 use crate::{Mids, Outbox, Stepped};
 use directory_core::{Board, Directory};
+use message_model::Block;
 use rd_base::{Moment, Starved};
 use rd_request::{Request, given_params};
 use std::alloc::Global;
 
-/// What comes of a registration whose body comes whole. `Starved`: out of memory.
-fn whole_outcome(
+/// What comes of a registration with its whole body, which ends a block of a request where one is
+/// named. `Starved`: out of memory.
+pub(crate) fn whole_outcome(
     alloc: Global,
     version: &Directory,
     now: Moment,
     registering: &Registering<'_>,
+    body: &[u8],
+    block1: Option<Block>,
 ) -> Result<Outcome, Starved>
     requires after_at { version.now.at ≤ now.0 }
     requires after_sweep { version.now.swept ≤ now.0 }
     requires moment { now.0 ≤ 10 ^ 15 }
+    requires block1 { ForSome block1 IsBlock }
     ensures moments { IfOk result (IsTimely now.0) }
     ensures next { (history : List Entry)
         → VersionStandsFor 0 history version.now
         → IfOk result (IsNextOf history) }
-    ensures planned { (rows : List Row) (s : Step)
-        → VersionStandsFor 0 (entries rows) version.now
+    ensures planned { (history : List Entry) (s : Step) (further : List Note)
+        → VersionStandsFor 0 history version.now
         → s.peer ≡ registering.now.write.peer
-        → IfOk result (IsPlanned (entries rows) version.now.swept []
-        (registrations_of.registration_outcome None rows now.0 s
-        (message_of registering.now.write.request))) }
+        → IfOk result (IsPlanned history version.now.swept further
+        (registration history now.0 s (registration_values
+        (queries_in (message_of registering.now.write.request))) body.now
+        (block1_options block1) further)) }
 {
     let write = &registering.write;
-    let meaning = &write.request.meaning;
-    let params = given_params(alloc, meaning, false)?;
-    registered(
-        alloc,
-        version,
-        now,
-        write.peer,
-        params,
-        meaning.view.payload,
-        None,
-    )
+    let params = given_params(alloc, &write.request.meaning, false)?;
+    registered(alloc, version, now, write.peer, params, body, block1)
 }
 
 impl Tables {
@@ -91,7 +95,14 @@ impl Tables {
         ensures name { B.name board.new ≡ B.name board.old }
         ensures told { B.told board.new ≡ B.told board.old }
     {
-        let planned = whole_outcome(self.alloc, &*self.version, self.moment, registering);
+        let planned = whole_outcome(
+            self.alloc,
+            &*self.version,
+            self.moment,
+            registering,
+            registering.write.request.meaning.view.payload,
+            None,
+        );
         self.finish(board, mids, &registering.write, planned, out)
     }
 

@@ -1,5 +1,5 @@
 //! What writes are answered with (RFC 7252 section 4.5, RFC 9176 section 5).
-ghost use Rattle.std.specs.Prelude.{◌≡◌, ◌<◌, ◌≤◌, false, length};
+ghost use Rattle.std.specs.Prelude.{◌≡◌, ◌<◌, ◌≤◌, ◌^◌, false, length};
 ghost use Rattle.std.specs.Option.{ForSome};
 ghost use Rattle.message_model.specs.Blocks.{IsBlock};
 ghost use Rattle.message_model.specs.Codes as codes_of;
@@ -21,6 +21,7 @@ pub(crate) struct ShortReply {
     pub word: &'static [u8],
     pub ghost class: { is_reserved code ≡ false },
     pub ghost filled: { codes_of.empty < code },
+    pub ghost number: { ForSome location (λ n. n < 2 ^ 64) },
     pub ghost sound: { ForSome block1 IsBlock },
     pub ghost short: { length word.now ≤ 13 },
 }

@@ -27,11 +27,6 @@ use coap_message::View;
 use exchange_core::Octets;
 use rd_base::Peer;
 
-/// The number in a location is one of 64 bits, so it has at most 20 digits.
-fn known_number(location: Option<u64>)
-    ensures { ForSome location (λ number. number < 2 ^ 64) }
-{}
-
 /// The answer to a write is sent; its octets are given back, to be kept for repeats.
 pub(crate) fn answer_short(
     mids: &mut Mids,
@@ -49,7 +44,6 @@ pub(crate) fn answer_short(
         → IsStepOf s peer mids.old
         → result ≡ spelling (effects.answer s (message_in view.now) (short_said reply.now)) }
 {
-    known_number(reply.location);
     let said = Reply {
         code: reply.code,
         tag: None,

@@ -34,19 +34,19 @@ ghost use Rattle.rd_desk.specs.parts.Laying.{IsLaid, IsLeftBy, IsNextOf};
 
 use crate::tables::Tables;
 use crate::write::asked::{Registering, Write};
-use crate::write::outcomes::{Outcome, registered};
+use crate::write::outcomes::Outcome;
+use crate::write::registrations::whole_outcome;
 use crate::write::replies::ShortReply;
 use crate::write::staging::staged;
 use crate::{Mids, Outbox, Stepped};
 use coap_options::request_key;
-use directory_core::{Board, Directory};
+use directory_core::Board;
 use message_model::Block;
 use message_model::codes::{
     CONTINUE, REQUEST_ENTITY_INCOMPLETE, REQUEST_ENTITY_TOO_LARGE, SERVICE_UNAVAILABLE,
 };
-use rd_base::{Key, Moment, Peer, Starved};
-use rd_request::{Request, given_params};
-use std::alloc::Global;
+use rd_base::{Key, Peer};
+use rd_request::Request;
 use transfers::Upload;
 
 /// 2.31 to a block that is collected, and more follow.
@@ -72,44 +72,6 @@ pub(crate) struct WholeBody<'a> {
     pub last: Block,
     /// Its octets.
     pub octets: &'a [u8],
-}
-
-/// What comes of a registration by the last of its blocks, which makes its body whole. `Starved`:
-/// out of memory.
-fn body_outcome(
-    alloc: Global,
-    version: &Directory,
-    now: Moment,
-    registering: &Registering<'_>,
-    body: &WholeBody<'_>,
-) -> Result<Outcome, Starved>
-    requires after_at { version.now.at ≤ now.0 }
-    requires after_sweep { version.now.swept ≤ now.0 }
-    requires moment { now.0 ≤ 10 ^ 15 }
-    requires block { IsBlock body.now.last }
-    ensures moments { IfOk result (IsTimely now.0) }
-    ensures next { (history : List Entry)
-        → VersionStandsFor 0 history version.now
-        → IfOk result (IsNextOf history) }
-    ensures planned { (history : List Entry) (s : Step) (further : List Note)
-        → VersionStandsFor 0 history version.now
-        → s.peer ≡ registering.now.write.peer
-        → IfOk result (IsPlanned history version.now.swept further
-        (registration history now.0 s (registration_values
-        (queries_in (message_of registering.now.write.request))) body.now.octets.now
-        (block1_option body.now.last) further)) }
-{
-    let write = &registering.write;
-    let params = given_params(alloc, &write.request.meaning, false)?;
-    registered(
-        alloc,
-        version,
-        now,
-        write.peer,
-        params,
-        body.octets,
-        Some(body.last),
-    )
 }
 
 impl Tables {
@@ -222,7 +184,14 @@ impl Tables {
         ensures name { B.name board.new ≡ B.name board.old }
         ensures told { B.told board.new ≡ B.told board.old }
     {
-        let planned = body_outcome(self.alloc, &*self.version, self.moment, registering, body);
+        let planned = whole_outcome(
+            self.alloc,
+            &*self.version,
+            self.moment,
+            registering,
+            body.octets,
+            Some(body.last),
+        );
         match staged(board, planned) {
             Ok(outcome) => {
                 self.settle_upload(mids, &registering.write, body.key, outcome, out);

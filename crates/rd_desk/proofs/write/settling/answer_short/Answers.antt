@@ -26,7 +26,7 @@ of-requires c =
     short_written c.args.mids.now.worker c.args.mids.now.drawn c.args.peer
     (message_in c.args.view.now) _ (as_reply c.args.reply.now)
     (λ s. c.begin_answer-writer.ensures.begun s) c.args.view.now.token.short
-    (short_is c.args.reply.now) c.known_number.ensures in
+    (short_is c.args.reply.now) c.args.reply.now.number in
     let same = ap length c.in-Ok.ensures.spelled in
     omega (arith, short, same)
 
