@@ -1,16 +1,4 @@
-pub mod WriteJobs
-pub mod Admitting
-pub mod Lookups
-pub mod Noticing
-pub mod Desks
-pub mod UnderWay
-pub mod Outcomes
-pub mod Committing
-pub mod Staging
-pub mod Stepping
-pub mod Shown
-pub mod Watchers
-pub mod Responding
-pub mod Resending
-pub mod Planning
-pub mod Ticking
+-- What contracts of the calls of a desk say (calls), and what is said of the parts of a step
+-- (parts).
+pub mod calls
+pub mod parts

@@ -16,14 +16,14 @@ ghost use Rattle.journal_model.specs.Journal.{is_look, events};
 ghost use Rattle.journal_model.specs.Machine.{is_look_datagram};
 ghost use Rattle.journal_model.specs.Rows.{row, row_moment};
 ghost use Rattle.rd_request.specs.Incoming.{IsIncoming};
-ghost use Rattle.rd_desk.specs.Admitting.{is_starved_admission, takes_memory, IsHeldFor};
-ghost use Rattle.rd_desk.specs.Desks.{StandsFor};
-ghost use Rattle.rd_desk.specs.Shown.{AreToldOf};
-ghost use Rattle.rd_desk.specs.Staging.{LeavesStaged};
-ghost use Rattle.rd_desk.specs.Stepping.{is_starved_step};
-ghost use Rattle.rd_desk.specs.Ticking.{tick_takes_memory};
-ghost use Rattle.rd_desk.specs.UnderWay.{IsCalled, Made};
-ghost use Rattle.rd_desk.specs.Watchers.{IsShown, IsObserverAfter};
+ghost use Rattle.rd_desk.specs.calls.Admitting.{is_starved_admission, takes_memory, IsHeldFor};
+ghost use Rattle.rd_desk.specs.calls.Desks.{StandsFor};
+ghost use Rattle.rd_desk.specs.calls.Shown.{AreToldOf};
+ghost use Rattle.rd_desk.specs.calls.Staging.{LeavesStaged};
+ghost use Rattle.rd_desk.specs.calls.Stepping.{is_starved_step};
+ghost use Rattle.rd_desk.specs.calls.Ticking.{tick_takes_memory};
+ghost use Rattle.rd_desk.specs.calls.Steps.{IsCalled, Made};
+ghost use Rattle.rd_desk.specs.calls.Watchers.{IsShown, IsObserverAfter};
 
 use crate::tables::Tables;
 use crate::{Admitted, Arrival, KeepJob, Mids, Outbox, Stepped, Watcher, WriteJob};
@@ -45,7 +45,7 @@ pub struct Desk<B: Board> {
 }
 
 impl<B: Board> Model for Desk<B> {
-    ghost use Rattle.rd_desk.specs.Shown.{Shown};
+    ghost use Rattle.rd_desk.specs.calls.Shown.{Shown};
 
     ghost Value = { Shown B };
 

@@ -5,8 +5,9 @@ ghost use Rattle.journal_model.specs.declared.steps.Step.{Step};
 ghost use Rattle.journal_model.specs.declared.rows.Row.{Row};
 ghost use Rattle.journal_model.specs.Effects.{nothing};
 ghost use Rattle.coap_answers.specs.declared.mids.Mids.{Mids};
-ghost use Rattle.rd_desk.specs.Desks.{StandsFor};
-ghost use Rattle.rd_desk.specs.UnderWay.{UnderWay, IsCalled};
+ghost use Rattle.rd_desk.specs.calls.Desks.{StandsFor};
+ghost use Rattle.rd_desk.specs.parts.UnderWay.{UnderWay};
+ghost use Rattle.rd_desk.specs.calls.Steps.{IsCalled};
 
 use directory_core::Directory;
 use exchange_core::Exchanges;
@@ -43,7 +44,7 @@ pub(crate) struct Tables {
 impl Model for Tables {
     ghost use Rattle.std.specs.Prelude.{◌≤◌, ◌^◌};
     ghost use Rattle.std.specs.Arc.{arc_value};
-    ghost use Rattle.rd_desk.specs.Desks.{Seen};
+    ghost use Rattle.rd_desk.specs.calls.Desks.{Seen};
 
     ghost Value = { Seen };
 

@@ -4,8 +4,8 @@ ghost use Rattle.event_model.specs.declared.notes.Observer.{Observer as Observed
 ghost use Rattle.event_model.specs.Observers.{observers};
 ghost use Rattle.journal_model.specs.declared.rows.Row.{Row};
 ghost use Rattle.journal_model.specs.Journal.{events};
-ghost use Rattle.rd_desk.specs.Desks.{StandsFor};
-ghost use Rattle.rd_desk.specs.Watchers.{IsShown, IsShownAs, IsObserverAfter};
+ghost use Rattle.rd_desk.specs.calls.Desks.{StandsFor};
+ghost use Rattle.rd_desk.specs.calls.Watchers.{IsShown, IsShownAs, IsObserverAfter};
 
 use crate::tables::Tables;
 use exchange_core::Token;

@@ -33,7 +33,7 @@ use Rattle.turn_lock.specs.declared.rows.Replays.{Ghosts}
 use Rattle.turn_lock.specs.declared.seats.Pass.{Pass}
 use Rattle.turn_lock.specs.Rule.{IsHome}
 use Rattle.turn_lock.specs.Shown.{lock_of, IsNew}
-use Rattle.rd_desk.specs.Shown.{Shown}
+use Rattle.rd_desk.specs.calls.Shown.{Shown}
 use Rattle.version_board.specs.Ends.{PublisherSeen, new_looker}
 use Rattle.rd_seat.specs.declared.shared_desk.SharedDesk.{SharedDesk}
 use Rattle.rd_seat.specs.Halls.{IsHistoryOfHall, HallsHoldHistory}

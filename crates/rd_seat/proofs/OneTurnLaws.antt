@@ -15,8 +15,8 @@ use Rattle.turn_lock.specs.declared.rows.Replays.{Ghosts}
 use Rattle.turn_lock.specs.declared.seats.Pass.{Pass}
 use Rattle.turn_lock.specs.Shown.{seen_of}
 use Rattle.coap_answers.specs.declared.mids.Mids.{Mids}
-use Rattle.rd_desk.specs.Shown.{Shown}
-use Rattle.rd_desk.specs.UnderWay.{Made}
+use Rattle.rd_desk.specs.calls.Shown.{Shown}
+use Rattle.rd_desk.specs.calls.Steps.{Made}
 use Rattle.version_board.specs.Ends.{PublisherSeen, LookerSeen}
 use Rattle.rd_seat.specs.Insides.{IsAtRest, seat_shown}
 use Rattle.rd_seat.specs.OneTurn.{HasBegun, HasEnded}

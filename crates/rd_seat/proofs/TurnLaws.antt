@@ -58,10 +58,10 @@ use Rattle.journal_model.proofs.entries.QuietSteps.{
 use Rattle.journal_model.proofs.EntriesNoted.{entries_in}
 use Rattle.coap_answers.specs.declared.mids.Mids.{Mids}
 use Rattle.rd_look.specs.KeepJobs.{Keep}
-use Rattle.rd_desk.specs.Desks.{StandsFor}
-use Rattle.rd_desk.specs.UnderWay.{IsCalled}
-use Rattle.rd_desk.specs.Shown.{Shown, AreToldOf}
-use Rattle.rd_desk.specs.Staging.{staged_after, LeavesStaged}
+use Rattle.rd_desk.specs.calls.Desks.{StandsFor}
+use Rattle.rd_desk.specs.calls.Steps.{IsCalled}
+use Rattle.rd_desk.specs.calls.Shown.{Shown, AreToldOf}
+use Rattle.rd_desk.specs.calls.Staging.{staged_after, LeavesStaged}
 use Rattle.version_board.specs.Ends.{PublisherSeen}
 use Rattle.rd_seat.specs.Steps.{first_entry, keep_step, no_entry, tick_step}
 use Rattle.rd_seat.specs.Turns.{

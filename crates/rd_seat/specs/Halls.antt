@@ -9,7 +9,7 @@ use Rattle.journal_model.specs.declared.rows.Row.{Row}
 use Rattle.journal_model.specs.Journal.{entries}
 use Rattle.journal_model.specs.DeskJournal.{IsDeskJournal}
 use Rattle.journal_model.specs.Headline.{DeskHeadline}
-use Rattle.rd_desk.specs.Shown.{Shown}
+use Rattle.rd_desk.specs.calls.Shown.{Shown}
 use Rattle.turn_lock.specs.declared.views.View.{View}
 use Rattle.turn_lock.specs.Rule.{Kept}
 use Rattle.version_board.specs.Ends.{PublisherSeen}

@@ -4,7 +4,7 @@ use Rattle.journal_model.specs.declared.rows.Row.{Row}
 use Rattle.journal_model.specs.declared.steps.StepKind.TheVariants as step
 use Rattle.journal_model.specs.DeskJournal.{IsOpenFor}
 use Rattle.journal_model.specs.Seats.{job_left}
-use Rattle.rd_desk.specs.WriteJobs.{Write}
+use Rattle.rd_desk.specs.calls.WriteJobs.{Write}
 use Rattle.rd_desk.specs.declared.admissions.Admitted.{Admitted}
 use Rattle.rd_desk.specs.declared.admissions.Admitted.TheVariants as admitted
 use Rattle.rd_seat.specs.Seats.{SeatSeen}

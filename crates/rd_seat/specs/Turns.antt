@@ -7,9 +7,9 @@ use Rattle.history_model.specs.Versions.{Version, VersionStandsFor}
 use Rattle.journal_model.specs.declared.rows.Row.{Row}
 use Rattle.journal_model.specs.Journal.{entries, entries_of, is_look, latest, now}
 use Rattle.journal_model.specs.DeskJournal.{IsDeskJournal}
-use Rattle.rd_desk.specs.Desks.{StandsFor}
-use Rattle.rd_desk.specs.Shown.{Shown}
-use Rattle.rd_desk.specs.Staging.{staged_after}
+use Rattle.rd_desk.specs.calls.Desks.{StandsFor}
+use Rattle.rd_desk.specs.calls.Shown.{Shown}
+use Rattle.rd_desk.specs.calls.Staging.{staged_after}
 use Rattle.version_board.specs.Ends.{PublisherSeen}
 
 -- a row is none of a look

@@ -2,7 +2,7 @@
 ghost use Rattle.std.specs.Prelude.{◌≡◌, ◌≤◌, ◌^◌, [], false};
 ghost use Rattle.journal_model.specs.Machine.{is_look_datagram};
 ghost use Rattle.rd_request.specs.Incoming.{IsIncoming};
-ghost use Rattle.rd_desk.specs.Admitting.{is_starved_admission};
+ghost use Rattle.rd_desk.specs.calls.Admitting.{is_starved_admission};
 ghost use Rattle.turn_lock.specs.Shown.{id_of, lock_of};
 ghost use Rattle.rd_seat.specs.Shares.{Rests, HasAdmitted};
 ghost use Rattle.rd_seat.specs.Steps.{admit_step};

@@ -1,6 +1,6 @@
 //! The turn in which time passes.
 ghost use Rattle.std.specs.Prelude.{◌≡◌, ◌≤◌, ◌^◌, []};
-ghost use Rattle.rd_desk.specs.Stepping.{is_starved_step};
+ghost use Rattle.rd_desk.specs.calls.Stepping.{is_starved_step};
 ghost use Rattle.turn_lock.specs.Shown.{id_of, lock_of};
 ghost use Rattle.rd_seat.specs.Shares.{Rests, HasTurned};
 ghost use Rattle.rd_seat.specs.Steps.{tick_step};

@@ -60,7 +60,7 @@ use Rattle.journal_model.proofs.UnfinishedRowLaws.{now_latest}
 use Rattle.trace_model.specs.Steps.{step_after, step_of_line, come_step, go_step, if_worker, nobody}
 use Rattle.trace_model.specs.Output.{ended, last_line}
 use Rattle.observation.proofs.TickLaws.{length-StandsFor}
-use Rattle.rd_desk.specs.Desks.{StandsFor}
+use Rattle.rd_desk.specs.calls.Desks.{StandsFor}
 use Rattle.rd_server.specs.declared.workers.Worker.{Worker}
 use Rattle.rd_server.specs.declared.machine.Machine.{Machine}
 use Rattle.rd_server.specs.declared.troubles.Trouble.{Trouble}

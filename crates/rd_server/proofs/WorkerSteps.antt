@@ -70,9 +70,9 @@ use Rattle.rd_look.specs.KeepJobs.{Keep}
 use Rattle.rd_look.specs.Looking.{IsHeld}
 use Rattle.rd_desk.specs.declared.jobs.Job.{Job}
 use Rattle.rd_desk.specs.declared.jobs.Job.TheVariants as job
-use Rattle.rd_desk.specs.Desks.{Seen}
-use Rattle.rd_desk.specs.UnderWay.{IsCalled, Made}
-use Rattle.rd_desk.specs.WriteJobs.{Write}
+use Rattle.rd_desk.specs.calls.Desks.{Seen}
+use Rattle.rd_desk.specs.calls.Steps.{IsCalled, Made}
+use Rattle.rd_desk.specs.calls.WriteJobs.{Write}
 use Rattle.rd_desk.proofs.changes.OpenJobs.{job-IsOpen}
 use Rattle.rd_server.specs.declared.workers.Worker.{Worker}
 use Rattle.rd_server.specs.Machines.{IsJobOf, HoldsJob, IsWorkerAt, MayStep, Steps}

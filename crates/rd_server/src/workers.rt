@@ -10,7 +10,7 @@ ghost use Rattle.journal_model.specs.DeskJournal.{max_workers};
 ghost use Rattle.journal_model.specs.Machine.{is_look_datagram, job_of, hearing};
 ghost use Rattle.rd_request.specs.Accepted.{message_of};
 ghost use Rattle.rd_request.specs.Incoming.{IsIncoming};
-ghost use Rattle.rd_desk.specs.Stepping.{is_starved_step};
+ghost use Rattle.rd_desk.specs.calls.Stepping.{is_starved_step};
 ghost use Rattle.rd_server.specs.Machines.{IsWorkerAt, MayStep, Steps};
 
 use directory_core::NoBoard;

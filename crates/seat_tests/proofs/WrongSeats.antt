@@ -10,7 +10,7 @@ use Rattle.journal_model.specs.declared.rows.Row.{Row}
 use Rattle.journal_model.specs.declared.steps.StepKind.TheVariants as step
 use Rattle.journal_model.specs.Journal.{entries, is_look}
 use Rattle.journal_model.specs.Seats.{rows_of}
-use Rattle.rd_desk.specs.Shown.{Shown}
+use Rattle.rd_desk.specs.calls.Shown.{Shown}
 use Rattle.version_board.specs.Ends.{PublisherSeen}
 use Rattle.rd_seat.specs.Halls.{IsHistoryOfHall}
 use Rattle.rd_seat.specs.Runs.{turn, look, IsSeatAfter}

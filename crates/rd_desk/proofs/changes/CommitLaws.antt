@@ -103,15 +103,16 @@ use Rattle.journal_model.specs.Requests.{
 }
 use Rattle.journal_model.specs.Rows.{row_moment, effects, done, row}
 use Rattle.coap_answers.specs.declared.mids.Mids.{Mids}
-use Rattle.coap_answers.specs.Replies.{reply_said}
 use Rattle.rd_request.proofs.AskedLaws.{good_request}
-use Rattle.rd_desk.specs.declared.outcomes.Entering.{Entering}
-use Rattle.rd_desk.specs.declared.outcomes.Outcome as planned
-use Rattle.rd_desk.specs.Committing.{answering_settled, unless_failing}
-use Rattle.rd_desk.specs.Desks.{Seen}
-use Rattle.rd_desk.specs.Outcomes.{IsEntering, AreNotes, IsPlanned, IsMadeAt}
-use Rattle.rd_desk.specs.UnderWay.{UnderWay, IsCalled, Made}
-use Rattle.rd_desk.specs.WriteJobs.{Write}
+use Rattle.rd_desk.specs.declared.write.outcomes.Entering.{Entering}
+use Rattle.rd_desk.specs.declared.write.outcomes.Outcome as planned
+use Rattle.rd_desk.specs.parts.Committing.{answering_settled, unless_failing}
+use Rattle.rd_desk.specs.calls.Desks.{Seen}
+use Rattle.rd_desk.specs.parts.Replies.{short_said}
+use Rattle.rd_desk.specs.parts.Outcomes.{IsEntering, AreNotes, IsPlanned, IsMadeAt}
+use Rattle.rd_desk.specs.parts.UnderWay.{UnderWay}
+use Rattle.rd_desk.specs.calls.Steps.{IsCalled, Made}
+use Rattle.rd_desk.specs.calls.WriteJobs.{Write}
 use Rattle.rd_desk.proofs.changes.SettlingLaws.{settling-refused, settling-entered}
 use Rattle.rd_desk.proofs.parts.MakingLaws.{entries-making_nothing}
 use Rattle.rd_desk.proofs.parts.WayLaws.{way_moment, ended}
@@ -186,12 +187,12 @@ pub way_refused : (rows : List Row) (s : Step) (starved : Bool) (place : ℕ) (m
     (mids : Mids)
     → o.entering ≡ None
     → IsPlanned (entries rows) swept [] meant o
-    → UnderWay rows s starved (joined nothing (answering_settled place s m (reply_said o.reply)))
+    → UnderWay rows s starved (joined nothing (answering_settled place s m (short_said o.reply)))
     desk out mids
     → UnderWay rows s starved (settling place s m meant) desk out mids
 way_refused rows s starved place m meant o swept desk out mids none is way =
     subst (λ (e : Effects). UnderWay rows s starved e desk out mids)
-    (settling-refused place s m (reply_said o.reply) meant is.said
+    (settling-refused place s m (short_said o.reply) meant is.said
     (subst (λ (e : Option Entering). AreNotes (entries rows) swept [] meant.notes e) none
     is.notes)) way
 
@@ -206,14 +207,14 @@ pub way_accepted : (rows : List Row) (s : Step) (starved : Bool) (place : ℕ) (
     → entry.moment.0 ≡ row_moment rows s
     → IsEntering (entries rows) swept entry ready
     → UnderWay rows s starved (joined (joined nothing (noting (note.Entered entry ∷ [])))
-    (answering_settled place s m (reply_said o.reply))) desk out mids)
+    (answering_settled place s m (short_said o.reply))) desk out mids)
     → UnderWay rows s starved (settling place s m meant) desk out mids
 way_accepted rows s starved place m meant o ready swept desk out mids some at is way =
     let noted : AreNotes (entries rows) swept [] meant.notes (Some ready) =
     subst (λ (e : Option Entering). AreNotes (entries rows) swept [] meant.notes e) some
     is.notes in
     subst (λ (e : Effects). UnderWay rows s starved e desk out mids)
-    (settling-entered place s m (reply_said o.reply) noted.0 meant is.said noted.1)
+    (settling-entered place s m (short_said o.reply) noted.0 meant is.said noted.1)
     (way noted.0 (at noted.0 [] noted.1) noted.2)
 
 -- a plan that was not out of memory

@@ -37,14 +37,14 @@ use Rattle.journal_model.specs.UnfinishedRow.{making}
 use Rattle.journal_model.proofs.UnfinishedRowLaws.{now-making}
 use Rattle.coap_answers.specs.declared.mids.Mids.{Mids}
 use Rattle.coap_answers.proofs.SendingLaws.{sends_notes}
-use Rattle.rd_desk.specs.Desks.{Seen}
+use Rattle.rd_desk.specs.calls.Desks.{Seen}
 use Rattle.observation.specs.declared.change_kinds.ChangeKind.{ChangeKind}
 use Rattle.observation.specs.ChangeKinds.{kind_of}
 use Rattle.observation.specs.Directories.{DirectoryStandsFor}
 use Rattle.observation.specs.Entering.{IsEntered}
 use Rattle.observation.specs.Watching.{Watching, WatchingStandsFor}
-use Rattle.rd_desk.specs.Outcomes.{HasEntry}
-use Rattle.rd_desk.specs.UnderWay.{UnderWay}
+use Rattle.rd_desk.specs.parts.Outcomes.{HasEntry}
+use Rattle.rd_desk.specs.parts.UnderWay.{UnderWay}
 use Rattle.rd_desk.proofs.parts.PartLaws.{more_registrations}
 use Rattle.rd_desk.proofs.parts.WayLaws.{way_moment}
 

@@ -82,9 +82,9 @@ use Rattle.rd_desk.proofs.responses.FetchStepLaws.{
 }
 use Rattle.coap_answers.specs.declared.mids.Mids.{Mids}
 use Rattle.coap_answers.specs.Sendings.{IsStepOf, AreRequestsSent, Sends}
-use Rattle.rd_desk.specs.Desks.{Seen}
-use Rattle.rd_desk.specs.Responding.{asking_next}
-use Rattle.rd_desk.specs.UnderWay.{UnderWay}
+use Rattle.rd_desk.specs.calls.Desks.{Seen}
+use Rattle.rd_desk.specs.parts.Responding.{asking_next}
+use Rattle.rd_desk.specs.parts.UnderWay.{UnderWay}
 use Rattle.rd_desk.proofs.changes.SettlingLaws.{
   StandsNoted,
   settling-refused,

@@ -66,13 +66,13 @@ use Rattle.journal_model.specs.Changes.{
   registered_links,
   registration,
 }
-use Rattle.coap_answers.specs.declared.replies.Reply.{Reply}
-use Rattle.coap_answers.specs.Replies.{IsReply, reply_said}
 use Rattle.observation.specs.declared.change_kinds.ChangeKind.TheVariants as kind_of_change
 use Rattle.observation.specs.ChangeKinds.{kind_of}
-use Rattle.rd_desk.specs.declared.outcomes.Entering.{Entering}
-use Rattle.rd_desk.specs.declared.outcomes.Outcome.{Outcome}
-use Rattle.rd_desk.specs.Outcomes.{HasEntry, IsEntering, IsPlanned, IsBadBody}
+use Rattle.rd_desk.specs.declared.write.outcomes.Entering.{Entering}
+use Rattle.rd_desk.specs.declared.write.outcomes.Outcome.{Outcome}
+use Rattle.rd_desk.specs.declared.write.replies.ShortReply.{ShortReply}
+use Rattle.rd_desk.specs.parts.Replies.{short_said}
+use Rattle.rd_desk.specs.parts.Outcomes.{HasEntry, IsEntering, IsPlanned, IsBadBody}
 
 -- ---- bodies
 
@@ -137,28 +137,25 @@ number_after-registered history entry params links same lasts =
 
 -- a body that is refused
 planned_bad : (history : List Entry) (swept moment : ℕ) (s : Step) (params : RegParams)
-    (options : List Opt) (further : List Note) (b : BodyRead) (r : Reply)
+    (options : List Opt) (further : List Note) (b : BodyRead) (r : ShortReply)
     → IsBadBody b r
-    → IsReply r
     → IsPlanned history swept further (registered_links history moment s params options further b)
     (record { reply = r; entering = None })
-planned_bad history swept moment s params options further (bad_body word) r said reply = record {
+planned_bad history swept moment s params options further (bad_body word) r said = record {
   said = said;
-  reply = reply;
   notes = refl;
 }
-planned_bad history swept moment s params options further (good_body links) r said reply =
+planned_bad history swept moment s params options further (good_body links) r said =
     absurd said
 
 pub planned-bad_body : (history : List Entry) (swept moment : ℕ) (s : Step) (params : RegParams)
-    (body : List ℕ) (options : List Opt) (further : List Note) (r : Reply)
+    (body : List ℕ) (options : List Opt) (further : List Note) (r : ShortReply)
     → IsBadBody (body_read body) r
-    → IsReply r
     → IsPlanned history swept further (registration history moment s params body options further)
     (record { reply = r; entering = None })
 unfolding registration
-planned-bad_body history swept moment s params body options further r said reply =
-    planned_bad history swept moment s params options further (body_read body) r said reply
+planned-bad_body history swept moment s params body options further r said =
+    planned_bad history swept moment s params options further (body_read body) r said
 
 -- the entry that registers these links
 abbrev pub registering : Moment → Step → RegParams → List SubmittedLink → Entry
@@ -234,17 +231,16 @@ registers history s peer params body draft now from made limited =
 
 -- the version has the entry: it is entered and answered
 pub planned-entered : (history : List Entry) (swept : ℕ) (entry : Entry) (meant : changes.Outcome)
-    (r : Reply) (e : Entering)
-    → IsReply r
-    → reply_said r ≡ meant.reply
+    (r : ShortReply) (e : Entering)
+    → short_said r ≡ meant.reply
     → IsEntering history swept entry e
     → IsPlanned history swept meant.notes (change_made history entry meant)
     (record { reply = r; entering = Some e })
-planned-entered history swept entry meant r e reply said has =
+planned-entered history swept entry meant r e said has =
     subst (λ (why : Option Refusal).
     IsPlanned history swept meant.notes (entered_unless why entry meant)
     (record { reply = r; entering = Some e })) (sym has.accepted)
-    (record { said = said; reply = reply; notes = (entry, refl, has) })
+    (record { said = said; notes = (entry, refl, has) })
 
 -- the version that a registration gave
 pub registration-HasEntry : (history : List Entry) (swept number : ℕ) (now : Moment) (draft : Draft)

@@ -57,9 +57,9 @@ use Rattle.exchange_core.specs.Table.{Table}
 use Rattle.exchange_core.specs.ExchangeEvents.{ExchangesStandFor}
 use Rattle.coap_answers.specs.declared.mids.Mids.{Mids}
 use Rattle.coap_answers.specs.Sendings.{IsStepOf, Sends}
-use Rattle.rd_desk.specs.Committing.{answering_settled, failing}
-use Rattle.rd_desk.specs.Desks.{Seen}
-use Rattle.rd_desk.specs.UnderWay.{UnderWay}
+use Rattle.rd_desk.specs.parts.Committing.{answering_settled, failing}
+use Rattle.rd_desk.specs.calls.Desks.{Seen}
+use Rattle.rd_desk.specs.parts.UnderWay.{UnderWay}
 use Rattle.rd_desk.proofs.parts.EffectLaws.{effects_same}
 use Rattle.rd_desk.proofs.parts.NoteTopics as topic
 use Rattle.rd_desk.proofs.parts.NoteTopics.{AreAbout}

@@ -50,7 +50,19 @@ use Rattle.coap_answers.specs.Replies.{
   options_of,
   reply_said,
 }
-use Rattle.rd_desk.specs.Committing.{IsShort}
+use Rattle.rd_desk.specs.declared.write.replies.ShortReply.{ShortReply}
+use Rattle.rd_desk.specs.parts.Replies.{as_reply}
+
+-- an answer without a tag, an Observe value and a body, with a payload of one word
+pub record IsShort (r : Reply) : Type 0 where
+  pub tag : r.tag ≡ None
+  pub observe : r.observe ≡ None
+  pub block2 : r.block2 ≡ None
+  pub payload : length r.payload.now ≤ 13
+
+-- what a write is answered with is one
+pub short_is : (r : ShortReply) → IsShort (as_reply r)
+short_is r = record { tag = refl; observe = refl; block2 = refl; payload = r.short }
 
 -- few octets extend a small delta or length
 extension_none : (n : ℕ) → n < 13 → extension_size n ≡ 0

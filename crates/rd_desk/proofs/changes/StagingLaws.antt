@@ -44,19 +44,12 @@ use Rattle.journal_model.specs.declared.rows.Row.{Row}
 use Rattle.journal_model.specs.declared.steps.Step.{Step}
 use Rattle.journal_model.specs.declared.steps.StepKind.TheVariants as step
 use Rattle.directory_core.specs.Boards.{HasOneMore}
-use Rattle.rd_desk.specs.declared.outcomes.Entering.{Entering}
-use Rattle.rd_desk.specs.declared.outcomes.Outcome.{Outcome}
-use Rattle.rd_desk.specs.Outcomes.{AreNotes, IsPlanned, IsTimely, IsReadyAt}
-use Rattle.rd_desk.specs.Desks.{Seen, StandsFor}
-use Rattle.rd_desk.specs.Staging.{
-  staged_after,
-  LeavesStaged,
-  version_ready,
-  IsLaid,
-  IsLeftBy,
-  IsNextOf,
-  IsSweptBefore,
-}
+use Rattle.rd_desk.specs.declared.write.outcomes.Entering.{Entering}
+use Rattle.rd_desk.specs.declared.write.outcomes.Outcome.{Outcome}
+use Rattle.rd_desk.specs.parts.Outcomes.{AreNotes, IsPlanned, IsTimely, IsReadyAt}
+use Rattle.rd_desk.specs.calls.Desks.{Seen, StandsFor}
+use Rattle.rd_desk.specs.calls.Staging.{staged_after, LeavesStaged}
+use Rattle.rd_desk.specs.parts.Laying.{version_ready, IsLaid, IsLeftBy, IsNextOf, IsSweptBefore}
 
 -- a step of a peer
 abbrev pub from_peer : Peer → Step

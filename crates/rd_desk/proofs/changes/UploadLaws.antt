@@ -82,12 +82,12 @@ use Rattle.transfers.specs.BlockAnswers.{answer_taken, answer_unless, answer_aft
 use Rattle.transfers.specs.TransferEvents.{Table, TransfersStandFor, block_answer}
 use Rattle.coap_answers.specs.declared.mids.Mids.{Mids}
 use Rattle.coap_answers.proofs.SendingLaws.{sends_notes}
-use Rattle.rd_desk.specs.declared.outcomes.Entering.{Entering}
-use Rattle.rd_desk.specs.declared.outcomes.Outcome.{Outcome}
-use Rattle.rd_desk.specs.Committing.{answering_settled, unless_failing}
-use Rattle.rd_desk.specs.Desks.{Seen}
-use Rattle.rd_desk.specs.Outcomes.{IsEntering, AreNotes, IsPlanned}
-use Rattle.rd_desk.specs.UnderWay.{UnderWay}
+use Rattle.rd_desk.specs.declared.write.outcomes.Entering.{Entering}
+use Rattle.rd_desk.specs.declared.write.outcomes.Outcome.{Outcome}
+use Rattle.rd_desk.specs.parts.Committing.{answering_settled, unless_failing}
+use Rattle.rd_desk.specs.calls.Desks.{Seen}
+use Rattle.rd_desk.specs.parts.Outcomes.{IsEntering, AreNotes, IsPlanned}
+use Rattle.rd_desk.specs.parts.UnderWay.{UnderWay}
 use Rattle.rd_desk.proofs.changes.SettlingLaws.{settling-refused, settling-noted, settling-taken}
 use Rattle.rd_desk.proofs.parts.MakingLaws.{entries-making_nothing}
 use Rattle.rd_desk.proofs.parts.PartLaws.{more_transfers}

@@ -26,7 +26,7 @@ use Rattle.journal_model.specs.Rows.{
 }
 use Rattle.journal_model.specs.Writes.{write_effects}
 use Rattle.rd_request.specs.WriteRequests.{is_write_path}
-use Rattle.rd_desk.specs.Admitting.{write_heard}
+use Rattle.rd_desk.specs.parts.Hearing.{write_heard}
 
 -- an admission hears what is read of its datagram
 pub admission_hears : (rows : List Row) (s : Step) (starved : Bool) (read : Result Message Unread)
@@ -37,27 +37,12 @@ pub admission_hears : (rows : List Row) (s : Step) (starved : Bool) (read : Resu
 unfolding effects
 admission_hears rows s starved read kind is = rw kind (rw is refl)
 
--- a message does what it is for
-pub message_hears : (rows : List Row) (s : Step) (starved : Bool) (m : Message) (r : Role)
-    → role_of m.kind m.code ≡ r
-    → message_effects r starved rows (row_moment rows s) s m
-    ≡ heard starved rows (row_moment rows s) s (Ok m)
-message_hears rows s starved m r is = rw is refl
-
 -- a request that is refused for itself
 pub request_refused : (rows : List Row) (s : Step) (m : Message) (refusal : Reply)
     → refusal_of_request m ≡ Some refusal
     → refusal_answered m.kind (first_bad_option m.options) s m refusal
     ≡ message_effects role.Request false rows (row_moment rows s) s m
 request_refused rows s m refusal is = rw is refl
-
--- or that is not, by its path
-pub request_served : (rows : List Row) (s : Step) (m : Message) (p : Path)
-    → refusal_of_request m ≡ None
-    → path_in m ≡ p
-    → served p rows (row_moment rows s) s m
-    ≡ message_effects role.Request false rows (row_moment rows s) s m
-request_served rows s m p none is = rw none (rw is refl)
 
 -- a write
 pub request_writes : (rows : List Row) (s : Step) (starved : Bool) (m : Message)

@@ -10,7 +10,7 @@ use Rattle.exchange_core.specs.ExchangeEvents.{ExchangesStandFor}
 use Rattle.transfers.specs.TransferEvents.{TransfersStandFor}
 use Rattle.simple_registration.specs.FetchEvents.{FetchesStandFor}
 use Rattle.observation.specs.Watching.{WatchingStandsFor}
-use Rattle.rd_desk.specs.Desks.{Seen, StandsFor}
+use Rattle.rd_desk.specs.calls.Desks.{Seen, StandsFor}
 
 -- without entries the moment of the last one is 0
 pub last_moment-none : last_moment [] ≡ 0

@@ -56,10 +56,3 @@ drawing-more (suc k) (suc n) d =
     let e : suc (k + suc n) ≡ suc k + suc n = omega arith in
     let f : (d + suc k) + suc n ≡ d + suc (k + suc n) = omega arith in
     mod-add-mod (d + suc k) (2 ^ 64) (suc n) ∙ (ap (λ x. x % 2 ^ 64) f ∙ ap (λ x. drawing x d) e)
-
--- the Message ID that is drawn after so many more
-pub mid_of-drawing : (worker n d : ℕ) → mid_of worker (drawing n d) ≡ mid_of worker (d + n)
-mid_of-drawing worker zero d = let e : d ≡ d + 0 = omega arith in ap (mid_of worker) e
-mid_of-drawing worker (suc n) d =
-    ap (λ x. worker_mids * worker + x)
-    (mod-mod_of_dvd 4096 {b = 2 ^ 64} (d + suc n) (dvd_of_mod-eq-zero 4096 {n = 2 ^ 64} refl))

@@ -64,8 +64,8 @@ use Rattle.exchange_core.proofs.OpenLaws.{IsOpen-admitted}
 use Rattle.exchange_core.proofs.RepeatLaws.{each_admission}
 use Rattle.coap_answers.specs.declared.mids.Mids.{Mids}
 use Rattle.coap_answers.specs.Sendings.{IsStepOf, Sends}
-use Rattle.rd_desk.specs.Desks.{Seen}
-use Rattle.rd_desk.specs.UnderWay.{UnderWay}
+use Rattle.rd_desk.specs.calls.Desks.{Seen}
+use Rattle.rd_desk.specs.parts.UnderWay.{UnderWay}
 use Rattle.rd_desk.proofs.parts.NoteTopics as topic
 use Rattle.rd_desk.proofs.parts.PartLaws.{more_exchanges}
 use Rattle.rd_desk.proofs.parts.WayLaws.{noting_more, way_moment, step_of, only}

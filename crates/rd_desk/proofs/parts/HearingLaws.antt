@@ -79,21 +79,22 @@ use Rattle.rd_desk.specs.declared.admissions.Admitted.{Admitted}
 use Rattle.rd_desk.specs.declared.admissions.Admitted.TheVariants as admitted
 use Rattle.rd_desk.specs.declared.steps.Stepped.{Stepped}
 use Rattle.rd_desk.specs.declared.steps.Stepped.TheVariants as stepped
-use Rattle.rd_desk.specs.Admitting.{
+use Rattle.rd_desk.specs.calls.Admitting.{
   is_starved_admission,
   IsHeldFor,
-  jobless,
   write_takes,
   served_takes,
   request_takes,
   message_takes,
 }
-use Rattle.rd_desk.specs.WriteJobs.{Write}
-use Rattle.rd_desk.specs.Desks.{Seen}
-use Rattle.rd_desk.specs.Lookups.{lookup_heard}
-use Rattle.rd_desk.specs.Responding.{response_heard}
-use Rattle.rd_desk.specs.Stepping.{is_starved_step}
-use Rattle.rd_desk.specs.UnderWay.{UnderWay, IsCalled, Made}
+use Rattle.rd_desk.specs.parts.Hearing.{jobless}
+use Rattle.rd_desk.specs.calls.WriteJobs.{Write}
+use Rattle.rd_desk.specs.calls.Desks.{Seen}
+use Rattle.rd_desk.specs.parts.Lookups.{lookup_heard}
+use Rattle.rd_desk.specs.parts.Responding.{response_heard}
+use Rattle.rd_desk.specs.calls.Stepping.{is_starved_step}
+use Rattle.rd_desk.specs.parts.UnderWay.{UnderWay}
+use Rattle.rd_desk.specs.calls.Steps.{IsCalled, Made}
 use Rattle.rd_desk.proofs.parts.AdmissionLaws.{admission_hears}
 use Rattle.rd_desk.proofs.parts.WayLaws.{ended}
 use Rattle.rd_desk.proofs.parts.WriteLaws.{without_memory-notes}
@@ -121,18 +122,6 @@ heeded-other m lookup other first =
     by false true true false h g f = absurd (false≢true (sym f))
     by false true false false h g f = absurd (false≢true (sym g))
 
--- and the path is that of a lookup
-pub lookup_seeks : (m : Message)
-    → is_lookup (path_in m) ≡ true
-    → (is_discovery (path_in m) || is_lookup (path_in m)) ≡ true
-lookup_seeks m lookup = by (is_discovery (path_in m)) (is_lookup (path_in m)) lookup
-  where
-    by : (d l : Bool) → l ≡ true → (d || l) ≡ true
-    by true l h = refl
-    by false l h = h
-
--- ---- a request that nothing refuses, by its path
-
 pub served_lookup : (rows : List Row) (s : Step) (starved : Bool) (m : Message)
     → refusal_of_request m ≡ None
     → is_lookup (path_in m) ≡ true
@@ -148,36 +137,6 @@ served_lookup rows s false m none lookup = rw none (by (path_in m) lookup)
     by path.Res h = refl
     by path.Ep h = refl
     by _ h = absurd (false≢true h)
-
--- what is left is nothing
-pub served_other : (rows : List Row) (s : Step) (m : Message)
-    → refusal_of_request m ≡ None
-    → only_looks m ≡ false
-    → is_lookup (path_in m) ≡ false
-    → is_write_path (path_in m) ≡ false
-    → nothing ≡ message_effects role.Request false rows (row_moment rows s) s m
-unfolding served
-served_other rows s m none other lookup writes =
-    rw none (by (path_in m) (not_discovery (is_discovery (path_in m))
-    (is_lookup (path_in m) && not (is_later_block m) && not (is_heeded (observe_in m)))
-    other) lookup writes)
-  where
-    not_discovery : (d x : Bool) → (d || x) ≡ false → d ≡ false
-    not_discovery true x h = absurd (false≢true (sym h))
-    not_discovery false x h = refl
-
-    by : (p : Path)
-        → is_discovery p ≡ false
-        → is_lookup p ≡ false
-        → is_write_path p ≡ false
-        → nothing ≡ served p rows (row_moment rows s) s m
-    by path.Core d l w = absurd (false≢true (sym d))
-    by path.SimpleRd d l w = absurd (false≢true (sym w))
-    by path.Rd d l w = absurd (false≢true (sym w))
-    by (path.Location number) d l w = absurd (false≢true (sym w))
-    by path.Res d l w = absurd (false≢true (sym l))
-    by path.Ep d l w = absurd (false≢true (sym l))
-    by path.Other d l w = refl
 
 -- what takes memory
 pub takes_write : (rows : List Row) (s : Step) (m : Message)
@@ -342,61 +301,6 @@ response_is rows s false m = refl
 
 -- ---- a message, by what it is for
 
-pub hears_as : (rows : List Row) (s : Step) (starved : Bool) (r : Role) (m : Message) (after : Seen)
-    (sent : List (Peer × List ℕ)) (mids : Mids)
-    → role_of m.kind m.code ≡ r
-    → UnderWay rows s starved (message_effects r starved rows (row_moment rows s) s m) after sent
-    mids
-    → UnderWay rows s starved
-    (message_effects (role_of m.kind m.code) starved rows (row_moment rows s) s m) after sent
-    mids
-hears_as rows s starved r m after sent mids is way =
-    subst (λ (x : Role).
-    UnderWay rows s starved (message_effects x starved rows (row_moment rows s) s m) after
-    sent mids) (sym is) way
-
-pub held_as : (rows : List Row) (s : Step) (starved : Bool) (r : Role) (m : Message)
-    → role_of m.kind m.code ≡ r
-    → list_any is_admitting (message_effects r starved rows (row_moment rows s) s m).notes ≡ false
-    → list_any is_admitting
-    (message_effects (role_of m.kind m.code) starved rows (row_moment rows s) s m).notes
-    ≡ false
-held_as rows s starved r m is none =
-    subst (λ (x : Role).
-    list_any is_admitting (message_effects x starved rows (row_moment rows s) s m).notes
-    ≡ false) (sym is) none
-
-pub takes_as : (rows : List Row) (s : Step) (r : Role) (m : Message) → role_of m.kind m.code ≡ r
-    → message_takes (role_of m.kind m.code) rows (row_moment rows s) s m ≡ false
-    → message_takes r rows (row_moment rows s) s m ≡ false
-takes_as rows s r m is silent =
-    ap (λ (x : Role). message_takes x rows (row_moment rows s) s m) (sym is) ∙ silent
-
-pub other_as : (m : Message)
-    → role_of m.kind m.code ≡ role.Request
-    → is_look_message (role_of m.kind m.code) m ≡ false
-    → is_look_request m ≡ false
-other_as m is other = ap (λ (x : Role). is_look_message x m) (sym is) ∙ other
-
--- ---- what does not only look
-
-pub other_request : (m : Message)
-    → refusal_of_request m ≡ None
-    → is_look_request m ≡ false
-    → only_looks m ≡ false
-unfolding is_look_request
-other_request m none other = sym (ap (λ (o : Option Reply). is_none o && only_looks m) none) ∙ other
-
-pub other_message : (datagram : List ℕ) (m : Message)
-    → reading datagram ≡ Ok m
-    → is_look_datagram datagram ≡ false
-    → is_look_message (role_of m.kind m.code) m ≡ false
-unfolding is_look_datagram
-other_message datagram m is other =
-    subst (λ (r : Result Message Unread). is_look_reading r ≡ false) is other
-
--- ---- the row
-
 -- what the row of an admission notes
 pub admission_notes : (rows : List Row) (s : Step) (starved : Bool) (x : Admitted)
     (read : Result Message Unread)
@@ -421,25 +325,3 @@ pub admission_made : (rows : List Row) (s : Step) (starved : Bool) (now : Moment
 admission_made rows s starved now read before after out mids_before mids kind is call way =
     ended rows s starved (heard starved rows (row_moment rows s) s read) after out mids_before mids
     way (admission_hears rows s starved read kind is) call.worker call.drawn
-
--- the write of a job stands open once the row that admitted it is made, with the Message ID of the
--- request in its datagram: what a commit asks
-pub record OpenJob (rows : List Row) (r : Row) (job : Write) : Type 0 where
-  pub message : Message
-  pub read : reading job.datagram ≡ Ok message
-  pub admission : IsOpen (length rows) job.peer message.mid job.admitted (events (r ∷ rows))
-
-pub held-OpenJob : (rows : List Row) (s : Step) (starved : Bool) (job : Write)
-    → IsDeskJournal (row rows s starved ∷ rows)
-    → IsHeldFor (admitted.Held job) (row rows s starved).notes s (row_moment rows s)
-    → OpenJob rows (row rows s starved) job
-unfolding row
-held-OpenJob rows s starved job journal (mid, notes, is) =
-    let own = row-OwnAdmission rows s starved (ap (list_any is_admitting) notes) in
-    subst (λ (w : Write). OpenJob rows (row rows s starved) w) (sym is) (record {
-      message = own.message;
-      read = own.read;
-      admission =
-          admitted-IsOpen rows (row rows s starved) s.peer own.message.mid
-          (journal-IsOrderly (row rows s starved ∷ rows) journal) own.noted;
-    })

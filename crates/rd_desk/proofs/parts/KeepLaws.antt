@@ -57,8 +57,9 @@ use Rattle.transfers.proofs.TransferLaws.{UploadsStandFor-noted}
 use Rattle.coap_answers.specs.declared.mids.Mids.{Mids}
 use Rattle.coap_answers.specs.Sendings.{IsStepOf, Sends}
 use Rattle.rd_look.specs.KeepJobs.{Keep}
-use Rattle.rd_desk.specs.Desks.{Seen}
-use Rattle.rd_desk.specs.UnderWay.{UnderWay, IsCalled, Made}
+use Rattle.rd_desk.specs.calls.Desks.{Seen}
+use Rattle.rd_desk.specs.parts.UnderWay.{UnderWay}
+use Rattle.rd_desk.specs.calls.Steps.{IsCalled, Made}
 use Rattle.rd_desk.proofs.parts.NoteTopics as topic
 use Rattle.rd_desk.proofs.parts.NoteTopics.{AreAbout}
 use Rattle.rd_desk.proofs.parts.PartLaws.{more_transfers, only_silent}

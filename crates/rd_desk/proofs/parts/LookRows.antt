@@ -13,7 +13,7 @@ use Rattle.journal_model.proofs.RowEquations.{events-row, now-row}
 use Rattle.exchange_core.specs.ExchangeEvents.{ExchangesStandFor}
 use Rattle.transfers.specs.TransferEvents.{TransfersStandFor}
 use Rattle.simple_registration.specs.FetchEvents.{FetchesStandFor}
-use Rattle.rd_desk.specs.Desks.{Seen, StandsFor}
+use Rattle.rd_desk.specs.calls.Desks.{Seen, StandsFor}
 use Rattle.rd_desk.proofs.responses.FetchStepLaws.{FetchesStandFor-row}
 use Rattle.observation.specs.Directories.{DirectoryStandsFor}
 use Rattle.observation.proofs.WatchingLaws.{WatchingStandsFor-looked}

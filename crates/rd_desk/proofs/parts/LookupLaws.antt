@@ -122,10 +122,10 @@ use Rattle.rd_request.specs.Asking.{begins_observation}
 use Rattle.observation.specs.declared.joining.Joining.{Joining}
 use Rattle.observation.specs.Joining.{observer_joining, joining_notes}
 use Rattle.observation.specs.Watching.{Watching, WatchingStandsFor}
-use Rattle.rd_desk.specs.declared.listings.Formed.{Formed}
-use Rattle.rd_desk.specs.declared.listings.Listed.{Listed}
-use Rattle.rd_desk.specs.Desks.{Seen}
-use Rattle.rd_desk.specs.Lookups.{
+use Rattle.rd_desk.specs.declared.lookup.listings.Formed.{Formed}
+use Rattle.rd_desk.specs.declared.lookup.listings.Listed.{Listed}
+use Rattle.rd_desk.specs.calls.Desks.{Seen}
+use Rattle.rd_desk.specs.parts.Lookups.{
   answer_listed,
   answer_at,
   AreWith,
@@ -137,7 +137,7 @@ use Rattle.rd_desk.specs.Lookups.{
   value_given,
   lookup_heard,
 }
-use Rattle.rd_desk.specs.UnderWay.{UnderWay}
+use Rattle.rd_desk.specs.parts.UnderWay.{UnderWay}
 use Rattle.rd_desk.proofs.parts.EffectLaws.{effects_same, joined-nothing_first}
 use Rattle.rd_desk.proofs.parts.MakingLaws.{entries-making_nothing}
 use Rattle.rd_desk.proofs.parts.NoteTopics as topic

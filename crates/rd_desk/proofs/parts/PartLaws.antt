@@ -21,11 +21,11 @@ use Rattle.simple_registration.specs.FetchEvents.{FetchesStandFor}
 use Rattle.simple_registration.proofs.DeskLaws.{FetchesStandFor-noted}
 use Rattle.coap_answers.specs.declared.mids.Mids.{Mids}
 use Rattle.coap_answers.specs.Sendings.{Sends, AreRequestsSent}
-use Rattle.rd_desk.specs.Desks.{Seen}
+use Rattle.rd_desk.specs.calls.Desks.{Seen}
 use Rattle.observation.specs.Directories.{DirectoryStandsFor}
 use Rattle.observation.specs.Watching.{Watching, WatchingStandsFor}
 use Rattle.observation.proofs.WatchingLaws.{WatchingStandsFor-aside}
-use Rattle.rd_desk.specs.UnderWay.{UnderWay}
+use Rattle.rd_desk.specs.parts.UnderWay.{UnderWay}
 use Rattle.rd_desk.proofs.parts.AsideLaws.{
   DirectoryStandsFor-aside,
   ExchangesStandFor-noted,

@@ -11,7 +11,7 @@ use Rattle.journal_model.specs.declared.rows.Row.{Row}
 use Rattle.journal_model.specs.Effects.{Effects}
 use Rattle.journal_model.specs.Rows.{message_effects, heard, row_moment}
 use Rattle.rd_request.specs.Incoming.{IsFor}
-use Rattle.rd_desk.specs.Admitting.{message_takes, takes_memory}
+use Rattle.rd_desk.specs.calls.Admitting.{message_takes, takes_memory}
 
 -- a message does what it is for
 pub heard_for : (rows : List Row) (s : Step) (starved : Bool) (r : Role) (datagram : List ℕ)

@@ -25,7 +25,7 @@ use Rattle.observers.specs.Watchers as kept
 use Rattle.observation.specs.Watching.{Watching, WatchingStandsFor}
 use Rattle.observation.proofs.TickLaws.{kept-StandsFor}
 use Rattle.rd_desk.specs.declared.watchers.Watcher.{Watcher}
-use Rattle.rd_desk.specs.Watchers.{IsShownAs, IsObserverAfter}
+use Rattle.rd_desk.specs.calls.Watchers.{IsShownAs, IsObserverAfter}
 
 there_alike : {X Y : Type 0} (f : X → Y) (o : Option X) → is_some (option_map f o) ≡ is_some o
 there_alike f None = refl

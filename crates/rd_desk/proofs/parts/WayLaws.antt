@@ -44,10 +44,11 @@ use Rattle.transfers.proofs.TransferLaws.{TransfersStandFor-later}
 use Rattle.simple_registration.specs.FetchEvents.{FetchesStandFor}
 use Rattle.coap_answers.specs.declared.mids.Mids.{Mids}
 use Rattle.coap_answers.specs.Sendings.{IsStepOf, Sends, AreRequestsSent}
-use Rattle.rd_desk.specs.Desks.{Seen, StandsFor}
+use Rattle.rd_desk.specs.calls.Desks.{Seen, StandsFor}
 use Rattle.observation.specs.Directories.{DirectoryStandsFor}
 use Rattle.observation.specs.Watching.{Watching, WatchingStandsFor}
-use Rattle.rd_desk.specs.UnderWay.{UnderWay, IsCalled, Made}
+use Rattle.rd_desk.specs.parts.UnderWay.{UnderWay}
+use Rattle.rd_desk.specs.calls.Steps.{IsCalled, Made}
 use Rattle.rd_desk.proofs.parts.EffectLaws.{joined-nothing_first, drawing-more}
 use Rattle.rd_desk.proofs.parts.FetchLaws.{FetchesStandFor-sent}
 use Rattle.rd_desk.proofs.parts.MakingLaws.{

@@ -56,9 +56,9 @@ use Rattle.exchange_core.specs.ExchangeEvents.{
 }
 use Rattle.coap_answers.specs.declared.mids.Mids.{Mids}
 use Rattle.coap_answers.specs.Sendings.{Sends}
-use Rattle.rd_desk.specs.Desks.{Seen}
-use Rattle.rd_desk.specs.UnderWay.{UnderWay}
-use Rattle.rd_desk.specs.WriteJobs.{Write}
+use Rattle.rd_desk.specs.calls.Desks.{Seen}
+use Rattle.rd_desk.specs.parts.UnderWay.{UnderWay}
+use Rattle.rd_desk.specs.calls.WriteJobs.{Write}
 use Rattle.rd_desk.proofs.parts.NoteTopics as topic
 use Rattle.rd_desk.proofs.parts.NoteTopics.{AreAbout}
 use Rattle.rd_desk.proofs.parts.PartLaws.{more_exchanges}

@@ -136,61 +136,6 @@ fetch_of-belongs s m past = by (is_fetching s.peer past) (request_of (last_reque
     by true None = refl
     by true (Some r) = refl
 
--- what it does in the row of its step, by what comes of it: the acknowledgement of a confirmable
--- one is sent before
-pub response_effects_of : Heard → Option Block → List Row → ℕ → Step → Message → Request → Effects
-response_effects_of heard.Passed b rows moment s m request = nothing
-response_effects_of (heard.Next ask) None rows moment s m request = nothing
-response_effects_of (heard.Next ask) (Some b) rows moment s m request = record {
-  sent = (ask.peer, ask.bytes) ∷ [];
-  notes =
-      note.Gathered s.peer m.payload (tag_in m)
-      ∷ note.Asked s.peer request.token (mid_of s.worker s.drawn) request.params (b.num + 1)
-      ∷ [];
-  drew = 1;
-}
-response_effects_of (heard.Whole params body) b rows moment s m request =
-    completed rows moment s request body
-response_effects_of heard.Ended b rows moment s m request = noting (note.Ceased s.peer ∷ [])
-response_effects_of heard.Starved b rows moment s m request = nothing
-
-pub response_to-heard : (rows : List Row) (moment : ℕ) (s : Step) (m : Message) (request : Request)
-    → response_to rows moment s m request
-    ≡ response_effects_of (heard_after (mid_of s.worker s.drawn) s.peer m request (events rows))
-    (block_in m) rows moment s m request
-unfolding response_effects_of
-response_to-heard rows moment s m request =
-    by (is_elsewhere (block_in m) (length (collected s.peer (events rows))))
-    (ends_fetch m (gathered s.peer (events rows)) (length (collected s.peer (events rows))))
-  where
-    part : (more : Bool) (b : Block)
-        → gathering more (Some b) rows moment s m request
-        ≡ response_effects_of
-        (heard_part more b (mid_of s.worker s.drawn) s.peer request.token request.params
-        (collected s.peer (events rows) ++ m.payload)) (Some b) rows moment s m request
-    part true b = refl
-    part false b = refl
-
-    block : (b : Option Block)
-        → gathering (more_follow b) b rows moment s m request
-        ≡ response_effects_of
-        (heard_block b (mid_of s.worker s.drawn) s.peer request.token request.params
-        (collected s.peer (events rows) ++ m.payload)) b rows moment s m request
-    block None = refl
-    block (Some b) = part b.more b
-
-    by : (elsewhere ends : Bool)
-        → response_taken (response_use elsewhere ends) rows moment s m request
-        ≡ response_effects_of (heard_by elsewhere ends
-        (heard_block (block_in m) (mid_of s.worker s.drawn) s.peer request.token
-        request.params (collected s.peer (events rows) ++ m.payload))) (block_in m) rows
-        moment s m request
-    by true ends = refl
-    by false true = refl
-    by false false = block (block_in m)
-
--- ---- the start of a fetch
-
 -- a simple registration starts one, where nothing refuses that
 pub registering_simply-starts : (past : List Event) (place : ℕ) (s : Step) (m : Message)
     → start_refusal s.peer past ≡ None
@@ -367,35 +312,6 @@ repeating-octets rows place peer mid n some = row (row_at place rows) some
     row : (r : Option Row) → Some_again (confirmable_sent r peer mid)
     row None h = absurd (omega (arith, h))
     row (Some r) h = passes r.sent h
-
--- what a tick does for the fetch of a peer: nothing, or its request is sent once more, or it ends
-pub due_effects : Again → List Row → Peer → Event → Request → Effects
-due_effects again.Wait rows peer e request = nothing
-due_effects again.Send rows peer e request =
-    repeating rows e.place peer request.mid (note.Resent peer)
-due_effects again.GaveUp rows peer e request = noting (note.Ceased peer ∷ [])
-
--- by what is due of it
-pub fetch_again-due : (rows : List Row) (moment : ℕ) (peer : Peer) (e : Event) (request : Request)
-    → last_request peer (events rows) ≡ Some e
-    → request_noted e.note ≡ Some request
-    → fetch_again rows moment peer (last_request peer (events rows))
-    ≡ due_effects (fetch_due moment peer e (events rows)) rows peer e request
-unfolding fetch_due due_effects
-fetch_again-due rows moment peer e request last made =
-    rw (last, made) (by (nat_le (fetch_deadline peer e (events rows)) moment)
-    (is_waiting peer (events rows)
-    || nat_le max_again (length (resendings peer (events rows)))))
-  where
-    by : (due over : Bool)
-        → request_again (due_by due over) rows peer e (Some request)
-        ≡ due_effects (cond due (cond over again.GaveUp again.Send) again.Wait) rows peer e
-        request
-    by false over = refl
-    by true true = refl
-    by true false = refl
-
--- ---- a row more
 
 -- a table of fetches stands for the same events while a row is made after the rows of these
 pub FetchesStandFor-row : (rows : List Row) (r : Row) (t : Table)

@@ -115,11 +115,11 @@ use Rattle.rd_desk.proofs.responses.FetchStepLaws.{
 use Rattle.coap_answers.specs.declared.mids.Mids.{Mids}
 use Rattle.coap_answers.specs.Sendings.{Sends, AreRequestsSent}
 use Rattle.coap_answers.proofs.SendingLaws.{sends_nothing, sends_octets}
-use Rattle.rd_desk.specs.declared.outcomes.Outcome.{Outcome as Planned}
-use Rattle.rd_desk.specs.Desks.{Seen}
-use Rattle.rd_desk.specs.Outcomes.{IsPlanned}
-use Rattle.rd_desk.specs.Responding.{asking_next, unless_starved, response_heard}
-use Rattle.rd_desk.specs.UnderWay.{UnderWay}
+use Rattle.rd_desk.specs.declared.write.outcomes.Outcome.{Outcome as Planned}
+use Rattle.rd_desk.specs.calls.Desks.{Seen}
+use Rattle.rd_desk.specs.parts.Outcomes.{IsPlanned}
+use Rattle.rd_desk.specs.parts.Responding.{asking_next, unless_starved, response_heard}
+use Rattle.rd_desk.specs.parts.UnderWay.{UnderWay}
 use Rattle.rd_desk.proofs.parts.EffectLaws.{joined-nothing, joined-assoc, drawing-more}
 use Rattle.rd_desk.proofs.parts.EmptyMessageLaws.{fetch_more}
 use Rattle.rd_desk.proofs.parts.MakingLaws.{entries-making_nothing}
@@ -128,39 +128,6 @@ use Rattle.rd_desk.proofs.parts.WayLaws.{noting_more, way_moment}
 use Rattle.rd_desk.proofs.responses.FetchingLaws.{Next, next_of}
 
 -- ---- what is sent
-
--- one after the other
-pub sends_both : (a b : Effects) (out between sent : List (Peer × List ℕ))
-    (first second third : Mids)
-    → Sends a out between first second
-    → Sends b between sent second third
-    → Sends (joined a b) out sent first third
-sends_both a b out between sent first second third h g = record {
-  sent =
-      g.sent
-      ∙ (ap (λ (xs : List (Peer × List ℕ)). xs ++ b.sent) h.sent ∙ append_assoc out a.sent b.sent);
-  worker = g.worker ∙ h.worker;
-  drawn = g.drawn ∙ (ap (drawing b.drew) h.drawn ∙ drawing-more a.drew b.drew first.drawn);
-}
-
--- a Reset where the response is confirmable, and else nothing
-pub sends_strange : (s : Step) (m : Message) (kind : Kind4) (sender : Peer)
-    (out sent : List (Peer × List ℕ)) (mids : Mids)
-    → s.peer ≡ sender
-    → (kind ≡ Con → sent ≡ out ++ (sender, spelling (empty_message Rst m.mid)) ∷ [])
-    → (kind ≢ Con → sent ≡ out)
-    → Sends (strange s m kind) out sent mids mids
-sends_strange s m Con sender out sent mids of con other =
-    sends_octets s sender (spelling (empty_message Rst m.mid)) out sent mids of (con refl)
-sends_strange s m Non sender out sent mids of con other =
-    subst (λ (xs : List (Peer × List ℕ)). Sends nothing out xs mids mids)
-    (sym (other (λ e. absurd cc))) (sends_nothing out mids)
-sends_strange s m Ack sender out sent mids of con other =
-    subst (λ (xs : List (Peer × List ℕ)). Sends nothing out xs mids mids)
-    (sym (other (λ e. absurd cc))) (sends_nothing out mids)
-sends_strange s m Rst sender out sent mids of con other =
-    subst (λ (xs : List (Peer × List ℕ)). Sends nothing out xs mids mids)
-    (sym (other (λ e. absurd cc))) (sends_nothing out mids)
 
 -- neither notes anything
 strange-notes : (s : Step) (m : Message) (kind : Kind4) → (strange s m kind).notes ≡ []

@@ -74,7 +74,7 @@ use Rattle.observers.specs.Watchers.{Watcher, due_of}
 use Rattle.observers.specs.ObserverEvents.{shown}
 use Rattle.observation.specs.Notices.{sending_again}
 use Rattle.observation.specs.Watching.{Watching, IsConfirmable, WatchingStandsFor}
-use Rattle.rd_desk.specs.Noticing.{again_as, again_done}
+use Rattle.rd_desk.specs.parts.Noticing.{again_as, again_done}
 
 -- ---- one notice
 

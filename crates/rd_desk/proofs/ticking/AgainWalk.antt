@@ -56,9 +56,9 @@ use Rattle.coap_answers.proofs.SendingLaws.{sends_notes}
 use Rattle.observation.specs.Notices.{sending_again}
 use Rattle.observation.specs.Watching.{Watching, WatchingStandsFor}
 use Rattle.observation.proofs.TickLaws.{length-StandsFor}
-use Rattle.rd_desk.specs.Desks.{Seen}
-use Rattle.rd_desk.specs.Noticing.{again_as, again_done}
-use Rattle.rd_desk.specs.UnderWay.{UnderWay}
+use Rattle.rd_desk.specs.calls.Desks.{Seen}
+use Rattle.rd_desk.specs.parts.Noticing.{again_as, again_done}
+use Rattle.rd_desk.specs.parts.UnderWay.{UnderWay}
 use Rattle.rd_desk.proofs.parts.EffectLaws.{joined-nothing, joined-nothing_first, joined-assoc}
 use Rattle.rd_desk.proofs.parts.PartLaws.{more_unformed}
 use Rattle.rd_desk.proofs.parts.WayLaws.{way_moment}

@@ -72,10 +72,10 @@ use Rattle.observation.proofs.TickLaws.{
   got_inside,
   got_within,
 }
-use Rattle.rd_desk.specs.declared.planning.Planned.{Planned}
-use Rattle.rd_desk.specs.declared.planning.Planned.TheVariants as planned
-use Rattle.rd_desk.specs.Desks.{Seen}
-use Rattle.rd_desk.specs.Planning.{
+use Rattle.rd_desk.specs.declared.tick.planning.Planned.{Planned}
+use Rattle.rd_desk.specs.declared.tick.planning.Planned.TheVariants as planned
+use Rattle.rd_desk.specs.calls.Desks.{Seen}
+use Rattle.rd_desk.specs.parts.Planning.{
   forming_for,
   kept_of,
   keeping_noted,
@@ -86,7 +86,7 @@ use Rattle.rd_desk.specs.Planning.{
   with_answers,
   CarryingOut,
 }
-use Rattle.rd_desk.specs.UnderWay.{UnderWay}
+use Rattle.rd_desk.specs.parts.UnderWay.{UnderWay}
 use Rattle.rd_desk.proofs.parts.EffectLaws.{joined-assoc, joined-nothing}
 use Rattle.rd_desk.proofs.parts.PartLaws.{more_watching, more_unformed, more_transfers}
 

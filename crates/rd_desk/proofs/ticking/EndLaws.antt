@@ -9,7 +9,7 @@ use Rattle.journal_model.specs.Journal.{events, entries, now}
 use Rattle.exchange_core.specs.Table as exchanges
 use Rattle.exchange_core.specs.ExchangeEvents.{ExchangesStandFor}
 use Rattle.observation.specs.Watching.{Watching, WatchingStandsFor}
-use Rattle.rd_desk.specs.Desks.{Seen, StandsFor}
+use Rattle.rd_desk.specs.calls.Desks.{Seen, StandsFor}
 
 -- without old exchanges
 pub aged-StandsFor : (rows : List Row) (b d : Seen) (t : exchanges.Table) → b ≡ d

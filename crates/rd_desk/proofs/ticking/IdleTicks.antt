@@ -33,9 +33,9 @@ use Rattle.transfers.proofs.KeptLists.{is_none}
 use Rattle.coap_answers.specs.declared.mids.Mids.{Mids}
 use Rattle.observation.specs.Notices.{next_noticed}
 use Rattle.observation.specs.Watching.{Watching, WatchingStandsFor}
-use Rattle.rd_desk.specs.Desks.{Seen}
-use Rattle.rd_desk.specs.Ticking.{tick_takes_memory}
-use Rattle.rd_desk.specs.UnderWay.{UnderWay}
+use Rattle.rd_desk.specs.calls.Desks.{Seen}
+use Rattle.rd_desk.specs.calls.Ticking.{tick_takes_memory}
+use Rattle.rd_desk.specs.parts.UnderWay.{UnderWay}
 use Rattle.rd_desk.proofs.ticking.NoticeWalk.{events-with, notices-end, next-unlooked}
 use Rattle.rd_desk.proofs.ticking.WholeTick.{again_draws}
 

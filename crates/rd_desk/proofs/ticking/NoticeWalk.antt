@@ -69,7 +69,7 @@ use Rattle.journal_model.specs.UnfinishedRow.{making}
 use Rattle.journal_model.proofs.EntriesNoted.{entries_in}
 use Rattle.journal_model.proofs.RowEquations.{transitions-row}
 use Rattle.observation.specs.Notices.{first_observer, next_noticed}
-use Rattle.rd_desk.specs.Ticking.{looks_at_any}
+use Rattle.rd_desk.specs.calls.Ticking.{looks_at_any}
 use Rattle.rd_desk.proofs.parts.EffectLaws.{joined-nothing}
 
 -- ---- what a tick is made from, and the journal with the row so far

@@ -127,11 +127,11 @@ use Rattle.observation.proofs.TickLaws.{
 }
 use Rattle.observation.proofs.WatchingLaws.{WatchingStandsFor-aside}
 use Rattle.observation.proofs.WatchingNotes.{WatchingStandsFor-unchanged, WatchingStandsFor-formed}
-use Rattle.rd_desk.specs.declared.planning.Plan.{Plan}
-use Rattle.rd_desk.specs.declared.planning.Planned.{Planned}
-use Rattle.rd_desk.specs.declared.planning.Planned.TheVariants as planned
-use Rattle.rd_desk.specs.Desks.{Seen}
-use Rattle.rd_desk.specs.Planning.{
+use Rattle.rd_desk.specs.declared.tick.planning.Plan.{Plan}
+use Rattle.rd_desk.specs.declared.tick.planning.Planned.{Planned}
+use Rattle.rd_desk.specs.declared.tick.planning.Planned.TheVariants as planned
+use Rattle.rd_desk.specs.calls.Desks.{Seen}
+use Rattle.rd_desk.specs.parts.Planning.{
   block_of_notice,
   block_named,
   kept_by,
@@ -143,7 +143,7 @@ use Rattle.rd_desk.specs.Planning.{
   MayBeSent,
   PlannedUpTo,
 }
-use Rattle.rd_desk.specs.UnderWay.{UnderWay}
+use Rattle.rd_desk.specs.parts.UnderWay.{UnderWay}
 use Rattle.rd_desk.proofs.parts.EffectLaws.{joined-assoc}
 use Rattle.rd_desk.proofs.ticking.AgainWalk.{drop-changed}
 use Rattle.rd_desk.proofs.ticking.BoundLaws.{asking_observers}

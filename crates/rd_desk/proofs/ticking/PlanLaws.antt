@@ -60,11 +60,11 @@ use Rattle.observers.proofs.MarkLaws.{awaited-StandsFor}
 use Rattle.coap_answers.specs.declared.mids.Mids.{Mids}
 use Rattle.observation.specs.Watching.{Watching, WatchingStandsFor}
 use Rattle.observation.proofs.TickLaws.{next-StandsFor}
-use Rattle.rd_desk.specs.declared.planning.Plan.{Plan}
-use Rattle.rd_desk.specs.declared.planning.Planned.{Planned}
-use Rattle.rd_desk.specs.Desks.{Seen}
-use Rattle.rd_desk.specs.Planning.{AreDone, PlannedUpTo}
-use Rattle.rd_desk.specs.UnderWay.{UnderWay}
+use Rattle.rd_desk.specs.declared.tick.planning.Plan.{Plan}
+use Rattle.rd_desk.specs.declared.tick.planning.Planned.{Planned}
+use Rattle.rd_desk.specs.calls.Desks.{Seen}
+use Rattle.rd_desk.specs.parts.Planning.{AreDone, PlannedUpTo}
+use Rattle.rd_desk.specs.parts.UnderWay.{UnderWay}
 use Rattle.rd_desk.proofs.ticking.BoundLaws.{few_observers}
 use Rattle.rd_desk.proofs.ticking.NoticeWalk.{full_passes, notices-end}
 use Rattle.rd_desk.proofs.ticking.WholeTick.{again_size, again_draws}

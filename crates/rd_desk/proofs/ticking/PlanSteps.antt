@@ -55,9 +55,15 @@ use Rattle.transfers.specs.Keeping.{NamedAnswer}
 use Rattle.observers.specs.Watchers.{Watcher, is_awaited, seen, changed_at, next_ready}
 use Rattle.observation.specs.Notices.{next_noticed}
 use Rattle.observation.specs.Watching.{Watching, WatchingStandsFor}
-use Rattle.rd_desk.specs.declared.planning.Plan.{Plan}
-use Rattle.rd_desk.specs.declared.planning.Planned.{Planned}
-use Rattle.rd_desk.specs.Planning.{planned_done, planned_kept, MayBeDone, AreDone, PlannedUpTo}
+use Rattle.rd_desk.specs.declared.tick.planning.Plan.{Plan}
+use Rattle.rd_desk.specs.declared.tick.planning.Planned.{Planned}
+use Rattle.rd_desk.specs.parts.Planning.{
+  planned_done,
+  planned_kept,
+  MayBeDone,
+  AreDone,
+  PlannedUpTo,
+}
 use Rattle.rd_desk.proofs.ticking.AgainWalk.{length-append}
 use Rattle.rd_desk.proofs.ticking.NoticeWalk.{notices-next}
 use Rattle.rd_desk.proofs.ticking.SkipLaws.{planned_next}

@@ -34,8 +34,8 @@ use Rattle.journal_model.proofs.NoteKinds.{again_tick, tick-entries_in}
 use Rattle.journal_model.proofs.StepNotes.{notices_again-notes}
 use Rattle.journal_model.proofs.UnfinishedRowLaws.{now-making}
 use Rattle.coap_answers.specs.declared.mids.Mids.{Mids}
-use Rattle.rd_desk.specs.Desks.{Seen, StandsFor}
-use Rattle.rd_desk.specs.UnderWay.{UnderWay}
+use Rattle.rd_desk.specs.calls.Desks.{Seen, StandsFor}
+use Rattle.rd_desk.specs.parts.UnderWay.{UnderWay}
 
 -- nothing is entered where notices are sent again
 pub entries-again : (rows : List Row) (s : Step) (starved : Bool)

@@ -100,15 +100,15 @@ use Rattle.simple_registration.proofs.TableLaws.{running_length}
 use Rattle.coap_answers.specs.declared.mids.Mids.{Mids}
 use Rattle.coap_answers.proofs.SendingLaws.{sends_notes}
 use Rattle.observation.proofs.TickLaws.{each_at, got_inside}
-use Rattle.rd_desk.specs.Desks.{Seen}
-use Rattle.rd_desk.specs.Resending.{
+use Rattle.rd_desk.specs.calls.Desks.{Seen}
+use Rattle.rd_desk.specs.parts.Resending.{
   IsAsBefore,
   LeavesFetches,
   fetches_left,
   request_done,
   Resending,
 }
-use Rattle.rd_desk.specs.UnderWay.{UnderWay}
+use Rattle.rd_desk.specs.parts.UnderWay.{UnderWay}
 use Rattle.rd_desk.proofs.parts.EffectLaws.{joined-nothing, joined-assoc}
 use Rattle.rd_desk.proofs.parts.PartLaws.{more_fetches}
 use Rattle.rd_desk.proofs.parts.WayLaws.{way_moment}

@@ -57,10 +57,10 @@ use Rattle.observers.specs.Watchers.{Watcher, is_awaited, is_ready, first_from, 
 use Rattle.observation.specs.Notices.{first_observer, next_noticed}
 use Rattle.observation.specs.Watching.{Watching, WatchingStandsFor}
 use Rattle.observation.proofs.TickLaws.{next-StandsFor, got_inside}
-use Rattle.rd_desk.specs.declared.planning.Plan.{Plan}
+use Rattle.rd_desk.specs.declared.tick.planning.Plan.{Plan}
 use Rattle.transfers.specs.Keeping.{NamedAnswer}
-use Rattle.rd_desk.specs.declared.planning.Planned.{Planned}
-use Rattle.rd_desk.specs.Planning.{AreDone, PlannedUpTo}
+use Rattle.rd_desk.specs.declared.tick.planning.Planned.{Planned}
+use Rattle.rd_desk.specs.parts.Planning.{AreDone, PlannedUpTo}
 use Rattle.rd_desk.proofs.ticking.NoticeWalk.{notices-next, notices-end, drop-drop, got-drop}
 use Rattle.rd_desk.proofs.ticking.PlanLaws.{free_before}
 

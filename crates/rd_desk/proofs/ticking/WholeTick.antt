@@ -82,10 +82,11 @@ use Rattle.simple_registration.proofs.DeskLaws.{last_request-other, fetch_due-ot
 use Rattle.simple_registration.proofs.NoteLaws.{IsAside}
 use Rattle.simple_registration.proofs.PeerLaws.{fetches-aside}
 use Rattle.coap_answers.specs.declared.mids.Mids.{Mids}
-use Rattle.rd_desk.specs.Desks.{Seen}
-use Rattle.rd_desk.specs.Planning.{notices_done}
-use Rattle.rd_desk.specs.Resending.{LeavesFetches}
-use Rattle.rd_desk.specs.UnderWay.{UnderWay, IsCalled, Made}
+use Rattle.rd_desk.specs.calls.Desks.{Seen}
+use Rattle.rd_desk.specs.parts.Planning.{notices_done}
+use Rattle.rd_desk.specs.parts.Resending.{LeavesFetches}
+use Rattle.rd_desk.specs.parts.UnderWay.{UnderWay}
+use Rattle.rd_desk.specs.calls.Steps.{IsCalled, Made}
 use Rattle.rd_desk.proofs.parts.WayLaws.{ended}
 use Rattle.rd_desk.proofs.ticking.AgainWalk.{length-append}
 use Rattle.rd_desk.proofs.ticking.BoundLaws.{few_observers, few_fetches}

@@ -18,7 +18,7 @@ use Rattle.journal_model.specs.Rows.{row}
 use Rattle.journal_model.specs.Seats.{Seat, MakesRow, job_left}
 use Rattle.rd_desk.specs.declared.jobs.Job.{Job}
 use Rattle.rd_desk.specs.declared.jobs.Job.TheVariants as job
-use Rattle.rd_desk.specs.WriteJobs.{Write}
+use Rattle.rd_desk.specs.calls.WriteJobs.{Write}
 use Rattle.rd_seat.specs.declared.hearing.SeatHeard.{SeatHeard}
 use Rattle.rd_seat.specs.declared.hearing.SeatHeard.TheVariants as heard
 use Rattle.rd_seat.specs.Heard.{is_starved_hearing, answer_left, LeavesWrite, IsKeepOf, MayBeDone}

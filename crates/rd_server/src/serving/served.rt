@@ -1,6 +1,6 @@
 //! What a worker counts, and why it does not serve to the end.
 ghost use Rattle.std.specs.Prelude.{◌≡◌};
-ghost use Rattle.rd_desk.specs.Stepping.{is_starved_step};
+ghost use Rattle.rd_desk.specs.calls.Stepping.{is_starved_step};
 ghost use Rattle.rd_seat.specs.Heard.{is_starved_hearing};
 
 use rd_desk::Stepped;

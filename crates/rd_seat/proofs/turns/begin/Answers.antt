@@ -3,7 +3,7 @@ use Rattle.history_model.specs.declared.entries.Entry.{Entry}
 use Rattle.journal_model.specs.Journal.{entries}
 use Rattle.journal_model.specs.Seats.{rows_of, Agree}
 use Rattle.turn_lock.specs.Shown.{seen_of}
-use Rattle.rd_desk.specs.Shown.{Shown}
+use Rattle.rd_desk.specs.calls.Shown.{Shown}
 use Rattle.version_board.specs.Ends.{PublisherSeen}
 use Rattle.rd_seat.specs.Turns.{StandsAtTurn}
 use Rattle.rd_seat.proofs.turns.begin.Goals as goal

@@ -6,7 +6,7 @@ use Rattle.journal_model.specs.Journal.{entries}
 use Rattle.journal_model.specs.Seats.{rows_of}
 use Rattle.std.specs.Option.{IfSome}
 use Rattle.turn_lock.specs.Shown.{number_of, seen_of, mine_of}
-use Rattle.rd_desk.specs.Shown.{Shown}
+use Rattle.rd_desk.specs.calls.Shown.{Shown}
 use Rattle.version_board.specs.Ends.{PublisherSeen}
 use Rattle.rd_seat.specs.OneTurn.{HasEnded}
 use Rattle.rd_seat.specs.Turns.{IsPublished, StandsAtTurn, HasStepped}

@@ -1,10 +1,10 @@
 use Rattle.std.proofs.Common.{sym, subst, ap}
 use Rattle.journal_model.specs.Rows.{row}
-use Rattle.rd_desk.specs.Desks.{Seen}
-use Rattle.rd_desk.specs.Shown.{AreToldOf}
-use Rattle.rd_desk.specs.Stepping.{is_starved_step}
-use Rattle.rd_desk.specs.Staging.{LeavesStaged}
-use Rattle.rd_desk.specs.UnderWay.{IsCalled}
+use Rattle.rd_desk.specs.calls.Desks.{Seen}
+use Rattle.rd_desk.specs.calls.Shown.{AreToldOf}
+use Rattle.rd_desk.specs.calls.Stepping.{is_starved_step}
+use Rattle.rd_desk.specs.calls.Staging.{LeavesStaged}
+use Rattle.rd_desk.specs.calls.Steps.{IsCalled}
 use Rattle.rd_desk.proofs.changes.StagingLaws.{made_staged}
 use Rattle.rd_desk.proofs.desk.Desk.commit.Goals as goal
 

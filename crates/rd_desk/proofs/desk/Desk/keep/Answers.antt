@@ -1,6 +1,6 @@
 use Rattle.std.proofs.Common.{sym, subst, ap}
-use Rattle.rd_desk.specs.Desks.{Seen}
-use Rattle.rd_desk.specs.UnderWay.{IsCalled}
+use Rattle.rd_desk.specs.calls.Desks.{Seen}
+use Rattle.rd_desk.specs.calls.Steps.{IsCalled}
 use Rattle.rd_desk.proofs.desk.Desk.keep.Goals as goal
 
 pub returns-clause-made : goal.returns-clause-made

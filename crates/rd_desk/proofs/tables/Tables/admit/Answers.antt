@@ -1,9 +1,9 @@
 use Rattle.std.proofs.Common.{false, ap, subst, sym}
 use Rattle.message_model.specs.Reading.{reading}
-use Rattle.rd_desk.specs.Admitting.{is_starved_admission}
+use Rattle.rd_desk.specs.calls.Admitting.{is_starved_admission}
 use Rattle.rd_desk.proofs.parts.HearingLaws.{admission_made, admission_notes}
 use Rattle.history_model.specs.Versions.{Version}
-use Rattle.rd_desk.specs.Shown.{AreToldOf}
+use Rattle.rd_desk.specs.calls.Shown.{AreToldOf}
 use Rattle.rd_desk.proofs.changes.StagingLaws.{laid_from}
 use Rattle.rd_desk.proofs.tables.Tables.admit.Goals as goal
 

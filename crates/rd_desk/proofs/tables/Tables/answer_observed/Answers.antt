@@ -5,9 +5,9 @@ use Rattle.event_model.specs.Observers.{observers}
 use Rattle.journal_model.specs.Effects.{noting}
 use Rattle.journal_model.specs.Journal.{events}
 use Rattle.observation.specs.Joining.{observer_joining, joining_notes}
-use Rattle.rd_desk.specs.Desks.{Seen}
-use Rattle.rd_desk.specs.Lookups.{lookup_heard}
-use Rattle.rd_desk.specs.UnderWay.{UnderWay}
+use Rattle.rd_desk.specs.calls.Desks.{Seen}
+use Rattle.rd_desk.specs.parts.Lookups.{lookup_heard}
+use Rattle.rd_desk.specs.parts.UnderWay.{UnderWay}
 use Rattle.rd_desk.proofs.parts.LookupLaws.{lookup_starved, observed_way}
 use Rattle.rd_desk.proofs.tables.Tables.answer_observed.Goals as goal
 

@@ -3,7 +3,7 @@ use Rattle.history_model.specs.Versions.{Version, VersionStandsFor}
 use Rattle.event_model.specs.Observers.{observers}
 use Rattle.journal_model.specs.Journal.{events, entries}
 use Rattle.observation.proofs.TickLaws.{got_inside, length-StandsFor}
-use Rattle.rd_desk.specs.Desks.{Seen, StandsFor}
+use Rattle.rd_desk.specs.calls.Desks.{Seen, StandsFor}
 use Rattle.rd_desk.proofs.ticking.EndLaws.{watched-StandsFor}
 use Rattle.rd_desk.proofs.tables.Tables.body_for.Goals as goal
 

@@ -3,7 +3,7 @@ use Rattle.event_model.specs.KeptAnswers.{KeptAnswer}
 use Rattle.journal_model.specs.declared.steps.Step.{Step}
 use Rattle.journal_model.specs.declared.rows.Row.{Row}
 use Rattle.journal_model.specs.Effects.{Effects}
-use Rattle.rd_desk.specs.Planning.{CarryingOut}
+use Rattle.rd_desk.specs.parts.Planning.{CarryingOut}
 use Rattle.rd_desk.proofs.tables.Tables.carry_out.Given as goal
 
 -- what is planned for the observers before the index is done

@@ -1,8 +1,8 @@
 use Rattle.std.proofs.Common.{◌∷◌, ap, subst}
 use Rattle.observation.specs.Watching.{WatchingStandsFor}
-use Rattle.rd_desk.specs.declared.planning.Planned.{Planned}
-use Rattle.rd_desk.specs.Desks.{Seen}
-use Rattle.rd_desk.specs.Planning.{CarryingOut}
+use Rattle.rd_desk.specs.declared.tick.planning.Planned.{Planned}
+use Rattle.rd_desk.specs.calls.Desks.{Seen}
+use Rattle.rd_desk.specs.parts.Planning.{CarryingOut}
 use Rattle.rd_desk.proofs.ticking.CarryLaws.{carries_unchanged}
 use Rattle.rd_desk.proofs.tables.Tables.carry_out_one.Goals as goal
 

@@ -1,4 +1,4 @@
-use Rattle.rd_desk.specs.Stepping.{is_starved_step}
+use Rattle.rd_desk.specs.calls.Stepping.{is_starved_step}
 use Rattle.rd_desk.proofs.changes.CommitLaws.{commit_made}
 use Rattle.rd_desk.proofs.tables.Tables.commit.Goals as goal
 

@@ -5,10 +5,10 @@ use Rattle.event_model.specs.declared.notes.Note.TheVariants as note
 use Rattle.journal_model.specs.Effects.{nothing, joined, noting}
 use Rattle.transfers.specs.declared.collecting.Upload.{Upload}
 use Rattle.transfers.specs.declared.collecting.Upload.TheVariants as answer
-use Rattle.coap_answers.specs.Replies.{reply_said}
-use Rattle.rd_desk.specs.Stepping.{is_starved_step}
+use Rattle.rd_desk.specs.parts.Replies.{short_said}
+use Rattle.rd_desk.specs.calls.Stepping.{is_starved_step}
 use Rattle.history_model.specs.Versions.{Version}
-use Rattle.rd_desk.specs.Shown.{AreToldOf}
+use Rattle.rd_desk.specs.calls.Shown.{AreToldOf}
 use Rattle.rd_desk.proofs.changes.StagingLaws.{laid_none, laid_from}
 use Rattle.rd_desk.proofs.changes.SettlingLaws.{open_more}
 use Rattle.rd_desk.proofs.changes.UploadLaws.{
@@ -38,10 +38,10 @@ returns-in-More-clause-way g c =
     λ e.
     (let other : ◌≡◌ {A = Upload} answer.More answer.Starved = sym c.in-More.is ∙ e in cc)
     in
-    settled_piece rows s place m b (reply_said c.continued.result) c.take_block.result c.in-Ok.key
+    settled_piece rows s place m b (short_said c.continued.result) c.take_block.result c.in-Ok.key
     c.settle.new.self c.settle.new.out c.settle.new.mids
     (c.in-Ok.ensures.key m (is_meaning c.args.registering.now.write.request.meaning)) c.in-More.is
-    c.continued.ensures.said
+    c.continued.ensures
     (c.take_block.ensures.answer rows s false c.args.out.now c.args.mids.now of way fed)
     (c.settle.ensures.way rows s false piece place of refl
     (open_more rows s false piece place c.args.registering.now.write.peer m.mid

@@ -8,11 +8,9 @@ use Rattle.journal_model.specs.Changes.{registration}
 use Rattle.journal_model.specs.Journal.{entries}
 use Rattle.journal_model.specs.Registrations.{block1_option}
 use Rattle.journal_model.specs.Rows.{row_moment}
-use Rattle.coap_answers.specs.Replies.{IsReply}
-use Rattle.rd_desk.specs.Committing.{IsShort}
-use Rattle.rd_desk.specs.Desks.{Seen}
-use Rattle.rd_desk.specs.Outcomes.{IsPlanned, IsTimely}
-use Rattle.rd_desk.specs.Staging.{IsNextOf}
+use Rattle.rd_desk.specs.calls.Desks.{Seen}
+use Rattle.rd_desk.specs.parts.Outcomes.{IsPlanned, IsTimely}
+use Rattle.rd_desk.specs.parts.Laying.{IsNextOf}
 use Rattle.rd_desk.proofs.changes.StagingLaws.{
   next_told,
   swept_planned,
@@ -25,30 +23,20 @@ use Rattle.rd_desk.proofs.tables.Tables.commit_body.Goals as goal
 
 pub staged-requires-clause-next : goal.staged-requires-clause-next
 staged-requires-clause-next g c =
-    next_told _ c.args.self.now.version c.body_outcome-planned.result c.requires.told
-    (λ history stands. c.body_outcome-planned.ensures.next history
+    next_told _ c.args.self.now.version c.whole_outcome-planned.result c.requires.told
+    (λ history stands. c.whole_outcome-planned.ensures.next history
     (subst (VersionStandsFor 0 history)
     (sym (c.deref.ensures ∙ ap (λ (d : Seen). d.version) c.self.view_is)) stands))
 
 pub staged-requires-clause-swept : goal.staged-requires-clause-swept
 staged-requires-clause-swept g c =
-    swept_planned c.body_outcome-planned.result _ c.body_outcome-planned.ensures.moments
+    swept_planned c.whole_outcome-planned.result _ c.whole_outcome-planned.ensures.moments
 
 pub settle_upload-requires-clause-timely : goal.settle_upload-requires-clause-timely
 settle_upload-requires-clause-timely g c =
     subst (λ (d : Seen). IsTimely d.moment c.in-Ok.outcome) c.self.view_is
-    (of_laid (IsTimely _) c.body_outcome-planned.result c.in-Ok.outcome c.in-Ok.ensures.same
-    c.body_outcome-planned.ensures.moments)
-
-pub settle_upload-requires-clause-reply : goal.settle_upload-requires-clause-reply
-settle_upload-requires-clause-reply g c =
-    of_laid (λ o. IsReply o.reply) c.body_outcome-planned.result c.in-Ok.outcome
-    c.in-Ok.ensures.same c.body_outcome-planned.ensures.reply
-
-pub settle_upload-requires-clause-short : goal.settle_upload-requires-clause-short
-settle_upload-requires-clause-short g c =
-    of_laid (λ o. IsShort o.reply) c.body_outcome-planned.result c.in-Ok.outcome
-    c.in-Ok.ensures.same c.body_outcome-planned.ensures.short
+    (of_laid (IsTimely _) c.whole_outcome-planned.result c.in-Ok.outcome c.in-Ok.ensures.same
+    c.whole_outcome-planned.ensures.moments)
 
 pub returns-in-Ok-clause-way : goal.returns-in-Ok-clause-way
 returns-in-Ok-clause-way g c =
@@ -67,17 +55,17 @@ returns-in-Ok-clause-way g c =
     (planned_here rows s false _ c.args.self.now c.deref.result.now c.args.out.now c.args.mids.now
     params c.args.body.now.octets.now options further c.in-Ok.outcome c.self.view_is c.deref.ensures
     (λ history h.
-    of_laid (λ o. IsPlanned history _ further _ o) c.body_outcome-planned.result c.in-Ok.outcome
-    c.in-Ok.ensures.same (c.body_outcome-planned.ensures.planned history s further h of))
+    of_laid (λ o. IsPlanned history _ further _ o) c.whole_outcome-planned.result c.in-Ok.outcome
+    c.in-Ok.ensures.same (c.whole_outcome-planned.ensures.planned history s further h of))
     way) way
 
 pub returns-in-Ok-clause-laid : goal.returns-in-Ok-clause-laid
 returns-in-Ok-clause-laid g c =
     laid_planned c.args.self.now.version _ c.in-Ok.outcome.entering _ _ _ c.in-Ok.ensures.laid
     c.settle_upload.ensures.version
-    (λ history stands. of_laid (IsNextOf history) c.body_outcome-planned.result c.in-Ok.outcome
+    (λ history stands. of_laid (IsNextOf history) c.whole_outcome-planned.result c.in-Ok.outcome
     c.in-Ok.ensures.same
-    (c.body_outcome-planned.ensures.next history
+    (c.whole_outcome-planned.ensures.next history
     (subst (VersionStandsFor 0 history)
     (sym (c.deref.ensures ∙ ap (λ (d : Seen). d.version) c.self.view_is)) stands)))
     c.in-Ok.ensures.none_laid

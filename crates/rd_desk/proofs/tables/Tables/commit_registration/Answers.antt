@@ -1,6 +1,6 @@
 use Rattle.std.proofs.Common.{Some, None, sym, ◌∙◌}
 use Rattle.coap_message.specs.Views.{message_in}
-use Rattle.rd_desk.specs.Stepping.{is_starved_step}
+use Rattle.rd_desk.specs.calls.Stepping.{is_starved_step}
 use Rattle.rd_desk.proofs.changes.CommitLaws.{way_registered}
 use Rattle.rd_desk.proofs.tables.Tables.commit_registration.Goals as goal
 

@@ -2,8 +2,8 @@ use Rattle.std.proofs.Common.{ap, ◌∙◌}
 use Rattle.coap_message.specs.Views.{message_in}
 use Rattle.journal_model.specs.Commits.{updating}
 use Rattle.journal_model.specs.Rows.{row_moment}
-use Rattle.rd_desk.specs.Desks.{Seen}
-use Rattle.rd_desk.specs.Stepping.{is_starved_step}
+use Rattle.rd_desk.specs.calls.Desks.{Seen}
+use Rattle.rd_desk.specs.calls.Stepping.{is_starved_step}
 use Rattle.rd_desk.proofs.changes.CommitLaws.{updating-at, planned_here}
 use Rattle.rd_desk.proofs.tables.Tables.commit_update.Goals as goal
 

@@ -1,9 +1,10 @@
-use Rattle.std.proofs.Common.{None, ap, ◌∙◌}
+use Rattle.std.proofs.Common.{None, [], ap, ◌∙◌}
 use Rattle.coap_message.specs.Views.{message_in}
+use Rattle.journal_model.specs.Journal.{entries}
 use Rattle.journal_model.specs.Registrations.{registration_outcome}
 use Rattle.journal_model.specs.Rows.{row_moment}
-use Rattle.rd_desk.specs.Desks.{Seen}
-use Rattle.rd_desk.specs.Stepping.{is_starved_step}
+use Rattle.rd_desk.specs.calls.Desks.{Seen}
+use Rattle.rd_desk.specs.calls.Stepping.{is_starved_step}
 use Rattle.rd_desk.proofs.changes.CommitLaws.{whole-at, planned_here}
 use Rattle.rd_desk.proofs.tables.Tables.commit_whole.Goals as goal
 
@@ -18,4 +19,4 @@ returns-clause-way g c =
     (λ at. registration_outcome None rows at s m)
     (c.deref.ensures ∙ ap (λ (d : Seen). d.version) c.self.view_is)
     (ap (λ (d : Seen). d.moment) c.self.view_is)
-    (λ stands. c.whole_outcome-planned.ensures.planned rows s stands of) way) way
+    (λ stands. c.whole_outcome-planned.ensures.planned (entries rows) s [] stands of) way) way

@@ -8,8 +8,8 @@ use Rattle.rd_request.specs.Accepted.{message_of}
 use Rattle.rd_request.proofs.AskedLaws.{none_there}
 use Rattle.rd_request.proofs.ResourceLaws.{registration_path, simple_path, location_path}
 use Rattle.journal_model.specs.Rows.{row_moment}
-use Rattle.rd_desk.specs.Committing.{unless_failing}
-use Rattle.rd_desk.specs.Stepping.{is_starved_step}
+use Rattle.rd_desk.specs.parts.Committing.{unless_failing}
+use Rattle.rd_desk.specs.calls.Stepping.{is_starved_step}
 use Rattle.rd_desk.proofs.changes.CommitLaws.{
   good_registration,
   good_simple,
@@ -18,8 +18,8 @@ use Rattle.rd_desk.proofs.changes.CommitLaws.{
   location_updates,
   location_removes,
 }
-use Rattle.rd_desk.specs.UnderWay.{UnderWay}
-use Rattle.rd_desk.specs.WriteJobs.{Write}
+use Rattle.rd_desk.specs.parts.UnderWay.{UnderWay}
+use Rattle.rd_desk.specs.calls.WriteJobs.{Write}
 use Rattle.rd_desk.proofs.tables.Tables.commit_write.Goals as goal
 
 pub returns-in-Registration-clause-way : goal.returns-in-Registration-clause-way

@@ -1,9 +1,9 @@
 use Rattle.std.proofs.Common.{false, refl, sym, ap, subst, ◌∙◌}
 use Rattle.coap_message.specs.Views.{message_in}
 use Rattle.history_model.specs.Versions.{VersionStandsFor}
-use Rattle.rd_desk.specs.Desks.{Seen}
-use Rattle.rd_desk.specs.Outcomes.{IsPlanned, IsTimely}
-use Rattle.rd_desk.specs.Staging.{IsNextOf, IsLeftBy}
+use Rattle.rd_desk.specs.calls.Desks.{Seen}
+use Rattle.rd_desk.specs.parts.Outcomes.{IsPlanned, IsTimely}
+use Rattle.rd_desk.specs.parts.Laying.{IsNextOf, IsLeftBy}
 use Rattle.rd_desk.proofs.changes.StagingLaws.{
   next_told,
   swept_planned,

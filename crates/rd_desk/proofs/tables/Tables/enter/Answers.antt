@@ -2,7 +2,7 @@ use Rattle.std.proofs.Common.{◌≤◌, sym, ap, subst, ◌∙◌, arith}
 use Rattle.std.specs.Arc.{arc_value}
 use Rattle.history_model.specs.Versions.{Version, VersionStandsFor}
 use Rattle.journal_model.specs.Journal.{entries}
-use Rattle.rd_desk.specs.Outcomes.{HasEntry}
+use Rattle.rd_desk.specs.parts.Outcomes.{HasEntry}
 use Rattle.rd_desk.proofs.changes.EntryLaws.{way_entered}
 use Rattle.rd_desk.proofs.tables.Tables.enter.Goals as goal
 

@@ -1,8 +1,6 @@
 use Rattle.std.proofs.Common.{[], true, false, subst}
-use Rattle.coap_answers.specs.Replies.{IsReply}
-use Rattle.rd_desk.specs.Committing.{IsShort}
-use Rattle.rd_desk.specs.Outcomes.{IsTimely}
-use Rattle.rd_desk.specs.Staging.{IsNextOf}
+use Rattle.rd_desk.specs.parts.Outcomes.{IsTimely}
+use Rattle.rd_desk.specs.parts.Laying.{IsNextOf}
 use Rattle.rd_desk.proofs.changes.StagingLaws.{
   next_told,
   swept_planned,
@@ -13,7 +11,7 @@ use Rattle.rd_desk.proofs.changes.StagingLaws.{
 use Rattle.rd_base.specs.declared.peers.Peer.{Peer}
 use Rattle.event_model.specs.AdmissionOrder.{IsOpen}
 use Rattle.journal_model.specs.Journal.{events, entries}
-use Rattle.rd_desk.specs.Outcomes.{IsPlanned}
+use Rattle.rd_desk.specs.parts.Outcomes.{IsPlanned}
 use Rattle.rd_desk.proofs.changes.CommitLaws.{planned_ok}
 use Rattle.rd_desk.proofs.tables.Tables.finish.Goals as goal
 
@@ -44,16 +42,6 @@ staged-requires-clause-next g c =
 pub staged-requires-clause-swept : goal.staged-requires-clause-swept
 staged-requires-clause-swept g c =
     swept_planned c.args.planned c.args.self.now.moment c.requires.timely
-
-pub conclude-requires-clause-reply : goal.conclude-requires-clause-reply
-conclude-requires-clause-reply g c =
-    of_laid (λ o. IsReply o.reply) c.args.planned c.in-Ok.outcome c.in-Ok.ensures.same
-    c.requires.reply
-
-pub conclude-requires-clause-short : goal.conclude-requires-clause-short
-conclude-requires-clause-short g c =
-    of_laid (λ o. IsShort o.reply) c.args.planned c.in-Ok.outcome c.in-Ok.ensures.same
-    c.requires.short
 
 pub conclude-requires-clause-timely : goal.conclude-requires-clause-timely
 conclude-requires-clause-timely g c =

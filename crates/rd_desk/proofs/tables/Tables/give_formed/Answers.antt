@@ -1,6 +1,6 @@
 use Rattle.std.proofs.Common.{refl, ◌∙◌}
 use Rattle.coap_message.specs.Views.{message_in}
-use Rattle.rd_desk.specs.Lookups.{answer_listed}
+use Rattle.rd_desk.specs.parts.Lookups.{answer_listed}
 use Rattle.rd_desk.proofs.parts.LookupLaws.{given_whole, given_kept}
 use Rattle.rd_desk.proofs.tables.Tables.give_formed.Goals as goal
 

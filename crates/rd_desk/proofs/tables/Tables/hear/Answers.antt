@@ -21,10 +21,11 @@ use Rattle.rd_request.specs.Asking.{refused_with}
 use Rattle.rd_request.proofs.AskedLaws.{none_there}
 use Rattle.rd_request.proofs.IncomingLaws.{look_left}
 use Rattle.rd_request.proofs.WriteRequestLaws.{write_datagram}
-use Rattle.rd_desk.specs.Admitting.{is_starved_admission, IsHeldFor, write_heard}
-use Rattle.rd_desk.specs.Lookups.{lookup_heard}
-use Rattle.rd_desk.specs.Responding.{response_heard}
-use Rattle.rd_desk.specs.UnderWay.{UnderWay}
+use Rattle.rd_desk.specs.calls.Admitting.{is_starved_admission, IsHeldFor}
+use Rattle.rd_desk.specs.parts.Hearing.{write_heard}
+use Rattle.rd_desk.specs.parts.Lookups.{lookup_heard}
+use Rattle.rd_desk.specs.parts.Responding.{response_heard}
+use Rattle.rd_desk.specs.parts.UnderWay.{UnderWay}
 use Rattle.rd_desk.proofs.parts.AdmissionLaws.{request_refused, request_writes}
 use Rattle.rd_desk.proofs.parts.HearingLaws.{
   served_lookup,

@@ -3,9 +3,9 @@ use Rattle.coap_message.specs.Views.{message_in}
 use Rattle.journal_model.specs.Effects.{mid_of}
 use Rattle.journal_model.specs.Journal.{events}
 use Rattle.simple_registration.specs.declared.hearing.Heard.TheVariants as heard
-use Rattle.rd_desk.specs.Desks.{Seen}
-use Rattle.rd_desk.specs.Shown.{AreToldOf}
-use Rattle.rd_desk.specs.Stepping.{is_starved_step}
+use Rattle.rd_desk.specs.calls.Desks.{Seen}
+use Rattle.rd_desk.specs.calls.Shown.{AreToldOf}
+use Rattle.rd_desk.specs.calls.Stepping.{is_starved_step}
 use Rattle.rd_desk.proofs.changes.StagingLaws.{laid_none, laid_from}
 use Rattle.rd_desk.proofs.responses.FetchingLaws.{whole_of}
 use Rattle.rd_desk.proofs.responses.ResponseLaws.{

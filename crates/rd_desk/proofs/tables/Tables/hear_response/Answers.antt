@@ -7,9 +7,9 @@ use Rattle.journal_model.specs.Responses.{acknowledgement, response_to}
 use Rattle.journal_model.specs.Rows.{row_moment}
 use Rattle.journal_model.specs.Ticks.{octets_sent}
 use Rattle.journal_model.specs.UnfinishedRow.{making}
-use Rattle.rd_desk.specs.Responding.{unless_starved}
-use Rattle.rd_desk.specs.Stepping.{is_starved_step}
-use Rattle.rd_desk.specs.UnderWay.{UnderWay}
+use Rattle.rd_desk.specs.parts.Responding.{unless_starved}
+use Rattle.rd_desk.specs.calls.Stepping.{is_starved_step}
+use Rattle.rd_desk.specs.parts.UnderWay.{UnderWay}
 use Rattle.rd_desk.proofs.changes.StagingLaws.{laid_none}
 use Rattle.rd_desk.proofs.responses.ResponseLaws.{
   stands_begun,

@@ -4,7 +4,7 @@ use Rattle.message_model.specs.Spelling.{spelling}
 use Rattle.coap_message.specs.Views.{message_in}
 use Rattle.event_model.specs.Repeats.{is_admitting}
 use Rattle.journal_model.specs.Effects.{nothing}
-use Rattle.rd_desk.specs.Desks.{Seen}
+use Rattle.rd_desk.specs.calls.Desks.{Seen}
 use Rattle.rd_desk.proofs.parts.ForgottenLaws.{way_forgotten}
 use Rattle.rd_desk.proofs.parts.WayLaws.{way_moment}
 use Rattle.rd_desk.proofs.parts.WriteLaws.{job_same, without_memory-notes}

@@ -1,4 +1,4 @@
-use Rattle.rd_desk.specs.Stepping.{is_starved_step}
+use Rattle.rd_desk.specs.calls.Stepping.{is_starved_step}
 use Rattle.rd_desk.proofs.parts.KeepLaws.{keep_made}
 use Rattle.rd_desk.proofs.tables.Tables.keep.Goals as goal
 

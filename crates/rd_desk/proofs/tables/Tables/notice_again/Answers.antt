@@ -5,7 +5,7 @@ use Rattle.exchange_core.specs.declared.resends.Again.TheVariants as again
 use Rattle.exchange_core.specs.Retransmissions.{kept_due, kept_after}
 use Rattle.observers.specs.Watchers.{Watcher, due_of, kept_of, timed}
 use Rattle.observation.specs.Watching.{Watching, WatchingStandsFor}
-use Rattle.rd_desk.specs.Desks.{Seen}
+use Rattle.rd_desk.specs.calls.Desks.{Seen}
 use Rattle.rd_desk.proofs.ticking.AgainWalk.{
   drop-changed,
   got-changed,

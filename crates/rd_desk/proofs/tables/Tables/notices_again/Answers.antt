@@ -1,7 +1,7 @@
 use Rattle.std.proofs.Common.{◌+◌, length, drop, sym, ap, ◌∙◌, arith}
 use Rattle.observation.proofs.TickLaws.{got_inside}
-use Rattle.rd_desk.specs.Desks.{Seen}
-use Rattle.rd_desk.specs.Noticing.{index_after}
+use Rattle.rd_desk.specs.calls.Desks.{Seen}
+use Rattle.rd_desk.specs.parts.Noticing.{index_after}
 use Rattle.rd_desk.proofs.ticking.AgainWalk.{again_begins, again_goes, again_ends}
 use Rattle.rd_desk.proofs.tables.Tables.notices_again.Goals as goal
 

@@ -3,7 +3,7 @@ use Rattle.journal_model.specs.declared.steps.Step.{Step}
 use Rattle.journal_model.specs.declared.rows.Row.{Row}
 use Rattle.journal_model.specs.Effects.{nothing}
 use Rattle.coap_answers.specs.declared.mids.Mids.{Mids}
-use Rattle.rd_desk.specs.UnderWay.{UnderWay}
+use Rattle.rd_desk.specs.parts.UnderWay.{UnderWay}
 use Rattle.rd_desk.proofs.ticking.AgainWalk.{AgainUpTo}
 use Rattle.rd_desk.proofs.tables.Tables.notices_again.Given as goal
 

@@ -1,5 +1,5 @@
 use Rattle.std.proofs.Common.{option_map, sym, subst, ap, ◌∙◌}
-use Rattle.rd_desk.specs.Desks.{Seen, StandsFor}
+use Rattle.rd_desk.specs.calls.Desks.{Seen, StandsFor}
 use Rattle.rd_desk.proofs.parts.ShownLaws.{shown-IsObserverAfter}
 use Rattle.rd_desk.proofs.tables.Tables.observer.Goals as goal
 

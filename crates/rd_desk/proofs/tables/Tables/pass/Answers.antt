@@ -2,7 +2,7 @@ use Rattle.std.proofs.Common.{◌≡◌, max, sym, ap, subst, ◌∙◌}
 use Rattle.journal_model.specs.Rows.{row_moment}
 use Rattle.observation.specs.Directories.{DirectoryStandsFor}
 use Rattle.observation.specs.Watching.{WatchingStandsFor}
-use Rattle.rd_desk.specs.Desks.{Seen}
+use Rattle.rd_desk.specs.calls.Desks.{Seen}
 use Rattle.rd_desk.proofs.parts.WayLaws.{begun, moment_passes}
 use Rattle.rd_desk.proofs.tables.Tables.pass.Goals as goal
 

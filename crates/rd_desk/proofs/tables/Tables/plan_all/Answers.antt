@@ -1,7 +1,7 @@
 use Rattle.std.proofs.Common.{◌+◌, sym, ap, subst, ◌∙◌, arith}
 use Rattle.observers.specs.Watchers.{next_ready}
-use Rattle.rd_desk.specs.Desks.{Seen}
-use Rattle.rd_desk.specs.Planning.{PlannedUpTo}
+use Rattle.rd_desk.specs.calls.Desks.{Seen}
+use Rattle.rd_desk.specs.parts.Planning.{PlannedUpTo}
 use Rattle.rd_desk.proofs.ticking.PlanLaws.{planned_none, planned_full}
 use Rattle.rd_desk.proofs.ticking.PlanWay.{way_kept}
 use Rattle.rd_desk.proofs.tables.Tables.plan_all.Goals as goal

@@ -6,9 +6,9 @@ use Rattle.journal_model.specs.declared.rows.Row.{Row}
 use Rattle.journal_model.specs.Effects.{Effects}
 use Rattle.journal_model.specs.Journal.{entries}
 use Rattle.journal_model.specs.Rows.{row_moment}
-use Rattle.rd_desk.specs.Desks.{StandsFor}
-use Rattle.rd_desk.specs.Planning.{PlannedUpTo}
-use Rattle.rd_desk.specs.UnderWay.{UnderWay}
+use Rattle.rd_desk.specs.calls.Desks.{StandsFor}
+use Rattle.rd_desk.specs.parts.Planning.{PlannedUpTo}
+use Rattle.rd_desk.specs.parts.UnderWay.{UnderWay}
 use Rattle.rd_desk.proofs.tables.Tables.plan_all.Given as goal
 
 -- the plan is made up to the index, and nothing changed but bodies that are kept

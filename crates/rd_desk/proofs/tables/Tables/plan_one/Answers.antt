@@ -6,7 +6,7 @@ use Rattle.event_model.specs.Same.{is_same_peer}
 use Rattle.journal_model.specs.Effects.{mid_of}
 use Rattle.journal_model.specs.UnfinishedRow.{making}
 use Rattle.observers.specs.Watchers.{Watcher}
-use Rattle.rd_desk.specs.Desks.{Seen}
+use Rattle.rd_desk.specs.calls.Desks.{Seen}
 use Rattle.rd_desk.proofs.ticking.SkipLaws.{planned_skips}
 use Rattle.rd_desk.proofs.ticking.PlanCases.{planned_unchanged, planned_notice}
 use Rattle.rd_desk.proofs.ticking.PlanWay.{on_ok}

@@ -2,8 +2,8 @@ use Rattle.std.proofs.Common.{◌≡◌, List, [], sym, ap, subst, ◌∙◌}
 use Rattle.event_model.specs.declared.notes.Note.{Note}
 use Rattle.journal_model.specs.Effects.{Effects, joined, noting}
 use Rattle.journal_model.specs.Journal.{entries}
-use Rattle.rd_desk.specs.Outcomes.{IsEntering, AreNotes}
-use Rattle.rd_desk.specs.UnderWay.{UnderWay}
+use Rattle.rd_desk.specs.parts.Outcomes.{IsEntering, AreNotes}
+use Rattle.rd_desk.specs.parts.UnderWay.{UnderWay}
 use Rattle.rd_desk.proofs.parts.EffectLaws.{joined-nothing}
 use Rattle.rd_desk.proofs.tables.Tables.register_fetched.Goals as goal
 

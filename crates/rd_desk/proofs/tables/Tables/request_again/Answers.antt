@@ -3,7 +3,7 @@ use Rattle.std.specs.Arc.{arc_value}
 use Rattle.exchange_core.specs.declared.resends.Again.TheVariants as again
 use Rattle.simple_registration.specs.Table.{Table}
 use Rattle.simple_registration.specs.FetchEvents.{FetchesStandFor}
-use Rattle.rd_desk.specs.Desks.{Seen}
+use Rattle.rd_desk.specs.calls.Desks.{Seen}
 use Rattle.rd_desk.proofs.ticking.RequestWalk.{resending_waits, resending_sends, resending_ends}
 use Rattle.rd_desk.proofs.tables.Tables.request_again.Goals as goal
 

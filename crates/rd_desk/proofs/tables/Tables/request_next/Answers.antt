@@ -1,7 +1,7 @@
 use Rattle.std.proofs.Common.{length, ap, subst, arith}
-use Rattle.rd_desk.specs.Desks.{Seen}
-use Rattle.rd_desk.specs.Noticing.{index_after}
-use Rattle.rd_desk.specs.Resending.{Resending}
+use Rattle.rd_desk.specs.calls.Desks.{Seen}
+use Rattle.rd_desk.specs.parts.Noticing.{index_after}
+use Rattle.rd_desk.specs.parts.Resending.{Resending}
 use Rattle.rd_desk.proofs.ticking.RequestWalk.{resending_past}
 use Rattle.rd_desk.proofs.tables.Tables.request_next.Goals as goal
 

@@ -1,5 +1,5 @@
 use Rattle.std.proofs.Common.{◌+◌, ◌-◌, length, ap, arith}
-use Rattle.rd_desk.specs.Desks.{Seen}
+use Rattle.rd_desk.specs.calls.Desks.{Seen}
 use Rattle.rd_desk.proofs.ticking.RequestWalk.{resending_begins, resending_done}
 use Rattle.rd_desk.proofs.tables.Tables.requests_again.Goals as goal
 

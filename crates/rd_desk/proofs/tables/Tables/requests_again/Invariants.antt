@@ -6,8 +6,8 @@ use Rattle.journal_model.specs.Effects.{Effects}
 use Rattle.journal_model.specs.Journal.{events}
 use Rattle.coap_answers.specs.declared.mids.Mids.{Mids}
 use Rattle.coap_answers.specs.Outboxes.{most_datagrams}
-use Rattle.rd_desk.specs.Resending.{LeavesFetches, Resending}
-use Rattle.rd_desk.specs.UnderWay.{UnderWay}
+use Rattle.rd_desk.specs.parts.Resending.{LeavesFetches, Resending}
+use Rattle.rd_desk.specs.parts.UnderWay.{UnderWay}
 use Rattle.rd_desk.proofs.tables.Tables.requests_again.Given as goal
 
 -- the requests of the fetches before the index are done with, and no more are left than steps

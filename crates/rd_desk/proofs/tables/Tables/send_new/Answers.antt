@@ -1,6 +1,6 @@
 use Rattle.std.proofs.Common.{refl, ap, subst}
 use Rattle.observation.specs.Watching.{WatchingStandsFor}
-use Rattle.rd_desk.specs.Desks.{Seen}
+use Rattle.rd_desk.specs.calls.Desks.{Seen}
 use Rattle.rd_desk.proofs.ticking.CarryLaws.{carries_notice}
 use Rattle.rd_desk.proofs.tables.Tables.send_new.Goals as goal
 

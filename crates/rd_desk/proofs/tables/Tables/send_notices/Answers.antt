@@ -5,7 +5,7 @@ use Rattle.journal_model.specs.Rows.{row_moment}
 use Rattle.journal_model.specs.Ticks.{ticking, notices_again, notices}
 use Rattle.transfers.specs.Keeping.{NamedAnswer}
 use Rattle.transfers.specs.TransferEvents.{AnswersStandFor, kept_note}
-use Rattle.rd_desk.specs.Desks.{Seen}
+use Rattle.rd_desk.specs.calls.Desks.{Seen}
 use Rattle.rd_desk.proofs.ticking.PlanLaws.{planned_begins}
 use Rattle.rd_desk.proofs.ticking.PlanWay.{way_kept, when_ok, tag_again, moment_again}
 use Rattle.rd_desk.proofs.ticking.CarryLaws.{carrying_begins, adopted}

@@ -1,5 +1,5 @@
 use Rattle.coap_message.specs.Views.{message_in}
-use Rattle.coap_answers.specs.Replies.{reply_said}
+use Rattle.rd_desk.specs.parts.Replies.{short_said}
 use Rattle.rd_desk.proofs.changes.SettlingLaws.{way_settled}
 use Rattle.rd_desk.proofs.tables.Tables.settle.Goals as goal
 
@@ -7,7 +7,7 @@ pub returns-clause-way : goal.returns-clause-way
 returns-clause-way c =
     λ rows s starved done place of drew opened way.
     way_settled rows s starved done place (message_in c.args.write.now.request.meaning.view)
-    (reply_said c.args.reply.now)
+    (short_said c.args.reply.now)
     c.args.write.now.peer c.args.write.now.admitted.0 c.answer_short-octets.result _ c.args.self.now
     c.settle.new.self
     c.args.out.now c.answer_short-octets.new.out c.args.mids.now c.answer_short-octets.new.mids

@@ -3,7 +3,7 @@ use Rattle.coap_message.specs.Views.{message_in}
 use Rattle.event_model.specs.declared.notes.Note.TheVariants as note
 use Rattle.journal_model.specs.Effects.{Effects, nothing, joined, noting}
 use Rattle.journal_model.specs.Journal.{entries}
-use Rattle.coap_answers.specs.Replies.{reply_said}
+use Rattle.rd_desk.specs.parts.Replies.{short_said}
 use Rattle.rd_desk.proofs.changes.SettlingLaws.{open_more}
 use Rattle.rd_desk.proofs.changes.UploadLaws.{
   refused_notes,
@@ -17,7 +17,7 @@ pub returns-in_default-clause-way : goal.returns-in_default-clause-way
 returns-in_default-clause-way c =
     λ rows s starved place meant of opened made planned way.
     let m = message_in c.args.write.now.request.meaning.view in
-    settled_refusal rows s starved place m (reply_said c.args.outcome.reply) meant c.settle.new.self
+    settled_refusal rows s starved place m (short_said c.args.outcome.reply) meant c.settle.new.self
     c.settle.new.out c.settle.new.mids planned.said
     (refused_notes (entries rows) c.args.self.now.version.swept
     (note.Finished s.peer c.args.key.now ∷ []) meant c.args.outcome c.in_default.is planned)
@@ -36,7 +36,7 @@ returns-clause-way c =
     c.in-Some.is planned in
     let entered : Effects = joined nothing (noting (note.Entered it.entry ∷ [])) in
     let finished : Effects = joined entered (noting (note.Finished s.peer c.args.key.now ∷ [])) in
-    settled_upload rows s starved place m (reply_said c.args.outcome.reply) it.entry c.args.key.now
+    settled_upload rows s starved place m (short_said c.args.outcome.reply) it.entry c.args.key.now
     meant c.settle-2.new.self c.settle-2.new.out c.settle-2.new.mids planned.said it.noted
     (c.settle-2.ensures.way rows s starved finished place of refl
     (open_more rows s starved finished place c.args.write.now.peer m.mid c.args.write.now.admitted.0

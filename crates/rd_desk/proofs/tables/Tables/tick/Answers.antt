@@ -2,8 +2,8 @@ use Rattle.std.proofs.Common.{false}
 use Rattle.journal_model.specs.Effects.{joined}
 use Rattle.journal_model.specs.Rows.{row_moment}
 use Rattle.journal_model.specs.Ticks.{requests_again}
-use Rattle.rd_desk.specs.Planning.{notices_done}
-use Rattle.rd_desk.specs.Stepping.{is_starved_step}
+use Rattle.rd_desk.specs.parts.Planning.{notices_done}
+use Rattle.rd_desk.specs.calls.Stepping.{is_starved_step}
 use Rattle.rd_desk.proofs.ticking.WholeTick.{notices_leave, requests_room, tick_made}
 use Rattle.rd_desk.proofs.tables.Tables.tick.Goals as goal
 
@@ -20,13 +20,10 @@ returns c = record {
       c.requests_again.ensures rows s starved (notices_done starved rows s)
       c.notices-stepped.new.mids (notices_leave starved rows s)
       (requests_room starved rows s call.journal) noticed in
-      let aged =
-      c.drop_old_exchanges.ensures rows s starved whole c.requests_again.new.out
-      c.notices-stepped.new.mids asked in
-      tick_made rows s starved c.args.now c.args.self.now c.sweep.new.self c.requests_again.new.out
-      c.args.mids.now c.notices-stepped.new.mids kind call
-      (c.sweep.ensures rows s starved whole c.requests_again.new.out c.notices-stepped.new.mids
-      aged);
+      tick_made rows s starved c.args.now c.args.self.now c.drop_old.new.self
+      c.requests_again.new.out c.args.mids.now c.notices-stepped.new.mids kind call
+      (c.drop_old.ensures rows s starved whole c.requests_again.new.out c.notices-stepped.new.mids
+      asked);
   unstarved = λ rows s kind call silent.
       let passed =
       c.pass.ensures.way rows s false c.args.out.now c.args.mids.now c.requires.empty call in

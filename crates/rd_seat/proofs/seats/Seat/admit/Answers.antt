@@ -1,6 +1,6 @@
 use Rattle.std.proofs.Common.{subst}
 use Rattle.history_model.specs.Live.{IsFront}
-use Rattle.rd_desk.specs.Admitting.{is_starved_admission}
+use Rattle.rd_desk.specs.calls.Admitting.{is_starved_admission}
 use Rattle.rd_seat.specs.Steps.{admit_step}
 use Rattle.rd_seat.specs.Seats.{SeatSeen, MakesStep}
 use Rattle.rd_seat.specs.Shares.{share_shown}

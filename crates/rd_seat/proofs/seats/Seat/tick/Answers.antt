@@ -1,6 +1,6 @@
 use Rattle.std.proofs.Common.{subst}
 use Rattle.history_model.specs.Live.{IsFront}
-use Rattle.rd_desk.specs.Stepping.{is_starved_step}
+use Rattle.rd_desk.specs.calls.Stepping.{is_starved_step}
 use Rattle.rd_seat.specs.Steps.{tick_step}
 use Rattle.rd_seat.specs.Seats.{SeatSeen, MakesStep}
 use Rattle.rd_seat.specs.Shares.{share_shown}

@@ -5,9 +5,9 @@ use Rattle.journal_model.specs.declared.steps.Step.{Step}
 use Rattle.journal_model.specs.DeskJournal.{max_workers, MayFollow}
 use Rattle.journal_model.specs.Rows.{row, row_moment}
 use Rattle.coap_answers.specs.declared.mids.Mids.{Mids}
-use Rattle.rd_desk.specs.Shown.{Shown}
-use Rattle.rd_desk.specs.UnderWay.{IsCalled, Made}
-use Rattle.rd_desk.specs.Admitting.{is_starved_admission, IsHeldFor}
+use Rattle.rd_desk.specs.calls.Shown.{Shown}
+use Rattle.rd_desk.specs.calls.Steps.{IsCalled, Made}
+use Rattle.rd_desk.specs.calls.Admitting.{is_starved_admission, IsHeldFor}
 use Rattle.turn_lock.specs.Shown.{seen_of, number_of}
 use Rattle.version_board.specs.Ends.{PublisherSeen}
 use Rattle.rd_seat.specs.Seats.{MakesStep}

@@ -1,7 +1,7 @@
 use Rattle.std.proofs.Common.{Some}
 use Rattle.journal_model.specs.Journal.{entries_of}
 use Rattle.journal_model.specs.Rows.{row}
-use Rattle.rd_desk.specs.Stepping.{is_starved_step}
+use Rattle.rd_desk.specs.calls.Stepping.{is_starved_step}
 use Rattle.turn_lock.specs.Shown.{seen_of, number_of}
 use Rattle.rd_seat.specs.Steps.{commit_step, first_entry}
 use Rattle.rd_seat.proofs.shares.Share.commit.Given as goal

@@ -1,6 +1,6 @@
 use Rattle.std.proofs.Common.{Some}
 use Rattle.journal_model.specs.Rows.{row}
-use Rattle.rd_desk.specs.Stepping.{is_starved_step}
+use Rattle.rd_desk.specs.calls.Stepping.{is_starved_step}
 use Rattle.turn_lock.specs.Shown.{seen_of, number_of}
 use Rattle.rd_seat.specs.Steps.{keep_step, no_entry}
 use Rattle.rd_seat.proofs.shares.Share.keep.Given as goal

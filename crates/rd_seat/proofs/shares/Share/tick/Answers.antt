@@ -5,9 +5,9 @@ use Rattle.journal_model.specs.declared.steps.Step.{Step}
 use Rattle.journal_model.specs.DeskJournal.{max_workers, MayFollow}
 use Rattle.journal_model.specs.Rows.{row}
 use Rattle.coap_answers.specs.declared.mids.Mids.{Mids}
-use Rattle.rd_desk.specs.Shown.{Shown}
-use Rattle.rd_desk.specs.UnderWay.{IsCalled, Made}
-use Rattle.rd_desk.specs.Stepping.{is_starved_step}
+use Rattle.rd_desk.specs.calls.Shown.{Shown}
+use Rattle.rd_desk.specs.calls.Steps.{IsCalled, Made}
+use Rattle.rd_desk.specs.calls.Stepping.{is_starved_step}
 use Rattle.turn_lock.specs.Shown.{seen_of, number_of}
 use Rattle.version_board.specs.Ends.{PublisherSeen}
 use Rattle.rd_seat.specs.OneTurn.{HasBegun}

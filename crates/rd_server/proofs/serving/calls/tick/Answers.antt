@@ -1,5 +1,5 @@
 use Rattle.std.proofs.Common.{Bool, refl, subst}
-use Rattle.rd_desk.specs.Stepping.{is_starved_step}
+use Rattle.rd_desk.specs.calls.Stepping.{is_starved_step}
 use Rattle.rd_server.specs.serving.Calls.{Call, one_if}
 use Rattle.rd_server.specs.serving.Sums.{CountsSendings}
 use Rattle.rd_server.specs.serving.Workers.{clock_seen}

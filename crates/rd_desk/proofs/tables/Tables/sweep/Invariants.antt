@@ -1,4 +1,0 @@
-use Rattle.rd_desk.proofs.tables.Tables.sweep.Given as goal
-
-abbrev pub ghosts-swept : goal.ghosts-swept
-ghosts-swept a = record { name = a.blank.name; parts = a.blank.parts }

@@ -1,0 +1,91 @@
+-- What comes of a datagram that is heard: the job that it leaves, and whether it takes memory.
+use Rattle.std.specs.Prelude.{
+  ◌≡◌,
+  ℕ,
+  Bool,
+  true,
+  false,
+  List,
+  [],
+  ◌∷◌,
+  Option,
+  Some,
+  None,
+  is_some,
+  Result,
+  Ok,
+  Err,
+}
+use Rattle.std.specs.List.{list_any}
+use Rattle.message_model.specs.declared.messages.Role.{Role}
+use Rattle.message_model.specs.declared.messages.Role.TheVariants as role
+use Rattle.message_model.specs.declared.messages.Unread.{Unread}
+use Rattle.message_model.specs.declared.requests.Path.{Path}
+use Rattle.message_model.specs.declared.requests.Path.TheVariants as path
+use Rattle.message_model.specs.Message.{Message, role_of}
+use Rattle.message_model.specs.Request.{path_in}
+use Rattle.event_model.specs.declared.notes.Note.{Note}
+use Rattle.event_model.specs.declared.notes.Note.TheVariants as note
+use Rattle.event_model.specs.Repeats.{is_admitting}
+use Rattle.journal_model.specs.declared.steps.Step.{Step}
+use Rattle.journal_model.specs.declared.rows.Row.{Row}
+use Rattle.journal_model.specs.Effects.{Reply}
+use Rattle.journal_model.specs.Journal.{events}
+use Rattle.journal_model.specs.Requests.{refusal_of_request}
+use Rattle.journal_model.specs.Responses.{fetch_of}
+use Rattle.journal_model.specs.Writes.{write_effects}
+use Rattle.rd_desk.specs.declared.admissions.Admitted.{Admitted}
+use Rattle.rd_desk.specs.declared.admissions.Admitted.TheVariants as admitted
+
+-- memory ran out
+abbrev pub is_starved_admission : Admitted → Bool
+is_starved_admission admitted.Done = false
+is_starved_admission (admitted.Held job) = false
+is_starved_admission admitted.Starved = true
+
+-- the worker is left with the job of the write that is admitted, where one is
+abbrev pub IsHeldFor : Admitted → List Note → Step → ℕ → Type 0
+IsHeldFor (admitted.Held job) notes s moment =
+    (mid : ℕ)
+    × (notes ≡ note.Admitted s.peer mid ∷ [])
+    × (job ≡ record { peer = s.peer; datagram = s.datagram; admitted = moment })
+IsHeldFor admitted.Done notes s moment = list_any is_admitting notes ≡ false
+IsHeldFor admitted.Starved notes s moment = list_any is_admitting notes ≡ false
+
+-- a write takes memory where it is admitted, for its job: no repeat does, and none for which there
+-- is no room
+abbrev pub write_takes : List Row → ℕ → Step → Message → Bool
+write_takes rows moment s m = list_any is_admitting (write_effects (events rows) moment s m).notes
+
+-- a request that nothing refuses takes memory, by its path
+abbrev pub served_takes : Path → List Row → ℕ → Step → Message → Bool
+served_takes path.Core rows moment s m = true
+served_takes path.Res rows moment s m = true
+served_takes path.Ep rows moment s m = true
+served_takes path.SimpleRd rows moment s m = write_takes rows moment s m
+served_takes path.Rd rows moment s m = write_takes rows moment s m
+served_takes (path.Location number) rows moment s m = write_takes rows moment s m
+served_takes path.Other rows moment s m = false
+
+-- a request takes memory; none that is refused for itself does
+abbrev pub request_takes : Option Reply → List Row → ℕ → Step → Message → Bool
+request_takes (Some refusal) rows moment s m = false
+request_takes None rows moment s m = served_takes (path_in m) rows moment s m
+
+-- a response takes memory where it belongs to a fetch
+abbrev pub response_takes : List Row → Step → Message → Bool
+response_takes rows s m = is_some (fetch_of s m (events rows))
+
+-- a message takes memory, by what it is for: no empty message does
+abbrev pub message_takes : Role → List Row → ℕ → Step → Message → Bool
+message_takes role.Ping rows moment s m = false
+message_takes role.Acknowledgement rows moment s m = false
+message_takes role.Reset rows moment s m = false
+message_takes role.Request rows moment s m = request_takes (refusal_of_request m) rows moment s m
+message_takes role.Response rows moment s m = response_takes rows s m
+message_takes role.Ignored rows moment s m = false
+
+-- what is read of a datagram takes memory after a journal
+abbrev pub takes_memory : List Row → ℕ → Step → Result Message Unread → Bool
+takes_memory rows moment s (Err fault) = false
+takes_memory rows moment s (Ok m) = message_takes (role_of m.kind m.code) rows moment s m

@@ -1,0 +1,74 @@
+-- What is planned of a write before anything is changed: its answer, and the version with the entry
+-- that it makes.
+use Rattle.std.specs.Prelude.{◌≡◌, ℕ, ◌≤◌, List, [], ◌∷◌, ◌++◌, Option, Some, None, IfSome}
+use Rattle.std.specs.Arc.{arc_value}
+use Rattle.history_model.specs.declared.entries.Entry.{Entry}
+use Rattle.history_model.specs.Refusals.{change_refusal}
+use Rattle.history_model.specs.Replay.{replay, number_about}
+use Rattle.history_model.specs.Versions.{Version, VersionStandsFor}
+use Rattle.event_model.specs.declared.notes.Note.{Note}
+use Rattle.event_model.specs.declared.notes.Note.TheVariants as note
+use Rattle.journal_model.specs.Changes as changes
+use Rattle.observation.specs.declared.change_kinds.ChangeKind.{ChangeKind}
+use Rattle.observation.specs.ChangeKinds.{kind_of}
+use Rattle.rd_desk.specs.declared.write.outcomes.Entering.{Entering}
+use Rattle.rd_desk.specs.declared.write.outcomes.Outcome.{Outcome}
+use Rattle.rd_desk.specs.declared.write.replies.ShortReply.{ShortReply}
+use Rattle.rd_desk.specs.parts.Replies.{short_said}
+use Rattle.message_model.specs.Codes as codes_of
+use Rattle.history_model.specs.declared.refusals.Refusal.{Refusal}
+use Rattle.journal_model.specs.Effects.{diagnostic}
+
+-- the version has this entry after a history, which nothing refuses; the number is that of the
+-- registration that the entry is about, and the kind that of its change
+pub record HasEntry (history : List Entry) (last_sweep : ℕ) (entry : Entry) (version : Version)
+    (number : ℕ) (kind : ChangeKind) : Type 0 where
+  pub stands : VersionStandsFor 0 (history ++ entry ∷ []) version
+  pub swept : version.swept ≡ last_sweep
+  pub accepted : change_refusal 0 history entry ≡ None
+  pub about : number ≡ number_about (replay history) entry.moment.0 entry.change
+  pub is_of : kind ≡ kind_of entry.change
+
+-- so it is of what is ready to be entered
+abbrev pub IsEntering : List Entry → ℕ → Entry → Entering → Type 0
+IsEntering history swept entry e =
+    HasEntry history swept entry (arc_value e.version) e.number e.kind
+
+-- what is ready is of a moment: its entry was made then, and it was not swept later
+abbrev pub IsReadyAt : ℕ → Entering → Type 0
+IsReadyAt moment e = ((arc_value e.version).at ≡ moment) × ((arc_value e.version).swept ≤ moment)
+
+-- so is what comes of a write, where it makes an entry
+abbrev pub IsTimely : ℕ → Outcome → Type 0
+IsTimely moment o = IfSome o.entering (IsReadyAt moment)
+
+-- what is noted of a write: nothing where it is refused, and else the entry that is ready, and then
+-- more
+abbrev pub AreNotes : List Entry → ℕ → List Note → List Note → Option Entering → Type 0
+AreNotes history swept further notes None = notes ≡ []
+AreNotes history swept further notes (Some e) =
+    (entry : Entry) × (notes ≡ note.Entered entry ∷ further) × IsEntering history swept entry e
+
+-- it is planned so, of a version that is swept up to a moment: as it comes after a history, where
+-- what is accepted notes more beside its entry
+pub record IsPlanned (history : List Entry) (swept : ℕ) (further : List Note)
+    (meant : changes.Outcome) (o : Outcome) : Type 0 where
+  pub said : short_said o.reply ≡ meant.reply
+  pub notes : AreNotes history swept further meant.notes o.entering
+
+-- what comes of a write is made at a moment: its entry has that, where it makes one
+abbrev pub IsMadeAt : ℕ → changes.Outcome → Type 0
+IsMadeAt moment meant =
+    (entry : Entry) (more : List Note)
+    → meant.notes ≡ note.Entered entry ∷ more
+    → entry.moment.0 ≡ moment
+
+-- a change is refused, and this is said
+abbrev pub IsRefusedWith : Option Refusal → ShortReply → Type 0
+IsRefusedWith None r = ⊥
+IsRefusedWith (Some why) r = short_said r ≡ (changes.refused_as why).reply
+
+-- a body is refused, and this is said
+abbrev pub IsBadBody : changes.BodyRead → ShortReply → Type 0
+IsBadBody (changes.bad_body word) r = short_said r ≡ diagnostic codes_of.bad_request word
+IsBadBody (changes.good_body links) r = ⊥

@@ -1,0 +1,23 @@
+-- What is said of a write that is answered.
+use Rattle.std.specs.Prelude.{false, None}
+use Rattle.journal_model.specs.Effects as effects
+use Rattle.coap_answers.specs.declared.replies.Reply.{Reply}
+use Rattle.coap_answers.specs.Replies.{reply_said}
+use Rattle.rd_desk.specs.declared.write.replies.ShortReply.{ShortReply}
+
+-- as a reply: without a tag, an Observe value, a format and a block of its own
+abbrev pub as_reply : ShortReply → Reply
+as_reply r = record {
+  code = r.code;
+  tag = None;
+  observe = None;
+  location = r.location;
+  format = false;
+  block2 = None;
+  block1 = r.block1;
+  payload = r.word;
+}
+
+-- what it says
+abbrev pub short_said : ShortReply → effects.Reply
+short_said r = reply_said (as_reply r)

@@ -1,0 +1,159 @@
+//! Listings that are formed for lookups in which the journal takes part, and the kept answers with
+//! them (RFC 7959 section 2.4).
+ghost use Rattle.std.specs.Prelude.{◌≡◌, ◌<◌, ◌≤◌, ℕ, true, false, List, length, None};
+ghost use Rattle.std.specs.Prelude.{IfOk};
+ghost use Rattle.std.specs.Arc.{arc_value};
+ghost use Rattle.message_model.specs.RequestKey.{key_in};
+ghost use Rattle.history_model.specs.declared.entries.Entry.{Entry};
+ghost use Rattle.history_model.specs.Versions.{VersionStandsFor};
+ghost use Rattle.event_model.specs.Events.{Event};
+ghost use Rattle.event_model.specs.KeptAnswers.{kept_answer};
+ghost use Rattle.transfers.specs.TransferEvents.{TransfersStandFor};
+ghost use Rattle.coap_answers.specs.Outboxes.{most_datagrams};
+ghost use Rattle.coap_answers.specs.Sendings.{IsStepOf, Sends};
+ghost use Rattle.rd_request.specs.Accepted.{message_of};
+ghost use Rattle.rd_desk.specs.parts.Lookups.{answer_listed, answer_at, IsFormed, IsReadied};
+ghost use Rattle.rd_desk.specs.parts.Lookups.{IsJoining};
+ghost use Rattle.rd_desk.specs.parts.Lookups.{IsUsed};
+
+use crate::lookup::keeps::with_listing;
+use crate::{Mids, Outbox};
+use coap_answers::{answer, body_reply, szx_of};
+use coap_options::request_key;
+use directory_core::Directory;
+use exchange_core::Token;
+use observation::Joining;
+use rd_base::{Bytes, Key, Moment, Peer, Query, Starved, Tag};
+use rd_look::{listing_at, send_block};
+use rd_request::Request;
+use std::alloc::Global;
+use std::marker::Brand;
+use std::sync::Arc;
+use std::sync::ledger::Blank;
+use transfers::{Ready, Transfers};
+
+/// A listing under its entity tag, which is shared and never copied.
+#[derive(Drop)]
+pub(crate) struct Listed {
+    /// The listing.
+    pub body: Arc<Bytes>,
+    /// Its entity tag.
+    pub tag: Tag,
+}
+
+/// A listing that is formed for a request, with all that it takes to keep it.
+#[derive(Drop)]
+pub(crate) struct Formed {
+    /// The listing.
+    pub listed: Listed,
+    /// The kept answers with it after them, where it is to be kept for its further blocks.
+    pub ready: Option<Ready>,
+}
+
+/// The listing of a query in a version at a moment, which is not before its last entry and its last
+/// sweep. `Starved`: out of memory.
+pub(crate) fn listed_at(
+    alloc: Global,
+    version: &Directory,
+    now: Moment,
+    query: &Query,
+) -> Result<Listed, Starved>
+    requires after_at { version.now.at ≤ now.0 }
+    requires after_sweep { version.now.swept ≤ now.0 }
+    ensures { (history : List Entry)
+        → VersionStandsFor 0 history version.now
+        → IfOk result (λ listed. answer_listed listed ≡ answer_at history now.0 query.now) }
+{
+    let octets = listing_at::<Brand>(Blank::new(1), version, now, query)?;
+    let body = Arc::new(alloc, octets)?;
+    let tag = version.tag(now);
+    Ok(Listed { body, tag })
+}
+
+/// What it takes to keep a listing, where it is to be kept. `Starved`: out of memory.
+pub(crate) fn form(
+    transfers: &Transfers,
+    alloc: Global,
+    now: Moment,
+    peer: Peer,
+    request: &Request<'_>,
+    keep: bool,
+    listed: Listed,
+) -> Result<Formed, Starved>
+    ensures formed { IfOk result (IsFormed keep (answer_listed listed)) }
+    ensures ready { IfOk result (IsReadied now.0 peer (key_in (message_of request.now))
+        transfers.now.answers) }
+{
+    if !keep {
+        return Ok(Formed {
+            listed,
+            ready: None,
+        });
+    }
+    let ready = with_listing(
+        transfers,
+        alloc,
+        now,
+        peer,
+        request,
+        &listed.body,
+        listed.tag,
+    )?;
+    Ok(Formed {
+        listed,
+        ready: Some(ready),
+    })
+}
+
+/// Who asks to observe by a request that is answered with a listing. `Starved`: out of memory.
+pub(crate) fn joining_by(
+    alloc: Global,
+    peer: Peer,
+    request: &Request<'_>,
+    listed: &Listed,
+) -> Result<Joining, Starved>
+    ensures { IfOk result (IsJoining peer (message_of request.now)
+        (arc_value listed.now.body)) }
+{
+    let key = request_key(alloc, &request.meaning)?;
+    let body = Arc::try_clone(&listed.body)?;
+    Ok(Joining {
+        peer,
+        token: Token::of(request.meaning.view.token.octets),
+        key,
+        szx: szx_of(&request.asked),
+        body,
+    })
+}
+
+/// The block that is asked for is sent of the answer that is kept under a peer and a key, where one
+/// is: that is a use of it, also where the block lies past its end. Whether one is kept. Takes no
+/// memory.
+pub(crate) fn send_kept(
+    transfers: &mut Transfers,
+    now: Moment,
+    mids: &mut Mids,
+    peer: Peer,
+    request: &Request<'_>,
+    key: &Key,
+    out: &mut Outbox,
+) -> bool
+    requires room { length out.old < most_datagrams }
+    ensures used { result ≡ true
+        → (at : ℕ) (events : List Event)
+        → TransfersStandFor at events transfers.old
+        → IsUsed at now.0 peer key.now (message_of request.now) events transfers.new out.old
+        out.new mids.old mids.new }
+    ensures none { result ≡ false
+        → (at : ℕ) (events : List Event)
+        → TransfersStandFor at events transfers.old
+        → kept_answer now.0 (peer, key.now) events ≡ None }
+    ensures unchanged { result ≡ false
+        → (transfers.new ≡ transfers.old) × (out.new ≡ out.old) × (mids.new ≡ mids.old) }
+{
+    if let Some((body, tag)) = transfers.kept_block(now, peer, key) {
+        send_block(mids, peer, request, Some(tag), None, body.as_slice(), out);
+        return true;
+    }
+    false
+}

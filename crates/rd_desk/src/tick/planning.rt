@@ -1,0 +1,262 @@
+//! What a tick plans for the observers that are due, before anything changes (RFC 7641 sections 1.3
+//! and 4.2).
+ghost use Rattle.std.specs.Prelude.{◌≡◌, ◌<◌, ◌≤◌, ◌+◌, ◌%◌, ◌^◌, ◌++◌, ◌∷◌, [], ℕ, Bool, true};
+ghost use Rattle.std.specs.Prelude.{false, List, Some, IfOk, OnOk, length, bytes_eq, slice_get};
+ghost use Rattle.std.specs.List.{list_any};
+ghost use Rattle.std.specs.Arc.{arc_value};
+ghost use Rattle.std.specs.Option.{ForSome};
+ghost use Rattle.rd_base.specs.declared.peers.Peer.{Peer as Endpoint};
+ghost use Rattle.message_model.specs.Blocks.{IsBlock};
+ghost use Rattle.coap_message.specs.PartialMessages.{longest_datagram};
+ghost use Rattle.event_model.specs.Flights.{Sent as Message};
+ghost use Rattle.history_model.specs.Listing.{listing};
+ghost use Rattle.history_model.specs.Versions.{VersionStandsFor};
+ghost use Rattle.event_model.specs.declared.notes.Observer.{Observer as Observed};
+ghost use Rattle.event_model.specs.Observers.{observers};
+ghost use Rattle.event_model.specs.Same.{is_same_peer};
+ghost use Rattle.journal_model.specs.declared.steps.Step.{Step};
+ghost use Rattle.journal_model.specs.declared.rows.Row.{Row};
+ghost use Rattle.journal_model.specs.Bodies as bodies_of;
+ghost use Rattle.journal_model.specs.Effects.{Effects, mid_of};
+ghost use Rattle.journal_model.specs.Journal as journal;
+ghost use Rattle.journal_model.specs.Journal.{events, entries};
+ghost use Rattle.journal_model.specs.UnfinishedRow.{making};
+ghost use Rattle.observers.specs.Watchers.{Watcher};
+ghost use Rattle.coap_answers.specs.declared.mids.Mids.{Mids as Drawn};
+ghost use Rattle.observation.specs.Watching.{WatchingStandsFor};
+ghost use Rattle.rd_desk.specs.declared.tick.planning.Planned.TheVariants as planned;
+ghost use Rattle.rd_desk.specs.parts.Planning.{notice_spelled, AddsNotice};
+ghost use Rattle.rd_desk.specs.parts.Planning as planning_of;
+ghost use Rattle.rd_desk.specs.parts.UnderWay.{UnderWay};
+
+use coap_answers::{body_reply, is_long, spell_notice};
+use coap_message::TokenRef;
+use directory_core::Directory;
+use exchange_core::{Resend, Sent};
+use message_model::{Block, MAX_SZX};
+use observation::Watching;
+use observers::Observer;
+use rd_base::{Bytes, Moment, Peer, Starved, Tag};
+use rd_look::listing_at;
+use std::alloc::Global;
+use std::marker::Brand;
+use std::sync::Arc;
+use std::sync::ledger::Blank;
+use transfers::Answer;
+
+/// The most notices that one tick forms.
+pub(crate) const MAX_NOTICES: usize = 64;
+
+/// What is planned for an observer whose listing is looked at.
+#[derive(Drop)]
+pub(crate) enum Planned {
+    /// Its listing is unchanged.
+    Unchanged,
+    /// It gets this notice, with this body.
+    Noticed(Sent, Arc<Bytes>),
+}
+
+/// What is planned for the observers that are looked at, in their order.
+#[derive(Drop)]
+pub(crate) struct Plan {
+    /// For each of them.
+    pub(crate) items: Vec<Planned>,
+    /// The peers that notices are planned for, at most 64: each gets no other (RFC 7252 section
+    /// 4.7, NSTART).
+    pub(crate) peers: Vec<Peer>,
+    /// The answers that are kept for further blocks.
+    pub(crate) kept: Vec<Answer>,
+}
+
+/// What the notices of a tick have in common.
+#[derive(Clone, Copy)]
+pub(crate) struct Occasion {
+    /// When they are sent.
+    pub(crate) now: Moment,
+    /// The word that their first waits are made from.
+    pub(crate) word: u32,
+    /// The entity tag of their listings.
+    pub(crate) tag: Tag,
+}
+
+/// The block that an observer gets, by the exponent of the size that it asked for: the first (RFC
+/// 7959 section 2.4).
+fn block_of_notice(szx: u8) -> Option<Block>
+    ensures first { result ≡ planning_of.block_of_notice szx }
+    ensures block { ForSome result IsBlock }
+{
+    Some(Block {
+        num: 0,
+        more: false,
+        szx: if szx < MAX_SZX { szx } else { MAX_SZX },
+    })
+}
+
+/// The block that a notice names: the first, where its body is longer than that.
+fn block_named(szx: u8, body: &[u8]) -> Option<Block>
+    ensures named { result ≡ planning_of.block_named szx body.now }
+    ensures block { ForSome result IsBlock }
+{
+    let first = block_of_notice(szx);
+    if is_long(&first, body) {
+        return first;
+    }
+    None
+}
+
+/// The octets of a notice to an observer, with a body (RFC 7641 section 4.2). `Starved`: out of
+/// memory.
+fn notice_octets(
+    alloc: Global,
+    observer: &Observer,
+    tag: Tag,
+    mid: u16,
+    observe: u32,
+    body: &[u8],
+) -> Result<Bytes, Starved>
+    requires { observe < 2 ^ 24 }
+    ensures spelled { IfOk result (λ octets. octets
+        ≡ notice_spelled observer.now tag.0 mid observe body.now) }
+    ensures short { IfOk result (λ octets. length octets ≤ longest_datagram) }
+{
+    let named = block_named(observer.szx, body);
+    let reply = body_reply(Some(tag), Some(observe), &named, body);
+    let token = TokenRef {
+        octets: observer.token.as_slice(),
+    };
+    spell_notice(alloc, mid, token, &reply)
+}
+
+/// The Observe value that is given after so many more (RFC 7641 section 3.4).
+pub(crate) fn observe_after(given: u64, more: u64) -> u32
+    ensures value { result ≡ (given + more + 1) % 2 ^ 24 }
+    ensures few { result < 2 ^ 24 }
+{
+    (given.wrapping_add(more).wrapping_add(1) % 16_777_216) as u32
+}
+
+/// Whether the body that was last formed for an observer has these octets.
+pub(crate) fn is_unchanged(observer: &Observer, body: &[u8]) -> bool
+    ensures { result ≡ bytes_eq observer.now.last body.now }
+{
+    observer.last.as_slice() == body
+}
+
+/// Whether it is the same peer.
+fn is_peer(one: &Peer, other: &Peer) -> bool
+    ensures { result ≡ is_same_peer one.now other.now }
+{
+    *one == *other
+}
+
+impl Plan {
+    /// Nothing is planned. Takes no memory.
+    pub(crate) fn empty(alloc: Global) -> Plan
+        ensures items { result.items.items ≡ [] }
+        ensures peers { result.peers.items ≡ [] }
+        ensures kept { result.kept.items ≡ [] }
+    {
+        Plan {
+            items: Vec::new(alloc),
+            peers: Vec::new(alloc),
+            kept: Vec::new(alloc),
+        }
+    }
+
+    /// Whether a notice to a peer is planned.
+    pub(crate) fn waits_for(&self, peer: &Peer) -> bool
+        ensures { result ≡ list_any (λ q. is_same_peer q peer.now) self.now.peers.items }
+    {
+        self.peers.iter().any(|other| is_peer(other, peer))
+    }
+
+    /// Another observer's listing is unchanged. `Starved`: out of memory.
+    pub(crate) fn add_unchanged(&mut self) -> Result<(), Starved>
+        ensures items { OnOk result (self.new.items.items
+            ≡ self.old.items.items ++ planned.Unchanged ∷ []) }
+        ensures peers { self.new.peers.items ≡ self.old.peers.items }
+        ensures kept { self.new.kept.items ≡ self.old.kept.items }
+    {
+        self.items.push(Planned::Unchanged)?;
+        Ok(())
+    }
+
+    /// The body of a notice to an observer is kept for further blocks, where it is longer than the
+    /// block that it gets. `Starved`: out of memory.
+    fn keep(&mut self, observer: &Observer, body: &Arc<Bytes>, tag: Tag) -> Result<(), Starved>
+        ensures kept { OnOk result (self.new.kept.items
+            ≡ self.old.kept.items ++ planning_of.kept_by observer.now (arc_value body.now) tag.0) }
+        ensures peers { self.new.peers.items ≡ self.old.peers.items }
+        ensures items { self.new.items.items ≡ self.old.items.items }
+    {
+        if !is_long(&block_of_notice(observer.szx), body.as_slice()) {
+            return Ok(());
+        }
+        let key = observer.key.clone()?;
+        let body = Arc::try_clone(body)?;
+        self.kept.push(Answer {
+            peer: observer.peer,
+            key,
+            body,
+            tag,
+        })?;
+        Ok(())
+    }
+
+    /// Another observer gets a notice with this body, under a Message ID and with an Observe value.
+    /// `Starved`: out of memory.
+    pub(crate) fn add_notice(
+        &mut self,
+        alloc: Global,
+        observer: &Observer,
+        occasion: Occasion,
+        mid: u16,
+        observe: u32,
+        body: Arc<Bytes>,
+    ) -> Result<(), Starved>
+        requires { observe < 2 ^ 24 }
+        ensures { OnOk result ((sent : Message)
+            × (self.new.items.items ≡ self.old.items.items ++ planned.Noticed sent body ∷ [])
+            × AddsNotice observer.now occasion.now.0 occasion.word occasion.tag.0 (arc_value body)
+            mid observe sent self.old self.new) }
+    {
+        let bytes = notice_octets(alloc, observer, occasion.tag, mid, observe, body.as_slice())?;
+        self.keep(observer, &body, occasion.tag)?;
+        self.peers.push(observer.peer)?;
+        let sent = Sent {
+            mid,
+            bytes,
+            resend: Resend::start(occasion.now, occasion.word),
+        };
+        self.items.push(Planned::Noticed(sent, body))?;
+        Ok(())
+    }
+}
+
+/// The body of the query of the observer with an index: that which is kept for all who observe it,
+/// or else it is formed. `Starved`: out of memory.
+pub(crate) fn formed_body(
+    watching: &Watching,
+    alloc: Global,
+    version: &Directory,
+    now: Moment,
+    index: usize,
+) -> Result<Arc<Bytes>, Starved>
+    requires within { index < length watching.now.observers }
+    requires after_at { version.now.at ≤ now.0 }
+    requires after_sweep { version.now.swept ≤ now.0 }
+    ensures { (rows : List Row) (o : Observed)
+        → now.0 ≡ journal.now rows
+        → WatchingStandsFor rows watching.now
+        → VersionStandsFor 0 (entries rows) version.now
+        → slice_get (observers (events rows)) index ≡ Some o
+        → IfOk result (λ body. arc_value body ≡ listing o.query (entries rows) (journal.now rows)) }
+{
+    if let Some(body) = watching.body(index) {
+        let body = Arc::try_clone(body)?;
+        return Ok(body);
+    }
+    let octets = listing_at::<Brand>(Blank::new(1), version, now, watching.query(index))?;
+    let body = Arc::new(alloc, octets)?;
+    Ok(body)
+}

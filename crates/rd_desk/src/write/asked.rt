@@ -1,0 +1,49 @@
+//! Writes that were admitted and are done (RFC 9176 section 5, RFC 7252 section 4.5).
+ghost use Rattle.std.specs.Prelude.{◌≡◌, true, is_none};
+ghost use Rattle.message_model.specs.Request.{queries_in};
+ghost use Rattle.record_model.specs.declared.readings.Reading.TheVariants as reading;
+ghost use Rattle.record_model.specs.Criteria.{fault_of};
+ghost use Rattle.rd_request.specs.Accepted.{message_of};
+
+use rd_base::{Moment, Peer};
+use rd_request::Request;
+
+/// A write that was admitted: who wrote, when it was admitted, and what it asks.
+#[derive(Clone, Copy)]
+pub(crate) struct Write<'a> {
+    /// Who wrote.
+    pub peer: Peer,
+    /// When it was admitted.
+    pub admitted: Moment,
+    /// What it asks.
+    pub request: Request<'a>,
+}
+
+/// A registration (RFC 9176 section 5). Its query options are not refused.
+#[derive(Clone, Copy)]
+pub(crate) struct Registering<'a> {
+    /// The write.
+    pub write: Write<'a>,
+    pub ghost good: { is_none (fault_of reading.Register (queries_in (message_of write.request)))
+        ≡ true },
+}
+
+/// A simple registration (RFC 9176 section 5.1). Its query options are not refused.
+#[derive(Clone, Copy)]
+pub(crate) struct RegisteringSimply<'a> {
+    /// The write.
+    pub write: Write<'a>,
+    pub ghost good: { is_none (fault_of reading.Simple (queries_in (message_of write.request)))
+        ≡ true },
+}
+
+/// An update of a registration (RFC 9176 section 5.3.1). Its query options are not refused.
+#[derive(Clone, Copy)]
+pub(crate) struct Updating<'a> {
+    /// The write.
+    pub write: Write<'a>,
+    /// The number of the registration.
+    pub number: u64,
+    pub ghost good: { is_none (fault_of reading.Update (queries_in (message_of write.request)))
+        ≡ true },
+}

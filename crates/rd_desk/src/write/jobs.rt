@@ -1,0 +1,51 @@
+//! The job that an admitted write leaves its worker with.
+ghost use Rattle.std.specs.Prelude.{◌≡◌, true, Ok};
+ghost use Rattle.message_model.specs.Reading.{reading};
+ghost use Rattle.message_model.specs.Request.{path_in};
+ghost use Rattle.rd_request.specs.Accepted.{message_of};
+ghost use Rattle.rd_request.specs.WriteRequests.{is_write_path, is_write_datagram};
+
+use rd_base::{Moment, Peer};
+use rd_request::{KeptRequest, Request};
+use std::marker::Model;
+
+/// A write that was admitted, to be done by the next step of its worker but ticks. Nothing refuses
+/// its request for itself.
+#[derive(Drop)]
+pub struct WriteJob {
+    /// Who wrote.
+    pub(crate) peer: Peer,
+    /// Its request.
+    pub(crate) request: KeptRequest,
+    /// When it was admitted.
+    pub(crate) admitted: Moment,
+}
+
+impl Model for WriteJob {
+    ghost use Rattle.std.specs.Prelude.{◌≡◌, true, Ok};
+    ghost use Rattle.rd_request.specs.WriteRequests.{is_write_datagram};
+    ghost use Rattle.rd_desk.specs.calls.WriteJobs.{Write};
+    ghost use Rattle.message_model.specs.Reading.{reading};
+    ghost use Rattle.message_model.specs.Spelling.{spelling};
+
+    ghost Value = { Write };
+
+    ghost view = { λ job. record {
+      peer = job.peer;
+      datagram = spelling job.request;
+      admitted = job.admitted.0;
+    } };
+
+    ghost invariant = { λ job. (reading (spelling job.request) ≡ Ok job.request)
+        × (is_write_datagram (spelling job.request) ≡ true) };
+}
+
+impl WriteJob {
+    /// Its request.
+    pub(crate) fn request(&self) -> Request<'_>
+        ensures read { reading self.now.datagram ≡ Ok (message_of result) }
+        ensures writes { is_write_path (path_in (message_of result)) ≡ true }
+    {
+        self.request.request()
+    }
+}
