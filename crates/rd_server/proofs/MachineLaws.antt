@@ -154,7 +154,8 @@ machine_after workers rows s old new worker at may handed bound in_time items mo
           λ number.
           subst (λ ws. IfSome (slice_get ws number) (IsWorkerAt (row rows s false ∷ rows) number))
           (sym items)
-          (each_set (IsWorkerAt rows) (IsWorkerAt (row rows s false ∷ rows)) old.workers.items s.worker
+          (each_set (IsWorkerAt rows) (IsWorkerAt (row rows s false ∷ rows)) old.workers.items
+          s.worker
           worker at.each (other-IsWorkerAt rows s) steps.worker_at number);
     }
 

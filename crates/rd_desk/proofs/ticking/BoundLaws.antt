@@ -405,8 +405,8 @@ lookup_few rows moment place at s m few = by (is_later_block m)
         (is_long (asked_block m) (listing_now rows moment m).body)
 
     valued : (b c : Bool)
-        → length (observers (noted place at s.word (observation_effects (observing_by b c) rows moment s m).notes
-        (events rows)))
+        → length (observers (noted place at s.word
+        (observation_effects (observing_by b c) rows moment s m).notes (events rows)))
         ≤ 1_024
     valued true c =
         with_value (has_room_for (query_of m) (without (s.peer, m.token) (observers (events rows))))

@@ -18,6 +18,7 @@ returns-clause-met c = subst (λ (v : SeatSeen). IsFront v.met c.look.new.self.l
 pub returns-clause-looks : goal.returns-clause-looks
 returns-clause-looks c =
     subst (λ (v : SeatSeen). LooksAtMet v (look_step v.worker c.args.now 0 c.args.peer
-    (spelling (message_of c.args.request.now)) v.drawn) (is_starved_look c.look.result) c.look.new.out
+    (spelling (message_of c.args.request.now)) v.drawn) (is_starved_look
+    c.look.result) c.look.new.out
     (answer_held c.look.result) (share_shown c.look.new.self)) c.self.view_is
     c.look.ensures.looked.looks

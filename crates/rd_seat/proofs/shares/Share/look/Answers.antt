@@ -87,7 +87,8 @@ returns-in_default-clause-looked c =
           c.refresh.ensures.seen refl refl refl
           (omega (arith, before, later))
           (sends.sent ∙ ap (λ (b : List (Peer × List ℕ)). b ++ done.sent) c.requires.empty)
-          (held_starved c.refresh.new.self.seen c.later-self.result.0 (reading (spelling (message_of c.args.request.now))))
+          (held_starved c.refresh.new.self.seen c.later-self.result.0
+          (reading (spelling (message_of c.args.request.now))))
           sends.worker refl refl refl
           (sends.drawn ∙ drawing-drawn_more done.drew c.args.self.now.mids.drawn
           c.requires.rest.drawn);
@@ -110,7 +111,8 @@ returns-clause-looked c =
     subst (VersionStandsFor 0 c.refresh.new.self.seen) (sym c.deref-2.ensures) stands in
     let done : Effects = looked starved c.refresh.new.self.seen c.later-moment.result.0 s
     (reading (spelling (message_of c.args.request.now))) in
-    let sends : Sends done c.args.out.now c.answer_look.new.out c.args.self.now.mids c.answer_look.new.mids =
+    let sends : Sends done c.args.out.now c.answer_look.new.out c.args.self.now.mids
+    c.answer_look.new.mids =
     c.answer_look.ensures.sends s c.refresh.new.self.seen shown_for
     (record { peer_is = refl; worker = refl; drawn = refl }) in
     let held : IsHeld c.args.peer (spelling (message_of c.args.request.now))

@@ -15,7 +15,8 @@ returns-in-Done c rows s kind by of word it =
 pub returns-in-Held : goal.returns-in-Held
 returns-in-Held c rows s kind by of word it =
     looked_held rows s c.args.now c.args.desk.now.tables c.args.self.now _ c.deref.result.now
-    c.args.peer (spelling (message_of c.args.request.now)) c.in-Held.job c.args.out.now c.answer_look.new.out
+    c.args.peer (spelling (message_of c.args.request.now)) c.in-Held.job c.args.out.now
+    c.answer_look.new.out
     (c.deref.ensures ∙ c.version.ensures.value) kind by of c.requires.empty refl it
     (λ history stands mine. c.in-Held.ensures.sends s history stands mine)
     c.in-Held.ensures.held
