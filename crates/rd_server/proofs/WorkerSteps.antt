@@ -16,7 +16,10 @@ use Rattle.std.proofs.Common.{
   Option,
   Some,
   None,
+  Result,
   Ok,
+  Err,
+  IfOk,
   refl,
   sym,
   ap,
@@ -508,6 +511,14 @@ look_of rows s moment desk worker version from seen by it = record {
     drawn = it.may.drawn ∙ sym it.worker_at.drawn;
   };
 }
+
+-- what an Ok says it says in weaker words
+pub ok_as : {T E : Type 0} {P Q : T → Type 0} (r : Result T E)
+    → ((value : T) → P value → Q value)
+    → IfOk r P
+    → IfOk r Q
+ok_as (Ok value) weaker says = weaker value says
+ok_as (Err fault) weaker says = tt
 
 -- where nothing is held, the worker has no job
 pub looked_done : (rows : List Row) (s : Step) (moment : Moment) (desk : Seen)
