@@ -16,7 +16,7 @@ returns-clause-way c fetches rows s starved place of opened way =
 
 pub returns-clause-one : goal.returns-clause-one
 returns-clause-one c =
-    one_answer (message_in c.args.write.now.request.meaning.view) (short_said c.plain-changed.result)
-    c.args.write.now.peer c.args.out.now
+    one_answer (message_in c.args.write.now.request.meaning.view)
+    (short_said c.plain-changed.result) c.args.write.now.peer c.args.out.now
     c.answer_short-octets.new.out c.args.mids.now c.answer_short-octets.new.mids
     c.answer_short-octets.ensures.sends

@@ -28,7 +28,8 @@ returns-in_default c =
 
 pub look-requires-clause-read : goal.look-requires-clause-read
 look-requires-clause-read c =
-    spelling_read role.Request c.args.datagram.now (message_of c.in-Look.request) c.in-Look.ensures.0
+    spelling_read role.Request c.args.datagram.now (message_of c.in-Look.request)
+    c.in-Look.ensures.0
 
 pub look-requires-clause-looks : goal.look-requires-clause-looks
 look-requires-clause-looks c =
