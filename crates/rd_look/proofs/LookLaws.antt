@@ -20,12 +20,13 @@ use Rattle.std.proofs.Common.{
   ap,
   subst,
   ◌∙◌,
+  is_none,
 }
 use Rattle.message_model.specs.declared.blocks.Block.{Block}
 use Rattle.message_model.specs.declared.messages.Unread.{Unread}
 use Rattle.message_model.specs.declared.requests.Path.{Path}
 use Rattle.message_model.specs.declared.requests.Path.TheVariants as path
-use Rattle.message_model.specs.Message.{Message}
+use Rattle.message_model.specs.Message.{Message, role_of}
 use Rattle.message_model.specs.Request.{path_in, observe_in}
 use Rattle.record_model.specs.Discovery.{discovery}
 use Rattle.history_model.specs.declared.entries.Entry.{Entry}
@@ -40,6 +41,8 @@ use Rattle.journal_model.specs.Requests.{
   only_looks,
   query_of,
   asked_block,
+  refusal_of_request,
+  is_look_request,
 }
 use Rattle.journal_model.specs.Bodies.{body_reply, is_long}
 use Rattle.journal_model.specs.Sought.{sought_at}
@@ -59,6 +62,12 @@ use Rattle.journal_model.specs.Looks.{
   looked,
 }
 use Rattle.rd_look.specs.Looking.{look_done}
+use Rattle.std.proofs.lemmas.Bool.{and_parts}
+use Rattle.message_model.specs.declared.messages.Role.{Role}
+use Rattle.message_model.specs.declared.messages.Role.TheVariants as role
+use Rattle.message_model.specs.Reading.{reading}
+use Rattle.journal_model.specs.Machine.{is_look_message, is_look_reading, is_look_datagram}
+use Rattle.rd_request.proofs.AskedLaws.{none_there}
 
 -- discovery finds the links of the directory itself
 pub discovered : (history : List Entry) (moment : ℕ) (m : Message) (octets : List ℕ)
@@ -168,6 +177,34 @@ pub given_held : (m : Message) (octets current shown : List ℕ) (asked : Option
 given_held m octets current shown asked long same all measured yes_long =
     ap (λ (b : Bool). unless_long b m (record { body = octets; tag = current }))
     (sym yes_long ∙ is_measured m octets shown asked long same all measured)
+
+-- nothing refuses the request of a look, and it only looks
+look_request : (m : Message)
+    → is_look_request m ≡ true
+    → (refusal_of_request m ≡ None) × (only_looks m ≡ true)
+unfolding is_look_request
+look_request m h =
+    let both = and_parts (is_none (refusal_of_request m)) (only_looks m) h in
+    (none_there (refusal_of_request m) both.0, both.1)
+
+look_message : (r : Role) (m : Message)
+    → is_look_message r m ≡ true
+    → (refusal_of_request m ≡ None) × (only_looks m ≡ true)
+look_message role.Ping m h = cc
+look_message role.Acknowledgement m h = cc
+look_message role.Reset m h = cc
+look_message role.Request m h = look_request m h
+look_message role.Response m h = cc
+look_message role.Ignored m h = cc
+
+pub look_in : (datagram : List ℕ) (m : Message)
+    → reading datagram ≡ Ok m
+    → is_look_datagram datagram ≡ true
+    → (refusal_of_request m ≡ None) × (only_looks m ≡ true)
+unfolding is_look_datagram
+look_in datagram m is h =
+    look_message (role_of m.kind m.code) m
+    (subst (λ (r : Result Message Unread). is_look_reading r ≡ true) is h)
 
 -- what a look does that gives this is what is done after looking so
 pub looked_by : (starved : Bool) (history : List Entry) (moment : ℕ) (s : Step)

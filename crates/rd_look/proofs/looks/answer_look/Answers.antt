@@ -5,8 +5,13 @@ use Rattle.journal_model.specs.Effects.{Effects}
 use Rattle.coap_answers.specs.Sendings.{Sends}
 use Rattle.rd_request.specs.Accepted.{message_of}
 use Rattle.rd_look.specs.Looking.{look_found, is_starved_look}
-use Rattle.rd_look.proofs.LookLaws.{looked_by, looked_starved}
+use Rattle.rd_look.proofs.LookLaws.{look_in, looked_by, looked_starved}
 use Rattle.rd_look.proofs.looks.answer_look.Goals as goal
+
+pub find-requires-clause-looks : goal.find-requires-clause-looks
+find-requires-clause-looks c =
+    let m = message_of c.args.request.now in
+    (look_in (spelling m) m c.requires.read c.requires.looks).1
 
 pub returns-in_default-clause-sends : goal.returns-in_default-clause-sends
 returns-in_default-clause-sends c s history stands of =
