@@ -62,7 +62,13 @@ use Rattle.stream_model.specs.Faults.{
   known_by,
   known_octets,
 }
-use Rattle.stream_model.specs.Judging.{judge, verdict_by, extension_size, length_said}
+use Rattle.stream_model.specs.Judging.{
+  judge,
+  FrontsMore,
+  verdict_by,
+  extension_size,
+  length_said,
+}
 use Rattle.stream_model.specs.Streams.{IsGood, IsBad, IsFront}
 use Rattle.stream_model.proofs.LengthLemmas.{joined, spelled_again}
 use Rattle.stream_model.proofs.MessageLaws.{body, known_judged, front_more}
@@ -252,14 +258,6 @@ compared (b ∷ octets) bytes =
     }
 
 -- ---- what was judged
-
--- No proper front of octets is a message or a bad one.
-abbrev pub FrontsMore : Bool → List ℕ → Type 0
-FrontsMore is_first octets =
-    (front more : List ℕ)
-    → front ++ more ≡ octets
-    → 0 < length more
-    → judge is_first front ≡ judged.More
 
 verdict_not_more : (fault : Option StreamBad) → verdict_by fault ≡ judged.More → ⊥
 verdict_not_more None e = absurd cc

@@ -32,7 +32,7 @@ use Rattle.message_model.proofs.ByteLemmas.{AreBytes-append}
 use Rattle.stream_model.specs.declared.messages.Judged.{Judged}
 use Rattle.stream_model.specs.declared.messages.Judged.TheVariants as judged
 use Rattle.stream_model.specs.declared.messages.StreamBad.{StreamBad}
-use Rattle.stream_model.specs.Judging.{judge}
+use Rattle.stream_model.specs.Judging.{judge, FrontsMore}
 use Rattle.stream_model.specs.Streams.{
   Stream,
   IsGood,
@@ -49,7 +49,6 @@ use Rattle.stream_model.specs.Streams.{
 }
 use Rattle.stream_model.proofs.MessageLaws.{same_cons}
 use Rattle.stream_model.proofs.ReadingLaws.{
-  FrontsMore,
   more_front,
   whole_good,
   bad_bad,

@@ -1,6 +1,8 @@
 -- What octets are that may become a message of a stream, as they are read: the lengths, and then
 -- all (RFC 8323 section 3.2).
 use Rattle.std.specs.Prelude.{
+  ◌≡◌,
+  ◌<◌,
   ℕ,
   ◌+◌,
   ◌*◌,
@@ -12,6 +14,7 @@ use Rattle.std.specs.Prelude.{
   List,
   [],
   ◌∷◌,
+  ◌++◌,
   length,
   take,
   drop,
@@ -79,8 +82,16 @@ judge_after is_first nibble token octets =
     else judge_lengths is_first (extension_size nibble) token
     (length_said nibble (take (extension_size nibble) octets)) octets
 
--- Octets none of whose proper fronts is a message or a bad one: less than a message, a message, or a
--- bad one.
+-- Octets, none of whose proper fronts is a message or a bad one (`FrontsMore`): less than a message, a
+-- message, or a bad one.
 unfoldable pub judge : Bool → List ℕ → Judged
 judge is_first [] = judged.More
 judge is_first (b ∷ octets) = judge_after is_first (b / 16) (b % 16) octets
+
+-- No proper front of octets is a message or a bad one.
+abbrev pub FrontsMore : Bool → List ℕ → Type 0
+FrontsMore is_first octets =
+    (front more : List ℕ)
+    → front ++ more ≡ octets
+    → 0 < length more
+    → judge is_first front ≡ judged.More

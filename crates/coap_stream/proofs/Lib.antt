@@ -1,0 +1,3 @@
+pub mod WantingLemmas
+pub mod ReaderLemmas
+pub mod FeedingLaws
