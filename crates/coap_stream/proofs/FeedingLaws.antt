@@ -2,6 +2,8 @@
 use Rattle.std.proofs.Common.{
   ◌≡◌,
   ℕ,
+  zero,
+  suc,
   ◌+◌,
   ◌<◌,
   ◌≤◌,
@@ -64,6 +66,7 @@ use Rattle.coap_stream.specs.Reading.{
   IsTaken,
   IsFedBy,
   IsFed,
+  IsWithin,
   stream_by_held,
   stream_after,
   GoesOn,
@@ -144,6 +147,44 @@ fed_next old behind new piece r bytes e next s =
     rw e
     (taken_of_reached between_messages new piece r
     (reached_bytes between_messages new piece r tt bytes after) after)
+
+-- ---- how much was taken
+
+pub between_open : held_as between_messages ≡ judged.More
+unfolding judge
+between_open = refl
+
+-- Octets that make a message whole are one or more.
+some_taken : (old new : Held) (piece : List ℕ) (n : ℕ)
+    → held_as old ≡ judged.More
+    → IsJudged old piece n judged.Whole new
+    → 0 < n
+some_taken old new piece zero e s =
+    let same : held_as new ≡ judged.More =
+        ap held_as s.held
+        ∙ ap (judge old.is_first) (append-nil old.pending)
+        ∙ e in
+    absurd (whole_not_more (sym s.verdict_is ∙ same))
+  where
+    whole_not_more : judged.Whole ≡ judged.More → ⊥
+    whole_not_more same = cc
+some_taken old new piece (suc n) e s = omega arith
+
+pub within_more : (old new : Held) (piece : List ℕ) (r : Fed)
+    → held_as old ≡ judged.More
+    → IsReached old piece r new
+    → IsWithin (length piece) r
+within_more old new piece fed.More e s = tt
+within_more old new piece (fed.Whole n) e s = (some_taken old new piece n e s, s.within)
+within_more old new piece (fed.Bad n why) e s = s.within
+
+pub within_next : (behind new : Held) (piece : List ℕ) (r : Fed)
+    → behind ≡ between_messages
+    → IsReached behind piece r new
+    → IsWithin (length piece) r
+within_next behind new piece r next s =
+    within_more between_messages new piece r between_open
+    (subst (λ (h : Held). IsReached h piece r new) next s)
 
 -- ---- and what the stream has
 
@@ -234,10 +275,6 @@ taken_stream old new piece further (fed.Bad n why) e s =
     (bad_fronts old.is_first (old.pending ++ take n piece) why bad)
     (bad_judged old.is_first (old.pending ++ take n piece) why bad)
     (λ same. cc)
-
-pub between_open : held_as between_messages ≡ judged.More
-unfolding judge
-between_open = refl
 
 -- Behind a message the next one begins.
 next_stream : (old new : Held) (piece further : List ℕ) (r : Fed)

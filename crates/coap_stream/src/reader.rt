@@ -6,7 +6,7 @@ ghost use Rattle.stream_model.specs.declared.messages.Judged.TheVariants as judg
 ghost use Rattle.stream_model.specs.Judging.{FrontsMore};
 ghost use Rattle.coap_stream.specs.Wanting.{wanted_of};
 ghost use Rattle.coap_stream.specs.Reading as reading;
-ghost use Rattle.coap_stream.specs.Reading.{IsReached, IsFed, GoesOn};
+ghost use Rattle.coap_stream.specs.Reading.{IsReached, IsFed, IsWithin, GoesOn};
 ghost use Rattle.coap_stream.specs.Shown as shown;
 ghost use Rattle.coap_stream.specs.Shown.{frame_shown};
 
@@ -172,6 +172,7 @@ impl StreamReader {
     /// before, the octets that were taken are a front of a message, a message or a bad one.
     pub fn feed(&mut self, piece: &[u8]) -> Fed
         ensures taken { IsFed self.old piece.now result self.new }
+        ensures within { IsWithin (length piece.now) result }
         ensures stream { (further : List ℕ) → GoesOn self.old piece.now further result self.new }
     {
         match self.judged() {
