@@ -1,0 +1,4 @@
+pub mod WantingLemmas
+pub mod ReaderLemmas
+pub mod FeedingLaws
+pub mod ShownLaws

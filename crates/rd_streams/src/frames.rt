@@ -1,0 +1,44 @@
+//! How messages of a stream are written.
+
+use coap_message::options_in;
+use coap_stream::{Frame, StreamBad, StreamReader};
+use rd_base::Starved;
+use vector_words::{put_datagram, put_octets};
+
+/// The word for why a message is bad.
+pub(crate) fn bad_name(why: StreamBad) -> &'static str {
+    match why {
+        StreamBad::Format => "format",
+        StreamBad::Size => "size",
+        StreamBad::First => "first",
+        StreamBad::Code => "code",
+        StreamBad::Signal => "signal",
+    }
+}
+
+/// Writes a message: its code, its token, its options and its payload.
+fn put_frame(page: &mut String, frame: &Frame<'_>) -> Result<(), Starved> {
+    let class = frame.code / 32;
+    let detail = frame.code % 32;
+    write!(page, "{class}.{detail:02} t=")?;
+    put_datagram(page, frame.token)?;
+    'options: for option in options_in(frame.options) {
+        let number = option.number;
+        write!(page, " [{number} ")?;
+        put_octets(page, option.value)?;
+        page.push_str("]")?;
+    }
+    if frame.payload.is_empty() {
+        return Ok(());
+    }
+    page.push_str(" | ")?;
+    put_octets(page, frame.payload)
+}
+
+/// Writes the message that is whole, or that none is.
+pub(crate) fn put_message(page: &mut String, reader: &StreamReader) -> Result<(), Starved> {
+    match reader.message() {
+        Some(frame) => put_frame(page, &frame),
+        None => Ok(page.push_str("no message")?),
+    }
+}

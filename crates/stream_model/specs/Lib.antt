@@ -1,0 +1,4 @@
+pub mod Messages
+pub mod Faults
+pub mod Judging
+pub mod Streams
