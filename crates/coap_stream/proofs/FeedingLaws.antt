@@ -161,9 +161,9 @@ some_taken : (old new : Held) (piece : List ℕ) (n : ℕ)
     → 0 < n
 some_taken old new piece zero e s =
     let same : held_as new ≡ judged.More =
-        ap held_as s.held
-        ∙ ap (judge old.is_first) (append-nil old.pending)
-        ∙ e in
+    ap held_as s.held
+    ∙ ap (judge old.is_first) (append-nil old.pending)
+    ∙ e in
     absurd (whole_not_more (sym s.verdict_is ∙ same))
   where
     whole_not_more : judged.Whole ≡ judged.More → ⊥

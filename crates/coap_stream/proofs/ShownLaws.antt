@@ -42,8 +42,11 @@ pub spelled_shown : (m : StreamMessage)
 unfolding shown_in lengths_spelling
 spelled_shown m few =
     let read = read_again (length m.tail) in
-    rw (high (nibble_of (length m.tail)) (length m.token) few,
-    low (nibble_of (length m.tail)) (length m.token) few, read.size,
-    drop_at (extension_of (length m.tail)) (m.code ∷ (m.token ++ m.tail))
-    (length (extension_of (length m.tail))) refl)
+    rw (
+      high (nibble_of (length m.tail)) (length m.token) few,
+      low (nibble_of (length m.tail)) (length m.token) few,
+      read.size,
+      drop_at (extension_of (length m.tail)) (m.code ∷ (m.token ++ m.tail))
+          (length (extension_of (length m.tail))) refl,
+    )
     (body_shown m)

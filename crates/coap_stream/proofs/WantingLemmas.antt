@@ -141,7 +141,8 @@ record IsLessOfAll (nibble token : ℕ) (octets : List ℕ) : Type 0 where
 after_cases : (is_first : Bool) (nibble token : ℕ) (octets : List ℕ)
     → judge_after is_first nibble token octets ≡ judged.More
     → (length octets < extension_size nibble) ⊎ IsLessOfAll nibble token octets
-after_cases is_first nibble token octets e = by (nat_lt (length octets) (extension_size nibble)) refl e
+after_cases is_first nibble token octets e =
+    by (nat_lt (length octets) (extension_size nibble)) refl e
   where
     by : (p : Bool)
         → nat_lt (length octets) (extension_size nibble) ≡ p
@@ -155,7 +156,8 @@ after_cases is_first nibble token octets e = by (nat_lt (length octets) (extensi
         inr (record {
           within = within;
           short =
-              short_of_more is_first (extension_size nibble) token (said nibble octets) octets within
+              short_of_more is_first (extension_size nibble) token (said nibble octets) octets
+              within
               e;
         })
 
@@ -373,7 +375,8 @@ fronts_wanted is_first octets more e few =
     by front rest same some (inr s) =
         let sizes : length front + length rest ≡ length (octets ++ more) =
         sym (length-append front rest) ∙ ap (λ (l : List ℕ). length l) same in
-        let front_size : length (octets ++ s.0) ≡ length front = ap (λ (l : List ℕ). length l) s.1 in
+        let front_size : length (octets ++ s.0) ≡ length front =
+        ap (λ (l : List ℕ). length l) s.1 in
         ap (judge is_first) (sym s.1)
         ∙ waits is_first octets s.0 e (omega (arith, sizes, some, few, front_size))
 

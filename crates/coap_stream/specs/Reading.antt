@@ -88,7 +88,8 @@ IsFedBy (judged.Bad why) old piece result new = (result ≡ fed.Bad 0 why) × (n
 abbrev pub IsFed : Held → List ℕ → Fed → Held → Type 0
 IsFed old piece result new = IsFedBy (held_as old) old piece result new
 
--- How many octets of a piece of this size may be taken: one or more where they make a message whole.
+-- How many octets of a piece of this size may be taken: one or more where they make a message
+-- whole.
 abbrev pub IsWithin : ℕ → Fed → Type 0
 IsWithin size fed.More = ⊤
 IsWithin size (fed.Whole n) = (0 < n) × (n ≤ size)

@@ -19,7 +19,12 @@ pub record Shown : Type 0 where
 
 -- what a frame shows
 abbrev pub frame_shown : Frame → Shown
-frame_shown f = record { code = f.code; token = f.token.now; options = options_at 0 f.options.now; payload = f.payload.now }
+frame_shown f = record {
+  code = f.code;
+  token = f.token.now;
+  options = options_at 0 f.options.now;
+  payload = f.payload.now;
+}
 
 -- what a code, a token and a tail show
 abbrev pub shown_by : ℕ → List ℕ → Tail → Shown
@@ -28,7 +33,8 @@ shown_by code token tail = record { code = code; token = token; options = tail.0
 -- what octets behind the lengths show, with a token of this length
 abbrev pub shown_body : ℕ → List ℕ → Option Shown
 shown_body token [] = None
-shown_body token (code ∷ bytes) = option_map (shown_by code (take token bytes)) (tail_at 0 (drop token bytes))
+shown_body token (code ∷ bytes) =
+    option_map (shown_by code (take token bytes)) (tail_at 0 (drop token bytes))
 
 -- what the octets of a message show
 unfoldable pub shown_in : List ℕ → Option Shown

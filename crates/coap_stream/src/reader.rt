@@ -64,7 +64,11 @@ fn tell_bytes(octets: &[u8])
 
 impl StreamReader {
     /// A reader at the beginning of a stream.
-    #[tactic(auto, unfolding(stream_model::specs::Judging::judge, crate::specs::Wanting::wanted_of))]
+    #[rattlefmt::skip]
+    #[tactic(
+        auto,
+        unfolding(stream_model::specs::Judging::judge, crate::specs::Wanting::wanted_of)
+    )]
     pub fn new() -> StreamReader
         ensures { result ≡ reading.at_beginning }
     {
@@ -87,7 +91,11 @@ impl StreamReader {
     }
 
     /// Goes on to the message behind one that is whole.
-    #[tactic(auto, unfolding(stream_model::specs::Judging::judge, crate::specs::Wanting::wanted_of))]
+    #[rattlefmt::skip]
+    #[tactic(
+        auto,
+        unfolding(stream_model::specs::Judging::judge, crate::specs::Wanting::wanted_of)
+    )]
     fn go_on(&mut self)
         ensures { self.new ≡ reading.between_messages }
     {

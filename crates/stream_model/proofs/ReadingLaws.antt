@@ -86,7 +86,8 @@ pub record IsFollowed (front whole : List ℕ) : Type 0 where
   pub more : List ℕ
   pub same : whole ≡ front ++ more
 
--- Octets that are compared: the first are a front of the others, or the others are one of the first.
+-- Octets that are compared: the first are a front of the others, or the others are one of the
+-- first.
 abbrev AreCompared : List ℕ → List ℕ → Type 0
 AreCompared octets whole = IsFrontOf octets whole ⊎ IsFollowed whole octets
 
@@ -138,7 +139,8 @@ compared_filled (suc n) [] = inl (record {
   some = rw (length-filled (suc n) []) (omega arith);
   same = refl;
 })
-compared_filled (suc n) (b ∷ octets) = one_before b octets (filled n octets) (compared_filled n octets)
+compared_filled (suc n) (b ∷ octets) =
+    one_before b octets (filled n octets) (compared_filled n octets)
 
 -- ---- a message for any octets
 

@@ -94,7 +94,8 @@ reach is_first pending (b ∷ c ∷ more) octets j some fronts e =
     (ap (judge is_first) same ∙ e) in
     one
     ∙ rest
-    ∙ ap (λ (l : List ℕ). stream_by j l (stream_from is_first l octets) (stream_from false [] octets))
+    ∙ ap (λ (l : List ℕ). stream_by j l (stream_from is_first l octets)
+    (stream_from false [] octets))
     same
 
 -- Octets that bring no message to its end.

@@ -1,5 +1,5 @@
--- Messages of a stream, and the octets that spell them (RFC 8323 section 3.2): one spelling for each
--- message.
+-- Messages of a stream, and the octets that spell them (RFC 8323 section 3.2): one spelling for
+-- each message.
 use Rattle.std.specs.Prelude.{
   ◌<◌,
   ◌≤◌,
