@@ -86,11 +86,11 @@ some_octets mid [] h = absurd (false≢true h)
 some_octets mid (a ∷ octets) h = omega arith
 
 -- what is due of a notice by the events that formed it and sent it again
-due_by : (moment : ℕ) (f : Flight) → kept_due moment (retransmission f.formed f.again)
+kept_due-flight : (moment : ℕ) (f : Flight) → kept_due moment (retransmission f.formed f.again)
     ≡ cond (nat_le (deadline f.formed f.again) moment)
     (cond (nat_le max_again (length f.again)) again.GaveUp again.Send) again.Wait
 unfolding kept_due deadline
-due_by moment f =
+kept_due-flight moment f =
     by (retransmission f.formed f.again).sent (retransmission f.formed f.again).wait
     (length f.again)
   where
@@ -166,7 +166,7 @@ again_one rows moment o x peer token waits fits = by (flight o (events rows)) wa
         due (nat_le (deadline f.formed f.again) moment) (nat_le max_again (length f.again)) f sent
         is (fits sent kept)
         ∙ ap (λ (d : Again). again_as d x (Some sent))
-        (sym (due_by moment f) ∙ ap (λ (y : Sent). kept_due moment y.resend) is)
+        (sym (kept_due-flight moment f) ∙ ap (λ (y : Sent). kept_due moment y.resend) is)
 
     by : (f : Option Flight)
         → option_map (notice_sent (octets_sent rows) o.peer) f ≡ x.flight
