@@ -49,7 +49,7 @@ impl Resend {
             → first.moment ≡ now.0
             → first.word ≡ word
             → Resends first [] result }
-        ensures waits { result.now
+        ensures waits { result
             ≡ record { sent = now.0; wait = first_wait word; again = 0 } }
     {
         Resend {
