@@ -55,11 +55,11 @@ follow_with before number [] rest low most short follow =
     follow_earlier before number rest low follow
 follow_with before number (v ∷ values) rest low most short follow =
     let all = and_parts (nat_le (length v) MAX_PART) (are_segments values) short in
-    let fits : length v ≤ MAX_PART = leb-true (length v) MAX_PART all.0 in
-    ( low
-    , most
-    , omega (arith, fits)
-    , follow_with number number values rest (omega arith) most all.1 follow
+    let fits : length v ≤ MAX_PART = leb-true (length v) MAX_PART all.0 in (
+      low,
+      most,
+      omega (arith, fits),
+      follow_with number number values rest (omega arith) most all.1 follow,
     )
 
 -- those of a location
@@ -77,11 +77,11 @@ pub registering_follows : (to : Peer) (path query : List (List ℕ)) (links : Li
     → CanFollow 0 (registering to path query links).options
 registering_follows to path query links segments parts =
     let queries =
-        subst
-        (λ (options : List Opt). CanFollow table.content_format options)
-        (append-nil (options_with table.uri_query query))
-        (follow_with table.content_format table.uri_query query [] (omega arith) (omega arith)
-        (parts_are_segments query parts) tt) in
+    subst
+    (λ (options : List Opt). CanFollow table.content_format options)
+    (append-nil (options_with table.uri_query query))
+    (follow_with table.content_format table.uri_query query [] (omega arith) (omega arith)
+    (parts_are_segments query parts) tt) in
     follow_with 0 table.uri_path path
     ((table.content_format, LINK_FORMAT ∷ []) ∷ options_with table.uri_query query)
     (omega arith)

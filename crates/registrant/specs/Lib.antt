@@ -1,0 +1,4 @@
+pub mod Asking
+pub mod Parts
+pub mod Talking
+pub mod Hearing
