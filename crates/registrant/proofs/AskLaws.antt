@@ -54,7 +54,8 @@ use Rattle.registrant.specs.Asking.{with_options, opened}
 size_of : (m : Message)
     → length (spelling m)
     ≡ 4
-    + (length m.token + (length (options_spelling 0 m.options) + length (payload_spelling m.payload)))
+    + (length m.token + (length (options_spelling 0 m.options) + length
+    (payload_spelling m.payload)))
 unfolding spelling header_spelling
 size_of m =
     let options = options_spelling 0 m.options in

@@ -8,10 +8,14 @@ mod options;
 mod parts;
 mod registering;
 mod talks;
+mod telling;
+mod turns;
 mod uris;
 mod verdicts;
 
 pub use client_model::{Ask, AskBad, Location, Opts, Outcome, Purpose};
 pub use registering::{refresh_ask, register_ask, remove_ask};
 pub use talks::Talk;
+pub use telling::{Registrant, Told};
+pub use turns::TellFault;
 pub use verdicts::{TalkAgain, TalkHeard};
