@@ -1,0 +1,2 @@
+mod VerdictExamples
+mod AskExamples

@@ -1,0 +1,4 @@
+pub mod Requests
+pub mod Asks
+pub mod Verdicts
+pub mod Sending

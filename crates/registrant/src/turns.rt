@@ -1,0 +1,139 @@
+//! One turn of a talk over a link: what came is heard, or time passes.
+ghost use Rattle.std.specs.Prelude.{◌≡◌, ◌≤◌, ◌∷◌, [], ℕ, List, length, take, option_map};
+ghost use Rattle.udp_link.specs.declared.links.TheConstants.{MAX_DATAGRAM};
+ghost use Rattle.udp_link.specs.Told.{Stays};
+ghost use Rattle.client_model.specs.declared.events.Event.{Event};
+ghost use Rattle.client_model.specs.declared.events.Event.TheVariants as event;
+ghost use Rattle.client_model.specs.Requests.{Asked};
+ghost use Rattle.client_model.specs.Sending.{to_peer};
+ghost use Rattle.registrant.specs.Talking.{StandsFor};
+ghost use Rattle.registrant.specs.Turns.{Sends, IsTurned, IsTaken, seen};
+
+use crate::{Outcome, Talk, TalkAgain, TalkHeard};
+use rd_base::{Moment, Peer};
+use std::alloc::Global;
+use udp_link::{Came, Clock, Link};
+
+/// Why a registrant ended without a verdict.
+#[derive(Clone, Copy, Debug, PartialEq, Eq)]
+pub enum TellFault {
+    /// A receive failed, and the link has counted it.
+    Link,
+    /// Memory ran out while a datagram was heard.
+    Starved,
+}
+
+/// What a turn came to.
+#[derive(Debug, Drop)]
+pub(crate) enum Turn {
+    /// Nothing is decided yet.
+    Going,
+    /// The verdict, or why there is none.
+    Over(Result<Outcome, TellFault>),
+}
+
+/// Sends a datagram. One whose send failed is lost, and the link has counted it.
+pub(crate) fn send<L: Link>(link: &mut L, peer: Peer, octets: &[u8])
+    ensures sends { Sends ((peer, octets.now) ∷ []) (L.gone link.old) (L.send_faults link.old)
+        (L.gone link.new) (L.send_faults link.new) }
+    ensures coming { Stays (L.coming link.old) (L.coming link.new) }
+    ensures receives { L.recv_faults link.new ≡ L.recv_faults link.old }
+{
+    let _went = link.send(peer, octets);
+}
+
+/// Sends what acknowledges an answer, where something does.
+fn acknowledge<L: Link>(link: &mut L, peer: Peer, octets: &Option<[u8; 4]>)
+    ensures sends { Sends (to_peer peer octets.now) (L.gone link.old) (L.send_faults link.old)
+        (L.gone link.new) (L.send_faults link.new) }
+    ensures coming { Stays (L.coming link.old) (L.coming link.new) }
+    ensures receives { L.recv_faults link.new ≡ L.recv_faults link.old }
+{
+    match octets {
+        Some(octets) => send(link, peer, octets),
+        None => {}
+    }
+}
+
+/// A datagram is handed to the talk, and a confirmable answer is acknowledged.
+fn hear_turn<L: Link>(
+    alloc: Global,
+    link: &mut L,
+    talk: &mut Talk,
+    now: Moment,
+    peer: &Peer,
+    datagram: &[u8],
+) -> Turn
+    ensures turned { (a : Asked) (octets : List ℕ) (past : List Event)
+        → StandsFor a octets past talk.old
+        → IsTurned a octets past (event.Came now peer.now datagram.now) result talk.new
+        (L.gone link.old) (L.send_faults link.old) (L.gone link.new) (L.send_faults link.new) }
+    ensures coming { Stays (L.coming link.old) (L.coming link.new) }
+    ensures receives { L.recv_faults link.new ≡ L.recv_faults link.old }
+{
+    match talk.heard(alloc, now, peer, datagram) {
+        TalkHeard::Other => Turn::Going,
+        TalkHeard::Quiet => Turn::Going,
+        TalkHeard::Starved => Turn::Over(Err(TellFault::Starved)),
+        TalkHeard::Over(outcome, octets) => {
+            acknowledge(link, *peer, &octets);
+            Turn::Over(Ok(outcome))
+        }
+    }
+}
+
+/// Time passes, and the request may be sent again.
+fn tick_turn<L: Link>(link: &mut L, talk: &mut Talk, now: Moment) -> Turn
+    ensures turned { (a : Asked) (octets : List ℕ) (past : List Event)
+        → StandsFor a octets past talk.old
+        → IsTurned a octets past (event.Tick now) result talk.new (L.gone link.old)
+        (L.send_faults link.old) (L.gone link.new) (L.send_faults link.new) }
+    ensures coming { Stays (L.coming link.old) (L.coming link.new) }
+    ensures receives { L.recv_faults link.new ≡ L.recv_faults link.old }
+{
+    match talk.at_tick(now) {
+        TalkAgain::Wait => Turn::Going,
+        TalkAgain::Send => {
+            send(link, talk.to(), talk.bytes());
+            Turn::Going
+        }
+        TalkAgain::Over(outcome) => Turn::Over(Ok(outcome)),
+    }
+}
+
+/// The octets of a datagram that was received.
+fn received(room: &[u8], size: usize) -> &[u8]
+    requires { size ≤ length room.now }
+    ensures { result.now ≡ take size room.now }
+{
+    &room[..size]
+}
+
+/// One receive, and what comes of it. The room has 4,096 octets.
+pub(crate) fn take_turn<L: Link, C: Clock>(
+    alloc: Global,
+    link: &mut L,
+    clock: &mut C,
+    talk: &mut Talk,
+    room: &mut [u8],
+) -> Turn
+    requires { MAX_DATAGRAM ≤ length room.old }
+    ensures { (a : Asked) (octets : List ℕ) (past : List Event)
+        → StandsFor a octets past talk.old
+        → IsTaken a octets past result
+        (seen L.coming L.gone L.recv_faults L.send_faults C.times C.words link.old clock.old)
+        (seen L.coming L.gone L.recv_faults L.send_faults C.times C.words link.new clock.new)
+        talk.new }
+{
+    let came = link.recv(room);
+    let now = clock.now();
+    match came {
+        Came::Datagram(peer, size) => {
+            let datagram = received(room, size);
+            hear_turn(alloc, link, talk, now, &peer, datagram)
+        }
+        Came::TooLong => tick_turn(link, talk, now),
+        Came::Nothing => tick_turn(link, talk, now),
+        Came::Failed => Turn::Over(Err(TellFault::Link)),
+    }
+}
