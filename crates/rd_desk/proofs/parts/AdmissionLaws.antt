@@ -1,12 +1,11 @@
 -- What an admission does, by what it hears (RFC 7252 section 4).
-use Rattle.std.proofs.Common.{◌≡◌, Bool, true, false, List, Some, None, Result, Ok, refl}
+use Rattle.std.proofs.Common.{◌≡◌, Bool, true, false, List, Some, None, Result, refl}
 use Rattle.std.proofs.lemmas.Bool.{false≢true}
-use Rattle.message_model.specs.declared.messages.Role.{Role}
 use Rattle.message_model.specs.declared.messages.Role.TheVariants as role
 use Rattle.message_model.specs.declared.messages.Unread.{Unread}
 use Rattle.message_model.specs.declared.requests.Path.{Path}
 use Rattle.message_model.specs.declared.requests.Path.TheVariants as path
-use Rattle.message_model.specs.Message.{Message, role_of}
+use Rattle.message_model.specs.Message.{Message}
 use Rattle.message_model.specs.OptionTable.{first_bad_option}
 use Rattle.message_model.specs.Reading.{reading}
 use Rattle.message_model.specs.Request.{path_in}

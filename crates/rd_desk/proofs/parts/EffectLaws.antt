@@ -1,25 +1,9 @@
 -- Effects one after the other, and the Message IDs that they draw.
-use Rattle.std.proofs.Common.{
-  ◌≡◌,
-  ℕ,
-  zero,
-  suc,
-  ◌+◌,
-  ◌*◌,
-  ◌%◌,
-  ◌^◌,
-  List,
-  refl,
-  ap,
-  ◌∙◌,
-  append_assoc,
-  append-nil,
-  arith,
-}
-use Rattle.std.proofs.Math.Nat.{mod-add-mod, mod-mod_of_dvd, dvd_of_mod-eq-zero}
+use Rattle.std.proofs.Common.{◌≡◌, ℕ, zero, suc, ◌+◌, ◌%◌, ◌^◌, List, refl, ap, ◌∙◌, append_assoc, append-nil, arith}
+use Rattle.std.proofs.Math.Nat.{mod-add-mod}
 use Rattle.rd_base.specs.declared.peers.Peer.{Peer}
 use Rattle.event_model.specs.declared.notes.Note.{Note}
-use Rattle.journal_model.specs.Effects.{Effects, nothing, joined, worker_mids, mid_of}
+use Rattle.journal_model.specs.Effects.{Effects, nothing, joined}
 use Rattle.journal_model.specs.UnfinishedRow.{drawing}
 
 -- effects with equal parts

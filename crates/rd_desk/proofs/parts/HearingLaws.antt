@@ -1,61 +1,27 @@
 -- What an admission does and leaves, by what it hears (RFC 7252 section 4).
-use Rattle.std.proofs.Common.{
-  ◌≡◌,
-  ℕ,
-  ◌&&◌,
-  ◌||◌,
-  not,
-  Bool,
-  true,
-  false,
-  List,
-  ◌∷◌,
-  length,
-  Option,
-  None,
-  is_none,
-  Result,
-  Ok,
-  refl,
-  sym,
-  ap,
-  subst,
-  ◌∙◌,
-}
+use Rattle.std.proofs.Common.{◌≡◌, ℕ, ◌&&◌, ◌||◌, not, Bool, true, false, List, Option, None, Result, refl, sym, ap, subst, ◌∙◌}
 use Rattle.std.specs.List.{list_any}
 use Rattle.std.proofs.lemmas.Bool.{false≢true}
 use Rattle.rd_base.specs.declared.moments.Moment.{Moment}
 use Rattle.rd_base.specs.declared.peers.Peer.{Peer}
-use Rattle.message_model.specs.declared.messages.Role.{Role}
 use Rattle.message_model.specs.declared.messages.Role.TheVariants as role
 use Rattle.message_model.specs.declared.messages.Unread.{Unread}
 use Rattle.message_model.specs.declared.requests.Path.{Path}
 use Rattle.message_model.specs.declared.requests.Path.TheVariants as path
-use Rattle.message_model.specs.Message.{Message, role_of}
+use Rattle.message_model.specs.Message.{Message}
 use Rattle.message_model.specs.OptionTable.{first_bad_option}
 use Rattle.message_model.specs.Reading.{reading}
 use Rattle.message_model.specs.Request.{path_in, observe_in}
 use Rattle.event_model.specs.declared.notes.Note.{Note}
 use Rattle.event_model.specs.declared.notes.Note.TheVariants as note
-use Rattle.event_model.specs.AdmissionOrder.{IsOpen}
 use Rattle.event_model.specs.Repeats.{is_admitting}
 use Rattle.journal_model.specs.declared.steps.Step.{Step}
 use Rattle.journal_model.specs.declared.steps.StepKind.TheVariants as step
 use Rattle.journal_model.specs.declared.rows.Row.{Row}
-use Rattle.journal_model.specs.DeskJournal.{IsDeskJournal}
 use Rattle.journal_model.specs.Effects.{Effects, Reply, nothing}
 use Rattle.journal_model.specs.Journal.{events}
 use Rattle.journal_model.specs.Lookups.{lookup_effects}
-use Rattle.journal_model.specs.Machine.{is_look_message, is_look_reading, is_look_datagram}
-use Rattle.journal_model.specs.Requests.{
-  refusal_of_request,
-  is_lookup,
-  is_discovery,
-  is_later_block,
-  is_heeded,
-  only_looks,
-  is_look_request,
-}
+use Rattle.journal_model.specs.Requests.{refusal_of_request, is_lookup, is_discovery, is_later_block, is_heeded, only_looks}
 use Rattle.journal_model.specs.Responses.{response_effects}
 use Rattle.journal_model.specs.Rows.{
   served,
@@ -71,12 +37,9 @@ use Rattle.journal_model.proofs.StepNotes.{lookup_effects-notes, acknowledged-no
 use Rattle.journal_model.proofs.RowEquations.{row-notes}
 use Rattle.journal_model.proofs.notes.ChangeNotes.{response_effects-notes}
 use Rattle.journal_model.proofs.notes.SilentSteps.{refusal_notes, unread_notes}
-use Rattle.journal_model.proofs.desks.AdmissionsInOrder.{journal-IsOrderly}
-use Rattle.journal_model.proofs.desks.OpenAdmissions.{admitted-IsOpen, row-OwnAdmission}
 use Rattle.coap_answers.specs.declared.mids.Mids.{Mids}
 use Rattle.rd_request.specs.WriteRequests.{is_write_path}
 use Rattle.rd_desk.specs.declared.admissions.Admitted.{Admitted}
-use Rattle.rd_desk.specs.declared.admissions.Admitted.TheVariants as admitted
 use Rattle.rd_desk.specs.declared.steps.Stepped.{Stepped}
 use Rattle.rd_desk.specs.declared.steps.Stepped.TheVariants as stepped
 use Rattle.rd_desk.specs.calls.Admitting.{
@@ -88,7 +51,6 @@ use Rattle.rd_desk.specs.calls.Admitting.{
   message_takes,
 }
 use Rattle.rd_desk.specs.parts.Hearing.{jobless}
-use Rattle.rd_desk.specs.calls.WriteJobs.{Write}
 use Rattle.rd_desk.specs.calls.Desks.{Seen}
 use Rattle.rd_desk.specs.parts.Lookups.{lookup_heard}
 use Rattle.rd_desk.specs.parts.Responding.{response_heard}

@@ -1,39 +1,6 @@
 -- The steps of the machine, as a table of fetches answers them: responses, the start of a fetch,
 -- and requests that are sent again; and a row more.
-use Rattle.std.proofs.Common.{
-  ◌≡◌,
-  ◌≢◌,
-  ℕ,
-  ◌+◌,
-  ◌*◌,
-  ◌/◌,
-  ◌%◌,
-  ◌<◌,
-  ◌≤◌,
-  ◌==◌,
-  ◌&&◌,
-  ◌||◌,
-  Bool,
-  true,
-  false,
-  cond,
-  List,
-  [],
-  ◌∷◌,
-  ◌++◌,
-  length,
-  codes,
-  find,
-  Option,
-  Some,
-  None,
-  option_map,
-  refl,
-  ap,
-  eq-eqb,
-  ◌∙◌,
-  arith,
-}
+use Rattle.std.proofs.Common.{◌≡◌, ◌≢◌, ℕ, ◌+◌, ◌*◌, ◌/◌, ◌%◌, ◌<◌, ◌≤◌, ◌==◌, ◌&&◌, Bool, true, false, cond, List, [], ◌∷◌, ◌++◌, length, codes, find, Option, Some, None, option_map, refl, ap, eq-eqb, ◌∙◌, arith}
 use Rattle.std.specs.Prelude.{is_none, nat_le, unwrap_or}
 use Rattle.std.specs.List.{AllByRecursion}
 use Rattle.std.proofs.lemmas.Bool.{and_parts, ne_eqb}
@@ -48,34 +15,16 @@ use Rattle.message_model.specs.OptionTable.{first_bad_option}
 use Rattle.message_model.specs.Request.{queries_in}
 use Rattle.message_model.specs.Spelling.{spelling, header_spelling, kind_number}
 use Rattle.message_model.specs.FetchRequests.{fetch_request}
-use Rattle.message_model.specs.Responses.{block_in, tag_in, is_elsewhere}
 use Rattle.record_model.specs.Parameters.{registration_values}
 use Rattle.event_model.specs.declared.notes.Note.{Note}
-use Rattle.event_model.specs.declared.notes.Note.TheVariants as note
 use Rattle.event_model.specs.Same.{is_same_peer}
 use Rattle.event_model.specs.Events.{Event}
-use Rattle.event_model.specs.Flights.{max_again}
-use Rattle.event_model.specs.Fetches.{
-  max_fetches,
-  fetches,
-  is_fetching,
-  next_token,
-  Request,
-  request_noted,
-  last_request,
-  is_request_to,
-  gathered,
-  collected,
-  is_waiting,
-  resendings,
-  fetch_deadline,
-  request_of,
-}
+use Rattle.event_model.specs.Fetches.{max_fetches, fetches, is_fetching, next_token, Request, last_request, is_request_to, request_of}
 use Rattle.event_model.proofs.SameLaws.{is_same_peer-Decides, is_same_peer-refl}
 use Rattle.journal_model.specs.declared.steps.Step.{Step}
 use Rattle.journal_model.specs.declared.rows.Row.{Row}
 use Rattle.journal_model.specs.Journal.{events, row_at}
-use Rattle.journal_model.specs.Effects.{Effects, nothing, joined, bare, noting, mid_of, drawn_for}
+use Rattle.journal_model.specs.Effects.{joined, bare, drawn_for}
 use Rattle.journal_model.specs.Changes.{refused}
 use Rattle.journal_model.specs.Commits.{settling, asking, registering_simply}
 use Rattle.journal_model.specs.Responses.{
@@ -89,33 +38,12 @@ use Rattle.journal_model.specs.Responses.{
   response_use,
 }
 use Rattle.journal_model.specs.Responses as responses
-use Rattle.journal_model.specs.Ticks.{
-  octets_sent,
-  is_confirmable_with,
-  confirmable_sent,
-  repeating,
-  sent_again,
-  request_again,
-  fetch_again,
-  due_by,
-}
+use Rattle.journal_model.specs.Ticks.{octets_sent, is_confirmable_with, confirmable_sent, repeating, sent_again}
 use Rattle.journal_model.proofs.EventRows.{row_of}
-use Rattle.exchange_core.specs.declared.resends.Again.{Again}
-use Rattle.exchange_core.specs.declared.resends.Again.TheVariants as again
-use Rattle.simple_registration.specs.declared.hearing.Heard.{Heard}
-use Rattle.simple_registration.specs.declared.hearing.Heard.TheVariants as heard
 use Rattle.simple_registration.specs.declared.starts.StartFault.TheVariants as fault
-use Rattle.simple_registration.specs.Responses.{heard_part, heard_block, heard_by}
 use Rattle.simple_registration.specs.Sendable.{IsSendable}
 use Rattle.simple_registration.specs.Table.{Table}
-use Rattle.simple_registration.specs.FetchEvents.{
-  FetchesStandFor,
-  start_refusal,
-  has_names_of_request,
-  belongs_after,
-  heard_after,
-  fetch_due,
-}
+use Rattle.simple_registration.specs.FetchEvents.{FetchesStandFor, start_refusal, has_names_of_request, belongs_after}
 use Rattle.simple_registration.proofs.DeskLaws.{FetchesStandFor-octets}
 
 -- ---- responses

@@ -33,7 +33,6 @@ use Rattle.event_model.specs.Fetches.{request_of}
 use Rattle.message_model.specs.Responses.{block_in, is_elsewhere}
 use Rattle.journal_model.specs.Responses as responses
 use Rattle.simple_registration.specs.declared.asks.Ask.{Ask}
-use Rattle.simple_registration.specs.declared.hearing.Heard.{Heard}
 use Rattle.simple_registration.specs.declared.hearing.Heard.TheVariants as heard
 use Rattle.simple_registration.specs.Responses.{request_after, heard_part, heard_block, heard_by}
 use Rattle.simple_registration.specs.FetchEvents.{belongs_after, heard_after}

@@ -1,31 +1,6 @@
 -- What a response to a fetch does, part after part: it is acknowledged, and then the next block is
 -- asked for, or the body is registered, or the fetch ends (RFC 9176 section 5.1).
-use Rattle.std.proofs.Common.{
-  ◌≡◌,
-  ℕ,
-  ◌+◌,
-  ◌&&◌,
-  ◌||◌,
-  Bool,
-  true,
-  false,
-  List,
-  [],
-  ◌∷◌,
-  ◌++◌,
-  length,
-  Option,
-  Some,
-  None,
-  refl,
-  sym,
-  ap,
-  ap₂,
-  subst,
-  ◌∙◌,
-  append_assoc,
-  arith,
-}
+use Rattle.std.proofs.Common.{◌≡◌, ℕ, ◌+◌, ◌&&◌, ◌||◌, Bool, true, false, List, [], ◌∷◌, ◌++◌, length, Option, Some, None, refl, sym, ap, ap₂, subst, ◌∙◌, arith}
 use Rattle.std.specs.Prelude.{◌≢◌}
 use Rattle.std.specs.List.{AllByRecursion}
 use Rattle.std.proofs.lemmas.Bool.{false≢true, and_parts}
@@ -35,7 +10,6 @@ use Rattle.message_model.specs.declared.blocks.Block.{Block}
 use Rattle.message_model.specs.declared.messages.Kind4.{Kind4}
 use Rattle.message_model.specs.declared.messages.Kind4.TheVariants.{Con, Non, Ack, Rst}
 use Rattle.message_model.specs.Message.{Message, Opt}
-use Rattle.message_model.specs.Spelling.{spelling}
 use Rattle.message_model.specs.Responses.{block_in, tag_in, is_elsewhere}
 use Rattle.history_model.specs.declared.entries.Entry.{Entry}
 use Rattle.history_model.specs.declared.refusals.Refusal.{Refusal}
@@ -92,7 +66,7 @@ use Rattle.journal_model.specs.Responses.{
 use Rattle.journal_model.specs.Responses as responses
 use Rattle.journal_model.specs.Rows.{row_with, row_moment}
 use Rattle.journal_model.specs.Ticks.{is_confirmable_with, octets_sent}
-use Rattle.journal_model.specs.UnfinishedRow.{making, drawing}
+use Rattle.journal_model.specs.UnfinishedRow.{making}
 use Rattle.journal_model.proofs.RowEquations.{events-row}
 use Rattle.journal_model.proofs.UnfinishedRowLaws.{events-making_nothing}
 use Rattle.simple_registration.specs.declared.asks.Ask.{Ask}
@@ -114,13 +88,12 @@ use Rattle.rd_desk.proofs.responses.FetchStepLaws.{
 }
 use Rattle.coap_answers.specs.declared.mids.Mids.{Mids}
 use Rattle.coap_answers.specs.Sendings.{Sends, AreRequestsSent}
-use Rattle.coap_answers.proofs.SendingLaws.{sends_nothing, sends_octets}
 use Rattle.rd_desk.specs.declared.write.outcomes.Outcome.{Outcome as Planned}
 use Rattle.rd_desk.specs.calls.Desks.{Seen}
 use Rattle.rd_desk.specs.parts.Outcomes.{IsPlanned}
 use Rattle.rd_desk.specs.parts.Responding.{asking_next, unless_starved, response_heard}
 use Rattle.rd_desk.specs.parts.UnderWay.{UnderWay}
-use Rattle.rd_desk.proofs.parts.EffectLaws.{joined-nothing, joined-assoc, drawing-more}
+use Rattle.rd_desk.proofs.parts.EffectLaws.{joined-nothing, joined-assoc}
 use Rattle.rd_desk.proofs.parts.EmptyMessageLaws.{fetch_more}
 use Rattle.rd_desk.proofs.parts.MakingLaws.{entries-making_nothing}
 use Rattle.rd_desk.proofs.parts.PartLaws.{more_fetches, only_silent}

@@ -22,7 +22,7 @@ use Rattle.event_model.specs.Observers.{observers}
 use Rattle.journal_model.specs.declared.steps.Step.{Step}
 use Rattle.journal_model.specs.declared.rows.Row.{Row}
 use Rattle.journal_model.specs.Effects.{Effects}
-use Rattle.journal_model.specs.Journal.{is_look, events, transitions}
+use Rattle.journal_model.specs.Journal.{events, transitions}
 use Rattle.journal_model.specs.Rows.{row_moment}
 use Rattle.journal_model.specs.Ticks.{ticking, max_notices, notices_again, notice_next, notices}
 use Rattle.journal_model.specs.UnfinishedRow.{making}

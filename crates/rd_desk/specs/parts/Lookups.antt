@@ -19,8 +19,6 @@ use Rattle.std.specs.Prelude.{
 use Rattle.std.specs.Arc.{arc_value}
 use Rattle.rd_base.specs.declared.peers.Peer.{Peer}
 use Rattle.rd_base.specs.declared.queries.Query.{Query}
-use Rattle.message_model.specs.declared.blocks.Block.{Block}
-use Rattle.message_model.specs.Blocks.{block_of}
 use Rattle.message_model.specs.Message.{Message}
 use Rattle.message_model.specs.RequestKey.{key_in}
 use Rattle.history_model.specs.declared.entries.Entry.{Entry}
@@ -35,7 +33,7 @@ use Rattle.journal_model.specs.declared.rows.Row.{Row}
 use Rattle.journal_model.specs.Bodies.{body_reply}
 use Rattle.journal_model.specs.Effects.{Effects, answering, without_memory}
 use Rattle.journal_model.specs.Lookups.{lookup_effects}
-use Rattle.journal_model.specs.Requests.{asked_block, number_of, szx_of}
+use Rattle.journal_model.specs.Requests.{asked_block, szx_of}
 use Rattle.journal_model.specs.Rows.{row_moment}
 use Rattle.transfers.specs.TransferEvents.{Table, AnswersStandFor, TransfersStandFor}
 use Rattle.coap_answers.specs.declared.mids.Mids.{Mids}

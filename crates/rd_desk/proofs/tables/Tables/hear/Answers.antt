@@ -24,7 +24,6 @@ use Rattle.rd_request.proofs.AskedLaws.{none_there}
 use Rattle.rd_request.proofs.IncomingLaws.{look_left}
 use Rattle.rd_request.proofs.WriteRequestLaws.{write_datagram}
 use Rattle.rd_desk.specs.calls.Admitting.{is_starved_admission, IsHeldFor}
-use Rattle.rd_desk.specs.parts.Hearing.{write_heard}
 use Rattle.rd_desk.specs.parts.Lookups.{lookup_heard}
 use Rattle.rd_desk.specs.parts.Responding.{response_heard}
 use Rattle.rd_desk.specs.parts.UnderWay.{UnderWay}

@@ -1,9 +1,8 @@
-use Rattle.std.proofs.Common.{◌≡◌, Ok, sym, ap, ◌∙◌}
+use Rattle.std.proofs.Common.{◌≡◌, Ok, ap, ◌∙◌}
 use Rattle.std.specs.Arc.{arc_value}
 use Rattle.message_model.specs.Reading.{reading}
 use Rattle.message_model.specs.Spelling.{spelling}
 use Rattle.coap_message.specs.Views.{message_in}
-use Rattle.coap_answers.specs.Replies.{reply_said}
 use Rattle.rd_look.specs.KeepJobs.{Keep}
 use Rattle.rd_desk.proofs.parts.KeepLaws.{way_starved, way_kept}
 use Rattle.rd_desk.proofs.tables.Tables.keep_listing.Goals as goal
