@@ -9,7 +9,6 @@ use Rattle.std.proofs.Common.{
   false,
   cond,
   ⊎_elim,
-  tt,
   List,
   length,
   Option,
