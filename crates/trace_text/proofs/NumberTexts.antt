@@ -15,14 +15,12 @@ use Rattle.std.proofs.Common.{
   ⊎_elim,
   List,
   length,
-  drop,
   Option,
   Some,
   None,
   Result,
   Ok,
   Err,
-  bytes_eq,
   decimal,
   refl,
   sym,
@@ -56,7 +54,6 @@ use Rattle.std.proofs.lemmas.Fmt.{
 }
 use Rattle.std.proofs.lemmas.List.{length-drop}
 use Rattle.std.proofs.lemmas.Bool.{cases_lt, eqb-false, eqb-true, ltb-false, ltb-true}
-use Rattle.std.proofs.lemmas.Slice.Eq.{bytes_eq-Decides}
 use Rattle.line_model.specs.Numbers.{number_of}
 use Rattle.line_model.proofs.Numbers.{number_of-found, number_of-IsNumber}
 
@@ -94,8 +91,13 @@ module _ (text : List ℕ) (plain : is_plain text ≡ true)
 
   no_plus : slice_index text 0 ≢ 43
   no_plus plus = ⊎_elim
-      (λ one. absurd (omega (arith, one, numeral.0, length-drop 1 text,
-      ap (λ (t : List ℕ). length t) (without_leading_plus_plus text plus))))
+      (λ one. absurd (omega (
+        arith,
+        one,
+        numeral.0,
+        length-drop 1 text,
+        ap (λ (t : List ℕ). length t) (without_leading_plus_plus text plus),
+      )))
       (λ above. absurd (omega (arith, above, plus)))
       shape
 
