@@ -1,4 +1,5 @@
 pub mod NumberTexts
+pub mod FirstBytes
 pub mod FieldCuts
 pub mod LineFields
 pub mod ReadLines

@@ -51,29 +51,24 @@ fn lifetime(i: u16) -> u32
     60 + 611 * u32::from(i) % 3600
 }
 
-/// What the second link of a device is: one of seven kinds. `Starved`: out of memory.
-fn kind_text(alloc: Global, i: u16) -> Result<String, Starved>
-    ensures { IfOk result (λ text. string_bytes text ≡ generator.kind_text i) }
-{
-    let kind = i % 7;
-    Ok(format!(in alloc; "kind{kind}")?)
-}
-
-/// The links of a device. `Starved`: out of memory.
+/// The links of a device, the second of one of seven kinds. `Starved`: out of memory.
 fn device_links(alloc: Global, i: u16) -> Result<String, Starved>
     ensures { IfOk result (λ text. string_bytes text ≡ generator.device_links i) }
 {
     let path = i % 10;
-    let kind = kind_text(alloc, i)?;
-    let kind = kind.as_str();
-    Ok(format!(in alloc; "</t>;rt=\"temp\",</s{path}>;rt=\"{kind}\"")?)
+    let kind = i % 7;
+    let mut text = String::with_capacity(alloc, 40)?;
+    write!(text, "</t>;rt=\"temp\",</s{path}>;rt=\"kind{kind}\"")?;
+    Ok(text)
 }
 
 /// The name of a device, as a query option (RFC 9176 section 5). `Starved`: out of memory.
 fn name_query(alloc: Global, i: u16) -> Result<String, Starved>
     ensures { IfOk result (λ text. string_bytes text ≡ codes "ep=dev" ++ decimal i) }
 {
-    Ok(format!(in alloc; "ep=dev{i}")?)
+    let mut text = String::with_capacity(alloc, 16)?;
+    write!(text, "ep=dev{i}")?;
+    Ok(text)
 }
 
 /// Its lifetime, as a query option (RFC 9176 section 5). `Starved`: out of memory.
@@ -89,9 +84,8 @@ fn lifetime_query(alloc: Global, i: u16) -> Result<String, Starved>
 fn kind_query(alloc: Global, i: u16) -> Result<String, Starved>
     ensures { IfOk result (λ text. string_bytes text ≡ codes "rt=" ++ generator.kind_text i) }
 {
-    let kind = kind_text(alloc, i)?;
-    let kind = kind.as_str();
-    Ok(format!(in alloc; "rt={kind}")?)
+    let kind = i % 7;
+    Ok(format!(in alloc; "rt=kind{kind}")?)
 }
 
 /// A confirmable request, without options so far (RFC 7252 section 4.2).

@@ -9,6 +9,9 @@ use line_model::Line;
 use rd_base::{Bytes, Moment, Peer, Starved, peer_text};
 use std::alloc::Global;
 
+/// The room that is taken at once for what stands in a line before its octets.
+const FRONT: usize = 80;
+
 /// The line of a datagram that comes.
 pub(crate) fn come_print(
     alloc: Global,
@@ -26,7 +29,9 @@ pub(crate) fn come_print(
     let peer = peer_text(alloc, peer)?;
     let peer = peer.as_str();
     let octets = datagram_text(alloc, octets)?;
-    Ok(format!(in alloc; "in {worker} {at} {peer} {octets}")?)
+    let mut text = String::with_capacity(alloc, usize::saturating_add(FRONT, octets.len()))?;
+    write!(text, "in {worker} {at} {peer} {octets}")?;
+    Ok(text)
 }
 
 /// The line of a worker that ends its job.
@@ -36,7 +41,9 @@ pub(crate) fn go_print(alloc: Global, worker: u8, moment: Moment) -> Result<Stri
         ≡ lines.joined (lines.printed_fields (line_kind.Go worker moment))) }
 {
     let Moment(at) = moment;
-    Ok(format!(in alloc; "go {worker} {at}")?)
+    let mut text = String::with_capacity(alloc, FRONT)?;
+    write!(text, "go {worker} {at}")?;
+    Ok(text)
 }
 
 /// The line of time that passes, a word of 0 left out.
@@ -99,6 +106,7 @@ pub fn out_print(alloc: Global, worker: u8, peer: &Peer, datagram: &[u8]) -> Res
     let peer = peer_text(alloc, peer)?;
     let peer = peer.as_str();
     let octets = datagram_text(alloc, datagram)?;
-    let text = format!(in alloc; "out {worker} {peer} {octets}")?;
+    let mut text = String::with_capacity(alloc, usize::saturating_add(FRONT, octets.len()))?;
+    write!(text, "out {worker} {peer} {octets}")?;
     Ok(Bytes::of(text.into_bytes()))
 }

@@ -1,16 +1,21 @@
 //! Numbers in decimal.
-ghost use Rattle.std.specs.Prelude.{◌≡◌, ◌≤◌, IfSome, bytes_eq, decimal};
+ghost use Rattle.std.specs.Prelude.{◌≡◌, ◌≤◌, ◌==◌, ◌||◌, IfSome, length, nat_lt, slice_index};
 ghost use Rattle.line_model.specs.Numbers as numbers;
 
-use itoa::Buffer;
 use std::str;
 
-/// Whether a text is that of a number in decimal, which has no leading zero.
-fn is_decimal(text: &[u8], n: u64) -> bool
-    ensures { result ≡ bytes_eq text.now (decimal n) }
+/// Whether a text has one octet, or begins above the digit 0: a number in decimal has no sign and
+/// no leading zero.
+fn is_plain(text: &[u8]) -> bool
+    ensures { result ≡ (length text.now == 1 || nat_lt 48 (slice_index text.now 0)) }
 {
-    let mut buffer = Buffer::new();
-    text == buffer.format(n).as_bytes()
+    if text.len() == 1 {
+        return true;
+    }
+    match text.first() {
+        Some(first) => *first > b'0',
+        None => false,
+    }
 }
 
 /// The number that a text prints in decimal, where it is at most `limit`.
@@ -18,6 +23,9 @@ pub fn number_read(limit: u64, text: &[u8]) -> Option<u64>
     ensures value { result ≡ numbers.number_of limit text.now }
     ensures within { IfSome result (λ n. n ≤ limit) }
 {
+    if !is_plain(text) {
+        return None;
+    }
     let Ok(digits) = str::from_utf8(text) else {
         return None;
     };
@@ -25,9 +33,6 @@ pub fn number_read(limit: u64, text: &[u8]) -> Option<u64>
         return None;
     };
     if n > limit {
-        return None;
-    }
-    if !is_decimal(text, n) {
         return None;
     }
     Some(n)

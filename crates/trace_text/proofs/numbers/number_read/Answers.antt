@@ -1,6 +1,10 @@
 use Rattle.std.proofs.Common.{sym, arith}
-use Rattle.trace_text.proofs.NumberTexts.{not_text, not_parsed, too_great, other_text, is_number}
+use Rattle.trace_text.proofs.NumberTexts.{not_plain, not_text, not_parsed, too_great, is_number}
 use Rattle.trace_text.proofs.numbers.number_read.Goals as goal
+
+pub returns-then-not-is_plain-clause-value : goal.returns-then-not-is_plain-clause-value
+returns-then-not-is_plain-clause-value c =
+    not_plain c.args.limit c.args.text.now c.ranges.limit.fits (sym c.if-not-is_plain.ensures)
 
 pub returns-in_default-clause-value : goal.returns-in_default-clause-value
 returns-in_default-clause-value c =
@@ -17,14 +21,9 @@ returns-then-n-limit-clause-value c =
     c.in-Ok.ensures.cases.0 c.parse.ensures.value.0 c.in-Ok-parse.n c.in-Ok-parse.is
     c.if-n-limit.true
 
-pub returns-then-not-is_decimal-clause-value : goal.returns-then-not-is_decimal-clause-value
-returns-then-not-is_decimal-clause-value c =
-    other_text c.args.limit c.args.text.now c.ranges.limit.fits c.in-Ok.digits.now c.parse.result
-    c.in-Ok.ensures.cases.0 c.parse.ensures.value.0 c.in-Ok-parse.n c.in-Ok-parse.is
-    (sym c.if-not-is_decimal.ensures)
-
 pub returns-clause-value : goal.returns-clause-value
 returns-clause-value c =
     let within = c.if-n-limit.false in
-    is_number c.args.limit c.args.text.now c.ranges.limit.fits c.in-Ok-parse.n
-    (omega (arith, within)) (sym c.if-not-is_decimal.ensures)
+    is_number c.args.limit c.args.text.now c.ranges.limit.fits c.in-Ok.digits.now c.parse.result
+    c.in-Ok.ensures.cases.0 c.parse.ensures.value.0 c.in-Ok-parse.n c.in-Ok-parse.is
+    (omega (arith, within)) (sym c.if-not-is_plain.ensures)
