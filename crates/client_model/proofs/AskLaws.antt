@@ -1,22 +1,5 @@
 -- An ask that is made has options that can be written one after the other.
-use Rattle.std.proofs.Common.{
-  ◌≡◌,
-  ℕ,
-  ◌≤◌,
-  Bool,
-  true,
-  nat_le,
-  List,
-  [],
-  ◌∷◌,
-  ◌++◌,
-  length,
-  refl,
-  subst,
-  sym,
-  append-nil,
-  arith,
-}
+use Rattle.std.proofs.Common.{◌≡◌, ℕ, ◌≤◌, true, nat_le, List, [], ◌∷◌, ◌++◌, length, refl, subst, append-nil, arith}
 use Rattle.std.specs.Str.{is_utf8}
 use Rattle.std.proofs.lemmas.Bool.{and_from, and_parts, leb-true}
 use Rattle.rd_base.specs.declared.peers.Peer.{Peer}
@@ -27,12 +10,18 @@ use Rattle.client_model.specs.declared.asks.TheConstants.{MAX_PART}
 use Rattle.client_model.specs.Requests.{CanFollow}
 use Rattle.client_model.specs.Asks.{is_part, are_parts, are_segments, options_with, registering}
 
-pub parts_are_segments : (values : List (List ℕ)) → are_parts values ≡ true → are_segments values ≡ true
+pub parts_are_segments : (values : List (List ℕ))
+    → are_parts values ≡ true
+    → are_segments values ≡ true
 parts_are_segments [] e = refl
 parts_are_segments (v ∷ values) e =
     let all = and_parts (is_part v) (are_parts values) e in
     let one = and_parts (is_utf8 v) (nat_le (length v) MAX_PART) all.0 in
-    and_from (nat_le (length v) MAX_PART) (are_segments values) one.1 (parts_are_segments values all.1)
+    and_from
+    (nat_le (length v) MAX_PART)
+    (are_segments values)
+    one.1
+    (parts_are_segments values all.1)
 
 -- what can follow an option can follow one of a lower number
 follow_earlier : (before number : ℕ) (options : List Opt)
@@ -67,7 +56,9 @@ pub located_follows : (path : List (List ℕ))
     → are_segments path ≡ true
     → CanFollow 0 (options_with table.uri_path path)
 located_follows path short =
-    subst (λ (options : List Opt). CanFollow 0 options) (append-nil (options_with table.uri_path path))
+    subst
+    (λ (options : List Opt). CanFollow 0 options)
+    (append-nil (options_with table.uri_path path))
     (follow_with 0 table.uri_path path [] (omega arith) (omega arith) short tt)
 
 -- those of a registration

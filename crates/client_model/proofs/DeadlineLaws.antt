@@ -1,7 +1,7 @@
 -- The deadlines of a request are those of any message that waits for its acknowledgement.
-use Rattle.std.proofs.Common.{◌≡◌, ℕ, suc, ◌+◌, ◌*◌, ◌^◌, List, [], ◌∷◌, map, length, refl, sym, ap}
+use Rattle.std.proofs.Common.{◌≡◌, suc, List, [], ◌∷◌, map, length, refl, ap}
 use Rattle.event_model.specs.Events.{Event as Noted}
-use Rattle.event_model.specs.Flights.{first_wait, deadline}
+use Rattle.event_model.specs.Flights.{deadline}
 use Rattle.client_model.specs.Requests.{Asked}
 use Rattle.client_model.specs.Verdicts.{wait_end}
 

@@ -1,17 +1,5 @@
 -- How long the datagram of an ask is: neither its Message ID nor the octets of its token matter.
-use Rattle.std.proofs.Common.{
-  ◌≡◌,
-  ℕ,
-  ◌+◌,
-  List,
-  length,
-  ◌++◌,
-  refl,
-  sym,
-  ap,
-  ◌∙◌,
-  arith,
-}
+use Rattle.std.proofs.Common.{◌≡◌, ℕ, List, length, ◌++◌, arith}
 use Rattle.std.proofs.Math.ListN.{length-append}
 use Rattle.message_model.specs.Spelling.{
   header_spelling,

@@ -133,8 +133,8 @@ abbrev pub last_sent : Asked → List ℕ → ℕ
 last_sent a [] = a.at
 last_sent a (last ∷ before) = last
 
--- when its wait for an acknowledgement ends: each wait is twice as long, and it counts from the last
--- sending (RFC 7252 section 4.2)
+-- when its wait for an acknowledgement ends: each wait is twice as long, and it counts from the
+-- last sending (RFC 7252 section 4.2)
 unfoldable pub wait_end : Asked → List ℕ → ℕ
 wait_end a sent = last_sent a sent + first_wait a.word * 2 ^ length sent
 

@@ -1,36 +1,8 @@
 -- Options that are added one after the other.
-use Rattle.std.proofs.Common.{
-  ◌≡◌,
-  ℕ,
-  ◌&&◌,
-  Bool,
-  true,
-  false,
-  List,
-  [],
-  ◌∷◌,
-  ◌++◌,
-  Option,
-  Some,
-  None,
-  refl,
-  sym,
-  ap,
-  ◌∙◌,
-  append_assoc,
-  append-nil,
-  ◌<◌,
-  option_map,
-  MatchOption,
-  Err,
-  Bor,
-  arith,
-  ◌+◌,
-  length,
-}
+use Rattle.std.proofs.Common.{◌≡◌, ℕ, Bool, true, false, List, [], ◌∷◌, ◌++◌, Option, Some, None, refl, sym, ap, ◌∙◌, append_assoc, append-nil, ◌<◌, option_map, MatchOption, Err, Bor, arith, ◌+◌, length}
 use Rattle.std.specs.Prelude.{⊤}
 use Rattle.std.specs.List.{list_all}
-use Rattle.std.proofs.lemmas.Bool.{and_left, and_right}
+use Rattle.std.proofs.lemmas.Bool.{and_left}
 use Rattle.percent_encoding.specs.Percent.{percent_decode}
 use Rattle.message_model.specs.Message.{Opt}
 use Rattle.reference_model.specs.References.{before, after}

@@ -1,37 +1,5 @@
 -- What a turn takes and sends, and what a registrant gives by it.
-use Rattle.std.proofs.Common.{
-  ◌≡◌,
-  ℕ,
-  ◌<◌,
-  ◌≤◌,
-  ◌&&◌,
-  Bool,
-  true,
-  false,
-  nat_le,
-  nat_lt,
-  inl,
-  inr,
-  ◌⊎◌,
-  List,
-  [],
-  ◌∷◌,
-  length,
-  take,
-  Option,
-  Some,
-  None,
-  Result,
-  Ok,
-  Err,
-  refl,
-  sym,
-  ap,
-  subst,
-  ◌∙◌,
-  arith,
-  if◌then◌else◌,
-}
+use Rattle.std.proofs.Common.{◌≡◌, ℕ, Bool, true, false, nat_le, nat_lt, inl, inr, List, [], ◌∷◌, length, take, Option, Some, None, Result, Ok, Err, refl, sym, ap, subst, ◌∙◌, arith, if◌then◌else◌}
 use Rattle.rd_base.specs.declared.moments.Moment.{Moment}
 use Rattle.rd_base.specs.declared.peers.Peer.{Peer}
 use Rattle.udp_link.specs.declared.links.Came.TheVariants as came
@@ -43,18 +11,7 @@ use Rattle.client_model.specs.declared.events.Event.{Event}
 use Rattle.client_model.specs.declared.events.Event.TheVariants as event
 use Rattle.client_model.specs.declared.outcomes.Outcome.{Outcome}
 use Rattle.client_model.specs.Requests.{Asked}
-use Rattle.client_model.specs.Verdicts.{
-  decides,
-  verdict,
-  or_later,
-  is_quiet,
-  is_sent_again,
-  sent_again,
-  tick_decides,
-  datagram_decides,
-  wait_end,
-  readable,
-}
+use Rattle.client_model.specs.Verdicts.{decides, verdict, is_quiet, is_sent_again, sent_again, tick_decides, datagram_decides, readable}
 use Rattle.message_model.specs.Reading.{reading}
 use Rattle.client_model.specs.Sending.{sent_for, to_peer, acknowledgement_in}
 use Rattle.registrant.specs.declared.turns.TellFault.{TellFault}
@@ -62,28 +19,8 @@ use Rattle.registrant.specs.declared.turns.TellFault.TheVariants as fault
 use Rattle.registrant.specs.declared.turns.Turn.{Turn}
 use Rattle.registrant.specs.declared.turns.Turn.TheVariants as turn
 use Rattle.registrant.specs.Talking.{Talking, StandsFor}
-use Rattle.registrant.specs.Turns.{
-  Outside,
-  IsTurned,
-  IsTaken,
-  IsTimed,
-  Happens,
-  Fails,
-  Loses,
-  TakesEvent,
-  Sends,
-  SendsOne,
-  moment_at,
-}
-use Rattle.registrant.specs.Giving.{
-  GoesFirst,
-  Begins,
-  HappensAll,
-  and_then,
-  Ends,
-  Comes,
-  IsGiven,
-}
+use Rattle.registrant.specs.Turns.{Outside, IsTurned, IsTaken, IsTimed, TakesEvent, Sends, moment_at}
+use Rattle.registrant.specs.Giving.{Begins, HappensAll, IsGiven}
 
 -- ---- the verdict
 

@@ -1,28 +1,7 @@
 -- What a URI is read as.
-use Rattle.std.proofs.Common.{
-  ◌≡◌,
-  ℕ,
-  Bool,
-  true,
-  false,
-  List,
-  [],
-  ◌∷◌,
-  Option,
-  Some,
-  None,
-  Result,
-  Ok,
-  Err,
-  refl,
-  sym,
-  ap,
-  subst,
-  ◌∙◌,
-}
+use Rattle.std.proofs.Common.{◌≡◌, ℕ, Bool, true, false, List, [], ◌∷◌, Option, Some, None, Result, Ok, Err, refl, sym, ap, subst}
 use Rattle.std.specs.Prelude.{ok_or, ◌==◌}
-use Rattle.std.specs.List.{slice_split, onto_first}
-use Rattle.std.proofs.lemmas.Bool.{cases_Bool}
+use Rattle.std.specs.List.{onto_first}
 use Rattle.rd_base.specs.declared.peers.Peer.{Peer}
 use Rattle.reference_model.specs.References.{Components, IsReference, reference, before, after}
 use Rattle.reference_model.specs.ReferenceFaults.{IsReferenceFault}
@@ -66,7 +45,8 @@ parts_cut mark (c ∷ text) = by_mark (c == mark) refl (parts_cut mark text)
         ≡ before mark (c ∷ text) ∷ parts_left mark (after mark (c ∷ text))
     by_mark true e rest = rw e refl
     by_mark false e rest =
-        rw e (onto c (before mark text) (parts_left mark (after mark text)) (parts_at mark text) rest)
+        rw e
+        (onto c (before mark text) (parts_left mark (after mark text)) (parts_at mark text) rest)
 
 -- ---- a URI that is read, or not
 

@@ -73,8 +73,8 @@ abbrev pub kept_after_hearing : TalkHeard → Talking → Talking
 kept_after_hearing heard.Quiet t = record t { quiet = true }
 kept_after_hearing _ t = t
 
--- An answer says what the datagram decides and whether it acknowledges, and the talk then stands for
--- the events with this one. Without memory nothing changes.
+-- An answer says what the datagram decides and whether it acknowledges, and the talk then stands
+-- for the events with this one. Without memory nothing changes.
 abbrev pub IsHeard : Asked
     → List ℕ
     → List Event

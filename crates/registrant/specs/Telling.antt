@@ -11,8 +11,8 @@ use Rattle.registrant.specs.Talking.{Talking, StandsFor, asked_now}
 use Rattle.registrant.specs.Turns.{IsTimed, IsSpoken, seen}
 use Rattle.registrant.specs.Giving.{IsGiven}
 
--- a registrant that has sent nothing: it has the link, and the clock after a moment and a word, with
--- which its talk starts
+-- a registrant that has sent nothing: it has the link, and the clock after a moment and a word,
+-- with which its talk starts
 pub record IsStarted
     {L C : Type 0}
     (times : C → Option (List Moment))

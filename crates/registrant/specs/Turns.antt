@@ -1,20 +1,5 @@
 -- What a turn of a talk takes from a link and a clock, and what it sends.
-use Rattle.std.specs.Prelude.{
-  ◌≡◌,
-  ◌<◌,
-  ◌≤◌,
-  ℕ,
-  ◌⊎◌,
-  List,
-  [],
-  ◌∷◌,
-  length,
-  Option,
-  Some,
-  Result,
-  Ok,
-  Err,
-}
+use Rattle.std.specs.Prelude.{◌≡◌, ◌<◌, ◌≤◌, ℕ, ◌⊎◌, List, [], ◌∷◌, length, Option, Some, Ok, Err}
 use Rattle.rd_base.specs.Outside.{Rose}
 use Rattle.rd_base.specs.declared.moments.Moment.{Moment}
 use Rattle.udp_link.specs.declared.links.TheConstants.{MAX_DATAGRAM}
@@ -24,11 +9,9 @@ use Rattle.udp_link.specs.Links.{Datagram, AddsLast, CountsSent}
 use Rattle.udp_link.specs.Clocks.{GivesFirst}
 use Rattle.client_model.specs.declared.events.Event.{Event}
 use Rattle.client_model.specs.declared.events.Event.TheVariants as event
-use Rattle.client_model.specs.declared.outcomes.Outcome.{Outcome}
 use Rattle.client_model.specs.Requests.{Asked}
 use Rattle.client_model.specs.Verdicts.{verdict}
 use Rattle.client_model.specs.Sending.{sent_for}
-use Rattle.registrant.specs.declared.turns.TellFault.{TellFault}
 use Rattle.registrant.specs.declared.turns.TellFault.TheVariants as fault
 use Rattle.registrant.specs.declared.turns.Turn.{Turn}
 use Rattle.registrant.specs.declared.turns.Turn.TheVariants as turn

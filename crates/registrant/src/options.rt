@@ -1,5 +1,6 @@
 //! The options that the parts of a URI and of a location become (RFC 7252 section 6.4).
-ghost use Rattle.std.specs.Prelude.{◌≡◌, ◌<◌, ◌∷◌, [], true, false, length, option_map, MatchOption, ⊤};
+ghost use Rattle.std.specs.Prelude.{◌≡◌, ◌<◌, ◌∷◌, [], true, false, length, option_map};
+ghost use Rattle.std.specs.Prelude.{MatchOption, ⊤};
 ghost use Rattle.message_model.specs.declared.formats.TheConstants.{LINK_FORMAT};
 ghost use Rattle.link_model.specs.Characters.{slash};
 ghost use Rattle.reference_model.specs.References as references;

@@ -1,19 +1,5 @@
 -- Asks of a few URIs, computed.
-use Rattle.std.proofs.Common.{
-  ◌≡◌,
-  refl,
-  List,
-  ℕ,
-  [],
-  ◌∷◌,
-  Option,
-  Some,
-  None,
-  Result,
-  Ok,
-  Err,
-  codes,
-}
+use Rattle.std.proofs.Common.{◌≡◌, refl, [], ◌∷◌, Some, None, Ok, Err, codes}
 use Rattle.std.specs.Str.{is_utf8, chars}
 use lib.Utf8.{encode}
 use Rattle.percent_encoding.proofs.OnLiterals.{percent_encoding_on_literals}
@@ -22,16 +8,7 @@ use Rattle.rd_base.specs.declared.peers.Peer.{Peer}
 use Rattle.message_model.proofs.OnLiterals.{messages_on_literals}
 use Rattle.reference_model.proofs.OnLiterals.{reference_on_literals}
 use Rattle.client_model.specs.declared.asks.AskBad.TheVariants as bad
-use Rattle.client_model.specs.Asks.{
-  segments_of,
-  query_parts,
-  port_or_default,
-  is_coap,
-  peer_at,
-  registration,
-  refresh,
-  removal,
-}
+use Rattle.client_model.specs.Asks.{segments_of, query_parts, peer_at, registration, removal}
 use Rattle.client_model.proofs.OnLiterals.{asks_on_literals}
 
 directory : Peer

@@ -1,19 +1,5 @@
 -- Verdicts of a few events, computed.
-use Rattle.std.proofs.Common.{
-  ◌≡◌,
-  Bool,
-  true,
-  refl,
-  List,
-  ℕ,
-  [],
-  ◌∷◌,
-  ◌++◌,
-  Some,
-  None,
-  Option,
-  codes,
-}
+use Rattle.std.proofs.Common.{◌≡◌, refl, List, ℕ, [], ◌∷◌, Some, None}
 use Rattle.std.specs.Str.{is_utf8, chars}
 use lib.Utf8.{encode}
 use Rattle.rd_base.specs.declared.peers.Host.TheVariants as host
@@ -23,11 +9,10 @@ use Rattle.client_model.specs.declared.asks.Purpose.{Purpose}
 use Rattle.client_model.specs.declared.asks.Purpose.TheVariants as purpose
 use Rattle.client_model.specs.declared.events.Event.{Event}
 use Rattle.client_model.specs.declared.events.Event.TheVariants as event
-use Rattle.client_model.specs.declared.outcomes.Outcome.{Outcome}
 use Rattle.client_model.specs.declared.outcomes.Outcome.TheVariants as outcome
 use Rattle.client_model.specs.Requests.{Asked}
-use Rattle.client_model.specs.Verdicts.{is_quiet, sent_again, verdict}
-use Rattle.client_model.specs.Sending.{Sent, sent_for}
+use Rattle.client_model.specs.Verdicts.{sent_again, verdict}
+use Rattle.client_model.specs.Sending.{sent_for}
 use Rattle.client_model.proofs.OnLiterals.{verdicts_on_literals}
 
 directory : Peer

@@ -1,5 +1,5 @@
 use Rattle.std.proofs.Common.{◌≡◌, ◌<◌, List, ℕ, ◌∷◌, length, sym, ap, subst, ◌∙◌}
-use Rattle.message_model.specs.Message.{Message, Opt}
+use Rattle.message_model.specs.Message.{Message}
 use Rattle.message_model.specs.Spelling.{spelling}
 use Rattle.coap_message.specs.PartialMessages.{longest_datagram}
 use Rattle.registrant.specs.Asking.{with_options}
