@@ -1,5 +1,19 @@
 -- A part of a URI that is owned is the part decoded.
-use Rattle.std.proofs.Common.{◌≡◌, ℕ, true, false, nat_le, List, length, Result, Ok, Err, IsUtf8, subst, ◌∙◌}
+use Rattle.std.proofs.Common.{
+  ◌≡◌,
+  ℕ,
+  true,
+  false,
+  nat_le,
+  List,
+  length,
+  Result,
+  Ok,
+  Err,
+  IsUtf8,
+  subst,
+  ◌∙◌,
+}
 use Rattle.std.specs.Str.{is_utf8}
 use Rattle.std.proofs.lemmas.Bool.{and_left, and_right, and_from, false_from_ne_true}
 use Rattle.std.proofs.lemmas.Str.{IsUtf8-from_is_utf8, is_utf8-from_IsUtf8}

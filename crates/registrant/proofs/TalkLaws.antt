@@ -1,5 +1,35 @@
 -- A talk stands for the events that came, and its answers are those of the verdict.
-use Rattle.std.proofs.Common.{◌≡◌, ℕ, suc, ◌+◌, ◌*◌, ◌^◌, ◌||◌, ◌&&◌, not, Bool, true, false, cond, nat_le, nat_lt, List, [], ◌∷◌, length, Option, Some, None, refl, sym, ap, subst, ◌∙◌, arith, add-one}
+use Rattle.std.proofs.Common.{
+  ◌≡◌,
+  ℕ,
+  suc,
+  ◌+◌,
+  ◌*◌,
+  ◌^◌,
+  ◌||◌,
+  ◌&&◌,
+  not,
+  Bool,
+  true,
+  false,
+  cond,
+  nat_le,
+  nat_lt,
+  List,
+  [],
+  ◌∷◌,
+  length,
+  Option,
+  Some,
+  None,
+  refl,
+  sym,
+  ap,
+  subst,
+  ◌∙◌,
+  arith,
+  add-one,
+}
 use Rattle.std.proofs.lemmas.Bool.{ltb-true, ltb-false, lt-leb, le-leb}
 use Rattle.std.proofs.Math.Nat.{pow-suc}
 use Rattle.rd_base.specs.declared.moments.Moment.{Moment}
@@ -22,7 +52,18 @@ use Rattle.client_model.specs.declared.asks.Ask.{Ask}
 use Rattle.client_model.specs.declared.asks.Purpose.{Purpose}
 use Rattle.client_model.specs.Requests.{Asked, purpose_of, message_of}
 use Rattle.client_model.specs.Sending.{acknowledgement_in}
-use Rattle.client_model.specs.Verdicts.{last_sent, readable, datagram_decides, datagram_quiets, is_quiet, is_sent_again, sent_again, tick_decides, verdict, wait_end}
+use Rattle.client_model.specs.Verdicts.{
+  last_sent,
+  readable,
+  datagram_decides,
+  datagram_quiets,
+  is_quiet,
+  is_sent_again,
+  sent_again,
+  tick_decides,
+  verdict,
+  wait_end,
+}
 use Rattle.registrant.specs.Talking.{
   Talking,
   StandsFor,

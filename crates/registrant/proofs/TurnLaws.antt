@@ -1,5 +1,33 @@
 -- What a turn takes and sends, and what a registrant gives by it.
-use Rattle.std.proofs.Common.{◌≡◌, ℕ, Bool, true, false, nat_le, nat_lt, inl, inr, List, [], ◌∷◌, length, take, Option, Some, None, Result, Ok, Err, refl, sym, ap, subst, ◌∙◌, arith, if◌then◌else◌}
+use Rattle.std.proofs.Common.{
+  ◌≡◌,
+  ℕ,
+  Bool,
+  true,
+  false,
+  nat_le,
+  nat_lt,
+  inl,
+  inr,
+  List,
+  [],
+  ◌∷◌,
+  length,
+  take,
+  Option,
+  Some,
+  None,
+  Result,
+  Ok,
+  Err,
+  refl,
+  sym,
+  ap,
+  subst,
+  ◌∙◌,
+  arith,
+  if◌then◌else◌,
+}
 use Rattle.rd_base.specs.declared.moments.Moment.{Moment}
 use Rattle.rd_base.specs.declared.peers.Peer.{Peer}
 use Rattle.udp_link.specs.declared.links.Came.TheVariants as came
@@ -11,7 +39,16 @@ use Rattle.client_model.specs.declared.events.Event.{Event}
 use Rattle.client_model.specs.declared.events.Event.TheVariants as event
 use Rattle.client_model.specs.declared.outcomes.Outcome.{Outcome}
 use Rattle.client_model.specs.Requests.{Asked}
-use Rattle.client_model.specs.Verdicts.{decides, verdict, is_quiet, is_sent_again, sent_again, tick_decides, datagram_decides, readable}
+use Rattle.client_model.specs.Verdicts.{
+  decides,
+  verdict,
+  is_quiet,
+  is_sent_again,
+  sent_again,
+  tick_decides,
+  datagram_decides,
+  readable,
+}
 use Rattle.message_model.specs.Reading.{reading}
 use Rattle.client_model.specs.Sending.{sent_for, to_peer, acknowledgement_in}
 use Rattle.registrant.specs.declared.turns.TellFault.{TellFault}
@@ -19,7 +56,15 @@ use Rattle.registrant.specs.declared.turns.TellFault.TheVariants as fault
 use Rattle.registrant.specs.declared.turns.Turn.{Turn}
 use Rattle.registrant.specs.declared.turns.Turn.TheVariants as turn
 use Rattle.registrant.specs.Talking.{Talking, StandsFor}
-use Rattle.registrant.specs.Turns.{Outside, IsTurned, IsTaken, IsTimed, TakesEvent, Sends, moment_at}
+use Rattle.registrant.specs.Turns.{
+  Outside,
+  IsTurned,
+  IsTaken,
+  IsTimed,
+  TakesEvent,
+  Sends,
+  moment_at,
+}
 use Rattle.registrant.specs.Giving.{Begins, HappensAll, IsGiven}
 
 -- ---- the verdict

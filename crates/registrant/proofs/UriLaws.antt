@@ -1,5 +1,24 @@
 -- What a URI is read as.
-use Rattle.std.proofs.Common.{◌≡◌, ℕ, Bool, true, false, List, [], ◌∷◌, Option, Some, None, Result, Ok, Err, refl, sym, ap, subst}
+use Rattle.std.proofs.Common.{
+  ◌≡◌,
+  ℕ,
+  Bool,
+  true,
+  false,
+  List,
+  [],
+  ◌∷◌,
+  Option,
+  Some,
+  None,
+  Result,
+  Ok,
+  Err,
+  refl,
+  sym,
+  ap,
+  subst,
+}
 use Rattle.std.specs.Prelude.{ok_or, ◌==◌}
 use Rattle.std.specs.List.{onto_first}
 use Rattle.rd_base.specs.declared.peers.Peer.{Peer}

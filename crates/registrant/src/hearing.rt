@@ -66,7 +66,17 @@ pub(crate) fn path_of(alloc: Global, meaning: &Meaning<'_>) -> Result<Option<Tex
 }
 
 /// The empty acknowledgement of a message, where it is confirmable (RFC 7252 section 4.2).
-#[tactic(auto, unfolding(client_model::specs::Sending::empty_acknowledgement, message_model::specs::Spelling::spelling, message_model::specs::Spelling::header_spelling, message_model::specs::Spelling::options_spelling, message_model::specs::Spelling::payload_spelling))]
+#[rattlefmt::skip]
+#[tactic(
+    auto,
+    unfolding(
+        client_model::specs::Sending::empty_acknowledgement,
+        message_model::specs::Spelling::spelling,
+        message_model::specs::Spelling::header_spelling,
+        message_model::specs::Spelling::options_spelling,
+        message_model::specs::Spelling::payload_spelling
+    )
+)]
 pub(crate) fn acknowledgement_of(view: &View<'_>) -> Option<[u8; 4]>
     ensures { result ≡ sending.acknowledgement view.now.kind view.now.mid }
 {
