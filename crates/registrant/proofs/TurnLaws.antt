@@ -61,6 +61,9 @@ use Rattle.registrant.specs.Turns.{
   IsTurned,
   IsTaken,
   IsTimed,
+  IsNoLink,
+  CountsEnd,
+  CountsTurn,
   TakesEvent,
   Sends,
   moment_at,
@@ -385,10 +388,24 @@ turned_taken a octets past (event.Came now peer datagram) (turn.Over (Err fault.
       receives = receives;
     }
 
+-- what is made of an event leaves the count of failed receives
+pub counts_by : (r : Turn) (before now : ℕ) → IsNoLink r → now ≡ before → CountsTurn before now r
+counts_by turn.Going before now none same = same
+counts_by (turn.Over (Ok o)) before now none same = same
+counts_by (turn.Over (Err fault.Link)) before now none same = absurd none
+counts_by (turn.Over (Err fault.Starved)) before now none same = same
+
 -- ---- a registrant
 
+-- what is counted later is counted from before on
+counts_later : (r : Result Outcome TellFault) (before between now : ℕ)
+    → between ≡ before
+    → CountsEnd between now r
+    → CountsEnd before now r
+counts_later r before between now same counts = subst (λ (n : ℕ). CountsEnd n now r) same counts
+
 -- what it gives by the turn that ends it
-pub gives_now : (r : Result Outcome TellFault) (sent : Bool) (old new : Talking)
+gives_now : (r : Result Outcome TellFault) (sent : Bool) (old new : Talking)
     (before begun after : Outside)
     → ((a : Asked) (octets : List ℕ) (past : List Event)
     → StandsFor a octets past old
@@ -428,7 +445,7 @@ gives_now (Err fault.Starved) sent old new before begun after begins taken =
     }
 
 -- what it gives later it gives from before a turn on
-pub gives_later : (r : Result Outcome TellFault) (sent : Bool) (old new : Talking)
+gives_later : (r : Result Outcome TellFault) (sent : Bool) (old new : Talking)
     (before begun between after : Outside)
     → ((a : Asked) (octets : List ℕ) (past : List Event)
     → StandsFor a octets past old
@@ -455,3 +472,38 @@ gives_later r sent old new before begun between after begins taken given =
       );
       ends = g.ends;
     }
+
+-- both of these, and what was counted
+pub told_now : (r : Result Outcome TellFault) (sent : Bool) (old new : Talking)
+    (before begun after : Outside)
+    → ((a : Asked) (octets : List ℕ) (past : List Event)
+    → StandsFor a octets past old
+    → Begins a octets sent before begun)
+    → begun.recv_faults ≡ before.recv_faults
+    → ((a : Asked) (octets : List ℕ) (past : List Event)
+    → StandsFor a octets past old
+    → IsTaken a octets past (turn.Over r) begun after new)
+    → CountsEnd begun.recv_faults after.recv_faults r
+    → IsGiven old sent r before after × CountsEnd before.recv_faults after.recv_faults r
+told_now r sent old new before begun after begins same taken counts = (
+  gives_now r sent old new before begun after begins taken,
+  counts_later r before.recv_faults begun.recv_faults after.recv_faults same counts,
+)
+
+pub told_later : (r : Result Outcome TellFault) (sent : Bool) (old new : Talking)
+    (before begun between after : Outside)
+    → ((a : Asked) (octets : List ℕ) (past : List Event)
+    → StandsFor a octets past old
+    → Begins a octets sent before begun)
+    → begun.recv_faults ≡ before.recv_faults
+    → ((a : Asked) (octets : List ℕ) (past : List Event)
+    → StandsFor a octets past old
+    → IsTaken a octets past turn.Going begun between new)
+    → between.recv_faults ≡ begun.recv_faults
+    → IsGiven new true r between after × CountsEnd between.recv_faults after.recv_faults r
+    → IsGiven old sent r before after × CountsEnd before.recv_faults after.recv_faults r
+told_later r sent old new before begun between after begins same taken stands given = (
+  gives_later r sent old new before begun between after begins taken given.0,
+  counts_later r before.recv_faults between.recv_faults after.recv_faults (stands ∙ same)
+      given.1,
+)

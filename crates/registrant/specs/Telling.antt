@@ -8,7 +8,7 @@ use Rattle.client_model.specs.Requests.{message_of}
 use Rattle.registrant.specs.declared.telling.Registrant.{Registrant}
 use Rattle.registrant.specs.declared.telling.Told.{Told}
 use Rattle.registrant.specs.Talking.{Talking, StandsFor, asked_now}
-use Rattle.registrant.specs.Turns.{IsTimed, IsSpoken, seen}
+use Rattle.registrant.specs.Turns.{IsTimed, IsSpoken, CountsEnd, seen}
 use Rattle.registrant.specs.Giving.{IsGiven}
 
 -- a registrant that has sent nothing: it has the link, and the clock after a moment and a word,
@@ -53,6 +53,7 @@ module _
         told.outcome
         (seen coming gone recv_faults send_faults times words ends.0 ends.1)
         (seen coming gone recv_faults send_faults times words told.link told.clock)
+        × CountsEnd (recv_faults ends.0) (recv_faults told.link) told.outcome
 
 module _
     {L C : Type 0}
@@ -63,7 +64,7 @@ module _
     (times : C → Option (List Moment))
     (words : C → Option (List ℕ))
   where
-    -- what it gives, whatever its talk stands for
+    -- what it gives, whatever its talk stands for, and what was counted
     abbrev pub Gives : Registrant L C → Told L C → Type 0
     Gives r told =
         GivesFrom coming gone recv_faults send_faults times words r.ends r.talk r.is_sent told

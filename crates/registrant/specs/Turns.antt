@@ -1,5 +1,5 @@
 -- What a turn of a talk takes from a link and a clock, and what it sends.
-use Rattle.std.specs.Prelude.{◌≡◌, ◌<◌, ◌≤◌, ℕ, ◌⊎◌, List, [], ◌∷◌, length, Option, Some, Ok, Err}
+use Rattle.std.specs.Prelude.{◌≡◌, ◌<◌, ◌≤◌, ℕ, ◌⊎◌, List, [], ◌∷◌, length, Option, Some, Result, Ok, Err, ⊤}
 use Rattle.rd_base.specs.Outside.{Rose}
 use Rattle.rd_base.specs.declared.moments.Moment.{Moment}
 use Rattle.udp_link.specs.declared.links.TheConstants.{MAX_DATAGRAM}
@@ -9,9 +9,11 @@ use Rattle.udp_link.specs.Links.{Datagram, AddsLast, CountsSent}
 use Rattle.udp_link.specs.Clocks.{GivesFirst}
 use Rattle.client_model.specs.declared.events.Event.{Event}
 use Rattle.client_model.specs.declared.events.Event.TheVariants as event
+use Rattle.client_model.specs.declared.outcomes.Outcome.{Outcome}
 use Rattle.client_model.specs.Requests.{Asked}
 use Rattle.client_model.specs.Verdicts.{verdict}
 use Rattle.client_model.specs.Sending.{sent_for}
+use Rattle.registrant.specs.declared.turns.TellFault.{TellFault}
 use Rattle.registrant.specs.declared.turns.TellFault.TheVariants as fault
 use Rattle.registrant.specs.declared.turns.Turn.{Turn}
 use Rattle.registrant.specs.declared.turns.Turn.TheVariants as turn
@@ -137,7 +139,26 @@ seen coming gone recv_faults send_faults times words link clock = record {
   words = words clock;
 }
 
+-- a registrant ends by the link only where a receive failed and was counted, and otherwise that
+-- count stands
+abbrev pub CountsEnd : ℕ → ℕ → Result Outcome TellFault → Type 0
+CountsEnd before now (Ok o) = now ≡ before
+CountsEnd before now (Err fault.Link) = (before ≤ now) × Rose before now
+CountsEnd before now (Err fault.Starved) = now ≡ before
+
 -- ---- a turn
+
+-- the same of a turn
+abbrev pub CountsTurn : ℕ → ℕ → Turn → Type 0
+CountsTurn before now turn.Going = now ≡ before
+CountsTurn before now (turn.Over r) = CountsEnd before now r
+
+-- what is made of an event does not end by the link
+abbrev pub IsNoLink : Turn → Type 0
+IsNoLink turn.Going = ⊤
+IsNoLink (turn.Over (Ok o)) = ⊤
+IsNoLink (turn.Over (Err fault.Link)) = ⊥
+IsNoLink (turn.Over (Err fault.Starved)) = ⊤
 
 -- a datagram could not be heard, and nothing was sent; a tick takes no memory
 abbrev pub IsUnheard : Event

@@ -45,7 +45,8 @@ pub struct Registrant<L: Link + Drop, C: Clock + Drop> {
 
 /// Sends the request of a talk, where it was not sent before.
 fn begin<L: Link>(link: &mut L, talk: &Talk, is_sent: bool)
-    ensures { (a : Asked) (octets : List ℕ) (past : List Event)
+    ensures receives { L.recv_faults link.new ≡ L.recv_faults link.old }
+    ensures begins { (a : Asked) (octets : List ℕ) (past : List Event)
         → (times : Option (List Moment))
         → (words : Option (List ℕ))
         → StandsFor a octets past talk.now

@@ -7,7 +7,7 @@ ghost use Rattle.client_model.specs.declared.events.Event.TheVariants as event;
 ghost use Rattle.client_model.specs.Requests.{Asked};
 ghost use Rattle.client_model.specs.Sending.{to_peer};
 ghost use Rattle.registrant.specs.Talking.{StandsFor};
-ghost use Rattle.registrant.specs.Turns.{Sends, IsTurned, IsTaken, seen};
+ghost use Rattle.registrant.specs.Turns.{Sends, IsTurned, IsTaken, IsNoLink, CountsTurn, seen};
 
 use crate::{Outcome, Talk, TalkAgain, TalkHeard};
 use rd_base::{Moment, Peer};
@@ -70,6 +70,7 @@ fn hear_turn<L: Link>(
         (L.gone link.old) (L.send_faults link.old) (L.gone link.new) (L.send_faults link.new) }
     ensures coming { Stays (L.coming link.old) (L.coming link.new) }
     ensures receives { L.recv_faults link.new ≡ L.recv_faults link.old }
+    ensures no_link { IsNoLink result }
 {
     match talk.heard(alloc, now, peer, datagram) {
         TalkHeard::Other => Turn::Going,
@@ -90,6 +91,7 @@ fn tick_turn<L: Link>(link: &mut L, talk: &mut Talk, now: Moment) -> Turn
         (L.send_faults link.old) (L.gone link.new) (L.send_faults link.new) }
     ensures coming { Stays (L.coming link.old) (L.coming link.new) }
     ensures receives { L.recv_faults link.new ≡ L.recv_faults link.old }
+    ensures no_link { IsNoLink result }
 {
     match talk.at_tick(now) {
         TalkAgain::Wait => Turn::Going,
@@ -118,12 +120,13 @@ pub(crate) fn take_turn<L: Link, C: Clock>(
     room: &mut [u8],
 ) -> Turn
     requires { MAX_DATAGRAM ≤ length room.old }
-    ensures { (a : Asked) (octets : List ℕ) (past : List Event)
+    ensures taken { (a : Asked) (octets : List ℕ) (past : List Event)
         → StandsFor a octets past talk.old
         → IsTaken a octets past result
         (seen L.coming L.gone L.recv_faults L.send_faults C.times C.words link.old clock.old)
         (seen L.coming L.gone L.recv_faults L.send_faults C.times C.words link.new clock.new)
         talk.new }
+    ensures counts { CountsTurn (L.recv_faults link.old) (L.recv_faults link.new) result }
 {
     let came = link.recv(room);
     let now = clock.now();

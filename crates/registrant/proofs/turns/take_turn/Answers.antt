@@ -7,11 +7,12 @@ use Rattle.registrant.proofs.TurnLaws.{
   told_nothing,
   told_failed,
   turned_taken,
+  counts_by,
 }
 use Rattle.registrant.proofs.turns.take_turn.Goals as goal
 
-pub returns-in-Datagram : goal.returns-in-Datagram
-returns-in-Datagram g c = λ a octets past stands.
+pub returns-in-Datagram-clause-taken : goal.returns-in-Datagram-clause-taken
+returns-in-Datagram-clause-taken g c = λ a octets past stands.
     let coming = g.L.Link.coming in
     let told =
     told_datagram
@@ -44,8 +45,8 @@ returns-in-Datagram g c = λ a octets past stands.
     c.recv-came.ensures.sends_stand
     (c.hear_turn.ensures.turned a octets past stands)
 
-pub returns-in-TooLong : goal.returns-in-TooLong
-returns-in-TooLong g c = λ a octets past stands.
+pub returns-in-TooLong-clause-taken : goal.returns-in-TooLong-clause-taken
+returns-in-TooLong-clause-taken g c = λ a octets past stands.
     let coming = g.L.Link.coming in
     let told =
     told_long
@@ -74,8 +75,8 @@ returns-in-TooLong g c = λ a octets past stands.
     c.recv-came.ensures.sends_stand
     (c.tick_turn.ensures.turned a octets past stands)
 
-pub returns-in-Nothing : goal.returns-in-Nothing
-returns-in-Nothing g c = λ a octets past stands.
+pub returns-in-Nothing-clause-taken : goal.returns-in-Nothing-clause-taken
+returns-in-Nothing-clause-taken g c = λ a octets past stands.
     let coming = g.L.Link.coming in
     let told =
     told_nothing
@@ -104,8 +105,8 @@ returns-in-Nothing g c = λ a octets past stands.
     c.recv-came.ensures.sends_stand
     (c.tick_turn-in-Nothing.ensures.turned a octets past stands)
 
-pub returns-in-Failed : goal.returns-in-Failed
-returns-in-Failed g c = λ a octets past stands. record {
+pub returns-in-Failed-clause-taken : goal.returns-in-Failed-clause-taken
+returns-in-Failed-clause-taken g c = λ a octets past stands. record {
   coming =
       told_failed
       c.recv-came.new.into
@@ -120,3 +121,30 @@ returns-in-Failed g c = λ a octets past stands. record {
   counted = c.in-Failed.ensures.cause.0;
   rose = c.in-Failed.ensures.cause.1;
 }
+
+pub returns-in-Datagram-clause-counts : goal.returns-in-Datagram-clause-counts
+returns-in-Datagram-clause-counts g c =
+    counts_by
+    c.hear_turn.result
+    (g.L.Link.recv_faults c.args.link.now)
+    (g.L.Link.recv_faults c.hear_turn.new.link)
+    c.hear_turn.ensures.no_link
+    (c.hear_turn.ensures.receives ∙ c.in-Datagram.ensures.cause)
+
+pub returns-in-TooLong-clause-counts : goal.returns-in-TooLong-clause-counts
+returns-in-TooLong-clause-counts g c =
+    counts_by
+    c.tick_turn.result
+    (g.L.Link.recv_faults c.args.link.now)
+    (g.L.Link.recv_faults c.tick_turn.new.link)
+    c.tick_turn.ensures.no_link
+    (c.tick_turn.ensures.receives ∙ c.in-TooLong.ensures.cause)
+
+pub returns-in-Nothing-clause-counts : goal.returns-in-Nothing-clause-counts
+returns-in-Nothing-clause-counts g c =
+    counts_by
+    c.tick_turn-in-Nothing.result
+    (g.L.Link.recv_faults c.args.link.now)
+    (g.L.Link.recv_faults c.tick_turn-in-Nothing.new.link)
+    c.tick_turn-in-Nothing.ensures.no_link
+    (c.tick_turn-in-Nothing.ensures.receives ∙ c.in-Nothing.ensures.cause)
