@@ -1,43 +1,5 @@
 -- Octets that are fewer than are wanted of a message are less than one (RFC 8323 section 3.2).
-use Rattle.std.proofs.Common.{
-  ◌≡◌,
-  ℕ,
-  suc,
-  ◌+◌,
-  ◌/◌,
-  ◌%◌,
-  ◌<◌,
-  ◌≤◌,
-  ◌==◌,
-  lit≤,
-  Bool,
-  true,
-  false,
-  cond,
-  nat_lt,
-  nat_le,
-  Option,
-  Some,
-  None,
-  List,
-  [],
-  ◌∷◌,
-  ◌++◌,
-  length,
-  drop,
-  take,
-  refl,
-  sym,
-  ap,
-  subst,
-  ◌∙◌,
-  ◌⊎◌,
-  inl,
-  inr,
-  append_assoc,
-  append-nil,
-  arith,
-}
+use Rattle.std.proofs.Common.{◌≡◌, ℕ, ◌+◌, ◌/◌, ◌%◌, ◌<◌, ◌≤◌, ◌==◌, lit≤, Bool, true, false, cond, nat_lt, nat_le, Option, Some, None, List, [], ◌∷◌, ◌++◌, length, drop, take, refl, sym, ap, subst, ◌∙◌, ◌⊎◌, inl, inr, append_assoc, arith}
 use Rattle.std.proofs.lemmas.Bool.{ltb-true, ltb-false, lt-ltb, le-ltb}
 use Rattle.std.proofs.lemmas.List.{
   length-append,
@@ -47,7 +9,6 @@ use Rattle.std.proofs.lemmas.List.{
   take-append-drop,
   nil_from_length,
 }
-use Rattle.stream_model.specs.declared.messages.Judged.{Judged}
 use Rattle.stream_model.specs.declared.messages.Judged.TheVariants as judged
 use Rattle.stream_model.specs.declared.messages.StreamBad.{StreamBad}
 use Rattle.stream_model.specs.declared.messages.StreamBad.TheVariants as bad
@@ -141,7 +102,8 @@ record IsLessOfAll (nibble token : ℕ) (octets : List ℕ) : Type 0 where
 after_cases : (is_first : Bool) (nibble token : ℕ) (octets : List ℕ)
     → judge_after is_first nibble token octets ≡ judged.More
     → (length octets < extension_size nibble) ⊎ IsLessOfAll nibble token octets
-after_cases is_first nibble token octets e = by (nat_lt (length octets) (extension_size nibble)) refl e
+after_cases is_first nibble token octets e =
+    by (nat_lt (length octets) (extension_size nibble)) refl e
   where
     by : (p : Bool)
         → nat_lt (length octets) (extension_size nibble) ≡ p
@@ -152,11 +114,10 @@ after_cases is_first nibble token octets e = by (nat_lt (length octets) (extensi
     by true ep e = inl (ltb-true _ _ ep)
     by false ep e =
         let within = ltb-false _ _ ep in
+        let size = said nibble octets in
         inr (record {
           within = within;
-          short =
-              short_of_more is_first (extension_size nibble) token (said nibble octets) octets within
-              e;
+          short = short_of_more is_first (extension_size nibble) token size octets within e;
         })
 
 few_more : (is_first : Bool) (nibble token : ℕ) (octets : List ℕ)
@@ -373,7 +334,8 @@ fronts_wanted is_first octets more e few =
     by front rest same some (inr s) =
         let sizes : length front + length rest ≡ length (octets ++ more) =
         sym (length-append front rest) ∙ ap (λ (l : List ℕ). length l) same in
-        let front_size : length (octets ++ s.0) ≡ length front = ap (λ (l : List ℕ). length l) s.1 in
+        let front_size : length (octets ++ s.0) ≡ length front =
+        ap (λ (l : List ℕ). length l) s.1 in
         ap (judge is_first) (sym s.1)
         ∙ waits is_first octets s.0 e (omega (arith, sizes, some, few, front_size))
 

@@ -78,8 +78,8 @@ IsTaken old piece fed.More new = IsLess old piece new
 IsTaken old piece (fed.Whole n) new = IsWhole old piece n new
 IsTaken old piece (fed.Bad n why) new = IsBroken old piece n why new
 
--- A piece, by what the octets are that are held: behind a message the next one begins, and behind a
--- bad one nothing is taken any more.
+-- A piece, by what the octets are that are held: behind a message the next one begins, and behind
+-- a bad one nothing is taken any more.
 abbrev pub IsFedBy : Judged → Held → List ℕ → Fed → Held → Type 0
 IsFedBy judged.More old piece result new = IsTaken old piece result new
 IsFedBy judged.Whole old piece result new = IsTaken between_messages piece result new
@@ -88,7 +88,8 @@ IsFedBy (judged.Bad why) old piece result new = (result ≡ fed.Bad 0 why) × (n
 abbrev pub IsFed : Held → List ℕ → Fed → Held → Type 0
 IsFed old piece result new = IsFedBy (held_as old) old piece result new
 
--- How many octets of a piece of this size may be taken: one or more where they make a message whole.
+-- How many octets of a piece of this size may be taken: one or more where they make a message
+-- whole.
 abbrev pub IsWithin : ℕ → Fed → Type 0
 IsWithin size fed.More = ⊤
 IsWithin size (fed.Whole n) = (0 < n) × (n ≤ size)

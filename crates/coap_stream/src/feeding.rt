@@ -9,7 +9,7 @@ pub enum Fed {
     More,
     /// So many octets were taken, with the last of which a message is whole.
     Whole(usize),
-    /// So many octets were taken, with the last of which it is known that a message is bad. A reader
-    /// that found one takes nothing any more.
+    /// So many octets were taken, with the last of which it is known that a message is bad. A
+    /// reader that found one takes nothing any more.
     Bad(usize, StreamBad),
 }

@@ -1,18 +1,11 @@
 -- Streams of a few octets, computed at the edges of the definitions (RFC 8323 sections 3.2, 5).
-use Rattle.std.proofs.Common.{◌≡◌, refl, List, ℕ, [], ◌∷◌, Some, None, true, false}
+use Rattle.std.proofs.Common.{◌≡◌, refl, [], ◌∷◌, Some, None}
 use Rattle.message_model.specs.Reading.{extended_at, option_at, short_tail, tail_at}
-use Rattle.stream_model.specs.declared.messages.Judged.TheVariants as judged
 use Rattle.stream_model.specs.declared.messages.StreamBad.TheVariants as bad
-use Rattle.stream_model.specs.Messages.{
-  StreamMessage,
-  nibble_of,
-  extension_of,
-  lengths_spelling,
-  stream_spelling,
-}
+use Rattle.stream_model.specs.Messages.{nibble_of, extension_of, lengths_spelling, stream_spelling}
 use Rattle.stream_model.specs.Faults.{message_fault}
 use Rattle.stream_model.specs.Judging.{extension_size, length_said, judge}
-use Rattle.stream_model.specs.Streams.{Stream, stream_from, stream_of}
+use Rattle.stream_model.specs.Streams.{stream_from, stream_of}
 
 -- ---- lengths: each nibble's first and last (RFC 8323 section 3.2)
 
@@ -48,8 +41,7 @@ longest_said : length_said 15 (255 ∷ 255 ∷ 255 ∷ 255 ∷ []) ≡ 429503310
 unfolding length_said
 longest_said = refl
 
--- A GET of /.well-known/core with the token 0f01b2 would have a tail of 13 octets or more; this is a
--- Ping with the token 7f.
+-- A Ping with the token 7f (RFC 8323 section 5.4).
 ping_spelled : stream_spelling (record { code = 0xe2; token = 0x7f ∷ []; tail = [] })
     ≡ 0x01 ∷ 0xe2 ∷ 0x7f ∷ []
 unfolding lengths_spelling nibble_of extension_of
@@ -142,7 +134,8 @@ token_of_9_yet : (stream_of (0x00 ∷ 0xe1 ∷ 0xd9 ∷ [])).fault ≡ None
 unfolding stream_from judge extension_size length_said message_fault tail_at short_tail
 token_of_9_yet = refl
 
--- Messages of 1,152 and 1,153 octets, by their lengths alone: 4 octets and a tail of 1,148 or 1,149.
+-- Messages of 1,152 and 1,153 octets, by their lengths alone: 4 octets and a tail of 1,148 or
+-- 1,149.
 longest : (stream_of (0x00 ∷ 0xe1 ∷ 0xe0 ∷ 0x03 ∷ 0x6f ∷ [])).fault ≡ None
 unfolding stream_from judge extension_size length_said message_fault tail_at short_tail
 longest = refl

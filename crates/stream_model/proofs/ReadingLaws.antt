@@ -1,40 +1,6 @@
 -- Octets that were judged are a front of a message, a message or a bad one, and back (RFC 8323
 -- section 3.2).
-use Rattle.std.proofs.Common.{
-  ◌≡◌,
-  ℕ,
-  zero,
-  suc,
-  ◌+◌,
-  ◌*◌,
-  ◌/◌,
-  ◌%◌,
-  ◌<◌,
-  ◌≤◌,
-  lit<,
-  Bool,
-  Option,
-  Some,
-  None,
-  List,
-  [],
-  ◌∷◌,
-  ◌++◌,
-  length,
-  drop,
-  take,
-  refl,
-  sym,
-  ap,
-  subst,
-  ◌∙◌,
-  ◌⊎◌,
-  inl,
-  inr,
-  append_assoc,
-  append-nil,
-  arith,
-}
+use Rattle.std.proofs.Common.{◌≡◌, ℕ, zero, suc, ◌+◌, ◌/◌, ◌%◌, ◌<◌, lit<, Bool, Option, Some, None, List, [], ◌∷◌, ◌++◌, length, drop, take, refl, sym, ap, subst, ◌∙◌, ◌⊎◌, inl, inr, append_assoc, append-nil, arith}
 use Rattle.std.proofs.lemmas.List.{
   length-append,
   length-take-le,
@@ -44,7 +10,6 @@ use Rattle.std.proofs.lemmas.List.{
 }
 use Rattle.message_model.specs.Numbers.{IsByte, AreBytes}
 use Rattle.message_model.proofs.ByteLemmas.{AreBytes-front, AreBytes-back}
-use Rattle.stream_model.specs.declared.messages.Judged.{Judged}
 use Rattle.stream_model.specs.declared.messages.Judged.TheVariants as judged
 use Rattle.stream_model.specs.declared.messages.StreamBad.{StreamBad}
 use Rattle.stream_model.specs.Messages.{
@@ -86,7 +51,8 @@ pub record IsFollowed (front whole : List ℕ) : Type 0 where
   pub more : List ℕ
   pub same : whole ≡ front ++ more
 
--- Octets that are compared: the first are a front of the others, or the others are one of the first.
+-- Octets that are compared: the first are a front of the others, or the others are one of the
+-- first.
 abbrev AreCompared : List ℕ → List ℕ → Type 0
 AreCompared octets whole = IsFrontOf octets whole ⊎ IsFollowed whole octets
 
@@ -138,7 +104,8 @@ compared_filled (suc n) [] = inl (record {
   some = rw (length-filled (suc n) []) (omega arith);
   same = refl;
 })
-compared_filled (suc n) (b ∷ octets) = one_before b octets (filled n octets) (compared_filled n octets)
+compared_filled (suc n) (b ∷ octets) =
+    one_before b octets (filled n octets) (compared_filled n octets)
 
 -- ---- a message for any octets
 

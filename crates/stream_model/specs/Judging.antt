@@ -66,8 +66,8 @@ abbrev pub judge_body : Bool → ℕ → List ℕ → Judged
 judge_body is_first token [] = judged.More
 judge_body is_first token (c ∷ octets) = verdict_by (message_fault is_first c (drop token octets))
 
--- Octets behind the first one, of which so many extend its nibble, with the lengths of the token and
--- of the tail.
+-- Octets behind the first one, of which so many extend its nibble, with the lengths of the token
+-- and of the tail.
 abbrev pub judge_lengths : Bool → ℕ → ℕ → ℕ → List ℕ → Judged
 judge_lengths is_first extension token size octets =
     if nat_lt longest_token token then judged.Bad bad.Format
@@ -82,8 +82,8 @@ judge_after is_first nibble token octets =
     else judge_lengths is_first (extension_size nibble) token
     (length_said nibble (take (extension_size nibble) octets)) octets
 
--- Octets, none of whose proper fronts is a message or a bad one (`FrontsMore`): less than a message, a
--- message, or a bad one.
+-- Octets, none of whose proper fronts is a message or a bad one (`FrontsMore`): less than a
+-- message, a message, or a bad one.
 unfoldable pub judge : Bool → List ℕ → Judged
 judge is_first [] = judged.More
 judge is_first (b ∷ octets) = judge_after is_first (b / 16) (b % 16) octets

@@ -1,28 +1,11 @@
--- Messages of a stream, and the octets that spell them (RFC 8323 section 3.2): one spelling for each
--- message.
-use Rattle.std.specs.Prelude.{
-  ◌<◌,
-  ◌≤◌,
-  ◌^◌,
-  ℕ,
-  ◌+◌,
-  ◌-◌,
-  ◌*◌,
-  ◌/◌,
-  ◌%◌,
-  nat_lt,
-  List,
-  [],
-  ◌∷◌,
-  ◌++◌,
-  length,
-  if◌then◌else◌,
-}
+-- Messages of a stream, and the octets that spell them (RFC 8323 section 3.2): one spelling for
+-- each message.
+use Rattle.std.specs.Prelude.{◌<◌, ◌^◌, ℕ, ◌+◌, ◌-◌, ◌*◌, ◌/◌, ◌%◌, nat_lt, List, [], ◌∷◌, ◌++◌, length, if◌then◌else◌}
 use Rattle.message_model.specs.Numbers.{IsByte, AreBytes, byte_values}
 use Rattle.stream_model.specs.declared.messages.TheConstants as bounds
 
--- A message of a stream: its code, its token, and its tail, which is the options and the payload as
--- they are spelled.
+-- A message of a stream: its code, its token, and its tail, which is the options and the payload
+-- as they are spelled.
 pub record StreamMessage : Type 0 where
   pub code : ℕ
   pub token : List ℕ

@@ -1,5 +1,5 @@
--- The messages of a stream (RFC 8323 sections 3.2 and 3.3): as a relation, and as they come octet by
--- octet.
+-- The messages of a stream (RFC 8323 sections 3.2 and 3.3): as a relation, and as they come octet
+-- by octet.
 use Rattle.std.specs.Prelude.{
   ◌≡◌,
   ℕ,

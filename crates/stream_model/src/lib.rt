@@ -1,5 +1,5 @@
-//! What the octets of a CoAP stream mean (RFC 8323): plain types here, and in specs/ the definitions
-//! that contracts cite.
+//! What the octets of a CoAP stream mean (RFC 8323): plain types here, and in specs/ the
+//! definitions that contracts cite.
 #![tactic(auto)]
 
 mod messages;

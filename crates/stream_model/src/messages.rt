@@ -12,8 +12,8 @@ pub const FIRST_LONG: usize = 269;
 /// The least length that four octets more say (RFC 8323 section 3.2).
 pub const FIRST_LONGEST: usize = 65_805;
 
-/// Why a message of a stream is bad, in the order in which it is looked for. The first two are found
-/// when its lengths are read, `Format` by its options and the others when it is whole.
+/// Why a message of a stream is bad, in the order in which it is looked for. The first two are
+/// found when its lengths are read, `Format` by its options and the others when it is whole.
 #[derive(Clone, Copy, Debug, PartialEq, Eq)]
 pub enum StreamBad {
     /// Its token is longer than eight octets, or what follows its token is no list of options with
