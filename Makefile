@@ -52,13 +52,14 @@ examples: build
 	@python3 examples/refusals.py
 
 bench: build-rd_serve
-	@for program in rd_bench seat_bench rd_replay; do \
+	@for program in rd_bench seat_bench stream_bench rd_replay; do \
 		(cd crates/$$program && rt run -- $$(cat args 2>/dev/null) < stdin > out.bench 2>&1) \
 			|| { cat crates/$$program/out.bench; rm -f crates/$$program/out.bench; exit 1; }; \
 		rm -f crates/$$program/out.bench; cp crates/$$program/out/$$program bin/; \
 	done
 	@bin/rd_bench > /dev/null
 	@bin/seat_bench > /dev/null
+	@bin/stream_bench > /dev/null
 	@python3 bench/traces.py --table bench/figures/traces.tsv bin/rd_replay
 	@python3 bench/plain.py bin/rd_replay
 	@python3 bench/serve.py --table bench/figures/serve.tsv bin/rd_serve

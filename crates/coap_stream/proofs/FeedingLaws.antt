@@ -1,47 +1,13 @@
 -- What a piece gives is what the stream has (RFC 8323 sections 3.2 and 3.3).
-use Rattle.std.proofs.Common.{
-  ◌≡◌,
-  ℕ,
-  zero,
-  suc,
-  ◌+◌,
-  ◌<◌,
-  ◌≤◌,
-  Bool,
-  false,
-  List,
-  [],
-  ◌∷◌,
-  ◌++◌,
-  length,
-  drop,
-  take,
-  refl,
-  sym,
-  ap,
-  subst,
-  ◌∙◌,
-  append_assoc,
-  append-nil,
-  arith,
-}
-use Rattle.std.proofs.lemmas.List.{length-append, take-append-drop}
+use Rattle.std.proofs.Common.{◌≡◌, ℕ, zero, suc, ◌<◌, Bool, false, List, [], ◌∷◌, ◌++◌, length, drop, take, refl, sym, ap, subst, ◌∙◌, append_assoc, append-nil, arith}
+use Rattle.std.proofs.lemmas.List.{take-append-drop}
 use Rattle.message_model.specs.Numbers.{AreBytes}
 use Rattle.message_model.proofs.ByteLemmas.{AreBytes-append, AreBytes-front}
 use Rattle.stream_model.specs.declared.messages.Judged.{Judged}
 use Rattle.stream_model.specs.declared.messages.Judged.TheVariants as judged
 use Rattle.stream_model.specs.declared.messages.StreamBad.{StreamBad}
 use Rattle.stream_model.specs.Judging.{judge, FrontsMore}
-use Rattle.stream_model.specs.Streams.{
-  Stream,
-  IsGood,
-  IsBad,
-  IsFront,
-  broken,
-  with_message,
-  stream_by,
-  stream_from,
-}
+use Rattle.stream_model.specs.Streams.{IsGood, IsBad, IsFront, broken, with_message, stream_by, stream_from}
 use Rattle.stream_model.proofs.ReadingLaws.{
   more_front,
   whole_good,
@@ -55,24 +21,7 @@ use Rattle.stream_model.proofs.ReadingLaws.{
 use Rattle.stream_model.proofs.StreamLaws.{reach, go_on}
 use Rattle.coap_stream.specs.declared.feeding.Fed.{Fed}
 use Rattle.coap_stream.specs.declared.feeding.Fed.TheVariants as fed
-use Rattle.coap_stream.specs.Reading.{
-  Held,
-  between_messages,
-  with_octets,
-  held_as,
-  IsWhole,
-  IsBroken,
-  IsLess,
-  IsTaken,
-  IsFedBy,
-  IsFed,
-  IsWithin,
-  stream_by_held,
-  stream_after,
-  GoesOn,
-  IsJudged,
-  IsReached,
-}
+use Rattle.coap_stream.specs.Reading.{Held, between_messages, held_as, IsTaken, IsFedBy, IsFed, IsWithin, stream_after, GoesOn, IsJudged, IsReached}
 use Rattle.coap_stream.proofs.WantingLemmas.{front_of_more}
 
 -- ---- what was judged is what the relation says
@@ -301,7 +250,10 @@ fed_stream old new piece further r s = by (held_as old) refl s
         subst (λ (a : Fed). GoesOn old piece further a h) (sym is)
         (after_bad old (piece ++ further) why e)
 
-    by : (j : Judged) → held_as old ≡ j → IsFedBy j old piece r new → GoesOn old piece further r new
+    by : (j : Judged)
+        → held_as old ≡ j
+        → IsFedBy j old piece r new
+        → GoesOn old piece further r new
     by judged.More e s = taken_stream old new piece further r e s
     by judged.Whole e s =
         next_stream old new piece further r e

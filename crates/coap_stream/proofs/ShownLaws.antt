@@ -1,20 +1,5 @@
 -- What a frame shows of a message is the message's (RFC 8323 section 3.2).
-use Rattle.std.proofs.Common.{
-  ◌≡◌,
-  ℕ,
-  ◌<◌,
-  List,
-  ◌∷◌,
-  ◌++◌,
-  length,
-  take,
-  drop,
-  Option,
-  refl,
-  sym,
-  ap,
-  ◌∙◌,
-}
+use Rattle.std.proofs.Common.{◌≡◌, ◌<◌, ◌∷◌, ◌++◌, length, refl}
 use Rattle.std.specs.Option.{option_map}
 use Rattle.std.proofs.lemmas.List.{take_at, drop_at}
 use Rattle.message_model.specs.Reading.{tail_at}
@@ -26,7 +11,7 @@ use Rattle.stream_model.specs.Messages.{
   stream_spelling,
 }
 use Rattle.stream_model.proofs.LengthLemmas.{read_again, high, low}
-use Rattle.coap_stream.specs.Shown.{Shown, shown_by, shown_body, shown_in}
+use Rattle.coap_stream.specs.Shown.{shown_by, shown_body, shown_in}
 
 body_shown : (m : StreamMessage)
     → shown_body (length m.token) (m.code ∷ (m.token ++ m.tail))

@@ -1,43 +1,5 @@
 -- Octets that are fewer than are wanted of a message are less than one (RFC 8323 section 3.2).
-use Rattle.std.proofs.Common.{
-  ◌≡◌,
-  ℕ,
-  suc,
-  ◌+◌,
-  ◌/◌,
-  ◌%◌,
-  ◌<◌,
-  ◌≤◌,
-  ◌==◌,
-  lit≤,
-  Bool,
-  true,
-  false,
-  cond,
-  nat_lt,
-  nat_le,
-  Option,
-  Some,
-  None,
-  List,
-  [],
-  ◌∷◌,
-  ◌++◌,
-  length,
-  drop,
-  take,
-  refl,
-  sym,
-  ap,
-  subst,
-  ◌∙◌,
-  ◌⊎◌,
-  inl,
-  inr,
-  append_assoc,
-  append-nil,
-  arith,
-}
+use Rattle.std.proofs.Common.{◌≡◌, ℕ, ◌+◌, ◌/◌, ◌%◌, ◌<◌, ◌≤◌, ◌==◌, lit≤, Bool, true, false, cond, nat_lt, nat_le, Option, Some, None, List, [], ◌∷◌, ◌++◌, length, drop, take, refl, sym, ap, subst, ◌∙◌, ◌⊎◌, inl, inr, append_assoc, arith}
 use Rattle.std.proofs.lemmas.Bool.{ltb-true, ltb-false, lt-ltb, le-ltb}
 use Rattle.std.proofs.lemmas.List.{
   length-append,
@@ -47,7 +9,6 @@ use Rattle.std.proofs.lemmas.List.{
   take-append-drop,
   nil_from_length,
 }
-use Rattle.stream_model.specs.declared.messages.Judged.{Judged}
 use Rattle.stream_model.specs.declared.messages.Judged.TheVariants as judged
 use Rattle.stream_model.specs.declared.messages.StreamBad.{StreamBad}
 use Rattle.stream_model.specs.declared.messages.StreamBad.TheVariants as bad
@@ -153,6 +114,7 @@ after_cases is_first nibble token octets e =
     by true ep e = inl (ltb-true _ _ ep)
     by false ep e =
         let within = ltb-false _ _ ep in
+        let size = said nibble octets in
         inr (record {
           within = within;
           short =

@@ -78,8 +78,8 @@ IsTaken old piece fed.More new = IsLess old piece new
 IsTaken old piece (fed.Whole n) new = IsWhole old piece n new
 IsTaken old piece (fed.Bad n why) new = IsBroken old piece n why new
 
--- A piece, by what the octets are that are held: behind a message the next one begins, and behind a
--- bad one nothing is taken any more.
+-- A piece, by what the octets are that are held: behind a message the next one begins, and behind
+-- a bad one nothing is taken any more.
 abbrev pub IsFedBy : Judged → Held → List ℕ → Fed → Held → Type 0
 IsFedBy judged.More old piece result new = IsTaken old piece result new
 IsFedBy judged.Whole old piece result new = IsTaken between_messages piece result new

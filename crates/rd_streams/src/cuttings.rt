@@ -33,8 +33,8 @@ fn put_messages(
     Ok(last)
 }
 
-/// Writes how a stream ends whose last feed gave this: within a message, between two, or with a bad
-/// one.
+/// Writes how a stream ends whose last feed gave this: within a message, between two, or with a
+/// bad one.
 fn put_end(page: &mut String, last: Option<Fed>) -> Result<(), Starved> {
     match last {
         None => page.push_str("nothing")?,

@@ -1,5 +1,5 @@
-//! `rd_streams`: shows what a reader of streams gives of stored octets, cut as a line says, line by
-//! line. A line is the name of a call and what it is given; headings begin with `#`.
+//! `rd_streams`: shows what a reader of streams gives of stored octets, cut as a line says, line
+//! by line. A line is the name of a call and what it is given; headings begin with `#`.
 #![tactic(auto)]
 
 mod calls;

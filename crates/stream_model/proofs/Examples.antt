@@ -1,18 +1,11 @@
 -- Streams of a few octets, computed at the edges of the definitions (RFC 8323 sections 3.2, 5).
-use Rattle.std.proofs.Common.{◌≡◌, refl, List, ℕ, [], ◌∷◌, Some, None, true, false}
+use Rattle.std.proofs.Common.{◌≡◌, refl, [], ◌∷◌, Some, None}
 use Rattle.message_model.specs.Reading.{extended_at, option_at, short_tail, tail_at}
-use Rattle.stream_model.specs.declared.messages.Judged.TheVariants as judged
 use Rattle.stream_model.specs.declared.messages.StreamBad.TheVariants as bad
-use Rattle.stream_model.specs.Messages.{
-  StreamMessage,
-  nibble_of,
-  extension_of,
-  lengths_spelling,
-  stream_spelling,
-}
+use Rattle.stream_model.specs.Messages.{nibble_of, extension_of, lengths_spelling, stream_spelling}
 use Rattle.stream_model.specs.Faults.{message_fault}
 use Rattle.stream_model.specs.Judging.{extension_size, length_said, judge}
-use Rattle.stream_model.specs.Streams.{Stream, stream_from, stream_of}
+use Rattle.stream_model.specs.Streams.{stream_from, stream_of}
 
 -- ---- lengths: each nibble's first and last (RFC 8323 section 3.2)
 

@@ -1,40 +1,6 @@
 -- Octets that were judged are a front of a message, a message or a bad one, and back (RFC 8323
 -- section 3.2).
-use Rattle.std.proofs.Common.{
-  ◌≡◌,
-  ℕ,
-  zero,
-  suc,
-  ◌+◌,
-  ◌*◌,
-  ◌/◌,
-  ◌%◌,
-  ◌<◌,
-  ◌≤◌,
-  lit<,
-  Bool,
-  Option,
-  Some,
-  None,
-  List,
-  [],
-  ◌∷◌,
-  ◌++◌,
-  length,
-  drop,
-  take,
-  refl,
-  sym,
-  ap,
-  subst,
-  ◌∙◌,
-  ◌⊎◌,
-  inl,
-  inr,
-  append_assoc,
-  append-nil,
-  arith,
-}
+use Rattle.std.proofs.Common.{◌≡◌, ℕ, zero, suc, ◌+◌, ◌/◌, ◌%◌, ◌<◌, lit<, Bool, Option, Some, None, List, [], ◌∷◌, ◌++◌, length, drop, take, refl, sym, ap, subst, ◌∙◌, ◌⊎◌, inl, inr, append_assoc, append-nil, arith}
 use Rattle.std.proofs.lemmas.List.{
   length-append,
   length-take-le,
@@ -44,7 +10,6 @@ use Rattle.std.proofs.lemmas.List.{
 }
 use Rattle.message_model.specs.Numbers.{IsByte, AreBytes}
 use Rattle.message_model.proofs.ByteLemmas.{AreBytes-front, AreBytes-back}
-use Rattle.stream_model.specs.declared.messages.Judged.{Judged}
 use Rattle.stream_model.specs.declared.messages.Judged.TheVariants as judged
 use Rattle.stream_model.specs.declared.messages.StreamBad.{StreamBad}
 use Rattle.stream_model.specs.Messages.{

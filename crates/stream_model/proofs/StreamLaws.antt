@@ -1,31 +1,6 @@
--- A stream as it comes octet by octet is the one that the relation says, and there is one (RFC 8323
--- sections 3.2 and 3.3).
-use Rattle.std.proofs.Common.{
-  ◌≡◌,
-  ℕ,
-  ◌+◌,
-  ◌<◌,
-  ◌≤◌,
-  Bool,
-  true,
-  false,
-  Option,
-  Some,
-  None,
-  List,
-  [],
-  ◌∷◌,
-  ◌++◌,
-  length,
-  refl,
-  sym,
-  ap,
-  subst,
-  ◌∙◌,
-  append_assoc,
-  append-nil,
-  arith,
-}
+-- A stream as it comes octet by octet is the one that the relation says, and there is one (RFC
+-- 8323 sections 3.2 and 3.3).
+use Rattle.std.proofs.Common.{◌≡◌, ℕ, ◌+◌, ◌<◌, Bool, true, false, Option, Some, None, List, [], ◌∷◌, ◌++◌, length, refl, sym, ap, subst, ◌∙◌, append_assoc, append-nil, arith}
 use Rattle.std.proofs.lemmas.List.{length-append}
 use Rattle.message_model.specs.Numbers.{AreBytes}
 use Rattle.message_model.proofs.ByteLemmas.{AreBytes-append}
@@ -33,20 +8,7 @@ use Rattle.stream_model.specs.declared.messages.Judged.{Judged}
 use Rattle.stream_model.specs.declared.messages.Judged.TheVariants as judged
 use Rattle.stream_model.specs.declared.messages.StreamBad.{StreamBad}
 use Rattle.stream_model.specs.Judging.{judge, FrontsMore}
-use Rattle.stream_model.specs.Streams.{
-  Stream,
-  IsGood,
-  IsFront,
-  IsEnd,
-  AreMessages,
-  IsStream,
-  partial,
-  broken,
-  with_message,
-  stream_by,
-  stream_from,
-  stream_of,
-}
+use Rattle.stream_model.specs.Streams.{Stream, IsFront, IsEnd, AreMessages, IsStream, partial, with_message, stream_by, stream_from, stream_of}
 use Rattle.stream_model.proofs.MessageLaws.{same_cons}
 use Rattle.stream_model.proofs.ReadingLaws.{
   more_front,
@@ -196,10 +158,12 @@ comes_as is_first pending [] held bytes all =
     (all pending [] (append-nil pending)) in
     (sym (append-nil pending), subst IsFront (sym (append-nil pending)) front)
 comes_as is_first pending (b ∷ octets) held bytes all =
-    let more : AreBytes (pending ++ b ∷ []) = AreBytes-append pending (b ∷ []) held (bytes.0, tt) in
+    let more : AreBytes (pending ++ b ∷ []) =
+    AreBytes-append pending (b ∷ []) held (bytes.0, tt) in
     let fronts = fronts_push is_first pending b all in
     stepped is_first pending octets b (judge is_first (pending ++ b ∷ []))
-    (stream_from is_first (pending ++ b ∷ []) octets) (stream_from false [] octets) more fronts refl
+    (stream_from is_first (pending ++ b ∷ []) octets) (stream_from false [] octets)
+    more fronts refl
     (λ e. comes_as is_first (pending ++ b ∷ []) octets more bytes.1
     (all_push is_first (pending ++ b ∷ []) fronts e))
     (comes_as false [] octets tt bytes.1 (nothing_more false))

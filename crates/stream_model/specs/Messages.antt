@@ -21,8 +21,8 @@ use Rattle.std.specs.Prelude.{
 use Rattle.message_model.specs.Numbers.{IsByte, AreBytes, byte_values}
 use Rattle.stream_model.specs.declared.messages.TheConstants as bounds
 
--- A message of a stream: its code, its token, and its tail, which is the options and the payload as
--- they are spelled.
+-- A message of a stream: its code, its token, and its tail, which is the options and the payload
+-- as they are spelled.
 pub record StreamMessage : Type 0 where
   pub code : ℕ
   pub token : List ℕ

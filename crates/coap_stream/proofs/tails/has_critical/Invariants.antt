@@ -3,7 +3,7 @@ use Rattle.coap_message.specs.OptionsLeft.{options_left}
 use Rattle.stream_model.specs.Faults as faults
 use Rattle.coap_stream.proofs.tails.has_critical.Given as goal
 
--- No option that was passed is critical
+-- No option that was passed is critical.
 abbrev pub invariant-options : goal.invariant-options
 invariant-options l =
     faults.has_critical (options_left l.left)

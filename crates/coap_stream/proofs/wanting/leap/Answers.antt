@@ -1,6 +1,5 @@
-use Rattle.std.proofs.Common.{◌≡◌, ◌≤◌, ◌<◌, ℕ, List, length, take, true, sym, subst, ◌∙◌}
+use Rattle.std.proofs.Common.{◌≤◌, ◌<◌, ℕ, length, take, sym, subst, ◌∙◌}
 use Rattle.stream_model.specs.Judging.{FrontsMore}
-use Rattle.coap_stream.specs.Wanting.{wanted_of}
 use Rattle.coap_stream.proofs.WantingLemmas.{one_front, leap_fronts, wanted_positive}
 use Rattle.coap_stream.proofs.wanting.leap.Goals as goal
 

@@ -1,4 +1,4 @@
-use Rattle.std.proofs.Common.{◌≡◌, ◌-◌, ◌≤◌, ◌+◌, length, take, arith}
+use Rattle.std.proofs.Common.{◌-◌, take, arith}
 use Rattle.std.proofs.lemmas.List.{length-take-le}
 use Rattle.coap_stream.proofs.ReaderLemmas.{open_held, fronts_of_held}
 use Rattle.coap_stream.proofs.reader.StreamReader.advance.Goals as goal

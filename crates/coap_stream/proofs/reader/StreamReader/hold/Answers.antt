@@ -1,4 +1,4 @@
-use Rattle.std.proofs.Common.{◌≡◌, ◌+◌, ◌<◌, List, length, take, sym, subst, arith}
+use Rattle.std.proofs.Common.{◌≡◌, ◌+◌, ◌<◌, length, take, sym, subst, arith}
 use Rattle.stream_model.specs.declared.messages.Judged.TheVariants as judged
 use Rattle.coap_stream.specs.Wanting.{wanted_of}
 use Rattle.coap_stream.specs.Reading.{Held, held_as}
@@ -17,7 +17,8 @@ invariant_of-self c =
     let r = c.self.inside in
     let held = open_held r.is_first r.octets r.length r.wanted r.judged c.args.self.now c.self.told
     c.self.invariant.0 c.self.invariant.1 c.self.invariant.2 c.self.view_is c.requires.more in
-    let more = subst (λ (h : Held). held_as h ≡ judged.More) (sym c.self.view_is) c.requires.more in
+    let more =
+    subst (λ (h : Held). held_as h ≡ judged.More) (sym c.self.view_is) c.requires.more in
     let few = subst
     (λ (h : Held). length h.pending + length c.args.octets.now < wanted_of h.pending)
     (sym c.self.view_is) c.requires.few in (

@@ -1,5 +1,4 @@
-use Rattle.std.proofs.Common.{◌≡◌, ◌+◌, ◌≤◌, length, sym, arith}
-use Rattle.stream_model.specs.declared.messages.Judged.TheVariants as judged
+use Rattle.std.proofs.Common.{sym}
 use Rattle.coap_stream.proofs.ReaderLemmas.{twice_within, held_twice}
 use Rattle.coap_stream.proofs.reader.StreamReader.take_all.Goals as goal
 
