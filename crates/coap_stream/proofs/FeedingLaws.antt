@@ -1,5 +1,28 @@
 -- What a piece gives is what the stream has (RFC 8323 sections 3.2 and 3.3).
-use Rattle.std.proofs.Common.{◌≡◌, ℕ, zero, suc, ◌<◌, Bool, false, List, [], ◌∷◌, ◌++◌, length, drop, take, refl, sym, ap, subst, ◌∙◌, append_assoc, append-nil, arith}
+use Rattle.std.proofs.Common.{
+  ◌≡◌,
+  ℕ,
+  zero,
+  suc,
+  ◌<◌,
+  Bool,
+  false,
+  List,
+  [],
+  ◌∷◌,
+  ◌++◌,
+  length,
+  drop,
+  take,
+  refl,
+  sym,
+  ap,
+  subst,
+  ◌∙◌,
+  append_assoc,
+  append-nil,
+  arith,
+}
 use Rattle.std.proofs.lemmas.List.{take-append-drop}
 use Rattle.message_model.specs.Numbers.{AreBytes}
 use Rattle.message_model.proofs.ByteLemmas.{AreBytes-append, AreBytes-front}
@@ -7,7 +30,15 @@ use Rattle.stream_model.specs.declared.messages.Judged.{Judged}
 use Rattle.stream_model.specs.declared.messages.Judged.TheVariants as judged
 use Rattle.stream_model.specs.declared.messages.StreamBad.{StreamBad}
 use Rattle.stream_model.specs.Judging.{judge, FrontsMore}
-use Rattle.stream_model.specs.Streams.{IsGood, IsBad, IsFront, broken, with_message, stream_by, stream_from}
+use Rattle.stream_model.specs.Streams.{
+  IsGood,
+  IsBad,
+  IsFront,
+  broken,
+  with_message,
+  stream_by,
+  stream_from,
+}
 use Rattle.stream_model.proofs.ReadingLaws.{
   more_front,
   whole_good,
@@ -21,7 +52,19 @@ use Rattle.stream_model.proofs.ReadingLaws.{
 use Rattle.stream_model.proofs.StreamLaws.{reach, go_on}
 use Rattle.coap_stream.specs.declared.feeding.Fed.{Fed}
 use Rattle.coap_stream.specs.declared.feeding.Fed.TheVariants as fed
-use Rattle.coap_stream.specs.Reading.{Held, between_messages, held_as, IsTaken, IsFedBy, IsFed, IsWithin, stream_after, GoesOn, IsJudged, IsReached}
+use Rattle.coap_stream.specs.Reading.{
+  Held,
+  between_messages,
+  held_as,
+  IsTaken,
+  IsFedBy,
+  IsFed,
+  IsWithin,
+  stream_after,
+  GoesOn,
+  IsJudged,
+  IsReached,
+}
 use Rattle.coap_stream.proofs.WantingLemmas.{front_of_more}
 
 -- ---- what was judged is what the relation says

@@ -1,5 +1,21 @@
 -- What a turn of a talk takes from a link and a clock, and what it sends.
-use Rattle.std.specs.Prelude.{◌≡◌, ◌<◌, ◌≤◌, ℕ, ◌⊎◌, List, [], ◌∷◌, length, Option, Some, Result, Ok, Err, ⊤}
+use Rattle.std.specs.Prelude.{
+  ◌≡◌,
+  ◌<◌,
+  ◌≤◌,
+  ℕ,
+  ◌⊎◌,
+  List,
+  [],
+  ◌∷◌,
+  length,
+  Option,
+  Some,
+  Result,
+  Ok,
+  Err,
+  ⊤,
+}
 use Rattle.rd_base.specs.Outside.{Rose}
 use Rattle.rd_base.specs.declared.moments.Moment.{Moment}
 use Rattle.udp_link.specs.declared.links.TheConstants.{MAX_DATAGRAM}

@@ -1,13 +1,53 @@
 -- The octets of a message are judged as the message is, and its proper fronts as less than one
 -- (RFC 8323 section 3.2).
-use Rattle.std.proofs.Common.{◌≡◌, ℕ, ◌+◌, ◌*◌, ◌/◌, ◌%◌, ◌<◌, ◌≤◌, Bool, true, false, cond, nat_lt, List, [], ◌∷◌, ◌++◌, length, drop, take, refl, sym, ap, ◌∙◌, append-nil, arith}
+use Rattle.std.proofs.Common.{
+  ◌≡◌,
+  ℕ,
+  ◌+◌,
+  ◌*◌,
+  ◌/◌,
+  ◌%◌,
+  ◌<◌,
+  ◌≤◌,
+  Bool,
+  true,
+  false,
+  cond,
+  nat_lt,
+  List,
+  [],
+  ◌∷◌,
+  ◌++◌,
+  length,
+  drop,
+  take,
+  refl,
+  sym,
+  ap,
+  ◌∙◌,
+  append-nil,
+  arith,
+}
 use Rattle.std.proofs.lemmas.Bool.{ltb-true, ltb-false, lt-ltb, le-ltb}
 use Rattle.std.proofs.lemmas.List.{length-append, take_at, drop_at}
 use Rattle.stream_model.specs.declared.messages.Judged.TheVariants as judged
 use Rattle.stream_model.specs.declared.messages.StreamBad.TheVariants as bad
-use Rattle.stream_model.specs.Messages.{StreamMessage, nibble_of, extension_of, lengths_spelling, stream_spelling}
+use Rattle.stream_model.specs.Messages.{
+  StreamMessage,
+  nibble_of,
+  extension_of,
+  lengths_spelling,
+  stream_spelling,
+}
 use Rattle.stream_model.specs.Faults.{message_fault, fault_of, known_octets}
-use Rattle.stream_model.specs.Judging.{judge, judge_after, judge_lengths, judge_body, verdict_by, extension_size}
+use Rattle.stream_model.specs.Judging.{
+  judge,
+  judge_after,
+  judge_lengths,
+  judge_body,
+  verdict_by,
+  extension_size,
+}
 use Rattle.stream_model.proofs.LengthLemmas.{read_again, high, low}
 
 -- ---- what is known of a message

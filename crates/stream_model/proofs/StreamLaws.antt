@@ -1,6 +1,30 @@
 -- A stream as it comes octet by octet is the one that the relation says, and there is one (RFC
 -- 8323 sections 3.2 and 3.3).
-use Rattle.std.proofs.Common.{◌≡◌, ℕ, ◌+◌, ◌<◌, Bool, true, false, Option, Some, None, List, [], ◌∷◌, ◌++◌, length, refl, sym, ap, subst, ◌∙◌, append_assoc, append-nil, arith}
+use Rattle.std.proofs.Common.{
+  ◌≡◌,
+  ℕ,
+  ◌+◌,
+  ◌<◌,
+  Bool,
+  true,
+  false,
+  Option,
+  Some,
+  None,
+  List,
+  [],
+  ◌∷◌,
+  ◌++◌,
+  length,
+  refl,
+  sym,
+  ap,
+  subst,
+  ◌∙◌,
+  append_assoc,
+  append-nil,
+  arith,
+}
 use Rattle.std.proofs.lemmas.List.{length-append}
 use Rattle.message_model.specs.Numbers.{AreBytes}
 use Rattle.message_model.proofs.ByteLemmas.{AreBytes-append}
@@ -8,7 +32,18 @@ use Rattle.stream_model.specs.declared.messages.Judged.{Judged}
 use Rattle.stream_model.specs.declared.messages.Judged.TheVariants as judged
 use Rattle.stream_model.specs.declared.messages.StreamBad.{StreamBad}
 use Rattle.stream_model.specs.Judging.{judge, FrontsMore}
-use Rattle.stream_model.specs.Streams.{Stream, IsFront, IsEnd, AreMessages, IsStream, partial, with_message, stream_by, stream_from, stream_of}
+use Rattle.stream_model.specs.Streams.{
+  Stream,
+  IsFront,
+  IsEnd,
+  AreMessages,
+  IsStream,
+  partial,
+  with_message,
+  stream_by,
+  stream_from,
+  stream_of,
+}
 use Rattle.stream_model.proofs.MessageLaws.{same_cons}
 use Rattle.stream_model.proofs.ReadingLaws.{
   more_front,
