@@ -1,9 +1,9 @@
 //! What a reader gives of octets, however they are cut.
 
 use crate::frames::{bad_name, put_message};
-use coap_stream::{Fed, StreamReader};
 use rd_base::Starved;
 use std::alloc::Global;
+use stream_reader::{Fed, StreamReader};
 use vector_words::{NoAnswer, datagram_of};
 
 /// Feeds a piece until it is taken, and writes each message. It gives what the last feed gave;

@@ -1,9 +1,9 @@
 //! What a reader gives of pieces, feed by feed.
 
 use crate::frames::{bad_name, put_message};
-use coap_stream::{Fed, StreamReader};
 use rd_base::Starved;
 use std::alloc::Global;
+use stream_reader::{Fed, StreamReader};
 use vector_words::{NoAnswer, datagram_of};
 
 /// Writes that a message is whole with so many octets.

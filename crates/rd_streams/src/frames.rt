@@ -1,8 +1,8 @@
 //! How messages of a stream are written.
 
 use coap_message::options_in;
-use coap_stream::{Frame, StreamBad, StreamReader};
 use rd_base::Starved;
+use stream_reader::{Frame, StreamBad, StreamReader};
 use vector_words::{put_datagram, put_octets};
 
 /// The word for why a message is bad.

@@ -1,9 +1,9 @@
 //! Messages of 64 octets that are fed to a reader.
 
 use bench_rows::{Sample, Trouble};
-use coap_stream::{Fed, StreamReader};
 use rd_base::Bytes;
 use std::alloc::Global;
+use stream_reader::{Fed, StreamReader};
 
 /// How many messages a round feeds.
 const MESSAGES: u64 = 16_384;

@@ -14,12 +14,12 @@ use feeds::{Octets, Pieces};
 fn measured(rt: &HostRuntime) -> Result<(), Trouble> {
     measure::<Pieces>(
         rt,
-        "coap_stream feed, a message of 64 octets, in pieces of so many",
+        "stream_reader feed, a message of 64 octets, in pieces of so many",
         &[64, 1_024, 65_536],
     )?;
     measure::<Octets>(
         rt,
-        "coap_stream feed, an octet of messages of 64, in pieces of so many",
+        "stream_reader feed, an octet of messages of 64, in pieces of so many",
         &[1, 2, 16],
     )
 }
