@@ -50,17 +50,18 @@ end-requires-clause-stepped g c =
             word = λ h. absurd (false≢true h);
           };
     } in
-    let made : Made found (row found s (is_starved_admission c.admit-admitted.result))
-    c.admit-admitted.new.self.tables c.admit-admitted.new.out c.args.self.now.mids
-    c.admit-admitted.new.mids = c.admit-admitted.ensures.made found s refl refl refl refl
+    let made : Made found (row found s (is_starved_admission c.admit_arrival-admitted.result))
+    c.admit_arrival-admitted.new.self.tables c.admit_arrival-admitted.new.out c.args.self.now.mids
+    c.admit_arrival-admitted.new.mids = c.admit_arrival-admitted.ensures.made found s refl refl
+    refl refl
     called in
     subst (λ (b : Bool). HasStepped (first_entry (entries_of (row found s b))) (row found s b)
-    (number_of c.begin-shared.new.pass) found c.admit-admitted.new.self)
+    (number_of c.begin-shared.new.pass) found c.admit_arrival-admitted.new.self)
     (sym c.is_starved.ensures)
-    (step-HasStepped found s (is_starved_admission c.admit-admitted.result)
-    c.deref_mut.result.now c.admit-admitted.new.self home may
-    refl made.stands c.admit-admitted.ensures.told
-    (c.admit-admitted.ensures.staged found s refl refl refl refl called))
+    (step-HasStepped found s (is_starved_admission c.admit_arrival-admitted.result)
+    c.deref_mut.result.now c.admit_arrival-admitted.new.self home may
+    refl made.stands c.admit_arrival-admitted.ensures.told
+    (c.admit_arrival-admitted.ensures.staged found s refl refl refl refl called))
 
 -- and so the seat had its turn
 pub returns : goal.returns
@@ -94,15 +95,16 @@ returns g c =
             word = λ h. absurd (false≢true h);
           };
     } in
-    let made : Made found (row found s (is_starved_admission c.admit-admitted.result))
-    c.admit-admitted.new.self.tables c.admit-admitted.new.out c.args.self.now.mids
-    c.admit-admitted.new.mids = c.admit-admitted.ensures.made found s refl refl refl refl
+    let made : Made found (row found s (is_starved_admission c.admit_arrival-admitted.result))
+    c.admit_arrival-admitted.new.self.tables c.admit_arrival-admitted.new.out c.args.self.now.mids
+    c.admit_arrival-admitted.new.mids = c.admit_arrival-admitted.ensures.made found s refl refl
+    refl refl
     called in
     let turn : Turn c.args.self.now.pass c.begin-shared.new.pass c.end.new.pass
     c.args.self.now.looker c.begin-shared.new.looker c.end.new.looker c.args.self.now.mids
-    c.admit-admitted.new.mids c.args.self.now.last c.later-self.result s
-    (is_starved_admission c.admit-admitted.result) c.deref_mut.result.now
-    c.admit-admitted.new.self c.admit-admitted.new.out = record {
+    c.admit_arrival-admitted.new.mids c.args.self.now.last c.later-self.result s
+    (is_starved_admission c.admit_arrival-admitted.result) c.deref_mut.result.now
+    c.admit_arrival-admitted.new.self c.admit_arrival-admitted.new.out = record {
       rest = c.requires.rest;
       has_begun = begun;
       desk_step = refl;
@@ -113,7 +115,7 @@ returns g c =
       has_ended = subst (λ (b : Bool). HasEnded (row found s b) c.begin-shared.new.pass
           c.end.new.pass c.begin-shared.new.looker c.end.new.looker) c.is_starved.ensures
           c.end.ensures;
-      later_is = let m : c.moment.result.0 ≡ c.admit-admitted.new.self.tables.moment =
+      later_is = let m : c.moment.result.0 ≡ c.admit_arrival-admitted.new.self.tables.moment =
           c.moment.ensures.value
           ∙ ap (λ (d : Shown PublisherSeen). d.tables.moment) c.deref.ensures in let l :
           c.later-self.result.0
@@ -121,11 +123,13 @@ returns g c =
           omega (arith, m, l);
     } in
     let is : row found s c.is_starved.result ≡ row found s
-    (is_starved_admission c.admit-admitted.result) = ap (row found s) c.is_starved.ensures in
-    let held : IsHeldFor c.admit-admitted.result
-    (row found s (is_starved_admission c.admit-admitted.result)).notes s
-    (row_moment found s) = c.admit-admitted.ensures.held found s refl refl refl called in
-    let seen : seen_of c.end.new.pass ≡ row found s (is_starved_admission c.admit-admitted.result)
+    (is_starved_admission c.admit_arrival-admitted.result) = ap (row found s) c.is_starved.ensures
+    in
+    let held : IsHeldFor c.admit_arrival-admitted.result
+    (row found s (is_starved_admission c.admit_arrival-admitted.result)).notes s
+    (row_moment found s) = c.admit_arrival-admitted.ensures.held found s refl refl refl called in
+    let seen : seen_of c.end.new.pass
+    ≡ row found s (is_starved_admission c.admit_arrival-admitted.result)
     ∷ found = turn.has_ended.seen in
     record {
       turned = record {
@@ -136,29 +140,29 @@ returns g c =
           met = turn-met turn;
         };
         made = subst (λ (x : Step). MakesStep (share_shown c.args.self.now) x
-            (is_starved_admission c.admit-admitted.result) c.admit-admitted.new.out
+            (is_starved_admission c.admit_arrival-admitted.result) c.admit_arrival-admitted.new.out
             (share_shown (record {
               alloc = c.args.self.now.alloc;
               pass = c.end.new.pass;
               looker =
                   c.end.new.looker;
-              mids = c.admit-admitted.new.mids;
+              mids = c.admit_arrival-admitted.new.mids;
               last = c.later-self.result;
             })))
             (λ i. admit_step (own i) c.args.arrival.moment c.args.arrival.word c.args.arrival.peer
             c.args.arrival.datagram.now
             (drew i)) (turn-MakesStep turn);
       };
-      left = subst (LeavesJob c.admit-admitted.result) (sym seen)
-          (held-LeavesJob found s (is_starved_admission c.admit-admitted.result)
-          c.admit-admitted.result refl held);
-      opens = held-OpensJob found s (is_starved_admission c.admit-admitted.result)
-          c.admit-admitted.result (share_shown (record {
+      left = subst (LeavesJob c.admit_arrival-admitted.result) (sym seen)
+          (held-LeavesJob found s (is_starved_admission c.admit_arrival-admitted.result)
+          c.admit_arrival-admitted.result refl held);
+      opens = held-OpensJob found s (is_starved_admission c.admit_arrival-admitted.result)
+          c.admit_arrival-admitted.result (share_shown (record {
             alloc = c.args.self.now.alloc;
             pass =
                 c.end.new.pass;
             looker = c.end.new.looker;
-            mids = c.admit-admitted.new.mids;
+            mids = c.admit_arrival-admitted.new.mids;
             last =
                 c.later-self.result;
           }))
