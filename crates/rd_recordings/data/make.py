@@ -274,6 +274,23 @@ def refused(name, octets, why, status, *words):
     case(" ".join(["read", name, *words]), [why], status)
 
 
+def told(name, text, word):
+    """The program tells of itself, and reads nothing."""
+    case(" ".join(["read", name, word]), text.split("\n"), 0)
+
+
+HELP = """\
+Reads a capture of the network as a trace, or writes a trace and its output as a capture
+
+Usage: rd_capture [--port P] [--replies | --pcap] < CAPTURE > OUTPUT
+
+Options:
+      --port <P>  The server's port, from 1 to 65535 [default: 5683]
+      --replies   Write what the server sent, as lines of the output of a trace
+      --pcap      Read a trace and its output, and write a capture
+  -h, --help      Print help
+  -V, --version   Print version"""
+
 GET = bytes.fromhex("40010101")  # GET of nothing, confirmable
 POST = bytes.fromhex("4102002001b27264")  # POST /rd
 CONTENT = bytes.fromhex("60450101ff68656c6c6f")  # 2.05 with "hello"
@@ -658,9 +675,14 @@ def words():
     for said in [
         "--port", "--port 0", "--port 65536", "--port 05683", "--port +1", "--port=", "--port=a",
         "--port 1 --port 1", "--port=1 --port=1", "--replies --pcap", "--pcap --pcap",
-        "--replies --replies", "--replies=1", "--help", "-", "trace",
+        "--replies --replies", "--replies=1", "-", "trace", "help", "-help", "--help=1",
+        "--help --help", "--help --version", "--help --port 1", "--replies --help", "-V --pcap",
     ]:
         refused(name, FILES[name], usage, 3, said)
+    for said in "--help", "-h":
+        told(name, HELP, said)
+    for said in "--version", "-V":
+        told(name, "rd_capture 0.1.0", said)
     story = Pcap(101)
     server = ("192.0.2.1", 61616)
     story.add(BASE, packet(DEVICE, server, GET), in_of(DEVICE, GET))

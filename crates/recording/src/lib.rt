@@ -2,6 +2,7 @@
 //! trace and its output written as a capture.
 #![tactic(auto)]
 
+mod about;
 mod endings;
 mod fields;
 mod lines;

@@ -1,5 +1,6 @@
 //! A run: from words and octets to an output and a status.
 
+use crate::about::text_about;
 use crate::endings::{Status, Stop};
 use crate::pages::{Pages, write_all};
 use crate::recorders::Recorder;
@@ -147,6 +148,15 @@ pub fn report<E: Sink>(err: &mut E, status: Status) {
     }
 }
 
+/// Writes a text about the program.
+fn tell<K: Sink>(out: &mut K, text: &str) -> Status {
+    if write_all(out, text.as_bytes()) {
+        Status::Done
+    } else {
+        Status::WriteFault
+    }
+}
+
 /// Does what the words ask for with the input.
 fn run<S: Source, K: Sink, E: Sink>(
     alloc: Global,
@@ -155,6 +165,9 @@ fn run<S: Source, K: Sink, E: Sink>(
     out: &mut K,
     err: &mut E,
 ) -> Status {
+    if let Some(text) = text_about(words) {
+        return tell(out, text);
+    }
     let Some(words) = words_read(words) else {
         return Status::Usage;
     };
@@ -165,8 +178,9 @@ fn run<S: Source, K: Sink, E: Sink>(
 
 /// Reads a capture from `source` and writes to `out` the trace of what came to a port, or with
 /// `--replies` the lines of the output for what was sent from it; with `--pcap` it reads a trace
-/// and its output and writes a capture. `--port` names the port, 5683 where it is not named. What
-/// cannot be read is said on `err`, and so is how the run ends.
+/// and its output and writes a capture. `--port` names the port, 5683 where it is not named.
+/// `--help` and `--version`, as the only word, write a text about the program and read nothing.
+/// What cannot be read is said on `err`, and so is how the run ends.
 ///
 /// `words` are those of the command line, without the program's name.
 pub fn record<S: Source, K: Sink, E: Sink>(

@@ -1,0 +1,30 @@
+//! What is said about the program.
+
+/// What is said where help is asked for.
+const HELP: &str = "\
+Reads a capture of the network as a trace, or writes a trace and its output as a capture
+
+Usage: rd_capture [--port P] [--replies | --pcap] < CAPTURE > OUTPUT
+
+Options:
+      --port <P>  The server's port, from 1 to 65535 [default: 5683]
+      --replies   Write what the server sent, as lines of the output of a trace
+      --pcap      Read a trace and its output, and write a capture
+  -h, --help      Print help
+  -V, --version   Print version
+";
+
+/// What is said where the version is asked for.
+const VERSION: &str = "rd_capture 0.1.0\n";
+
+/// What is to be said about the program, where a word that stands alone asks for that.
+pub(crate) fn text_about(words: &[String]) -> Option<&'static str> {
+    match words {
+        [word] => match word.as_str() {
+            "--help" | "-h" => Some(HELP),
+            "--version" | "-V" => Some(VERSION),
+            _ => None,
+        },
+        _ => None,
+    }
+}
