@@ -49,6 +49,7 @@ soak: build-rd_serve
 
 examples: build
 	@cd crates/rd_rows/data && ../../../bin/rd_rows < ../stdin
+	@python3 examples/pages.py --check bin/rd_show
 	@python3 examples/refusals.py
 
 bench: build-rd_serve

@@ -2,7 +2,7 @@
 
 use super::names::{MessageName, name_from};
 use super::serving::Serving;
-use rd_base::Moment;
+use rd_base::{Moment, Peer};
 use trace_text::Line;
 
 /// What a line changes of what is known of the conversation.
@@ -12,6 +12,8 @@ pub(crate) struct Change {
     pub moment: Option<Moment>,
     /// The worker that may hold another job since, or none.
     pub worker: Option<u8>,
+    /// Who sends the datagram that comes.
+    pub sender: Option<Peer>,
     /// The message that comes.
     pub message: Option<MessageName>,
 }
@@ -30,16 +32,19 @@ impl Change {
             } => Change {
                 moment: Some(*moment),
                 worker: Some(*worker),
+                sender: Some(*peer),
                 message: name_from(*peer, datagram.as_slice()),
             },
             Line::Go(worker, moment) => Change {
                 moment: serving.request(*worker).map(|_| *moment),
                 worker: Some(*worker),
+                sender: None,
                 message: None,
             },
             Line::Tick { moment, .. } => Change {
                 moment: Some(*moment),
                 worker: None,
+                sender: None,
                 message: None,
             },
         }

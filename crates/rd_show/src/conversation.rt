@@ -4,10 +4,11 @@ ghost use Rattle.line_model.specs.Lines.{IsLine};
 ghost use Rattle.rd_server.specs.Machines.{IsMachine};
 
 use super::changes::Change;
-use super::lines::{write_bad, write_end, write_line, write_sent};
+use super::forms::Form;
 use super::pending::Pending;
 use super::repeats::{Arrivals, Sendings};
 use super::serving::Serving;
+use super::words::Asked;
 use rd_base::Starved;
 use rd_server::{Machine, Status, Trouble};
 use std::alloc::Global;
@@ -18,6 +19,8 @@ use trace_text::{Line, LineBad, LineFault, Reason, line_read};
 pub(crate) struct Conversation {
     /// Where its memory comes from.
     alloc: Global,
+    /// In which form it is shown.
+    form: Form,
     /// The directory that answers.
     machine: Machine,
     /// The request that each worker serves.
@@ -48,15 +51,16 @@ fn done(machine: &mut Machine, line: Line) -> Result<Option<Reason>, Starved>
 }
 
 impl Conversation {
-    /// A conversation with a directory of so many workers that nobody began yet. `Starved`: out of
-    /// memory.
-    pub(crate) fn make(alloc: Global, workers: u8) -> Result<Conversation, Starved>
-        requires { workers ≤ 16 }
+    /// A conversation that nobody began yet, with a directory of so many workers and in the form
+    /// that is asked for. `Starved`: out of memory.
+    pub(crate) fn make(alloc: Global, asked: Asked) -> Result<Conversation, Starved>
+        requires { asked.workers ≤ 16 }
         ensures { IfOk result (λ conversation. IsMachine conversation.machine) }
     {
         Ok(Conversation {
             alloc,
-            machine: Machine::make(alloc, workers)?,
+            form: Form::make(alloc, asked.is_diagram)?,
+            machine: Machine::make(alloc, asked.workers)?,
             serving: Serving::nothing(),
             arrivals: Arrivals::make(alloc)?,
             sendings: Sendings::make(alloc)?,
@@ -76,7 +80,7 @@ impl Conversation {
             why,
         };
         self.first_bad = self.first_bad.or(Some(bad));
-        write_bad(page, bad)
+        self.form.write_bad(page, self.alloc, bad)
     }
 
     /// Writes what a line says that was done, and what the directory sent.
@@ -89,8 +93,9 @@ impl Conversation {
             self.serving.note(worker, change.message, is_busy);
         }
         self.arrivals.note(change)?;
-        page.push_str(said)?;
-        write_sent(page, self.alloc, &mut self.sendings, self.machine.sent())
+        let sent = self.machine.sent();
+        self.form
+            .write_done(page, self.alloc, said, change, &mut self.sendings, sent)
     }
 
     /// Does what a line says, and writes that and what the directory sends; of a bad line only that
@@ -103,7 +108,8 @@ impl Conversation {
         let mut said = String::new(self.alloc);
         let change = Change::of(&self.serving, &line);
         let is_repeat = self.arrivals.is_repeat(&change);
-        write_line(&mut said, self.alloc, &self.serving, is_repeat, &line)?;
+        self.form
+            .write_line(&mut said, self.alloc, &self.serving, is_repeat, &line)?;
         match done(&mut self.machine, line)? {
             None => self.tell_done(page, said.as_str(), &change),
             Some(why) => self.tell_bad(page, why),
@@ -148,6 +154,13 @@ impl Conversation {
         }
     }
 
+    /// What stands before all that is shown. `Starved`: out of memory.
+    pub(crate) fn begin(&self) -> Result<String, Starved> {
+        let mut page = String::new(self.alloc);
+        self.form.write_head(&mut page)?;
+        Ok(page)
+    }
+
     /// What the lines say that end in a piece of the trace, and what the directory sends then. The
     /// beginning of the next line is kept. `Starved`: out of memory; then the conversation is not
     /// to be used any more.
@@ -178,7 +191,7 @@ impl Conversation {
         }
         let end = self.machine.end_line()?;
         if let Ok(line) = str::from_utf8(end.as_slice()) {
-            write_end(&mut page, line)?;
+            self.form.write_end(&mut page, self.alloc, line)?;
         }
         Ok(page)
     }

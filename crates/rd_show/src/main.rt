@@ -7,9 +7,13 @@ ghost use Rattle.rd_server.specs.Machines.{IsMachine};
 
 mod changes;
 mod conversation;
+mod diagrams;
+mod escapes;
+mod forms;
 mod lines;
 mod moments;
 mod names;
+mod participants;
 mod pending;
 mod repeats;
 mod serving;
@@ -24,10 +28,10 @@ use rd_base::{Got, Source, StdSink, StdSource};
 use rd_server::{Status, WordsFault, given_words, report};
 use std::process::ExitCode;
 use stops::Stop;
-use words::{Otherwise, workers_asked};
+use words::{Asked, Otherwise, words_read};
 
 /// What is said where the words are not those of the program.
-const USAGE: &str = "usage: rd_show [--workers N]\n";
+const USAGE: &str = "usage: rd_show [--workers N] [--mermaid]\n";
 
 /// Shows the trace piece by piece.
 fn show_trace<S: Source>(
@@ -37,6 +41,7 @@ fn show_trace<S: Source>(
 ) -> Result<(), Stop>
     requires { IsMachine shown.old.machine }
 {
+    rt.print(shown.begin()?)?;
     let mut buffer = [0u8; 4096];
     'pieces: loop {
         match source.read(&mut buffer) {
@@ -48,11 +53,11 @@ fn show_trace<S: Source>(
     Ok(rt.print(shown.finish()?)?)
 }
 
-/// Shows the trace of standard input to a directory of so many workers.
-fn show_all(rt: &HostRuntime, workers: u8) -> Status
-    requires { workers ≤ 16 }
+/// Shows the trace of standard input as it is asked for.
+fn show_all(rt: &HostRuntime, asked: Asked) -> Status
+    requires { asked.workers ≤ 16 }
 {
-    let Ok(mut shown) = Conversation::make(rt.alloc(), workers) else {
+    let Ok(mut shown) = Conversation::make(rt.alloc(), asked) else {
         return Status::Memory;
     };
     let mut source = StdSource::of(rt.stdin());
@@ -71,8 +76,8 @@ fn tell(rt: &HostRuntime, text: &Error) -> Status {
 }
 
 /// Does what words ask for that do not ask for a trace to be shown.
-fn do_otherwise(rt: &HostRuntime, asked: &Otherwise) -> Status {
-    match asked {
+fn do_otherwise(rt: &HostRuntime, otherwise: &Otherwise) -> Status {
+    match otherwise {
         Otherwise::Say(text) => tell(rt, text),
         Otherwise::Usage => Status::Usage,
         Otherwise::Starved => Status::Memory,
@@ -82,9 +87,9 @@ fn do_otherwise(rt: &HostRuntime, asked: &Otherwise) -> Status {
 /// Does what the words of the command line ask for.
 fn run(rt: &HostRuntime) -> Status {
     match given_words(rt) {
-        Ok(words) => match workers_asked(rt.alloc(), words.as_slice()) {
-            Ok(workers) => show_all(rt, workers),
-            Err(asked) => do_otherwise(rt, &asked),
+        Ok(words) => match words_read(rt.alloc(), words.as_slice()) {
+            Ok(asked) => show_all(rt, asked),
+            Err(otherwise) => do_otherwise(rt, &otherwise),
         },
         Err(WordsFault::Usage) => Status::Usage,
         Err(WordsFault::Starved) => Status::Memory,

@@ -26,7 +26,7 @@ pub(crate) struct Sendings {
 }
 
 /// How many messages have room.
-fn room() -> NonZeroUsize {
+pub(crate) fn room() -> NonZeroUsize {
     NonZeroUsize::new(MAX_EXCHANGES).unwrap_or(NonZeroUsize::MIN)
 }
 

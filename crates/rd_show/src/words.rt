@@ -3,13 +3,25 @@ ghost use Rattle.std.specs.Prelude.{◌≤◌, IfSome, IfOk};
 
 use super::serving::MOST_WORKERS;
 use clap::error::ErrorKind;
-use clap::{Arg, ArgMatches, Command, Error};
+use clap::{Arg, ArgAction, ArgMatches, Command, Error};
 use std::alloc::{AllocError, Global};
 use trace_text::number_read;
 
 /// What the program does.
 const ABOUT: &str = "Shows a recorded trace as a conversation: who sent what to whom, and what the \
     directory answered";
+
+/// The word that asks for a diagram.
+const MERMAID: &str = "--mermaid";
+
+/// How words ask for a trace to be shown.
+#[derive(Clone, Copy, Debug)]
+pub(crate) struct Asked {
+    /// How many workers the directory has.
+    pub workers: u8,
+    /// Whether it is shown as a sequence diagram.
+    pub is_diagram: bool,
+}
 
 /// What words ask for that do not ask for a trace to be shown.
 #[derive(Debug, Drop)]
@@ -53,17 +65,41 @@ fn is_question(word: &str) -> bool {
     matches!(word, "--help" | "-h" | "--version" | "-V")
 }
 
-/// Whether words are those of the program: `--workers` with a number from 1 to 16, once at most, as
-/// two words or joined by `=`, or a question about the program alone.
-fn are_words(words: &[String]) -> bool {
+/// The words without `--mermaid`, where it stands first or last.
+fn without_mermaid(words: &[String]) -> &[String] {
+    if let Some((first, rest)) = words.split_first()
+        && first.as_str() == MERMAID
+    {
+        return rest;
+    }
+    if let Some((last, rest)) = words.split_last()
+        && last.as_str() == MERMAID
+    {
+        return rest;
+    }
+    words
+}
+
+/// Whether words are none, or `--workers` with a number from 1 to 16, as two words or joined by
+/// `=`.
+fn are_workers(words: &[String]) -> bool {
     match words {
         [] => true,
         [word] => match word.as_str().strip_prefix("--workers=") {
             Some(count) => count_of(count).is_some(),
-            None => is_question(word.as_str()),
+            None => false,
         },
         [name, count] => name.as_str() == "--workers" && count_of(count.as_str()).is_some(),
         _ => false,
+    }
+}
+
+/// Whether words are those of the program: `--workers` with its number and `--mermaid`, each once
+/// at most, in any order, or a question about the program alone.
+fn are_words(words: &[String]) -> bool {
+    match words {
+        [word] if is_question(word.as_str()) => true,
+        _ => are_workers(without_mermaid(words)),
     }
 }
 
@@ -74,31 +110,44 @@ fn command<'a>(alloc: Global) -> Result<Command<'a>, AllocError> {
         .value_name("N")
         .help("How many workers the directory has, from 1 to 16")
         .default_value("16");
+    let mermaid = Arg::new(alloc, "mermaid")
+        .long("mermaid")
+        .help("Print a sequence diagram, in the text that Mermaid draws")
+        .action(ArgAction::SetTrue);
     Command::new(alloc, "rd_show")
         .version("0.1.0")
         .about(ABOUT)
-        .override_usage("rd_show [--workers N] < TRACE")
+        .override_usage("rd_show [--workers N] [--mermaid] < TRACE")
         .no_binary_name(true)
-        .arg(workers)
+        .arg(workers)?
+        .arg(mermaid)
 }
 
-/// How many workers words ask for whose form was tested, as clap reads them.
-fn workers_read(alloc: Global, words: &[String]) -> Result<u8, Otherwise>
-    ensures { IfOk result (λ workers. workers ≤ 16) }
+/// What words ask for whose form was tested, as clap reads them.
+fn asked_of(alloc: Global, words: &[String]) -> Result<Asked, Otherwise>
+    ensures { IfOk result (λ asked. asked.workers ≤ 16) }
 {
     let matches = command(alloc)?.try_get_matches_from(words)?;
     let Some(count) = matches.get_str("workers") else {
         return Err(Otherwise::Usage);
     };
-    count_of(count).ok_or(Otherwise::Usage)
+    let is_diagram = matches.get_flag("mermaid");
+    match count_of(count) {
+        Some(workers) => Ok(Asked {
+            workers,
+            is_diagram,
+        }),
+        None => Err(Otherwise::Usage),
+    }
 }
 
-/// How many workers the words ask for, 16 where they name none; or what else they ask for.
-pub(crate) fn workers_asked(alloc: Global, words: &[String]) -> Result<u8, Otherwise>
-    ensures { IfOk result (λ workers. workers ≤ 16) }
+/// What the words ask for to be shown, by 16 workers where they name none; or what else they ask
+/// for.
+pub(crate) fn words_read(alloc: Global, words: &[String]) -> Result<Asked, Otherwise>
+    ensures { IfOk result (λ asked. asked.workers ≤ 16) }
 {
     if !are_words(words) {
         return Err(Otherwise::Usage);
     }
-    workers_read(alloc, words)
+    asked_of(alloc, words)
 }
