@@ -6,8 +6,9 @@ ghost use Rattle.client_model.specs.Requests.{CanBeSent};
 use crate::station::Station;
 use futures::executor::block_on;
 use rd_base::{Bytes, Host, Moment, Peer, Starved};
-use registrant::{Ask, AskBad, Location, Outcome, Registrant, Talk, Told};
-use registrant::{refresh_ask, register_ask, remove_ask};
+use registrant::{
+    Ask, AskBad, Location, Outcome, Registrant, Talk, Told, refresh_ask, register_ask, remove_ask,
+};
 use std::alloc::{AllocGlobal, Global};
 use std::random::RandomSource;
 use std::sync::Wait;
@@ -25,6 +26,9 @@ const TOKEN: [u8; 8] = [0, 0, 0, 0, 0, 0, 0, 1];
 
 /// A refusal with another token (4.04, non-confirmable).
 const OTHER_TOKEN: &[u8] = b"\x58\x84\x12\x34\x00\x00\x00\x00\x00\x00\x00\x02";
+
+/// What a lookup of all links lists while the registration stands.
+const LINK: &[u8] = b"<coap://192.0.2.10/a>";
 
 /// What a device asks for.
 #[derive(Clone, Copy)]
@@ -136,23 +140,47 @@ where
     Ok(matches!(outcome, Some(Outcome::Done)))
 }
 
-/// What a registration is answered with is where it is refreshed and removed. It is listed for as
-/// long as its refresh says and no longer than it stands, and what was removed is refreshed no
-/// more.
+/// Where a registration stands by its answer. `Starved` stands for any other answer, too.
+fn registers<R>(rt: &R, station: &mut Station) -> Result<Location, Starved>
+where
+    R: Wait + RandomSource + AllocGlobal,
+{
+    match comes_to(rt, station, Moment(0), 1, Wish::Register)? {
+        Some(Outcome::Located(location)) => Ok(location),
+        _ => Err(Starved),
+    }
+}
+
+/// Whether its refresh is done, and it is listed for 60 seconds more.
+fn refreshes<R>(rt: &R, station: &mut Station, location: &Location) -> Result<bool, Starved>
+where
+    R: Wait + RandomSource + AllocGlobal,
+{
+    if !is_done(rt, station, Moment(50_000), 2, Wish::Refresh(location))? {
+        return Ok(false);
+    }
+    Ok(station.lists(rt.alloc(), Moment(109_999), LINK))
+}
+
+/// Whether its removal is done, and it is listed and refreshed no more.
+fn removes<R>(rt: &R, station: &mut Station, location: &Location) -> Result<bool, Starved>
+where
+    R: Wait + RandomSource + AllocGlobal,
+{
+    if !is_done(rt, station, Moment(109_999), 3, Wish::Remove(location))? {
+        return Ok(false);
+    }
+    if !station.lists(rt.alloc(), Moment(109_999), b"") {
+        return Ok(false);
+    }
+    Ok(!is_done(rt, station, Moment(109_999), 4, Wish::Refresh(location))?)
+}
+
 #[test]
 fn a_device_at_a_directory(rt: HostRuntime) -> Result<(), Fail> {
-    let (alloc, link) = (rt.alloc(), b"<coap://192.0.2.10/a>".as_slice());
-    let mut station = Station::new(alloc)?;
-    let registered = comes_to(&rt, &mut station, Moment(0), 1, Wish::Register)?;
-    let Some(Outcome::Located(location)) = registered else {
-        return Err("no location came".into());
-    };
-    assert!(rt; station.lists(alloc, Moment(0), link));
-    let (refresh, removal) = (Wish::Refresh(&location), Wish::Remove(&location));
-    assert!(rt; is_done(&rt, &mut station, Moment(50_000), 2, refresh)?);
-    assert!(rt; station.lists(alloc, Moment(109_999), link));
-    assert!(rt; is_done(&rt, &mut station, Moment(109_999), 3, removal)?);
-    assert!(rt; station.lists(alloc, Moment(109_999), b""));
-    assert!(rt; !is_done(&rt, &mut station, Moment(109_999), 4, refresh)?);
+    let mut station = Station::new(rt.alloc())?;
+    let location = registers(&rt, &mut station)?;
+    assert!(rt; refreshes(&rt, &mut station, &location)?);
+    assert!(rt; removes(&rt, &mut station, &location)?);
     Ok(())
 }
