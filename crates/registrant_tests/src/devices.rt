@@ -1,0 +1,186 @@
+//! A device that registers, refreshes and removes.
+
+ghost use Rattle.std.specs.Prelude.{◌≤◌, ◌^◌, IfOk};
+ghost use Rattle.client_model.specs.Requests.{CanBeSent};
+
+use crate::station::Station;
+use futures::executor::block_on;
+use rd_base::{Bytes, Host, Moment, Peer, Starved};
+use registrant::{
+    Ask, AskBad, Location, Outcome, Registrant, Talk, Told, refresh_ask, register_ask, remove_ask,
+};
+use std::alloc::{AllocGlobal, Global};
+use std::random::RandomSource;
+use std::sync::Wait;
+use std::test::Fail;
+use udp_link::{Arrivals, MemClock, MemLink, Moments, Words};
+
+/// The directory.
+const DIRECTORY: Peer = Peer {
+    host: Host::V4([192, 0, 2, 1]),
+    port: 5683,
+};
+
+/// The token of each request.
+const TOKEN: [u8; 8] = [0, 0, 0, 0, 0, 0, 0, 1];
+
+/// A refusal with another token (4.04, non-confirmable).
+const OTHER_TOKEN: &[u8] = b"\x58\x84\x12\x34\x00\x00\x00\x00\x00\x00\x00\x02";
+
+/// What a lookup of all links lists while the registration stands.
+const LINK: &[u8] = b"<coap://192.0.2.10/a>";
+
+/// What a device asks for.
+#[derive(Clone, Copy)]
+enum Wish<'a> {
+    /// A registration for 60 seconds.
+    Register,
+    /// The refresh of one.
+    Refresh(&'a Location),
+    /// Its removal.
+    Remove(&'a Location),
+}
+
+/// The ask of a wish.
+fn ask_of(alloc: Global, wish: Wish<'_>) -> Result<Ask, AskBad>
+    ensures { IfOk result CanBeSent }
+{
+    match wish {
+        Wish::Register => register_ask(alloc, "coap://192.0.2.1/rd?ep=n&lt=60", b"</a>"),
+        Wish::Refresh(location) => refresh_ask(alloc, location),
+        Wish::Remove(location) => remove_ask(alloc, location),
+    }
+}
+
+/// The datagram of a wish.
+fn request_of(alloc: Global, wish: Wish<'_>, mid: u16) -> Result<Bytes, Starved> {
+    match ask_of(alloc, wish) {
+        Ok(ask) => {
+            let talk = Talk::start(alloc, ask, mid, TOKEN, Moment(0), 0)?;
+            Bytes::copy_of(alloc, talk.bytes())
+        }
+        Err(_) => Err(Starved),
+    }
+}
+
+/// A link to which an answer with another token comes, and then this one.
+fn link_of(alloc: Global, answer: &[u8]) -> Result<MemLink, Starved> {
+    let mut coming = Arrivals::new(alloc);
+    coming.push(DIRECTORY, Bytes::copy_of(alloc, OTHER_TOKEN)?)?;
+    coming.push(DIRECTORY, Bytes::copy_of(alloc, answer)?)?;
+    Ok(MemLink::of(alloc, coming, Bytes::new(alloc), Bytes::new(alloc)))
+}
+
+/// What becomes of a wish that is answered so.
+fn told<R>(
+    rt: &R,
+    wish: Wish<'_>,
+    mid: u16,
+    answer: &[u8],
+) -> Result<Told<MemLink, MemClock>, Starved>
+where
+    R: Wait + RandomSource + AllocGlobal,
+{
+    let alloc = rt.alloc();
+    let link = link_of(alloc, answer)?;
+    let clock = MemClock::of(Moments::of(Vec::new(alloc)), Words::of(Vec::new(alloc)));
+    let Ok(ask) = ask_of(alloc, wish) else {
+        return Err(Starved);
+    };
+    match Registrant::start(alloc, link, clock, ask, mid, TOKEN) {
+        Ok(registrant) => block_on(rt, registrant).map_err(|_| Starved),
+        Err(_) => Err(Starved),
+    }
+}
+
+/// Whether a link sent this datagram to the directory, and no other.
+fn has_sent(link: &MemLink, datagram: &[u8]) -> bool {
+    match link.gone().as_slice() {
+        [(to, octets)] => *to == DIRECTORY && octets.as_slice() == datagram,
+        _ => false,
+    }
+}
+
+/// What a wish comes to at a desk. None: something else was sent, or there is no verdict.
+fn comes_to<R>(
+    rt: &R,
+    station: &mut Station,
+    now: Moment,
+    mid: u16,
+    wish: Wish<'_>,
+) -> Result<Option<Outcome>, Starved>
+where
+    R: Wait + RandomSource + AllocGlobal,
+    requires { now.0 ≤ 10 ^ 15 }
+{
+    let request = request_of(rt.alloc(), wish, mid)?;
+    if !station.hears(now, request.as_slice()) {
+        return Err(Starved);
+    }
+    let told = told(rt, wish, mid, station.answer())?;
+    if !has_sent(&told.link, request.as_slice()) {
+        return Ok(None);
+    }
+    Ok(told.outcome.ok())
+}
+
+/// Whether a refresh or a removal is done.
+fn is_done<R>(
+    rt: &R,
+    station: &mut Station,
+    now: Moment,
+    mid: u16,
+    wish: Wish<'_>,
+) -> Result<bool, Starved>
+where
+    R: Wait + RandomSource + AllocGlobal,
+    requires { now.0 ≤ 10 ^ 15 }
+{
+    let outcome = comes_to(rt, station, now, mid, wish)?;
+    Ok(matches!(outcome, Some(Outcome::Done)))
+}
+
+/// Where a registration stands by its answer. `Starved` stands for any other answer, too.
+fn registers<R>(rt: &R, station: &mut Station) -> Result<Location, Starved>
+where
+    R: Wait + RandomSource + AllocGlobal,
+{
+    match comes_to(rt, station, Moment(0), 1, Wish::Register)? {
+        Some(Outcome::Located(location)) => Ok(location),
+        _ => Err(Starved),
+    }
+}
+
+/// Whether its refresh is done, and it is listed for 60 seconds more.
+fn refreshes<R>(rt: &R, station: &mut Station, location: &Location) -> Result<bool, Starved>
+where
+    R: Wait + RandomSource + AllocGlobal,
+{
+    if !is_done(rt, station, Moment(50_000), 2, Wish::Refresh(location))? {
+        return Ok(false);
+    }
+    Ok(station.lists(rt.alloc(), Moment(109_999), LINK))
+}
+
+/// Whether its removal is done, and it is listed and refreshed no more.
+fn removes<R>(rt: &R, station: &mut Station, location: &Location) -> Result<bool, Starved>
+where
+    R: Wait + RandomSource + AllocGlobal,
+{
+    if !is_done(rt, station, Moment(109_999), 3, Wish::Remove(location))? {
+        return Ok(false);
+    }
+    if !station.lists(rt.alloc(), Moment(109_999), b"") {
+        return Ok(false);
+    }
+    Ok(!is_done(rt, station, Moment(109_999), 4, Wish::Refresh(location))?)
+}
+
+#[test]
+fn a_device_at_a_directory(rt: HostRuntime) -> Result<(), Fail> {
+    let mut station = Station::new(rt.alloc())?;
+    let location = registers(&rt, &mut station)?;
+    assert!(rt; refreshes(&rt, &mut station, &location)?);
+    assert!(rt; removes(&rt, &mut station, &location)?);
+    Ok(())
+}
