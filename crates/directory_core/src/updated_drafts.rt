@@ -105,7 +105,11 @@ fn items_against(alloc: Global, old: &Record, base: &Text) -> Result<(Items, Lin
 
 /// What an update from a peer makes of a record, as a draft under its name, and what became of its
 /// links: they are resolved against the base as it is then, and kept where that base is as it was.
-#[tactic(auto, unfolding(record_model::specs::Records::updated, registration::specs::Drafts::recorded))]
+#[rattlefmt::skip]
+#[tactic(
+    auto,
+    unfolding(record_model::specs::Records::updated, registration::specs::Drafts::recorded)
+)]
 pub(crate) fn updated_draft(
     alloc: Global,
     old: &Record,

@@ -24,7 +24,11 @@ use Rattle.std.specs.Prelude.{
 }
 use Rattle.std.specs.List.{list_any}
 use Rattle.rd_base.specs.declared.peers.Peer.{Peer}
-use Rattle.event_model.specs.declared.transmission.TheConstants.{MAX_RETRANSMIT, ACK_TIMEOUT, ACK_TIMEOUTS}
+use Rattle.event_model.specs.declared.transmission.TheConstants.{
+  MAX_RETRANSMIT,
+  ACK_TIMEOUT,
+  ACK_TIMEOUTS,
+}
 use Rattle.event_model.specs.declared.notes.Note.{Note}
 use Rattle.event_model.specs.declared.notes.Note.TheVariants as note
 use Rattle.event_model.specs.declared.notes.Observer.{Observer}

@@ -3,8 +3,8 @@
 /// The least first wait for an acknowledgement, in milliseconds (RFC 7252 section 4.8).
 pub const ACK_TIMEOUT: u32 = 2_000;
 
-/// How many first waits there are, in whole milliseconds from ACK_TIMEOUT to one and a half times as
-/// long (ACK_RANDOM_FACTOR of RFC 7252 section 4.8).
+/// How many first waits there are, in whole milliseconds from ACK_TIMEOUT to one and a half times
+/// as long (ACK_RANDOM_FACTOR of RFC 7252 section 4.8).
 pub const ACK_TIMEOUTS: u32 = 1_001;
 
 /// How often a confirmable message is sent again (RFC 7252 section 4.8).

@@ -438,7 +438,8 @@ ExchangesStandFor-settled at place peer mid admitted reply e events t more is or
           ∙ (ap (changed_first (is_admitted_at peer mid admitted) (answered reply)) stands.kept
           ∙ (answered-exchanges place peer mid admitted reply e events here is
           (pairs_filter Follows (λ a. is_young at a.moment) (admissions events) pairs)
-          (each_filter (Matches place peer mid admitted) (λ a. is_young at a.moment) (admissions events)
+          (each_filter (Matches place peer mid admitted) (λ a. is_young at a.moment)
+          (admissions events)
           (each_matches place peer mid admitted (admissions events) pairs there))
           ∙ sym same)));
     }
@@ -478,10 +479,12 @@ ExchangesStandFor-failed at place peer mid admitted e events t fewer is orderly 
           ∙ (young-without at peer mid admitted t.exchanges
           ∙ (ap (without_first (is_admitted_at peer mid admitted)) stands.kept
           ∙ (without-exchanges place peer mid admitted events here
-          (each_filter (λ a. is_admitting a.note ≡ true) (λ a. is_young at a.moment) (admissions events)
+          (each_filter (λ a. is_admitting a.note ≡ true) (λ a. is_young at a.moment)
+          (admissions events)
           (each_admits events))
           (pairs_filter Follows (λ a. is_young at a.moment) (admissions events) pairs)
-          (each_filter (Matches place peer mid admitted) (λ a. is_young at a.moment) (admissions events)
+          (each_filter (Matches place peer mid admitted) (λ a. is_young at a.moment)
+          (admissions events)
           (each_matches place peer mid admitted (admissions events) pairs there))
           ∙ sym same)));
     }

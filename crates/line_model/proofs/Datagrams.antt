@@ -95,7 +95,8 @@ pub datagram_of-found : (text octets : List ℕ)
     → IsDatagramText text octets
 unfolding datagram_of
 datagram_of-found text octets e =
-    elim (either_of (bytes_eq text no_octets) (Some []) (if_sized (decode_of text)) (Some octets) e) [
+    elim (either_of (bytes_eq text no_octets) (Some []) (if_sized (decode_of text)) (Some octets)
+    e) [
       | inl h ↦ inl ((bytes_eq-Decides text no_octets).0 h.0, sym (same_Some [] octets h.1))
       | inr h ↦ inr (sized (decode_of text) octets h.1)
     ]

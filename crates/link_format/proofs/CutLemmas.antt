@@ -273,7 +273,8 @@ module _ (separator : ℕ) (first rest : List ℕ) (c : Counted separator Outsid
         → length first ≤ n
         → length rest ≡ 0
         → n + length first ≡ n + octets_before separator Outside first
-    outside_end n room e = let k = counted_end separator Outside first Outside rest c e in omega arith
+    outside_end n room e =
+        let k = counted_end separator Outside first Outside rest c e in omega arith
 
     module _ (b : ℕ) (bs : List ℕ) (e : rest ≡ b ∷ bs) where
       pub outside_there : (n : ℕ)

@@ -63,7 +63,11 @@ pub fn endpoint_pieces<'a>(record_of: &'a Record, location: &'a [u8]) -> [Piece<
 }
 
 /// An extra attribute of an endpoint: its name alone where its value is empty.
-#[tactic(auto, using(crate::proofs::PieceLaws::extra_with_value, crate::proofs::PieceLaws::is_some_text))]
+#[rattlefmt::skip]
+#[tactic(
+    auto,
+    using(crate::proofs::PieceLaws::extra_with_value, crate::proofs::PieceLaws::is_some_text)
+)]
 pub fn attribute_pieces<'a>(pair: &'a Pair) -> [Piece<'a>; PIECES]
     ensures { octets_of_pieces result ≡ listing_model.extra_attribute pair.now }
 {

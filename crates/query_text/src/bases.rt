@@ -111,7 +111,14 @@ fn reference(text: &str) -> Option<Parts<'_>>
 }
 
 /// What is wrong with a base by itself.
-#[tactic(auto, unfolding(record_model::specs::Parameters::is_base, record_model::specs::Parameters::is_link_local))]
+#[rattlefmt::skip]
+#[tactic(
+    auto,
+    unfolding(
+        record_model::specs::Parameters::is_base,
+        record_model::specs::Parameters::is_link_local
+    )
+)]
 pub(crate) fn base_fault(text: &str) -> Option<Why>
     ensures { result ≡ base_fault text.now }
 {

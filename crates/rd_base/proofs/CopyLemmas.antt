@@ -41,6 +41,7 @@ pub copied_front : (at n room : ℕ) (xs bytes into : List ℕ)
     × (n ≡ 0 → 0 < length into → drop (at + n) xs ≡ [])
 copied_front at n room xs bytes into same count fits copied =
     let size : length bytes ≡ length xs = ap length same in (
-      drop-split at n xs into (subst (λ (l : List ℕ). take n into ≡ take n (drop at l)) same copied),
+      drop-split at n xs into (subst (λ (l : List ℕ). take n into ≡ take n (drop at l)) same
+          copied),
       λ none some. drop_all (at + n) xs (omega arith),
     )

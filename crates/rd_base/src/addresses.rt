@@ -23,7 +23,11 @@ pub fn after_ipv4(octets: [u8; 4], text: &[u8]) -> Option<&[u8]>
 }
 
 /// What stands after groups with a colon before each.
-#[tactic(auto, using(crate::proofs::GroupLemmas::further_none, crate::proofs::GroupLemmas::further_more))]
+#[rattlefmt::skip]
+#[tactic(
+    auto,
+    using(crate::proofs::GroupLemmas::further_none, crate::proofs::GroupLemmas::further_more)
+)]
 fn after_further_groups<'a>(groups: &[u16], text: &'a [u8]) -> Option<&'a [u8]>
     ensures { option_map (λ t. t.now) result
         ≡ after_prefix (flat_map (λ g. codes ":" ++ hex g) groups.now) text.now }
@@ -37,7 +41,11 @@ fn after_further_groups<'a>(groups: &[u16], text: &'a [u8]) -> Option<&'a [u8]>
 }
 
 /// What stands after groups with colons between them.
-#[tactic(auto, using(crate::proofs::GroupLemmas::groups_none, crate::proofs::GroupLemmas::groups_more))]
+#[rattlefmt::skip]
+#[tactic(
+    auto,
+    using(crate::proofs::GroupLemmas::groups_none, crate::proofs::GroupLemmas::groups_more)
+)]
 fn after_groups<'a>(groups: &[u16], text: &'a [u8]) -> Option<&'a [u8]>
     ensures { option_map (λ t. t.now) result ≡ after_prefix (groups_text groups.now) text.now }
 {
@@ -79,7 +87,12 @@ fn longest_zeros(groups: &[u16]) -> (usize, usize)
 }
 
 /// What stands after groups, the longest run of zeros as two colons (RFC 5952 section 4.2).
-#[tactic(auto, using(crate::proofs::PrefixLemmas::after_two), unfolding(std::specs::Net::Text::hex_groups_text))]
+#[rattlefmt::skip]
+#[tactic(
+    auto,
+    using(crate::proofs::PrefixLemmas::after_two),
+    unfolding(std::specs::Net::Text::hex_groups_text)
+)]
 fn after_hex_groups<'a>(groups: &[u16], text: &'a [u8]) -> Option<&'a [u8]>
     ensures { option_map (λ t. t.now) result ≡ after_prefix (hex_groups_text groups.now) text.now }
 {
@@ -93,7 +106,12 @@ fn after_hex_groups<'a>(groups: &[u16], text: &'a [u8]) -> Option<&'a [u8]>
 }
 
 /// What stands after an IPv6 address, one that maps an IPv4 address with dots (RFC 5952 section 5).
-#[tactic(auto, using(crate::proofs::PrefixLemmas::after_two), unfolding(std::specs::Net::Text::ipv6_text))]
+#[rattlefmt::skip]
+#[tactic(
+    auto,
+    using(crate::proofs::PrefixLemmas::after_two),
+    unfolding(std::specs::Net::Text::ipv6_text)
+)]
 pub fn after_ipv6(groups: [u16; 8], text: &[u8]) -> Option<&[u8]>
     ensures { option_map (λ t. t.now) result ≡ after_prefix (ipv6_text groups) text.now }
 {

@@ -7,7 +7,11 @@ ghost use Rattle.rd_base.specs.Prefixes.{after_prefix};
 use itoa::Buffer;
 
 /// What stands after a prefix, where the text begins with it.
-#[tactic(auto, using(crate::proofs::PrefixLemmas::after_taken, crate::proofs::PrefixLemmas::after_other))]
+#[rattlefmt::skip]
+#[tactic(
+    auto,
+    using(crate::proofs::PrefixLemmas::after_taken, crate::proofs::PrefixLemmas::after_other)
+)]
 pub fn after_prefix<'a>(prefix: &[u8], text: &'a [u8]) -> Option<&'a [u8]>
     ensures { option_map (λ t. t.now) result ≡ after_prefix prefix.now text.now }
 {

@@ -172,7 +172,11 @@ fn is_literal(text: &str) -> bool
 }
 
 /// A port with its colon, or nothing (RFC 3986 section 3.2.3).
-#[tactic(auto, using(crate::proofs::ReachLaws::port_after_colon, crate::proofs::ReachLaws::no_port))]
+#[rattlefmt::skip]
+#[tactic(
+    auto,
+    using(crate::proofs::ReachLaws::port_after_colon, crate::proofs::ReachLaws::no_port)
+)]
 fn port_reach(text: &str) -> Reach
     ensures whole { result.whole ≡ references.is_port_text text.now }
     ensures at { result.at ≡ faults.port_prefix text.now }
@@ -242,7 +246,11 @@ fn name_reach(text: &str) -> Reach
 }
 
 /// A host, and a port or none.
-#[tactic(auto, using(crate::proofs::ReachLaws::host_in_brackets, crate::proofs::ReachLaws::host_of_name))]
+#[rattlefmt::skip]
+#[tactic(
+    auto,
+    using(crate::proofs::ReachLaws::host_in_brackets, crate::proofs::ReachLaws::host_of_name)
+)]
 fn host_reach(text: &str) -> Reach
     ensures whole { result.whole ≡ references.is_host_and_port text.now }
     ensures at { result.at ≡ faults.host_prefix text.now }
@@ -261,7 +269,16 @@ fn host_reach(text: &str) -> Reach
 }
 
 /// An authority: user information or none, a host, and a port or none (RFC 3986 section 3.2).
-#[tactic(auto, using(crate::proofs::ReachLaws::octet_after, reference_model::proofs::ReferenceCuts::before_alone, crate::proofs::ReachLaws::no_at_sign), unfolding(reference_model::specs::ReferenceFaults::authority_prefix))]
+#[rattlefmt::skip]
+#[tactic(
+    auto,
+    using(
+        crate::proofs::ReachLaws::octet_after,
+        reference_model::proofs::ReferenceCuts::before_alone,
+        crate::proofs::ReachLaws::no_at_sign
+    ),
+    unfolding(reference_model::specs::ReferenceFaults::authority_prefix)
+)]
 pub(crate) fn authority_reach(text: &str) -> Reach
     ensures whole { result.whole ≡ references.is_authority text.now }
     ensures at { result.at ≡ faults.authority_prefix text.now }

@@ -473,7 +473,8 @@ user_longest text rest u e = record {
     ap (λ (t : List ℕ). is_authority (t ++ l.begins.0)) taken
         ∙ ap is_authority (append_assoc front (at_sign ∷ take n rest) (l.begins.0))
         ∙ authority_with_user begun ended (after-marked at_sign front (Some ended) no_mark)
-        ∙ both_pass (is_text_of is_userinfo_character (before at_sign begun)) (is_host_and_port ended)
+        ∙ both_pass (is_text_of is_userinfo_character (before at_sign begun))
+        (is_host_and_port ended)
         (ap (is_text_of is_userinfo_character) (before-marked at_sign front (Some ended) no_mark)
         ∙ u) (l.begins.1),
   );

@@ -1,5 +1,23 @@
 -- What an admission does and leaves, by what it hears (RFC 7252 section 4).
-use Rattle.std.proofs.Common.{◌≡◌, ℕ, ◌&&◌, ◌||◌, not, Bool, true, false, List, Option, None, Result, refl, sym, ap, subst, ◌∙◌}
+use Rattle.std.proofs.Common.{
+  ◌≡◌,
+  ℕ,
+  ◌&&◌,
+  ◌||◌,
+  not,
+  Bool,
+  true,
+  false,
+  List,
+  Option,
+  None,
+  Result,
+  refl,
+  sym,
+  ap,
+  subst,
+  ◌∙◌,
+}
 use Rattle.std.specs.List.{list_any}
 use Rattle.std.proofs.lemmas.Bool.{false≢true}
 use Rattle.rd_base.specs.declared.moments.Moment.{Moment}
@@ -21,7 +39,14 @@ use Rattle.journal_model.specs.declared.rows.Row.{Row}
 use Rattle.journal_model.specs.Effects.{Effects, Reply, nothing}
 use Rattle.journal_model.specs.Journal.{events}
 use Rattle.journal_model.specs.Lookups.{lookup_effects}
-use Rattle.journal_model.specs.Requests.{refusal_of_request, is_lookup, is_discovery, is_later_block, is_heeded, only_looks}
+use Rattle.journal_model.specs.Requests.{
+  refusal_of_request,
+  is_lookup,
+  is_discovery,
+  is_later_block,
+  is_heeded,
+  only_looks,
+}
 use Rattle.journal_model.specs.Responses.{response_effects}
 use Rattle.journal_model.specs.Rows.{
   served,

@@ -1,6 +1,38 @@
 -- The steps of the machine, as a table of fetches answers them: responses, the start of a fetch,
 -- and requests that are sent again; and a row more.
-use Rattle.std.proofs.Common.{◌≡◌, ◌≢◌, ℕ, ◌+◌, ◌*◌, ◌/◌, ◌%◌, ◌<◌, ◌≤◌, ◌==◌, ◌&&◌, Bool, true, false, cond, List, [], ◌∷◌, ◌++◌, length, codes, find, Option, Some, None, option_map, refl, ap, eq-eqb, ◌∙◌, arith}
+use Rattle.std.proofs.Common.{
+  ◌≡◌,
+  ◌≢◌,
+  ℕ,
+  ◌+◌,
+  ◌*◌,
+  ◌/◌,
+  ◌%◌,
+  ◌<◌,
+  ◌≤◌,
+  ◌==◌,
+  ◌&&◌,
+  Bool,
+  true,
+  false,
+  cond,
+  List,
+  [],
+  ◌∷◌,
+  ◌++◌,
+  length,
+  codes,
+  find,
+  Option,
+  Some,
+  None,
+  option_map,
+  refl,
+  ap,
+  eq-eqb,
+  ◌∙◌,
+  arith,
+}
 use Rattle.std.specs.Prelude.{is_none, nat_le, unwrap_or}
 use Rattle.std.specs.List.{AllByRecursion}
 use Rattle.std.proofs.lemmas.Bool.{and_parts, ne_eqb}
@@ -19,7 +51,16 @@ use Rattle.record_model.specs.Parameters.{registration_values}
 use Rattle.event_model.specs.declared.notes.Note.{Note}
 use Rattle.event_model.specs.Same.{is_same_peer}
 use Rattle.event_model.specs.Events.{Event}
-use Rattle.event_model.specs.Fetches.{max_fetches, fetches, is_fetching, next_token, Request, last_request, is_request_to, request_of}
+use Rattle.event_model.specs.Fetches.{
+  max_fetches,
+  fetches,
+  is_fetching,
+  next_token,
+  Request,
+  last_request,
+  is_request_to,
+  request_of,
+}
 use Rattle.event_model.proofs.SameLaws.{is_same_peer-Decides, is_same_peer-refl}
 use Rattle.journal_model.specs.declared.steps.Step.{Step}
 use Rattle.journal_model.specs.declared.rows.Row.{Row}
@@ -38,12 +79,23 @@ use Rattle.journal_model.specs.Responses.{
   response_use,
 }
 use Rattle.journal_model.specs.Responses as responses
-use Rattle.journal_model.specs.Ticks.{octets_sent, is_confirmable_with, confirmable_sent, repeating, sent_again}
+use Rattle.journal_model.specs.Ticks.{
+  octets_sent,
+  is_confirmable_with,
+  confirmable_sent,
+  repeating,
+  sent_again,
+}
 use Rattle.journal_model.proofs.EventRows.{row_of}
 use Rattle.simple_registration.specs.declared.starts.StartFault.TheVariants as fault
 use Rattle.simple_registration.specs.Sendable.{IsSendable}
 use Rattle.simple_registration.specs.Table.{Table}
-use Rattle.simple_registration.specs.FetchEvents.{FetchesStandFor, start_refusal, has_names_of_request, belongs_after}
+use Rattle.simple_registration.specs.FetchEvents.{
+  FetchesStandFor,
+  start_refusal,
+  has_names_of_request,
+  belongs_after,
+}
 use Rattle.simple_registration.proofs.DeskLaws.{FetchesStandFor-octets}
 
 -- ---- responses

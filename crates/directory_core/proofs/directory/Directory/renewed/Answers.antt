@@ -244,7 +244,8 @@ returns c =
     let few = room.2 in
     let light = room.1 in (
       ap (λ (w : Version). after_entry w now.0 c.in_ok-records.records w.last_number) c.self.view_is
-          ∙ renewal_records v now c.args.counts old draft kept.rising a c.in_ok-records.records records,
+          ∙ renewal_records v now c.args.counts old draft kept.rising a c.in_ok-records.records
+          records,
       omega (arith, light, text),
       omega (arith, few, entries),
     )

@@ -16,7 +16,8 @@ returns-then-saturating_sub-from-clause-kept c =
     ap (λ due. kept_after due c.args.now.0 c.args.self.now)
     (returns-then-saturating_sub-from-clause-due c)
 
-pub returns-then-self-eq-MAX_RETRANSMIT-clause-due : goal.returns-then-self-eq-MAX_RETRANSMIT-clause-due
+pub returns-then-self-eq-MAX_RETRANSMIT-clause-due
+    : goal.returns-then-self-eq-MAX_RETRANSMIT-clause-due
 returns-then-self-eq-MAX_RETRANSMIT-clause-due c =
     due_ends c.args.now.0 (record
     { sent = c.self.inside.sent.0; wait = c.self.inside.wait; again = c.self.inside.again })
@@ -24,7 +25,8 @@ returns-then-self-eq-MAX_RETRANSMIT-clause-due c =
     c.self.invariant.0 c.if-self-eq-MAX_RETRANSMIT.true
     ∙ ap (kept_due c.args.now.0) c.self.view_is
 
-pub returns-then-self-eq-MAX_RETRANSMIT-clause-kept : goal.returns-then-self-eq-MAX_RETRANSMIT-clause-kept
+pub returns-then-self-eq-MAX_RETRANSMIT-clause-kept
+    : goal.returns-then-self-eq-MAX_RETRANSMIT-clause-kept
 returns-then-self-eq-MAX_RETRANSMIT-clause-kept c =
     ap (λ due. kept_after due c.args.now.0 c.args.self.now)
     (returns-then-self-eq-MAX_RETRANSMIT-clause-due c)

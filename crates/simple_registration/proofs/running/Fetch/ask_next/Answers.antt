@@ -13,7 +13,8 @@ returns-clause-sendable c =
     (Some (block_after c.args.block.now)) c.as_slice.ensures.fits
     (copied
     ∙ (c.in_ok-kept.ensures.spelled
-    ∙ ap (λ (t : List ℕ). spelling (fetch_request c.args.mid t (Some (block_after c.args.block.now))))
+    ∙ ap (λ (t : List ℕ).
+    spelling (fetch_request c.args.mid t (Some (block_after c.args.block.now))))
     c.as_slice.ensures.value))
     (subst (λ (bytes : List ℕ). length bytes ≤ longest_datagram) (sym copied)
     c.in_ok-kept.ensures.fits)
