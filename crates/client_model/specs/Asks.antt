@@ -135,7 +135,8 @@ registering to path query links = record {
 }
 
 -- that ask, where each part may stand in an option and its datagram is not too long
-unfoldable pub registration_at : Peer → List (List ℕ) → List (List ℕ) → List ℕ → Result Ask AskBad
+unfoldable pub registration_at : Peer → List (List ℕ) → List (List ℕ) → List ℕ
+    → Result Ask AskBad
 registration_at to path query links =
     if are_parts path && are_parts query then if_short (registering to path query links)
     else Err bad.Part

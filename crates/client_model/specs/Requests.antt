@@ -1,6 +1,19 @@
 -- The requests of a client of a directory (RFC 9176 section 5): what each is for, the message that
 -- it is, and which can be sent.
-use Rattle.std.specs.Prelude.{ℕ, ◌≡◌, ◌+◌, ◌≤◌, ◌==◌, ◌⊎◌, List, [], ◌∷◌, length, ⊤, if◌then◌else◌}
+use Rattle.std.specs.Prelude.{
+  ℕ,
+  ◌≡◌,
+  ◌+◌,
+  ◌≤◌,
+  ◌==◌,
+  ◌⊎◌,
+  List,
+  [],
+  ◌∷◌,
+  length,
+  ⊤,
+  if◌then◌else◌,
+}
 use Rattle.rd_base.specs.declared.peers.Peer.{Peer}
 use Rattle.message_model.specs.declared.messages.TheConstants.{MAX_MESSAGE_SIZE}
 use Rattle.message_model.specs.declared.messages.Kind4.TheVariants.{Con}

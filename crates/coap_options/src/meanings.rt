@@ -39,9 +39,11 @@ pub struct Meaning<'a> {
         by { Prim.hlevel props },
     pub ghost format_said: { format ≡ request.format_in (message_in view) }
         by { Prim.hlevel props },
-    pub ghost block1_said: { option_map (λ v. v.now) block1 ≡ request.block1_in (message_in view) }
+    pub ghost block1_said: { option_map (λ v. v.now) block1
+        ≡ request.block1_in (message_in view) }
         by { Prim.hlevel props },
-    pub ghost block2_said: { option_map (λ v. v.now) block2 ≡ request.block2_in (message_in view) }
+    pub ghost block2_said: { option_map (λ v. v.now) block2
+        ≡ request.block2_in (message_in view) }
         by { Prim.hlevel props },
     pub ghost proxy_said: { proxy ≡ request.has_proxy (message_in view) },
     pub ghost block1_short: { ForSome block1 (λ v. length v.now ≤ 3) },

@@ -60,7 +60,8 @@ block_room false true = lives_with_too_many
 block_room false false = fits_in
 
 -- a block that goes on with what is collected, by the room for it
-abbrev pub block_unless : BlockRoom → List Row → ℕ → Step → Message → Block → List ℕ → Outcome
+abbrev pub block_unless : BlockRoom → List Row → ℕ → Step → Message → Block → List ℕ
+    → Outcome
 block_unless collects_too_much rows moment s m b body =
     refused codes_of.request_entity_too_large (codes "size")
 block_unless lives_with_too_many rows moment s m b body =

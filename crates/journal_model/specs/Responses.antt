@@ -120,7 +120,8 @@ response_use false true = the_end
 response_use false false = next_part
 
 -- a response to a fetch: passed over, or the end, or the next block
-abbrev pub response_taken : ResponseUse → List Row → ℕ → Step → Message → Request → Effects
+abbrev pub response_taken : ResponseUse → List Row → ℕ → Step → Message → Request
+    → Effects
 response_taken of_elsewhere rows moment s m request = nothing
 response_taken the_end rows moment s m request = noting (note.Ceased s.peer ∷ [])
 response_taken next_part rows moment s m request =

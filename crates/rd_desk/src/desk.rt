@@ -183,7 +183,8 @@ impl<B: Board> Desk<B> {
             → s.datagram ≡ arrival.entry.datagram.now
             → s.word ≡ arrival.entry.word
             → IsCalled rows s arrival.entry.moment mids.old self.old.tables
-            → Made rows (row rows s (is_starved_admission result)) self.new.tables out.new mids.old
+            → Made rows
+            (row rows s (is_starved_admission result)) self.new.tables out.new mids.old
             mids.new }
         ensures held { (rows : List Row) (s : Step)
             → s.kind ≡ step.Admit
@@ -196,7 +197,8 @@ impl<B: Board> Desk<B> {
             → s.peer ≡ arrival.entry.peer
             → s.datagram ≡ arrival.entry.datagram.now
             → IsCalled rows s arrival.entry.moment mids.old self.old.tables
-            → takes_memory rows (row_moment rows s) s (reading arrival.entry.datagram.now) ≡ false
+            → takes_memory rows (row_moment rows s) s (reading arrival.entry.datagram.now)
+            ≡ false
             → is_starved_admission result ≡ false }
         ensures staged { (rows : List Row) (s : Step)
             → s.kind ≡ step.Admit
@@ -204,7 +206,8 @@ impl<B: Board> Desk<B> {
             → s.datagram ≡ arrival.entry.datagram.now
             → s.word ≡ arrival.entry.word
             → IsCalled rows s arrival.entry.moment mids.old self.old.tables
-            → LeavesStaged (row rows s (is_starved_admission result)).notes self.new.tables.version
+            → LeavesStaged
+            (row rows s (is_starved_admission result)).notes self.new.tables.version
             (B.staged self.old.board) (B.staged self.new.board) (B.has_staged self.new.board) }
         ensures name { B.name self.new.board ≡ B.name self.old.board }
         ensures told { B.told self.new.board ≡ B.told self.old.board }

@@ -118,7 +118,8 @@ pub looks_not_as : (datagram : List ℕ) (x : Incoming)
     → ((request : Request) → x ≡ incoming.Look request → ⊥)
     → is_look_datagram datagram ≡ false
 looks_not_as datagram x is none = looks_is datagram x is ∙ other x none where
-  other : (y : Incoming) → ((request : Request) → y ≡ incoming.Look request → ⊥) → looks y ≡ false
+  other : (y : Incoming) → ((request : Request) → y ≡ incoming.Look request → ⊥)
+      → looks y ≡ false
   other (incoming.Unread fault) none = refl
   other incoming.Nothing none = refl
   other (incoming.Ping view) none = refl

@@ -1,5 +1,17 @@
 -- What a request asks, and the refusals that it alone decides, as the code says them.
-use Rattle.std.specs.Prelude.{◌≡◌, ℕ, Bool, true, false, ◌||◌, ◌==◌, codes, Option, Some, None}
+use Rattle.std.specs.Prelude.{
+  ◌≡◌,
+  ℕ,
+  Bool,
+  true,
+  false,
+  ◌||◌,
+  ◌==◌,
+  codes,
+  Option,
+  Some,
+  None,
+}
 use Rattle.message_model.specs.declared.messages.Kind4.{Kind4}
 use Rattle.message_model.specs.declared.messages.Kind4.TheVariants.{Non}
 use Rattle.message_model.specs.declared.requests.Path.{Path}

@@ -65,7 +65,8 @@ size_of m =
     omega (arith, whole, rest)
 
 options_grow : (before : ℕ) (options more : List Opt)
-    → length (options_spelling before options) ≤ length (options_spelling before (options ++ more))
+    → length (options_spelling before options)
+    ≤ length (options_spelling before (options ++ more))
 unfolding options_spelling
 options_grow before [] more = omega arith
 options_grow before (o ∷ options) more =
@@ -116,7 +117,8 @@ putting_step first m options left more o steps putting =
     record {
       code = putting.code;
       bare = putting.bare;
-      follow = subst (λ (n : ℕ). CanFollow n more) (sym (end_number-push 0 m.options o)) follow.3;
+      follow = subst (λ (n : ℕ). CanFollow n more)
+          (sym (end_number-push 0 m.options o)) follow.3;
       whole =
           one_more m o more
           ∙ (sym (ap (λ (l : List Opt). with_options m l) steps) ∙ putting.whole);
@@ -236,7 +238,8 @@ finished_short ask mid token m payload octets eight begun whole spelled short =
     let less : ask_size ask ≤ MAX_MESSAGE_SIZE = omega (arith, size, short) in
     sym (le-leb (ask_size ask) MAX_MESSAGE_SIZE less)
 
-pub finished_never_long : (ask : Ask) (mid : ℕ) (token : List ℕ) (m : Message) (payload : List ℕ)
+pub finished_never_long : (ask : Ask) (mid : ℕ) (token : List ℕ) (m : Message)
+    (payload : List ℕ)
     → length token ≡ TOKEN_SIZE
     → CanBeSent ask
     → m ≡ opened ask mid token

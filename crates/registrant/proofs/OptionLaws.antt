@@ -50,7 +50,8 @@ pub record IsAdding
   pub added : now ++ options_with number left ≡ before ++ options_with number all
   pub passes : list_all test all ≡ list_all test left
 
-pub adding_first : (test : List ℕ → Bool) (number : ℕ) (before : List Opt) (all : List (List ℕ))
+pub adding_first : (test : List ℕ → Bool) (number : ℕ) (before : List Opt)
+    (all : List (List ℕ))
     → IsAdding test number before before all all
 adding_first test number before all = record { added = refl; passes = refl }
 
@@ -63,7 +64,8 @@ pub adding_step : (test : List ℕ → Bool) (number : ℕ) (before now : List O
 adding_step test number before now all left more v steps good adding = record {
   added =
       append_assoc now ((number, v) ∷ []) (options_with number more)
-      ∙ (sym (ap (λ (l : List (List ℕ)). now ++ options_with number l) steps) ∙ adding.added);
+      ∙ (sym (ap (λ (l : List (List ℕ)). now ++ options_with number l) steps)
+      ∙ adding.added);
   passes = adding.passes ∙ (ap (list_all test) steps ∙ rw good refl);
 }
 
@@ -97,7 +99,8 @@ adds_bad number part values before now why.Part decoded all = all decoded
 adds_bad number part values before now why.Starved decoded all = tt
 
 -- the parts of what is left of a text, of which one was cut off
-pub cut_steps : (mark : ℕ) (left : Option (Bor (List ℕ))) (text : Bor (List ℕ)) (part : List ℕ)
+pub cut_steps : (mark : ℕ) (left : Option (Bor (List ℕ))) (text : Bor (List ℕ))
+    (part : List ℕ)
     (more : Option (List ℕ))
     → left ≡ Some text
     → part ≡ before mark text.now

@@ -207,7 +207,8 @@ same_both x y false = refl
 -- a tick that decides nothing
 stands_after_tick : (a : Asked) (octets : List ℕ) (past : List Event) (now : Moment)
     (sent : List ℕ) (t : Talking)
-    → tick_decides a (is_quiet a past) now.0 (sent_again a past) ≡ None → verdict a past ≡ None
+    → tick_decides a (is_quiet a past) now.0 (sent_again a past) ≡ None
+    → verdict a past ≡ None
     → cond (is_sent_again a (is_quiet a past) now.0 (sent_again a past))
     (now.0 ∷ sent_again a past) (sent_again a past) ≡ sent
     → t ≡ record (talking a octets past) { resend = resent a sent }
@@ -215,7 +216,8 @@ stands_after_tick : (a : Asked) (octets : List ℕ) (past : List Event) (now : M
 unfolding is_quiet sent_again verdict
 stands_after_tick a octets past now sent t none unsaid sends is = record {
   kept =
-      is ∙ ap (λ (s : List ℕ). record (talking a octets past) { resend = resent a s }) (sym sends);
+      is ∙ ap (λ (s : List ℕ). record (talking a octets past) { resend = resent a s })
+      (sym sends);
   undecided = rw (unsaid, none) refl;
 }
 
@@ -339,7 +341,8 @@ resent_first a =
     (waiting a.at)
     (sym (times_one (first_wait a.word)))
 
-abbrev begun : Ask → ℕ → List ℕ → ℕ → Purpose → List ℕ → Retransmission → Talking
+abbrev begun : Ask → ℕ → List ℕ → ℕ → Purpose → List ℕ → Retransmission
+    → Talking
 begun ask mid token now purpose octets r = record {
   request = record { to = ask.to; purpose = purpose; mid = mid; token = token };
   octets = octets;

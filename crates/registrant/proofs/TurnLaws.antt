@@ -389,7 +389,8 @@ turned_taken a octets past (event.Came now peer datagram) (turn.Over (Err fault.
     }
 
 -- what is made of an event leaves the count of failed receives
-pub counts_by : (r : Turn) (before now : ℕ) → IsNoLink r → now ≡ before → CountsTurn before now r
+pub counts_by : (r : Turn) (before now : ℕ) → IsNoLink r → now ≡ before
+    → CountsTurn before now r
 counts_by turn.Going before now none same = same
 counts_by (turn.Over (Ok o)) before now none same = same
 counts_by (turn.Over (Err fault.Link)) before now none same = absurd none

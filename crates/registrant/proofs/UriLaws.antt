@@ -40,7 +40,8 @@ pub some_peer : {E : Type 0} (found : Option Peer) (e : E) (peer : Peer)
 some_peer None e peer same = absurd cc
 some_peer (Some p) e peer same = cc
 
-pub no_peer : {E : Type 0} (found : Option Peer) (e f : E) → Err f ≡ ok_or found e → None ≡ found
+pub no_peer : {E : Type 0} (found : Option Peer) (e f : E) → Err f ≡ ok_or found e
+    → None ≡ found
 no_peer None e f same = refl
 no_peer (Some p) e f same = absurd cc
 

@@ -63,7 +63,8 @@ and_then past (e ∷ events) = and_then (e ∷ past) events
 
 -- how it ended after these events: they decide it; or they do not, and a receive failed, or what
 -- came could not be heard
-abbrev pub Ends : Asked → List Event → Result Outcome TellFault → Outside → Outside → Type 0
+abbrev pub Ends : Asked → List Event → Result Outcome TellFault → Outside → Outside
+    → Type 0
 Ends a past (Ok o) before after = (verdict a past ≡ Some o) × (after ≡ before)
 Ends a past (Err fault.Link) before after = (verdict a past ≡ None) × Fails before after
 Ends a past (Err fault.Starved) before after = (verdict a past ≡ None) × Loses before after
@@ -86,7 +87,8 @@ pub record Comes
   pub ends : Ends a (and_then past more) outcome last after
 
 -- whatever request and events the talk stands for, so it comes
-abbrev pub IsGiven : Talking → Bool → Result Outcome TellFault → Outside → Outside → Type 0
+abbrev pub IsGiven : Talking → Bool → Result Outcome TellFault → Outside → Outside
+    → Type 0
 IsGiven talk is_sent outcome before after =
     (a : Asked) (octets : List ℕ) (past : List Event)
     → StandsFor a octets past talk

@@ -33,7 +33,8 @@ use Rattle.registrant.specs.declared.parts.PartBad.TheVariants as bad
 
 -- what a part is decoded to, unless memory ran out
 abbrev pub IsDecoded : List ℕ → Result (List ℕ) PartBad → Type 0
-IsDecoded text (Ok part) = (part ≡ percent_decode text) × (is_part (percent_decode text) ≡ true)
+IsDecoded text (Ok part) = (part ≡ percent_decode text)
+    × (is_part (percent_decode text) ≡ true)
 IsDecoded text (Err bad.Part) = is_part (percent_decode text) ≡ false
 IsDecoded text (Err bad.Starved) = ⊤
 
@@ -63,7 +64,8 @@ parts_left mark None = []
 parts_left mark (Some text) = parts_at mark text
 
 -- these are the options of a registration with a path and a query, unless memory ran out
-abbrev pub AreRegistering : List (List ℕ) → List (List ℕ) → Result (List Opt) PartBad → Type 0
+abbrev pub AreRegistering : List (List ℕ) → List (List ℕ) → Result (List Opt) PartBad
+    → Type 0
 AreRegistering path query (Ok options) =
     ((are_parts path && are_parts query) ≡ true)
     × (options

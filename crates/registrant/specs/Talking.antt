@@ -63,7 +63,8 @@ asked_now ask mid token at word = record {
 }
 
 -- this is kept of a request with these octets after these events, none of which decides it
-pub record StandsFor (a : Asked) (octets : List ℕ) (past : List Event) (t : Talking) : Type 0 where
+pub record StandsFor (a : Asked) (octets : List ℕ) (past : List Event)
+    (t : Talking) : Type 0 where
   pub kept : t ≡ talking a octets past
   pub undecided : verdict a past ≡ None
 

@@ -1,5 +1,6 @@
 //! The datagram of an ask (RFC 7252 section 3).
-ghost use Rattle.std.specs.Prelude.{◌≡◌, ◌<◌, ◌≤◌, ◌⊎◌, [], length, nat_le, IfOk, OnOk, OnErr};
+ghost use Rattle.std.specs.Prelude.{◌≡◌, ◌<◌, ◌≤◌, ◌⊎◌, []};
+ghost use Rattle.std.specs.Prelude.{length, nat_le, IfOk, OnOk, OnErr};
 ghost use Rattle.message_model.specs.declared.messages.TheConstants.{MAX_MESSAGE_SIZE};
 ghost use Rattle.message_model.specs.Codes as codes_of;
 ghost use Rattle.message_model.specs.Message.{end_number};

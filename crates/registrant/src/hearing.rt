@@ -1,5 +1,6 @@
 //! What a message of the directory is to a request.
-ghost use Rattle.std.specs.Prelude.{◌≡◌, ◌&&◌, Some, None, true, false, IfOk, MatchOption};
+ghost use Rattle.std.specs.Prelude.{◌≡◌, ◌&&◌, Some, None};
+ghost use Rattle.std.specs.Prelude.{true, false, IfOk, MatchOption};
 ghost use Rattle.std.specs.Prelude.{bytes_eq, if◌then◌else◌};
 ghost use Rattle.message_model.specs.Request.{locations_in};
 ghost use Rattle.coap_message.specs.Views.{message_in};

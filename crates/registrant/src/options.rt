@@ -1,5 +1,6 @@
 //! The options that the parts of a URI and of a location become (RFC 7252 section 6.4).
-ghost use Rattle.std.specs.Prelude.{◌≡◌, ◌<◌, ◌∷◌, [], true, false, length, option_map};
+ghost use Rattle.std.specs.Prelude.{◌≡◌, ◌<◌, ◌∷◌, []};
+ghost use Rattle.std.specs.Prelude.{true, false, length, option_map};
 ghost use Rattle.std.specs.Prelude.{MatchOption, ⊤};
 ghost use Rattle.message_model.specs.declared.formats.TheConstants.{LINK_FORMAT};
 ghost use Rattle.link_model.specs.Characters.{slash};
@@ -77,7 +78,8 @@ fn push_path(alloc: Global, options: &mut Opts, path: &str) -> Result<(), PartBa
 
 /// Adds the parts of a query as Uri-Query options. An empty query is one empty part.
 fn push_query(alloc: Global, options: &mut Opts, query: Option<&str>) -> Result<(), PartBad>
-    ensures { let values = decoded_parts (asks.query_parts (option_map (λ q. q.now) query.entry)) in
+    ensures { let values =
+        decoded_parts (asks.query_parts (option_map (λ q. q.now) query.entry)) in
         Adds table.uri_query (are_parts values) values options.old result options.new }
 {
     match query {

@@ -1,5 +1,6 @@
 //! One turn of a talk over a link: what came is heard, or time passes.
-ghost use Rattle.std.specs.Prelude.{◌≡◌, ◌≤◌, ◌∷◌, [], ℕ, List, length, take, option_map};
+ghost use Rattle.std.specs.Prelude.{◌≡◌, ◌≤◌, ◌∷◌, [], ℕ};
+ghost use Rattle.std.specs.Prelude.{List, length, take, option_map};
 ghost use Rattle.udp_link.specs.declared.links.TheConstants.{MAX_DATAGRAM};
 ghost use Rattle.udp_link.specs.Told.{Stays};
 ghost use Rattle.client_model.specs.declared.events.Event.{Event};

@@ -1,5 +1,6 @@
 //! The table of fetches.
-ghost use Rattle.std.specs.Prelude.{◌≡◌, ◌≢◌, ◌+◌, ◌<◌, ◌≤◌, [], ◌∷◌, true, false, length, List};
+ghost use Rattle.std.specs.Prelude.{◌≡◌, ◌≢◌, ◌+◌, ◌<◌, ◌≤◌, []};
+ghost use Rattle.std.specs.Prelude.{◌∷◌, true, false, length, List};
 ghost use Rattle.std.specs.Prelude.{◌==◌, IfOk, OnErr, IfSome, is_some, Some, None, slice_get};
 ghost use Rattle.std.specs.Prelude.{option_map, find, vec_capacity};
 ghost use Rattle.std.specs.List.{position};

@@ -82,7 +82,8 @@ unfolding stream_from judge extension_size length_said message_fault tail_at sho
 cut = refl
 
 -- A CSM with the option 2, its Max-Message-Size, which is elective (RFC 8323 section 5.3.1).
-elective : (stream_of (0x10 ∷ 0xe1 ∷ 0x20 ∷ [])).messages ≡ (0x10 ∷ 0xe1 ∷ 0x20 ∷ []) ∷ []
+elective : (stream_of (0x10 ∷ 0xe1 ∷ 0x20 ∷ [])).messages
+    ≡ (0x10 ∷ 0xe1 ∷ 0x20 ∷ []) ∷ []
 unfolding stream_from judge extension_size length_said message_fault tail_at short_tail option_at
     extended_at
 elective = refl
@@ -151,7 +152,8 @@ unfolding stream_from judge extension_size length_said message_fault tail_at sho
 first_too_long = refl
 
 -- A tail of 2^32 octets.
-huge : (stream_of (0x00 ∷ 0xe1 ∷ 0xf0 ∷ 0xff ∷ 0xfe ∷ 0xfe ∷ 0xf3 ∷ [])).fault ≡ Some bad.Size
+huge : (stream_of (0x00 ∷ 0xe1 ∷ 0xf0 ∷ 0xff ∷ 0xfe ∷ 0xfe ∷ 0xf3 ∷ [])).fault
+    ≡ Some bad.Size
 unfolding stream_from judge extension_size length_said message_fault tail_at short_tail
 huge = refl
 

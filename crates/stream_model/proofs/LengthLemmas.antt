@@ -173,4 +173,5 @@ spelled_again nibble extension few size bytes =
               (four_places a b c d bytes.1.0 bytes.1.1.0 bytes.1.1.1.0);
           most = omega (arith, bytes.0, bytes.1.0, bytes.1.1.0, bytes.1.1.1.0);
         }
-    by false false false ep eq er (a ∷ b ∷ c ∷ d ∷ g ∷ e) size bytes = absurd (omega (arith, size))
+    by false false false ep eq er (a ∷ b ∷ c ∷ d ∷ g ∷ e) size bytes =
+        absurd (omega (arith, size))

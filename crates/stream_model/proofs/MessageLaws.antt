@@ -154,7 +154,8 @@ known_judged is_first m few =
 
 -- ---- fronts
 
-pub same_cons : (x y : ℕ) (xs ys : List ℕ) → x ∷ xs ≡ y ∷ ys → (x ≡ y) × (xs ≡ ys)
+pub same_cons : (x y : ℕ) (xs ys : List ℕ) → x ∷ xs ≡ y ∷ ys
+    → (x ≡ y) × (xs ≡ ys)
 same_cons x y xs ys e = (cc, cc)
 
 front_take : (e front more rest : List ℕ)

@@ -331,7 +331,8 @@ known_of is_first octets bytes fronts not_more = by (compared octets bytes).side
         absurd (not_more (front_more is_first m octets f.more fits.token_length f.same f.some))
     by (inr f) = record { message = m; fits = fits; known = behind f.more f.same }
 
-whole_faultless : (fault : Option StreamBad) → verdict_by fault ≡ judged.Whole → fault ≡ None
+whole_faultless : (fault : Option StreamBad) → verdict_by fault ≡ judged.Whole
+    → fault ≡ None
 whole_faultless None e = refl
 whole_faultless (Some why) e = absurd cc
 

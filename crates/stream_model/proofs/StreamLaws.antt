@@ -100,7 +100,8 @@ pub go_on : (is_first : Bool) (pending more octets : List ℕ)
     → ((front rest : List ℕ)
     → front ++ rest ≡ more
     → judge is_first (pending ++ front) ≡ judged.More)
-    → stream_from is_first pending (more ++ octets) ≡ stream_from is_first (pending ++ more) octets
+    → stream_from is_first pending (more ++ octets)
+    ≡ stream_from is_first (pending ++ more) octets
 go_on is_first pending [] octets fronts =
     ap (λ (l : List ℕ). stream_from is_first l octets) (sym (append-nil pending))
 go_on is_first pending (b ∷ more) octets fronts =
@@ -143,7 +144,8 @@ all_push : (is_first : Bool) (octets : List ℕ)
     → AllMore is_first octets
 all_push is_first octets fronts more = λ front rest same. by front rest same
   where
-    by : (front rest : List ℕ) → front ++ rest ≡ octets → judge is_first front ≡ judged.More
+    by : (front rest : List ℕ) → front ++ rest ≡ octets
+        → judge is_first front ≡ judged.More
     by front [] same = ap (judge is_first) (sym (append-nil front) ∙ same) ∙ more
     by front (x ∷ rest) same = fronts front (x ∷ rest) same (omega arith)
 
@@ -204,7 +206,8 @@ comes_as is_first pending (b ∷ octets) held bytes all =
     (comes_as false [] octets tt bytes.1 (nothing_more false))
 
 -- What octets give, octet by octet, is their stream.
-pub stream_of-IsStream : (octets : List ℕ) → AreBytes octets → IsStream octets (stream_of octets)
+pub stream_of-IsStream : (octets : List ℕ) → AreBytes octets
+    → IsStream octets (stream_of octets)
 stream_of-IsStream octets bytes = comes_as true [] octets tt bytes (nothing_more true)
 
 -- ---- and there is no other
@@ -253,5 +256,6 @@ is_only is_first (m ∷ messages) fault rest octets e =
     ∙ ap (with_message m) (is_only false messages fault rest more e.3)
 
 -- Octets give one stream.
-pub IsStream-stream_of : (octets : List ℕ) (s : Stream) → IsStream octets s → stream_of octets ≡ s
+pub IsStream-stream_of : (octets : List ℕ) (s : Stream) → IsStream octets s
+    → stream_of octets ≡ s
 IsStream-stream_of octets s e = is_only true s.messages s.fault s.rest octets e

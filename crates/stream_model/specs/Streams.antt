@@ -67,11 +67,13 @@ IsEnd is_first None rest octets = (rest ≡ octets) × IsFront octets
 IsEnd is_first (Some why) rest octets = (rest ≡ []) × BeginsBad is_first why octets
 
 -- Octets are these messages, one after the other, and this end.
-abbrev pub AreMessages : Bool → List (List ℕ) → Option StreamBad → List ℕ → List ℕ → Type 0
+abbrev pub AreMessages : Bool → List (List ℕ) → Option StreamBad → List ℕ → List ℕ
+    → Type 0
 AreMessages is_first [] fault rest octets = IsEnd is_first fault rest octets
 AreMessages is_first (message ∷ messages) fault rest octets =
     IsGood is_first message
-    × (more : List ℕ) × (octets ≡ message ++ more) × AreMessages false messages fault rest more
+    × (more : List ℕ) × (octets ≡ message ++ more)
+    × AreMessages false messages fault rest more
 
 -- The octets of a connection give this stream.
 abbrev pub IsStream : List ℕ → Stream → Type 0

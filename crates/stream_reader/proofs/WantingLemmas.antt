@@ -322,10 +322,12 @@ same_wanted (b ∷ octets) more few = by (nat_lt (length octets) (extension_size
 
     by : (p : Bool)
         → nat_lt (length octets) (extension_size (b / 16)) ≡ p
-        → wanted_after (b / 16) (b % 16) (octets ++ more) ≡ wanted_after (b / 16) (b % 16) octets
+        → wanted_after (b / 16) (b % 16) (octets ++ more)
+        ≡ wanted_after (b / 16) (b % 16) octets
     by true ep =
         let wanted = wanted_lengths (b / 16) (b % 16) octets (ltb-true _ _ ep) in
-        wanted_lengths (b / 16) (b % 16) (octets ++ more) (omega (arith, few, wanted)) ∙ sym wanted
+        wanted_lengths (b / 16) (b % 16) (octets ++ more) (omega (arith, few, wanted))
+        ∙ sym wanted
     by false ep =
         let within = ltb-false _ _ ep in
         wanted_all (b / 16) (b % 16) (octets ++ more) (omega (arith, within, size))
@@ -409,7 +411,8 @@ front_below is_first b front rest less few within short =
     by true ep = few_more is_first (b / 16) (b % 16) front (ltb-true _ _ ep)
     by false ep =
         let enough = ltb-false _ _ ep in
-        let all : extension_size (b / 16) ≤ length (front ++ rest) = omega (arith, enough, size) in
+        let all : extension_size (b / 16) ≤ length (front ++ rest) =
+        omega (arith, enough, size) in
         let wanted = wanted_all (b / 16) (b % 16) (front ++ rest) all in
         let same = same_said (b / 16) front rest enough in
         let token : b % 16 ≤ 8 = grind (arith, short) in

@@ -61,7 +61,8 @@ pub record IsWhole (old : Held) (piece : List ℕ) (n : ℕ) (new : Held) : Type
   pub good : IsGood new.is_first new.pending
 
 -- Octets of the piece were taken, with which it is known that a message is bad.
-pub record IsBroken (old : Held) (piece : List ℕ) (n : ℕ) (why : StreamBad) (new : Held) : Type 0
+pub record IsBroken (old : Held) (piece : List ℕ) (n : ℕ) (why : StreamBad)
+    (new : Held) : Type 0
   where
     pub within : n ≤ length piece
     pub held : new ≡ with_octets old (take n piece)
@@ -121,7 +122,8 @@ GoesOn old piece further (fed.Bad n why) new =
 -- ---- as it is read
 
 -- Octets of the piece were taken up to where a message was judged so, and not before.
-pub record IsJudged (old : Held) (piece : List ℕ) (n : ℕ) (verdict : Judged) (new : Held) : Type 0
+pub record IsJudged (old : Held) (piece : List ℕ) (n : ℕ) (verdict : Judged)
+    (new : Held) : Type 0
   where
     pub within : n ≤ length piece
     pub held : new ≡ with_octets old (take n piece)

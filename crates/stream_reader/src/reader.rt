@@ -1,5 +1,6 @@
 //! A reader of streams that come in any pieces.
-ghost use Rattle.std.specs.Prelude.{◌≡◌, ◌<◌, ◌≤◌, ◌+◌, ℕ, List, [], ◌∷◌, ◌++◌, length, take};
+ghost use Rattle.std.specs.Prelude.{◌≡◌, ◌<◌, ◌≤◌, ◌+◌, ℕ, List};
+ghost use Rattle.std.specs.Prelude.{[], ◌∷◌, ◌++◌, length, take};
 ghost use Rattle.std.specs.Option.{option_map};
 ghost use Rattle.message_model.specs.Numbers.{AreBytes};
 ghost use Rattle.stream_model.specs.declared.messages.Judged.TheVariants as judged_as;
@@ -181,7 +182,8 @@ impl StreamReader {
     pub fn feed(&mut self, piece: &[u8]) -> Fed
         ensures taken { IsFed self.old piece.now result self.new }
         ensures within { IsWithin (length piece.now) result }
-        ensures stream { (further : List ℕ) → GoesOn self.old piece.now further result self.new }
+        ensures stream { (further : List ℕ)
+            → GoesOn self.old piece.now further result self.new }
     {
         match self.judged() {
             Judged::Bad(why) => Fed::Bad(0, why),

@@ -1,5 +1,6 @@
 //! How many octets may be taken before a message has to be looked at again.
-ghost use Rattle.std.specs.Prelude.{◌≡◌, ◌<◌, ◌≤◌, ◌+◌, ◌^◌, Bool, length, take};
+ghost use Rattle.std.specs.Prelude.{◌≡◌, ◌<◌, ◌≤◌, ◌+◌};
+ghost use Rattle.std.specs.Prelude.{◌^◌, Bool, length, take};
 ghost use Rattle.stream_reader.specs.Wanting as wanting;
 ghost use Rattle.stream_model.specs.Judging.{FrontsMore};
 

@@ -36,7 +36,8 @@ module _ (test : ℕ → Bool) (text : List ℕ) where
   left_out false i e = refl
 
   -- the first that a search finds is the first of the list
-  pub first_place : (found : Option ℕ) → IsFirstByte test text found → found ≡ position test text
+  pub first_place : (found : Option ℕ) → IsFirstByte test text found
+      → found ≡ position test text
   first_place None h =
       let none : length text ≤ position_or_len test text =
       ⊎_elim (λ below. absurd (h (position_or_len test text) (omega arith) below

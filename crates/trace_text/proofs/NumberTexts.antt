@@ -70,7 +70,8 @@ abbrev is_plain : List ℕ → Bool
 is_plain text = length text == 1 || nat_lt 48 (slice_index text 0)
 
 -- a number is printed so
-printed_plain : (text : List ℕ) (n : ℕ) → n < 2 ^ 64 → is_plain text ≡ false → text ≢ decimal n
+printed_plain : (text : List ℕ) (n : ℕ) → n < 2 ^ 64 → is_plain text ≡ false
+    → text ≢ decimal n
 printed_plain text n small other printed =
     let parts = either_false (length text == 1) (nat_lt 48 (slice_index text 0)) other in
     let low = ltb-false 48 (slice_index text 0) parts.1 in

@@ -1,5 +1,6 @@
 //! Numbers in decimal.
-ghost use Rattle.std.specs.Prelude.{◌≡◌, ◌≤◌, ◌==◌, ◌||◌, IfSome, length, nat_lt, slice_index};
+ghost use Rattle.std.specs.Prelude.{◌≡◌, ◌≤◌, ◌==◌, ◌||◌};
+ghost use Rattle.std.specs.Prelude.{IfSome, length, nat_lt, slice_index};
 ghost use Rattle.line_model.specs.Numbers as numbers;
 
 use std::str;

@@ -107,7 +107,8 @@ module _ {T R L : Type 0} (stands : List R → T → Type 0) (number : R → ℕ
           → Fits stands number label lab (added ∷ m.0.seen) j w
       fits_other j w apart e =
           let f = fits stands number label lab s k j w e in
-          let differs : number added ≢ w.number = λ q. apart (sym f.number_is ∙ (sym q ∙ names_id))
+          let differs : number added ≢ w.number =
+          λ q. apart (sym f.number_is ∙ (sym q ∙ names_id))
           in
           record {
             seen = (added ∷ f.seen.0, ap (λ xs. added ∷ xs) (whole ∙ f.seen.1));

@@ -208,7 +208,8 @@ apart-set test (e ∷ es) w v is same h = by (test e.0) is (λ g. apart-set test
         let query : e.1.query ≡ v.query =
         (let here : e.1 ≡ w = cc in ap (λ (x : Watched). x.query) here) ∙ sym same in (
           each_weaker (IsApart e) (IsApart (e.0, v))
-              (λ other a. (subst (λ q. is_same_query other.1.query q ≡ false) query a.0, a.1)) es
+              (λ other a.
+              (subst (λ q. is_same_query other.1.query q ≡ false) query a.0, a.1)) es
               h.0,
           h.1,
         )

@@ -127,7 +127,8 @@ reset = refl
 
 -- one of another message
 other_reset :
-    verdict (asked_for purpose.Register) (came 5 directory (0x70 ∷ 0 ∷ 0 ∷ 1 ∷ []) ∷ []) ≡ None
+    verdict (asked_for purpose.Register) (came 5 directory (0x70 ∷ 0 ∷ 0 ∷ 1 ∷ []) ∷ [])
+    ≡ None
 unfolding messages_on_literals verdicts_on_literals asked_for came directory
 other_reset = refl
 

@@ -112,7 +112,8 @@ commit_plain rows moment place s m = by (path_in m)
     }
 
     simple : (running too_many : Bool)
-        → CommitsPlainly (simple_unless (fetch_room running too_many) (events rows) place s m).sent
+        → CommitsPlainly
+        (simple_unless (fetch_room running too_many) (events rows) place s m).sent
         (simple_unless (fetch_room running too_many) (events rows) place s m).notes
     simple true too_many = record {
       sends = (record { no_content = refl; no_valid = refl }, tt);

@@ -693,7 +693,8 @@ response_own rows moment s m read = by (fetch_of s m (events rows)) refl
 
     taken : (elsewhere over : Bool) (request : Request)
         → length request.token ≤ 8
-        → AreOwn rows s (response_taken (response_use elsewhere over) rows moment s m request).sent
+        → AreOwn rows s
+        (response_taken (response_use elsewhere over) rows moment s m request).sent
     taken true over request small = tt
     taken false true request small = tt
     taken false false request small = gathers (more_follow (block_in m)) (block_in m) request small

@@ -170,7 +170,8 @@ again_stays rows moment o f it =
     by : (b c : Bool)
         → b ≡ true
         → c ≡ false
-        → list_any (λ n. is_end_of n (name_of o)) (notice_again (due_by b c) rows o f).notes ≡ false
+        → list_any (λ n. is_end_of n (name_of o)) (notice_again (due_by b c) rows o f).notes
+        ≡ false
     by false c over again = absurd (false≢true over)
     by true true over again = absurd (false≢true (sym again))
     by true false over again =
@@ -184,7 +185,8 @@ other_stays : (rows : List Row) (moment : ℕ) (o x : Observer)
 other_stays rows moment o x apart = by (flight x (events rows))
   where
     again : (b c : Bool) (f : Flight)
-        → list_any (λ n. is_end_of n (name_of o)) (notice_again (due_by b c) rows x f).notes ≡ false
+        → list_any (λ n. is_end_of n (name_of o)) (notice_again (due_by b c) rows x f).notes
+        ≡ false
     again false c f = refl
     again true true f = rw apart refl
     again true false f =

@@ -174,7 +174,8 @@ registering-notes kind entered piece finished rows moment s m = by (sent_block m
         (and_from (kind (note.Finished s.peer (key_in m))) true (finished s.peer (key_in m)) refl)
 
     unless : (too_long too_many : Bool) (b : Block) (body : List ℕ)
-        → are kind (block_unless (block_room too_long too_many) rows moment s m b body).notes ≡ true
+        → are kind (block_unless (block_room too_long too_many) rows moment s m b body).notes
+        ≡ true
     unless true too_many b body = refl
     unless false true b body = refl
     unless false false b body = taken b.more b body

@@ -558,7 +558,8 @@ response_sends rows moment s m small = by (fetch_of s m (events rows)) refl
 
     taken : (elsewhere over : Bool) (request : Request)
         → length request.token ≤ 8
-        → AreResendable (response_taken (response_use elsewhere over) rows moment s m request).sent
+        → AreResendable
+        (response_taken (response_use elsewhere over) rows moment s m request).sent
     taken true over request short = tt
     taken false true request short = tt
     taken false false request short = gathers (more_follow (block_in m)) (block_in m) request short

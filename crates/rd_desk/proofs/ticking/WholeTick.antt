@@ -193,7 +193,8 @@ again_draws rows moment = each (observers (events rows))
     sent_one None n = refl
     sent_one (Some d) n = refl
 
-    due : (a b : Bool) (o : Observer) (f : Flight) → (notice_again (due_by a b) rows o f).drew ≡ 0
+    due : (a b : Bool) (o : Observer) (f : Flight)
+        → (notice_again (due_by a b) rows o f).drew ≡ 0
     due false b o f = refl
     due true true o f = refl
     due true false o f =

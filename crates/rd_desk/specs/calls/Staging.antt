@@ -25,7 +25,8 @@ staged_after (entry ∷ entries) version before = Some version
 -- where a board tells what is staged, a step with these notes that left this version leaves its
 -- version staged where it made an entry, and stages nothing where it made none; and whether the
 -- board tells it or not, nothing is staged after a step that made none
-abbrev pub LeavesStaged : List Note → Version → Option (Option Version) → Option (Option Version)
+abbrev pub LeavesStaged : List Note → Version → Option (Option Version)
+    → Option (Option Version)
     → Bool → Type 0
 LeavesStaged notes version before after is_staged =
     IfSome before (λ staged. after ≡ Some

@@ -65,7 +65,8 @@ impl Tables {
         ensures unstarved { (rows : List Row) (s : Step)
             → s.peer ≡ arrival.entry.peer
             → UnderWay rows s false nothing self.old out.old mids.old
-            → takes_memory rows (row_moment rows s) s (reading arrival.entry.datagram.now) ≡ false
+            → takes_memory rows (row_moment rows s) s (reading arrival.entry.datagram.now)
+            ≡ false
             → is_starved_admission result ≡ false }
         ensures laid { IsLaid self.old.version self.new.version (B.staged board.old)
             (B.staged board.new) (B.has_staged board.new) }

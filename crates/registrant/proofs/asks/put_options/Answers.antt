@@ -1,4 +1,15 @@
-use Rattle.std.proofs.Common.{◌≡◌, ◌<◌, List, ℕ, ◌∷◌, length, sym, ap, subst, ◌∙◌}
+use Rattle.std.proofs.Common.{
+  ◌≡◌,
+  ◌<◌,
+  List,
+  ℕ,
+  ◌∷◌,
+  length,
+  sym,
+  ap,
+  subst,
+  ◌∙◌,
+}
 use Rattle.message_model.specs.Message.{Message}
 use Rattle.message_model.specs.Spelling.{spelling}
 use Rattle.coap_message.specs.PartialMessages.{longest_datagram}

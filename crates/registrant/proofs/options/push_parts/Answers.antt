@@ -1,4 +1,16 @@
-use Rattle.std.proofs.Common.{◌≡◌, List, ℕ, [], ◌∷◌, ◌++◌, option_map, sym, ap, subst, ◌∙◌}
+use Rattle.std.proofs.Common.{
+  ◌≡◌,
+  List,
+  ℕ,
+  [],
+  ◌∷◌,
+  ◌++◌,
+  option_map,
+  sym,
+  ap,
+  subst,
+  ◌∙◌,
+}
 use Rattle.percent_encoding.specs.Percent.{percent_decode}
 use Rattle.message_model.specs.Message.{Opt}
 use Rattle.client_model.specs.Asks.{is_part, decoded_parts, parts_at}
@@ -70,7 +82,8 @@ parts-preserved c =
     c.in-Some.is
     c.cut.ensures.before
     c.cut.ensures.after in
-    let pushed : c.push.new.self ≡ c.parts.options ++ (c.args.number, percent_decode part) ∷ [] =
+    let pushed : c.push.new.self ≡ c.parts.options ++ (c.args.number, percent_decode part)
+    ∷ [] =
     c.in_ok-push.ensures.ok
     ∙ ap
     (λ (v : List ℕ). c.parts.options ++ (c.args.number, v) ∷ [])
