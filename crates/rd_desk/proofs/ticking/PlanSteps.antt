@@ -234,9 +234,8 @@ planned_adds rows s starved current whole first ws given p after from index x o 
       drew = let before = h.drew in let more = g.drew in let l = len in omega
           (arith, before, more, l);
       few = let one = g.one in let l = len in omega (arith, few, one, l);
-      sent = each_append (λ (d : Peer × List ℕ). is_awaited d.0 now.observers
-          ≡ true) h.done.sent
-          e.sent
+      sent = each_append (λ (d : Peer × List ℕ). is_awaited d.0 now.observers ≡ true)
+          h.done.sent e.sent
           (each_weaker (λ (d : Peer × List ℕ). is_awaited d.0 h.watching.observers ≡ true)
           (λ (d : Peer × List ℕ). is_awaited d.0 now.observers ≡ true)
           (λ d waits.

@@ -82,8 +82,8 @@ parts-preserved c =
     c.in-Some.is
     c.cut.ensures.before
     c.cut.ensures.after in
-    let pushed : c.push.new.self ≡ c.parts.options ++ (c.args.number, percent_decode part)
-    ∷ [] =
+    let pushed : c.push.new.self
+    ≡ c.parts.options ++ (c.args.number, percent_decode part) ∷ [] =
     c.in_ok-push.ensures.ok
     ∙ ap
     (λ (v : List ℕ). c.parts.options ++ (c.args.number, v) ∷ [])
