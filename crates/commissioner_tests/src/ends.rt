@@ -1,9 +1,12 @@
 //! A link and a clock in memory.
+ghost use Rattle.std.specs.Prelude.{◌≤◌, ◌^◌};
+ghost use Rattle.std.specs.List.{All};
+
 use rd_base::{Bytes, Host, Moment, Peer, Starved};
 use std::alloc::Global;
 use udp_link::{Arrivals, MemClock, MemLink, Moments, Words};
 
-/// The directory at the address 192.0.2.1 or another of its network.
+/// The directory at an address of 192.0.2.0/24.
 pub(crate) fn directory(last: u8) -> Peer {
     Peer {
         host: Host::V4([192, 0, 2, last]),
@@ -11,11 +14,26 @@ pub(crate) fn directory(last: u8) -> Peer {
     }
 }
 
-/// A link to which these datagrams come, each of the directory of that last octet.
-pub(crate) fn link_of(alloc: Global, coming: &[(u8, &[u8])]) -> Result<MemLink, Starved> {
+/// A link to which these datagrams come, each of the directory of that last octet. The receives
+/// with these numbers fail.
+pub(crate) fn link_of(
+    alloc: Global,
+    coming: &[(u8, &[u8])],
+    fail_recv: &[u8],
+) -> Result<MemLink, Starved> {
     let mut arrivals = Arrivals::new(alloc);
     for (last, octets) in coming {
         arrivals.push(directory(*last), Bytes::copy_of(alloc, octets)?)?;
     }
-    Ok(MemLink::of(alloc, arrivals, Bytes::new(alloc), Bytes::new(alloc)))
+    let fail_recv = Bytes::copy_of(alloc, fail_recv)?;
+    Ok(MemLink::of(alloc, arrivals, fail_recv, Bytes::new(alloc)))
+}
+
+/// A clock whose words are 0 and whose moments are these, in milliseconds.
+pub(crate) fn clock_of(alloc: Global, millis: &[u32]) -> Result<MemClock, Starved> {
+    let mut moments = Vec::new(alloc);
+    for at in millis {
+        moments.push(Moment(u64::from(*at)))?;
+    }
+    Ok(MemClock::of(Moments::of(moments), Words::of(Vec::new(alloc))))
 }

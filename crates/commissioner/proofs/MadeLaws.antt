@@ -1,0 +1,234 @@
+-- What a list of asks comes to.
+use Rattle.std.proofs.Common.{
+  ◌≡◌,
+  ◌<◌,
+  ◌≤◌,
+  ◌+◌,
+  inl,
+  inr,
+  ℕ,
+  zero,
+  suc,
+  Bool,
+  true,
+  false,
+  List,
+  [],
+  ◌∷◌,
+  ◌++◌,
+  length,
+  Option,
+  Some,
+  None,
+  Ok,
+  Err,
+  refl,
+  sym,
+  ap,
+  subst,
+  ◌∙◌,
+  arith,
+  append_assoc,
+}
+use Rattle.client_model.specs.declared.asks.Ask.{Ask}
+use Rattle.client_model.specs.declared.events.Event.{Event}
+use Rattle.client_model.specs.declared.outcomes.Outcome.{Outcome}
+use Rattle.client_model.specs.Requests.{CanBeSent}
+use Rattle.registrant.specs.declared.turns.TellFault.{TellFault}
+use Rattle.registrant.specs.declared.turns.TellFault.TheVariants as fault
+use Rattle.registrant.specs.Turns.{Outside, Fails}
+use Rattle.commissioner.specs.declared.lines.Line.{Line}
+use Rattle.commissioner.specs.declared.polls.Polled.{Polled}
+use Rattle.commissioner.specs.declared.polls.Polled.TheVariants as polled
+use Rattle.commissioner.specs.declared.steps.Step.{Step}
+use Rattle.commissioner.specs.declared.steps.Step.TheVariants as step
+use Rattle.commissioner.specs.Shares.{share, said_all, first_due}
+use Rattle.commissioner.specs.Lines.{IsOpen, IsLost}
+use Rattle.commissioner.specs.Happening.{
+  Comes,
+  Happens,
+  HappensAll,
+  Unheard,
+  AreOpen,
+  AreLines,
+  AllBegun,
+  AreBegun,
+  IsTaken,
+  is_unsaid,
+}
+use Rattle.commissioner.specs.Commissioning.{Ends, IsMade, StandsFor, IsGiven, IsPolled}
+use Rattle.commissioner.proofs.BeginLaws.{none_due}
+use Rattle.commissioner.proofs.AsideLaws.{kept_said, none_open, some_open}
+
+-- ---- one after the other
+
+pub happens_both : (asks : List Ask) (past xs ys : List Step) (a b c : Outside)
+    → HappensAll asks past xs a b
+    → HappensAll asks (xs ++ past) ys b c
+    → HappensAll asks past (ys ++ xs) a c
+happens_both asks past xs [] a b c h g = subst (λ (o : Outside). HappensAll asks past xs a o) (sym g) h
+happens_both asks past xs (s ∷ ys) a b c h g = (
+  g.0,
+  happens_both asks past xs ys a b g.0 h g.1,
+  subst (λ (p : List Step). Happens asks p s g.0 c) (sym (append_assoc ys xs past)) g.2,
+)
+
+-- what is made from later on is made from before
+pub made_later : (asks : List Ask) (past xs : List Step) (outcomes : List (Option Outcome))
+    (f : Option TellFault) (a b c : Outside)
+    → HappensAll asks past xs a b
+    → IsMade asks (xs ++ past) outcomes f b c
+    → IsMade asks past outcomes f a c
+made_later asks past xs outcomes f a b c h made =
+    let same = append_assoc made.more xs past in
+    record {
+      more = made.more ++ xs;
+      last = made.last;
+      happens = happens_both asks past xs made.more a b made.last h made.happens;
+      said = subst (λ (p : List Step). outcomes ≡ said_all asks 0 p) (sym same) made.said;
+      ends = subst (λ (p : List Step). Ends asks p f made.last c) (sym same) made.ends;
+    }
+
+-- ---- a poll
+
+-- talks began, an event came, and what was decided is put aside
+pub polled_going : (asks : List Ask) (past xs : List Step) (e : Event) (line : Line)
+    (lines : List Line) (outcomes : List (Option Outcome)) (a b c : Outside)
+    → HappensAll asks past xs a b
+    → Comes asks (xs ++ past) e b c
+    → AreOpen (step.Happened e ∷ (xs ++ past)) asks 0 (line ∷ lines) outcomes
+    → IsPolled asks past polled.Going (line ∷ lines) outcomes a c
+polled_going asks past xs e line lines outcomes a b c h comes are = (
+  step.Happened e ∷ xs,
+  (b, h, comes),
+  record {
+    open = are;
+    some = some_open asks 0 (step.Happened e ∷ (xs ++ past)) line lines outcomes are;
+  },
+)
+
+unsaid_as : (asks : List Ask) (past : List Step) (outcomes : List (Option Outcome))
+    (b : Bool)
+    → outcomes ≡ said_all asks 0 past
+    → is_unsaid outcomes ≡ b
+    → is_unsaid (said_all asks 0 past) ≡ b
+unsaid_as asks past outcomes b e h =
+    subst (λ (os : List (Option Outcome)). is_unsaid os ≡ b) e h
+
+pub polled_over : (asks : List Ask) (past xs : List Step) (e : Event)
+    (outcomes : List (Option Outcome)) (a b c : Outside)
+    → HappensAll asks past xs a b
+    → Comes asks (xs ++ past) e b c
+    → AreOpen (step.Happened e ∷ (xs ++ past)) asks 0 [] outcomes
+    → IsMade asks past outcomes None a c
+polled_over asks past xs e outcomes a b c h comes are =
+    let said = kept_said asks 0 (step.Happened e ∷ (xs ++ past)) [] outcomes are in
+    record {
+      more = step.Happened e ∷ xs;
+      last = c;
+      happens = (b, h, comes);
+      said = said;
+      ends = (
+        unsaid_as asks (step.Happened e ∷ (xs ++ past)) outcomes false said
+            (none_open asks 0 (step.Happened e ∷ (xs ++ past)) outcomes are),
+        refl,
+      );
+    }
+
+pub polled_link : (asks : List Ask) (past xs : List Step) (lines : List Line)
+    (outcomes : List (Option Outcome)) (a b c : Outside)
+    → is_unsaid outcomes ≡ true
+    → HappensAll asks past xs a b
+    → AreOpen (xs ++ past) asks 0 lines outcomes
+    → AllBegun [] lines
+    → Fails b c
+    → IsMade asks past outcomes (Some fault.Link) a c
+polled_link asks past xs lines outcomes a b c some h are begun fails =
+    let said = kept_said asks 0 (xs ++ past) lines outcomes are in
+    record {
+      more = xs;
+      last = b;
+      happens = h;
+      said = said;
+      ends = (
+        unsaid_as asks (xs ++ past) outcomes true said some,
+        none_due [] asks 0 (xs ++ past) lines outcomes are begun,
+        fails,
+      );
+    }
+
+pub polled_unheard : (asks : List Ask) (past xs : List Step) (lines : List Line)
+    (outcomes : List (Option Outcome)) (a b c : Outside)
+    → is_unsaid outcomes ≡ true
+    → HappensAll asks past xs a b
+    → AreOpen (xs ++ past) asks 0 lines outcomes
+    → Unheard b c
+    → IsMade asks past outcomes (Some fault.Starved) a c
+polled_unheard asks past xs lines outcomes a b c some h are unheard =
+    let said = kept_said asks 0 (xs ++ past) lines outcomes are in
+    record {
+      more = xs;
+      last = b;
+      happens = h;
+      said = said;
+      ends = (unsaid_as asks (xs ++ past) outcomes true said some, inl unheard);
+    }
+
+pub polled_lost : (asks : List Ask) (past xs : List Step)
+    (outcomes : List (Option Outcome)) (a b c : Outside)
+    → is_unsaid outcomes ≡ true
+    → HappensAll asks past xs a b
+    → outcomes ≡ said_all asks 0 (xs ++ past)
+    → IsLost b c
+    → IsMade asks past outcomes (Some fault.Starved) a c
+polled_lost asks past xs outcomes a b c some h said lost = record {
+  more = xs;
+  last = b;
+  happens = h;
+  said = said;
+  ends = (unsaid_as asks (xs ++ past) outcomes true said some, inr lost);
+}
+
+-- ---- the beginning
+
+abbrev pub line_of : ℕ → Ask → Line
+line_of n ask = record {
+  number = n;
+  to = ask.to;
+  ask = Some ask;
+  talk = None;
+  outcome = None;
+}
+
+first_open : (ask : Ask) (i : ℕ) → CanBeSent ask → IsOpen [] ask i (line_of i ask)
+unfolding share
+first_open ask i can = record {
+  number = refl;
+  to = refl;
+  outcome = refl;
+  stage = (refl, can);
+}
+
+-- a line more
+pub open_more : (asks : List Ask) (i n : ℕ) (ask : Ask) (lines : List Line)
+    (outcomes : List (Option Outcome))
+    → AreOpen [] asks i lines outcomes
+    → CanBeSent ask
+    → n ≡ i + length asks
+    → AreOpen [] (asks ++ ask ∷ []) i (lines ++ line_of n ask ∷ []) (outcomes ++ None ∷ [])
+open_more [] i n ask lines outcomes are can is =
+    subst (λ (ls : List Line). AreOpen [] (ask ∷ []) i (ls ++ line_of n ask ∷ [])
+    (outcomes ++ None ∷ [])) (sym are.0)
+    (subst (λ (os : List (Option Outcome)). AreOpen [] (ask ∷ []) i (line_of n ask ∷ [])
+    (os ++ None ∷ [])) (sym are.1)
+    (subst (λ (m : ℕ). IsOpen [] ask i (line_of m ask)) (the_number is) (first_open ask i can),
+    (refl, refl)))
+  where
+    the_number : n ≡ i + length {A = Ask} [] → i ≡ n
+    the_number e = omega (arith, e)
+open_more (a ∷ asks) i n ask lines [] are can is = absurd are
+open_more (a ∷ asks) i n ask lines (Some o ∷ outcomes) are can is =
+    (are.0, open_more asks (suc i) n ask lines outcomes are.1 can (omega (arith, is)))
+open_more (a ∷ asks) i n ask [] (None ∷ outcomes) are can is = absurd are
+open_more (a ∷ asks) i n ask (line ∷ lines) (None ∷ outcomes) are can is =
+    (are.0, open_more asks (suc i) n ask lines outcomes are.1 can (omega (arith, is)))
