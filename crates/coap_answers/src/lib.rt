@@ -14,6 +14,6 @@ pub use bodies::{body_reply, has_asked_block, is_long, szx_of};
 pub use empty_messages::send_empty;
 pub use mids::Mids;
 pub use outbox::Outbox;
-pub use refusals::{refusal_code, refusal_word};
+pub use refusals::{refusal_code, refusal_diagnostic};
 pub use replies::{Reply, answer, begin_answer, spell_notice};
 pub use server_errors::{answer_full, answer_starved, internal_server_error};

@@ -56,7 +56,7 @@ pub struct Reply<'a> {
 }
 
 impl<'a> Reply<'a> {
-    /// A code with a payload, without options: the word of a refusal, or nothing.
+    /// A code with a payload, without options: the diagnostic of a refusal, or nothing.
     pub fn plain(code: u8, payload: &'a [u8]) -> Reply<'a>
         ensures { reply_said result ≡ effects.diagnostic code payload.now }
     {

@@ -52,10 +52,10 @@ pub(crate) fn answer_short(
         format: false,
         block2: None,
         block1: reply.block1,
-        payload: reply.word,
+        payload: reply.diagnostic,
     };
     let mut writer = begin_answer(mids, view, &said);
-    let Ok(datagram) = writer.finish(reply.word) else {
+    let Ok(datagram) = writer.finish(reply.diagnostic) else {
         unreachable!()
     };
     out.push(peer, datagram);
