@@ -338,7 +338,8 @@ waited_for-StandsFor queries octets past seen ws peer mid h =
 -- ---- who has a name
 
 -- An observer of this peer and token stands exactly where the table finds one.
-pub is_observer-found : (queries : ℕ → Query) (peer : Peer) (token : List ℕ) (ws : List Standing)
+pub is_observer-found : (queries : ℕ → Query) (peer : Peer) (token : List ℕ)
+    (ws : List Standing)
     → is_observer (peer, token) (map (observer_of queries) ws)
     ≡ is_some (find (is_named peer token) ws)
 is_observer-found queries peer token [] = refl

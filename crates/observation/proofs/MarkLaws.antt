@@ -206,7 +206,8 @@ marked_length : (slot : ℕ) (ws : List Standing) → length (map (marked slot) 
 marked_length slot [] = refl
 marked_length slot (w ∷ ws) = ap suc (marked_length slot ws)
 
-inside_at : (ws : List Standing) (i : ℕ) → i < length ws → (w : Standing) × (slice_get ws i ≡ Some w)
+inside_at : (ws : List Standing) (i : ℕ) → i < length ws
+    → (w : Standing) × (slice_get ws i ≡ Some w)
 inside_at [] i inside = absurd (omega (arith, inside))
 inside_at (w ∷ ws) zero inside = (w, refl)
 inside_at (w ∷ ws) (suc i) inside = inside_at ws i (omega (arith, inside))
@@ -220,7 +221,8 @@ pub walked-marked : (t : Table) (before ws : List Standing) (i slot : ℕ)
     → Walked t before (map (marked slot) ws) (i + 1)
 walked-marked t before ws i slot inside m own h = by (inside_at ws i inside)
   where
-    by : (w : Standing) × (slice_get ws i ≡ Some w) → Walked t before (map (marked slot) ws) (i + 1)
+    by : (w : Standing) × (slice_get ws i ≡ Some w)
+        → Walked t before (map (marked slot) ws) (i + 1)
     by found = record {
       handed_on = subst (λ n. AllByRecursion (IsHanded t) (take n (map (marked slot) ws))) next
           (handed_more t (map (marked slot) ws) i (marked slot found.0)
@@ -271,7 +273,8 @@ walked-all t before ws i past h =
 
 -- ---- no marks
 
-unmarked_at : (slot : ℕ) (t : Table) → AllByRecursion IsUnmarked t → is_marked_at slot t ≡ false
+unmarked_at : (slot : ℕ) (t : Table) → AllByRecursion IsUnmarked t
+    → is_marked_at slot t ≡ false
 unmarked_at slot t h = by (lookup (nat_eq slot) t) refl
   where
     by : (o : Option Watched) → lookup (nat_eq slot) t ≡ o → is_marked o ≡ false

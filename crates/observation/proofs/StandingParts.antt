@@ -106,7 +106,8 @@ noticed_stands octets past later seen history moment w ws same confirmable h now
 -- ---- one is gone
 
 each_fewer : (P : ℕ × Watched → Type 0)
-    → ((slot : ℕ) (v : Watched) → P (slot, v) → P (slot, record v { observers = v.observers - 1 }))
+    → ((slot : ℕ) (v : Watched) → P (slot, v)
+    → P (slot, record v { observers = v.observers - 1 }))
     → (slot : ℕ) (t : Table)
     → AllByRecursion P t
     → AllByRecursion P (one_fewer slot t)
@@ -183,7 +184,8 @@ each_more : (P : ℕ × Watched → Type 0) (query : Query) (slot : ℕ)
     → AllByRecursion P (one_more slot query t)
 each_more P query slot first still t h = by (watched_at slot t) refl
   where
-    by : (o : Option Watched) → watched_at slot t ≡ o → AllByRecursion P (more_at o slot query t)
+    by : (o : Option Watched) → watched_at slot t ≡ o
+        → AllByRecursion P (more_at o slot query t)
     by None is = each_push P t (slot, watched_first query) h first
     by (Some v) is =
         each_set P (nat_eq slot) t v (record v { observers = v.observers + 1 }) is

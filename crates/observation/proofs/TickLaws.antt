@@ -163,7 +163,8 @@ pub body-StandsFor : (rows : List Row) (w : Watching) (i : ℕ) (o : Observer) (
     → WatchingStandsFor rows w
     → slice_get (observers (events rows)) i ≡ Some o
     → slice_get w.observers i ≡ Some x
-    → body_at x.slot w.watches ≡ Some body → body ≡ listing o.query (entries rows) (now rows)
+    → body_at x.slot w.watches ≡ Some body
+    → body ≡ listing o.query (entries rows) (now rows)
 body-StandsFor rows w i o x body h at there is =
     by (watched_at x.slot w.watches) refl is
     (each_at (IsInSlot w.watches h.queries) w.observers i x h.in_slots there)

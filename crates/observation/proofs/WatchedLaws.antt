@@ -89,7 +89,10 @@ use Rattle.observation.proofs.WatchingParts.{touched_where-Keeps, unmarked-Keeps
 pub empty-AreWatched : AreWatched [] []
 empty-AreWatched = record {
   queries = λ slot. record { kind = kind.Resource; criteria = []; page = None; count = None };
-  by = record { in_slots = tt; watches = record { observers = λ query. refl; some = tt; apart = tt } };
+  by = record {
+    in_slots = tt;
+    watches = record { observers = λ query. refl; some = tt; apart = tt };
+  };
   apart = tt;
 }
 
@@ -257,7 +260,8 @@ observed queries w (x ∷ ws) (inr further) =
     by true h = refl
     by false h = h
 
-pub fewer-AreWatchedBy : (queries : ℕ → Query) (t : Table) (front back : List Standing) (x : Standing)
+pub fewer-AreWatchedBy : (queries : ℕ → Query) (t : Table) (front back : List Standing)
+    (x : Standing)
     → AreWatchedBy queries t (front ++ x ∷ back)
     → AreWatchedBy queries (one_fewer x.slot t) (front ++ back)
 fewer-AreWatchedBy queries t front back x h = record {
@@ -317,7 +321,8 @@ left-AreWatched test t ws h = by (find test ws) refl
   where
     by : (o : Option Standing)
         → find test ws ≡ o
-        → AreWatched (without (option_map (λ (x : Standing). x.slot) o) t) (without_first test ws)
+        → AreWatched (without (option_map (λ (x : Standing). x.slot) o) t)
+        (without_first test ws)
     by None none = subst (AreWatched t) (sym (without_first-unfound test ws none)) h
     by (Some x) found = cut-AreWatched t ws (without_first test ws) x (cut_first test ws x found) h
 

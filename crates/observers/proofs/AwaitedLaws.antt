@@ -208,7 +208,8 @@ quiet_at (x ∷ ws) (suc i) w there free =
     rest true h = absurd (false≢true (sym h))
     rest false h = h
 
-awaited_noticed : (s : Sent) (body : List ℕ) (peer : Peer) (ws : List Standing) (i : ℕ) (w : Standing)
+awaited_noticed : (s : Sent) (body : List ℕ) (peer : Peer) (ws : List Standing) (i : ℕ)
+    (w : Standing)
     → slice_get ws i ≡ Some w
     → is_some w.flight ≡ false
     → is_awaited peer (changed_at (noticed s body) i ws)
@@ -245,7 +246,8 @@ flights_noticed : (s : Sent) (body : List ℕ) (ws : List Standing) (i : ℕ) (w
 flights_noticed s body [] i w there quiet = absurd cc
 flights_noticed s body (x ∷ ws) zero w there quiet =
     let same : x ≡ w = cc in
-    let here : is_some x.flight ≡ false = ap (λ (y : Standing). is_some y.flight) same ∙ quiet in
+    let here : is_some x.flight ≡ false = ap (λ (y : Standing). is_some y.flight) same
+    ∙ quiet in
     ap (λ b. suc (if b then suc (flights_of ws) else flights_of ws)) (sym here)
 flights_noticed s body (x ∷ ws) (suc i) w there quiet =
     ap (λ n. if is_some x.flight then suc n else n) (flights_noticed s body ws i w there quiet)
@@ -273,7 +275,8 @@ length_pushed : (peers : List Peer) (p : Peer) → length (peers ++ p ∷ []) �
 length_pushed [] p = refl
 length_pushed (x ∷ peers) p = ap suc (length_pushed peers p)
 
-pub noticed-AreAwaited : (s : Sent) (body : List ℕ) (ws : List Standing) (peers : List Peer) (i : ℕ)
+pub noticed-AreAwaited : (s : Sent) (body : List ℕ) (ws : List Standing) (peers : List Peer)
+    (i : ℕ)
     (w : Standing)
     → slice_get ws i ≡ Some w
     → is_awaited w.peer ws ≡ false
@@ -311,7 +314,8 @@ fewer_flights : (ws : List Standing) (i : ℕ) (w : Standing)
 fewer_flights [] i w there quiet = absurd cc
 fewer_flights (x ∷ ws) zero w there quiet =
     let same : x ≡ w = cc in
-    let here : is_some x.flight ≡ false = ap (λ (y : Standing). is_some y.flight) same ∙ quiet in
+    let here : is_some x.flight ≡ false = ap (λ (y : Standing). is_some y.flight) same
+    ∙ quiet in
     let few = flights_few ws in
     let none : flights_of (x ∷ ws) ≡ flights_of ws =
     ap (λ b. if b then suc (flights_of ws) else flights_of ws) here in
@@ -428,7 +432,8 @@ gathered-all ws i peers over h =
 
 -- ---- a notice is formed, as the table does it
 
-got : (ws : List Standing) (i : ℕ) → i < length ws → (w : Standing) × (slice_get ws i ≡ Some w)
+got : (ws : List Standing) (i : ℕ) → i < length ws
+    → (w : Standing) × (slice_get ws i ≡ Some w)
 got [] i inside = absurd (omega (arith, inside))
 got (x ∷ ws) zero inside = (x, refl)
 got (x ∷ ws) (suc i) inside = got ws i (omega (arith, inside))

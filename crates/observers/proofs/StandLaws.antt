@@ -554,7 +554,8 @@ message_same octets e peer s same h =
     kept = rw (sym h.sent, sym h.wait, sym h.again) refl
 
 pub formed-StandsFor : (queries : ℕ → Query) (octets : OctetsSent) (events : List Event)
-    (transitions : List Transition) (e : Event) (ws : List Standing) (i : ℕ) (w : Standing) (s : Sent)
+    (transitions : List Transition) (e : Event) (ws : List Standing) (i : ℕ) (w : Standing)
+    (s : Sent)
     (body : List ℕ)
     → slice_get ws i ≡ Some w
     → is_awaited w.peer ws ≡ false
@@ -743,7 +744,8 @@ timed_once : (now : ℕ) (s : Sent)
 timed_once now s sends = rw sends refl
 
 pub again-StandsFor : (queries : ℕ → Query) (octets : OctetsSent) (events : List Event)
-    (transitions : List Transition) (e : Event) (now : ℕ) (ws : List Standing) (i : ℕ) (w : Standing)
+    (transitions : List Transition) (e : Event) (now : ℕ) (ws : List Standing) (i : ℕ)
+    (w : Standing)
     (s : Sent)
     → slice_get ws i ≡ Some w
     → w.flight ≡ Some s

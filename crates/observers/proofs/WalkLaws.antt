@@ -51,7 +51,8 @@ use Rattle.observers.specs.Standing.{
 
 -- ---- whether one passes a test
 
-any_found : (test : Standing → Bool) (xs : List Standing) → list_any test xs ≡ is_some (find test xs)
+any_found : (test : Standing → Bool) (xs : List Standing)
+    → list_any test xs ≡ is_some (find test xs)
 any_found test [] = refl
 any_found test (x ∷ xs) = by (test x) (any_found test xs)
   where
@@ -152,7 +153,8 @@ next-past xs i none =
 
 next_is : (test : Standing → Bool) (ws : List Standing) (at i : ℕ)
     → first_from test at ws ≡ Some i
-    → (k : ℕ) × (w : Standing) × (i ≡ at + k) × (slice_get ws k ≡ Some w) × (test w ≡ true)
+    → (k : ℕ) × (w : Standing) × (i ≡ at + k) × (slice_get ws k ≡ Some w)
+    × (test w ≡ true)
 next_is test [] at i is = absurd cc
 next_is test (w ∷ ws) at i is = by (test w) refl is (next_is test ws (at + 1) i)
   where
@@ -163,7 +165,8 @@ next_is test (w ∷ ws) at i is = by (test w) refl is (next_is test ws (at + 1) 
         × (i ≡ (at + 1) + k)
         × (slice_get ws k ≡ Some x)
         × (test x ≡ true))
-        → (k : ℕ) × (x : Standing) × (i ≡ at + k) × (slice_get (w ∷ ws) k ≡ Some x) × (test x ≡ true)
+        → (k : ℕ) × (x : Standing) × (i ≡ at + k) × (slice_get (w ∷ ws) k ≡ Some x)
+        × (test x ≡ true)
     by true e g more = let same : at ≡ i = cc in (0, w, (omega (arith, same)), refl, e)
     by false e g more =
         let rest = more g in
@@ -206,7 +209,8 @@ next-IsNext from ws i is =
       ready = found.4;
     }
 
-pub got-within : (ws : List Standing) (i : ℕ) (w : Standing) → slice_get ws i ≡ Some w → i < length ws
+pub got-within : (ws : List Standing) (i : ℕ) (w : Standing) → slice_get ws i ≡ Some w
+    → i < length ws
 got-within [] i w is = absurd cc
 got-within (x ∷ ws) zero w is = omega arith
 got-within (x ∷ ws) (suc i) w is = let rest = got-within ws i w is in omega (arith, rest)

@@ -372,7 +372,8 @@ ticked workers rows number moment word now old new before after at lent does =
 
 -- its text, with a line feed
 end_text : (entries lives observing : List ℕ)
-    → codes "end " ++ (entries ++ (codes " " ++ (lives ++ (codes " " ++ (observing ++ codes "\n")))))
+    → codes "end "
+    ++ (entries ++ (codes " " ++ (lives ++ (codes " " ++ (observing ++ codes "\n")))))
     ≡ ended (codes "end " ++ (entries ++ (codes " " ++ (lives ++ (codes " " ++ observing)))))
 end_text entries lives observing =
     sym (ap (λ (l : List ℕ). codes "end " ++ l)

@@ -178,7 +178,8 @@ fewer-none slot t is = rw is refl
 
 pub more-counted : (slot : ℕ) (query : Query) (t : Table) (w : Watched)
     → watched_at slot t ≡ Some w
-    → set_value (nat_eq slot) t (record w { observers = w.observers + 1 }) ≡ one_more slot query t
+    → set_value (nat_eq slot) t (record w { observers = w.observers + 1 })
+    ≡ one_more slot query t
 more-counted slot query t w is = rw is refl
 
 -- something is watched in the slot of a query

@@ -277,7 +277,8 @@ slot_of-found q slot (e ∷ es) h is =
         ≡ Some slot
         → (slot_of q es ≡ Some slot
         → (w : Watched) × (watched_at slot es ≡ Some w) × (is_same_query w.query q ≡ true))
-        → (w : Watched) × (watched_at slot (e ∷ es) ≡ Some w) × (is_same_query w.query q ≡ true)
+        → (w : Watched) × (watched_at slot (e ∷ es) ≡ Some w)
+        × (is_same_query w.query q ≡ true)
     by true e' g more =
         let same : e.0 ≡ slot = cc in
         let here : nat_eq slot e.0 ≡ true =
@@ -495,7 +496,8 @@ more-StandsFor standing o slot t for h = by (slot_of o.query t) refl for
             ≡ counted_of q t + counted q more
             → counted_of q t ≡ observers_of q standing
             → observers_of q (standing ++ o ∷ []) ≡ observers_of q standing + one q o
-            → counted_of q (set_value (nat_eq slot) t more) ≡ observers_of q (standing ++ o ∷ [])
+            → counted_of q (set_value (nat_eq slot) t more)
+            ≡ observers_of q (standing ++ o ∷ [])
         sums q whole stands pushed =
             cases (is_same_query o.query q) (is_same_query w.query q) refl refl
           where
@@ -527,7 +529,8 @@ more-StandsFor standing o slot t for h = by (slot_of o.query t) refl for
         (first g.0 none)
     by (Some own) is g =
         let found = slot_of-found o.query slot t h.apart (is ∙ ap (λ n. Some n) (sym g)) in
-        subst (λ x. WatchesStandFor (standing ++ o ∷ []) (more_at x slot o.query t)) (sym found.1)
+        subst (λ x. WatchesStandFor (standing ++ o ∷ []) (more_at x slot o.query t))
+        (sym found.1)
         (again found.0 found.1 found.2)
 
 -- ---- how many queries are observed

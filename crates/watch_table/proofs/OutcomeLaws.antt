@@ -45,7 +45,8 @@ pub watches-StandsFor : (query : Query) (old gone new : Table) (standing : List 
     → WatchesStandFor standing gone
     → OnOk r (WatchesStandFor (standing ++ o ∷ []) new)
 watches-StandsFor query old gone new standing o (Ok slot) h is stands =
-    subst (WatchesStandFor (standing ++ o ∷ [])) (ap (λ q. one_more slot q gone) is ∙ sym h.table)
+    subst (WatchesStandFor (standing ++ o ∷ [])) (ap (λ q. one_more slot q gone) is
+    ∙ sym h.table)
     (more-StandsFor standing o slot gone
     (subst (λ q. IsSlotFor q slot gone) (sym is) h.slot_for) stands)
 watches-StandsFor query old gone new standing o (Err e) h is stands = tt

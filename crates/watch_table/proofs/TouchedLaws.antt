@@ -149,7 +149,8 @@ sum_replaced q test (e ∷ es) w v is query count =
     by : (b : Bool)
         → cond b (Some e.1) (lookup test es) ≡ Some w
         → (lookup test es ≡ Some w → counted_of q (set_value test es v) ≡ counted_of q es)
-        → counted_of q (cond b ((e.0, v) ∷ es) (e ∷ set_value test es v)) ≡ counted_of q (e ∷ es)
+        → counted_of q (cond b ((e.0, v) ∷ es) (e ∷ set_value test es v))
+        ≡ counted_of q (e ∷ es)
     by true g more =
         let same : e.1 ≡ w = cc in
         let here : counted_by q (e.0, v) ≡ counted_by q e =

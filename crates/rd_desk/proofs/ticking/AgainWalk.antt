@@ -127,7 +127,8 @@ way_waits rows s starved done d after out mids moment x due same way =
 
 -- it is sent again
 pub way_sends : (rows : List Row) (s : Step) (starved : Bool) (done : Effects) (b d : Seen)
-    (w : Watching) (out sent_out : List (Peer × List ℕ)) (mids : Mids) (moment : ℕ) (x : Standing)
+    (w : Watching) (out sent_out : List (Peer × List ℕ)) (mids : Mids) (moment : ℕ)
+    (x : Standing)
     → b ≡ d
     → moment ≡ d.moment
     → again.Send ≡ due_of moment x.flight
@@ -331,7 +332,8 @@ again_goes rows s starved d after out sent mids i next x there goes rest h =
           (λ (m : ℕ). UnderWay rows s starved (joined h.done (again_done m x)) after sent mids)
           moment (goes room short.0 h.done h.way);
       whole = h.whole
-          ∙ (ap (λ (ws : List Standing). joined h.done (each_of (again_done (row_moment rows s)) ws))
+          ∙ (ap (λ (ws : List Standing).
+          joined h.done (each_of (again_done (row_moment rows s)) ws))
           left
           ∙ sym (joined-assoc h.done e
           (each_of (again_done (row_moment rows s)) (drop next after.watching.observers))));

@@ -6,7 +6,8 @@ use Rattle.watch_table.proofs.slots.leave.Goals as goal
 pub returns-then-is_last-clause-left : goal.returns-then-is_last-clause-left
 returns-then-is_last-clause-left c =
     c.shift_remove.ensures.entries
-    ∙ fewer-last c.args.slot c.args.watches.now.entries (sym c.is_last.ensures ∙ c.if-is_last.true)
+    ∙ fewer-last c.args.slot c.args.watches.now.entries (sym c.is_last.ensures
+    ∙ c.if-is_last.true)
 
 pub returns-in-Some-clause-left : goal.returns-in-Some-clause-left
 returns-in-Some-clause-left c =
