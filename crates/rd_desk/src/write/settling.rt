@@ -22,7 +22,7 @@ use crate::tables::Tables;
 use crate::write::asked::Write;
 use crate::write::replies::ShortReply;
 use crate::{Mids, Outbox};
-use coap_answers::{Reply, answer, begin_answer, internal_server_error};
+use coap_answers::{Datagram, Reply, answer, begin_answer, internal_server_error};
 use coap_message::View;
 use exchange_core::Octets;
 use rd_base::Peer;
@@ -58,7 +58,7 @@ pub(crate) fn answer_short(
     let Ok(datagram) = writer.finish(reply.diagnostic) else {
         unreachable!()
     };
-    out.push(peer, datagram);
+    out.push(peer, Datagram { octets: datagram });
     Octets::of(datagram)
 }
 
