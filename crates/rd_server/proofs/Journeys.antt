@@ -102,12 +102,14 @@ halts_before j before after written old mid new stop.Starved e a h = (
 -- octets, and then more of them
 joined : (workers : ℕ) (point next : Point) (fed more written rest : List ℕ)
     → Leads workers point fed next written
-    → journal_from workers point ((fed ++ more) ++ rest) ≡ journal_from workers next (more ++ rest)
+    → journal_from workers point ((fed ++ more) ++ rest)
+    ≡ journal_from workers next (more ++ rest)
 joined workers point next fed more written rest leads =
     ap (journal_from workers point) (append_assoc fed more rest) ∙ leads.same (more ++ rest)
 
 -- what was fed after a point was fed from the point before it
-pub feeds_after : (workers : ℕ) (point next : Point) (fed more written : List ℕ) (session : Session)
+pub feeds_after : (workers : ℕ) (point next : Point) (fed more written : List ℕ)
+    (session : Session)
     (old mid new : Option (List ℕ)) (result : Option Stop)
     →
     Leads workers point fed next written
@@ -341,7 +343,8 @@ line_fed_at workers point line whole before session old new result at e empty sa
     let text_is : whole ≡ point.pending ++ line =
     same ∙ ap (λ (l : List ℕ). l ++ line) at.pending in
     line_fed workers point line session old new result at.«open» e empty
-    (subst (λ (n : ℕ). DoesLine workers point.rows n (point.pending ++ line) session old new result)
+    (subst (λ (n : ℕ).
+    DoesLine workers point.rows n (point.pending ++ line) session old new result)
     at.line
     (subst (λ (l : List ℕ). DoesLine workers point.rows before.line l session old new result)
     text_is h))
@@ -361,7 +364,8 @@ too_long_at workers point rest held before session at e long =
     (too_long workers point rest held session at.«open» e (omega (arith, ap length at.pending)))
 
 -- what was fed after what had been fed
-pub feeds_more : (workers : ℕ) (point : Point) (fed more whole : List ℕ) (before session : Session)
+pub feeds_more : (workers : ℕ) (point : Point) (fed more whole : List ℕ)
+    (before session : Session)
     (old mid new : Option (List ℕ)) (result : Option Stop)
     → (go : Goes workers point fed before old mid)
     → Feeds workers go.next more session mid new result

@@ -121,7 +121,8 @@ pub last_done : (workers : ℕ) (point : Point) (line : List ℕ) (before sessio
     → EndsLines workers point session old new result
 last_done workers point line before session old new result at some same h =
     last_at workers point session old new result at.«open» (λ e. some (at.pending ∙ e))
-    (subst (λ (n : ℕ). DoesLine workers point.rows n point.pending session old new result) at.line
+    (subst (λ (n : ℕ). DoesLine workers point.rows n point.pending session old new result)
+    at.line
     (subst (λ (l : List ℕ). DoesLine workers point.rows before.line l session old new result)
     (same ∙ at.pending) h))
 

@@ -63,7 +63,8 @@ abbrev pub IsStarted : Session → Type 0
 IsStarted session = (workers : ℕ) × IsAt workers start session
 
 -- octets lead from a point to another, and are answered by a text
-pub record Leads (workers : ℕ) (point : Point) (bytes : List ℕ) (next : Point) (written : List ℕ) :
+pub record Leads (workers : ℕ) (point : Point) (bytes : List ℕ) (next : Point)
+    (written : List ℕ) :
     Type 0 where
   pub texts : text next.rows ≡ text point.rows ++ written
   pub same : (rest : List ℕ)

@@ -35,7 +35,8 @@ fn read_all<S: Source, K: Sink>(
     requires { IsSession session.old }
     ensures read { (workers : ℕ) (point : Point)
         → IsAt workers point session.old
-        → ReadsAll workers point session.new (K.holds out.old) (K.holds out.new) (S.left source.old)
+        → ReadsAll workers point session.new (K.holds out.old) (K.holds out.new)
+        (S.left source.old)
         (S.left source.new) result }
     ensures failed { CountsFailed (S.faults source.old) (S.faults source.new) result }
     ensures stopped { CountsStopped (K.faults out.old) (K.faults out.new) result }
