@@ -10,3 +10,9 @@ pub mod JobLaws
 pub mod HallLaws
 -- What a seat shows after any calls.
 pub mod RunLaws
+-- What is told of a list, from one call to the next.
+pub mod ToldLaws
+-- Calls of a seat by a caller with a clock.
+pub mod CallLaws
+-- What a seat shows after the calls of a caller.
+pub mod SeatRuns

@@ -9,3 +9,6 @@ pub mod Shares
 pub mod Heard
 pub mod Halls
 pub mod Runs
+pub mod Chains
+pub mod Calls
+pub mod Callers

@@ -1,12 +1,10 @@
 -- Laws of serving: SendLaws (what is sent, one after the other), CallLaws (calls of the seat),
--- TurnLaws (turns of a worker), ToldLaws (what its counts tell), SeatRuns (its seat is a seat of
--- the journal), JoinLaws (sums of workers), EndLaws (the ends of a server), PlanReads and PlanLaws
--- (the words of the program).
+-- TurnLaws (turns of a worker), ToldLaws (what its counts tell), JoinLaws (sums of workers),
+-- EndLaws (the ends of a server), PlanReads and PlanLaws (the words of the program).
 pub mod SendLaws
 pub mod CallLaws
 pub mod TurnLaws
 pub mod ToldLaws
-pub mod SeatRuns
 pub mod JoinLaws
 pub mod EndLaws
 pub mod PlanReads

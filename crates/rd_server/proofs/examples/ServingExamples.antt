@@ -24,10 +24,12 @@ use Rattle.journal_model.specs.Machine.{Job}
 use Rattle.rd_server.specs.declared.serving.served.Served.{Served}
 use Rattle.rd_server.specs.declared.serving.served.ServeFault.TheVariants as fault
 use Rattle.rd_server.specs.Options.{words_after}
+use Rattle.rd_seat.specs.Callers.{DoesJob}
 use Rattle.rd_server.specs.serving.Calls.{Call}
+use Rattle.rd_server.specs.serving.Sendings.{Sending}
 use Rattle.rd_server.specs.serving.Endings.{joined, served_line}
 use Rattle.rd_server.specs.serving.Plans.{plan_said}
-use Rattle.rd_server.specs.serving.Turns.{DoesJob, Follows, HearsAt, Nothing, Failed}
+use Rattle.rd_server.specs.serving.Turns.{Follows, HearsAt, Nothing, Failed}
 
 -- ---- calls after a receive
 
@@ -44,7 +46,7 @@ early_tick_falls peer datagram calls it tick one =
     omega (arith, ap (λ (l : List Call). length l) (sym one ∙ it.sixteenth))
 
 -- a job that is left is not done
-job_left_falls : (j : Job) → DoesJob (Some j) [] → ⊥
+job_left_falls : (j : Job) → DoesJob {S = List Sending} (Some j) [] → ⊥
 job_left_falls j it = omega (arith, ap (λ (l : List Call). length l) it.1)
 
 -- nothing came, and time does not pass

@@ -42,15 +42,16 @@ use Rattle.atomic_table.specs.Seated.{TableId}
 use Rattle.udp_link.specs.declared.links.Link as links
 use Rattle.udp_link.specs.declared.clocks.Clock as clocks
 use Rattle.rd_seat.specs.Seats.{SeatSeen, new_seat, new_seats}
+use Rattle.rd_seat.proofs.SeatRuns.{IsOfJournal, seat_after}
 use Rattle.rd_server.specs.declared.serving.ends.End.{End}
 use Rattle.rd_server.specs.declared.serving.served.Served.{Served}
 use Rattle.rd_server.specs.declared.serving.served.ServeFault.{ServeFault}
 use Rattle.rd_server.specs.declared.serving.served.ServeFault.TheVariants as fault
+use Rattle.rd_server.specs.serving.Sendings.{all_sent}
 use Rattle.rd_server.specs.serving.Turns.{calls_of}
 use Rattle.rd_server.specs.serving.Endings.{join, joined, joined_after, none_served}
 use Rattle.rd_server.specs.serving.Servers.{EndServes, EndServed, IsUnserved, seated}
 use Rattle.rd_server.proofs.service.JoinLaws.{first_of, rest_of}
-use Rattle.rd_server.proofs.service.SeatRuns.{IsOfJournal, seat_after}
 
 -- ---- new seats
 
@@ -177,8 +178,8 @@ end-EndServed l c number hall worker old mid new seat is given served =
     let it : EndServes l c number (new_seat hall worker)
     (seated old (Some (new_seat hall worker))) new =
     subst (λ (m : End _ _). IfSome m.seat (λ s. EndServes l c number s m new)) whole served in
-    let journal : IsOfJournal it.seat = seat_after hall worker (calls_of it.serves.turns) it.seat
-    it.serves.works.seat in
+    let journal : IsOfJournal it.seat =
+    seat_after all_sent hall worker (calls_of it.serves.turns) it.seat it.serves.works.seat in
     record {
       serves = record { seat = it.seat; kept = it.kept; serves = it.serves; told = it.told };
       calls = journal.calls;

@@ -25,41 +25,16 @@ use Rattle.std.proofs.Common.{
 use Rattle.std.specs.List.{slice_get}
 use Rattle.std.proofs.lemmas.List.{append_assoc, append-nil, length-append}
 use Rattle.rd_base.proofs.lemmas.Options.{some_same, none_some}
-use Rattle.udp_link.specs.Told.{WhereTold, Stays}
 use Rattle.udp_link.specs.Links.{Datagram}
 use Rattle.udp_link.specs.declared.links.Went.{Went}
 use Rattle.udp_link.specs.declared.links.Went.TheVariants as went
+use Rattle.rd_seat.proofs.ToldLaws.{told_then, told_same, Stays-then}
 use Rattle.rd_server.specs.serving.Sendings.{Sending, all_sent, all_went, number_lost}
 use Rattle.rd_server.specs.serving.Workers.{LinkSeen, Goes, RisesBy, Sends}
 use Rattle.rd_server.specs.serving.Sums.{CountsMore, CountsSendings, IsBelow}
 use Rattle.rd_server.specs.declared.serving.served.Served.{Served}
 
--- ---- what is told
-
--- two relations one after the other
-pub told_then : {A : Type 0} {R S T : List A → List A → Type 0}
-    → ((x y z : List A) → R x y → S y z → T x z) → (a b c : Option (List A)) → WhereTold R a b
-    → WhereTold S b c → WhereTold T a c
-told_then join None b c r s = tt
-told_then join (Some x) None c r s = absurd r
-told_then join (Some x) (Some y) None r s = absurd s
-told_then join (Some x) (Some y) (Some z) r s = join x y z r s
-
--- what is told meets what everything meets
-pub told_as : {A : Type 0} {R S : List A → List A → Type 0} → ((x y : List A) → R x y → S x y)
-    → (a b : Option (List A)) → WhereTold R a b → WhereTold S a b
-told_as meets None b r = tt
-told_as meets (Some x) None r = absurd r
-told_as meets (Some x) (Some y) r = meets x y r
-
--- nothing happened
-pub told_same : {A : Type 0} (R : List A → List A → Type 0) → ((x : List A) → R x x)
-    → (a : Option (List A)) → WhereTold R a a
-told_same R meets None = tt
-told_same R meets (Some x) = meets x
-
-pub Stays-then : {A : Type 0} (a b c : Option (List A)) → Stays a b → Stays b c → Stays a c
-Stays-then a b c r s = told_then (λ x y z e f. f ∙ e) a b c r s
+-- ---- one after the other
 
 pub Goes-then : (xs ys : List Datagram) (a b c : Option (List Datagram)) → Goes xs a b
     → Goes ys b c → Goes (xs ++ ys) a c

@@ -10,7 +10,8 @@ use Rattle.udp_link.specs.Links.{Datagram}
 use Rattle.udp_link.specs.declared.links.TheConstants.{MAX_DATAGRAM}
 use Rattle.rd_server.specs.declared.serving.served.Served.{Served}
 use Rattle.rd_server.specs.declared.serving.served.ServeFault.{ServeFault}
-use Rattle.rd_server.specs.serving.Chains.{Chain}
+use Rattle.rd_seat.specs.Chains.{Chain}
+use Rattle.rd_seat.proofs.ToldLaws.{told_as}
 use Rattle.rd_server.specs.serving.Calls.{calls_went}
 use Rattle.rd_server.specs.serving.Workers.{WorkerSeen}
 use Rattle.rd_server.specs.serving.Turns.{
@@ -30,7 +31,6 @@ use Rattle.rd_server.specs.serving.Turns.{
 }
 use Rattle.rd_server.specs.serving.Sums.{IsSumOf}
 use Rattle.rd_server.specs.serving.Service.{Takes, CountsTold, Works, Serves, is_within}
-use Rattle.rd_server.proofs.service.SendLaws.{told_as}
 
 -- one more was taken
 taken_more : (heard n : ℕ) (d : Datagram) (old middle new : List Datagram)

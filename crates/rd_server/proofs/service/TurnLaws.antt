@@ -9,23 +9,19 @@ use Rattle.udp_link.specs.declared.links.Came.TheVariants as came
 use Rattle.rd_base.specs.Outside.{Rose}
 use Rattle.rd_server.specs.declared.serving.served.Served.{Served}
 use Rattle.rd_server.specs.declared.serving.served.ServeFault.TheVariants as fault
-use Rattle.rd_server.specs.serving.Chains.{Chain}
-use Rattle.rd_server.specs.serving.Calls.{
-  Call,
-  Does,
-  GivesMoment,
-  GivesWord,
-  calls_went,
-  calls_lost,
-}
+use Rattle.rd_seat.specs.Chains.{Chain}
+use Rattle.rd_seat.specs.Calls.{GivesMoment, GivesWord}
+use Rattle.rd_seat.specs.Callers.{Ticks, TicksWhere}
+use Rattle.rd_seat.proofs.ToldLaws.{told_then, told_as, told_same}
+use Rattle.rd_seat.proofs.CallLaws.{Chain-then}
+use Rattle.rd_server.specs.serving.Calls.{Call, Does, calls_went, calls_lost}
 use Rattle.rd_server.specs.serving.Workers.{WorkerSeen, RisesBy, CallsMade}
-use Rattle.rd_server.specs.serving.Turns.{Turn, TooLong, Ticks, TicksWhere, Follows, Comes}
+use Rattle.rd_server.specs.serving.Turns.{Turn, TooLong, Follows, Comes}
 use Rattle.rd_server.specs.serving.Turns.{TurnComes, AllCame, calls_of, turns_heard}
 use Rattle.rd_server.specs.serving.Turns.{heard_more, long_more}
 use Rattle.rd_server.specs.serving.Sums.{CountsCalls, CountsTurn, IsSumOf}
 use Rattle.rd_server.specs.serving.Service.{TurnMade, Works, GoesOn, Serves}
-use Rattle.rd_server.proofs.service.SendLaws.{told_then, told_as, told_same}
-use Rattle.rd_server.proofs.service.CallLaws.{Chain-then, Goes-calls, RisesBy-calls, lost-then}
+use Rattle.rd_server.proofs.service.CallLaws.{Goes-calls, RisesBy-calls, lost-then}
 use Rattle.rd_server.proofs.service.CallLaws.{starved-then, went_length}
 
 -- ---- one turn
@@ -44,8 +40,8 @@ CallsMade-none a = record {
   lost = record { kept = omega arith; rose = λ below. omega arith };
   coming = told_same (λ old new. new ≡ old) (λ x. refl) a.link.coming;
   received = refl;
-  moments = told_same (λ old new. Chain GivesMoment old [] new) (λ x. refl) a.clock.times;
-  words = told_same (λ old new. Chain GivesWord old [] new) (λ x. refl) a.clock.words;
+  moments = told_same (λ old new. new ≡ old) (λ x. refl) a.clock.times;
+  words = told_same (λ old new. new ≡ old) (λ x. refl) a.clock.words;
 }
 
 -- a receive, which left the seat and the clock as they were, and calls after it

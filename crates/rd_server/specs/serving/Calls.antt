@@ -1,122 +1,29 @@
 -- The calls that a worker makes on its seat, and what it sends after each. The last stands first.
-use Rattle.std.specs.Prelude.{◌≡◌, ◌⊎◌, ℕ, ◌+◌, Bool, true, false, List, [], ◌∷◌, ◌++◌}
-use Rattle.std.specs.Prelude.{Option, Some, None}
-use Rattle.rd_base.specs.declared.moments.Moment.{Moment}
-use Rattle.rd_base.specs.declared.peers.Peer.{Peer}
+use Rattle.std.specs.Prelude.{ℕ, ◌+◌, Bool, true, false, List, [], ◌∷◌, ◌++◌}
 use Rattle.udp_link.specs.Links.{Datagram}
-use Rattle.udp_link.specs.Clocks.{GivesFirst, but_first}
-use Rattle.history_model.specs.Live.{IsFront}
-use Rattle.event_model.specs.KeptAnswers.{Answer}
-use Rattle.journal_model.specs.declared.rows.Row.{Row}
-use Rattle.journal_model.specs.declared.steps.Step.{Step}
-use Rattle.journal_model.specs.declared.steps.StepKind.{StepKind}
-use Rattle.journal_model.specs.declared.steps.StepKind.TheVariants as step
-use Rattle.journal_model.specs.Machine as machine
-use Rattle.journal_model.specs.Machine.{hearing}
-use Rattle.journal_model.specs.Seats.{job_left}
-use Rattle.rd_desk.specs.declared.jobs.Job.{Job}
-use Rattle.rd_desk.specs.declared.jobs.Job.TheVariants as job
-use Rattle.rd_seat.specs.declared.hearing.SeatHeard.{SeatHeard}
-use Rattle.rd_seat.specs.declared.hearing.SeatHeard.TheVariants as heard
-use Rattle.rd_seat.specs.Seats.{SeatSeen, MakesStep, LooksAtMet}
+use Rattle.rd_seat.specs.Seats.{SeatSeen}
+use Rattle.rd_seat.specs.Calls as of_seat
 use Rattle.rd_server.specs.serving.Sendings.{Sending, all_sent, all_went, number_lost}
 
--- ---- one call
+-- a call of the seat, and what was sent of what came out of it
+abbrev pub Call : Type 0
+Call = of_seat.Call (List Sending)
 
--- A call of the seat: its step, whether it ran out of memory, what was sent of what came out of
--- it, and the job that it left the worker with.
-pub record Call : Type 0 where
-  pub step : Step
-  pub starved : Bool
-  pub sendings : List Sending
-  pub left : Option machine.Job
-
--- the last row of a journal leaves its worker with this
-abbrev pub IsLeftBy : List Row → Option machine.Job → Type 0
-IsLeftBy [] left = ⊥
-IsLeftBy (r ∷ before) left = left ≡ job_left r before
-
--- the body that a look leaves is to be kept
-abbrev pub job_kept : Option Answer → Step → Option machine.Job
-job_kept None s = None
-job_kept (Some found) s =
-    Some (record { kind = step.Keep found.body found.tag; peer = s.peer; datagram = s.datagram })
-
--- the call made a row at a turn of the seat, and what the row sends was sent
-pub record Rowed (before : SeatSeen) (c : Call) (after : SeatSeen) : Type 0 where
-  pub grows : IsFront before.met after.met
-  pub made : MakesStep before c.step c.starved (all_sent c.sendings) after
-  pub left : IsLeftBy after.seen c.left
-
--- the call looked, and what the look sends was sent
-pub record Viewed (before : SeatSeen) (c : Call) (after : SeatSeen) : Type 0 where
-  pub grows : IsFront before.met after.met
-  pub held : Option Answer
-  pub looks : LooksAtMet before c.step c.starved (all_sent c.sendings) held after
-  pub left : c.left ≡ job_kept held c.step
-
--- what a call did to the seat
+-- what a call did to the seat, where all that came out was sent
 abbrev pub Does : SeatSeen → Call → SeatSeen → Type 0
-Does before c after = Rowed before c after ⊎ Viewed before c after
-
--- the call hears this datagram
-pub record IsHearing (peer : Peer) (datagram : List ℕ) (c : Call) : Type 0 where
-  pub kind : c.step.kind ≡ hearing datagram
-  pub peer_of : c.step.peer ≡ peer
-  pub datagram_of : c.step.datagram ≡ datagram
-
--- the step is that of the job
-pub record IsOfJob (j : machine.Job) (s : Step) : Type 0 where
-  pub kind : s.kind ≡ j.kind
-  pub peer : s.peer ≡ j.peer
-  pub datagram : s.datagram ≡ j.datagram
-
--- ---- jobs as a worker holds them
-
--- the job that is left
-abbrev pub job_held : SeatHeard → Option Job
-job_held heard.Done = None
-job_held (heard.Held j) = Some j
-job_held heard.Starved = None
-
--- what is to be done, where an admission stands at this place
-abbrev pub job_at : ℕ → Job → machine.Job
-job_at place (job.Write j) =
-    record { kind = step.Commit place; peer = j.peer; datagram = j.datagram }
-job_at place (job.Keep j) = record {
-  kind = step.Keep j.answer.body j.answer.tag;
-  peer = j.peer;
-  datagram = j.datagram;
-}
-
--- ---- what the clock gave
-
--- the moment that a call hands in is the one that the clock gave before it
-abbrev pub GivesMoment : List Moment → Call → List Moment → Type 0
-GivesMoment before c now = GivesFirst (record { 0 = 0 }) c.step.handed before now
-
--- a datagram that is heard and a tick hand in a word, which a look does not use; a job hands in
--- none
-abbrev pub GivesWordTo : StepKind → ℕ → List ℕ → List ℕ → Type 0
-GivesWordTo step.Admit word before now = GivesFirst 0 word before now
-GivesWordTo step.Look word before now = now ≡ but_first before
-GivesWordTo step.Tick word before now = GivesFirst 0 word before now
-GivesWordTo _ word before now = now ≡ before
-
-abbrev pub GivesWord : List ℕ → Call → List ℕ → Type 0
-GivesWord before c now = GivesWordTo c.step.kind c.step.word before now
+Does before c after = of_seat.Does all_sent before c after
 
 -- ---- sums
 
 -- all that went, in order
 abbrev pub calls_went : List Call → List Datagram
 calls_went [] = []
-calls_went (c ∷ earlier) = calls_went earlier ++ all_went c.sendings
+calls_went (c ∷ earlier) = calls_went earlier ++ all_went c.sent
 
 -- how many datagrams were lost
 abbrev pub calls_lost : List Call → ℕ
 calls_lost [] = 0
-calls_lost (c ∷ earlier) = calls_lost earlier + number_lost c.sendings
+calls_lost (c ∷ earlier) = calls_lost earlier + number_lost c.sent
 
 abbrev pub one_if : Bool → ℕ
 one_if true = 1

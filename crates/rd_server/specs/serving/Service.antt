@@ -8,8 +8,9 @@ use Rattle.udp_link.specs.declared.links.TheConstants.{MAX_DATAGRAM}
 use Rattle.rd_server.specs.declared.serving.served.Served.{Served}
 use Rattle.rd_server.specs.declared.serving.served.ServeFault.{ServeFault}
 use Rattle.rd_server.specs.declared.serving.served.ServeFault.TheVariants as fault
-use Rattle.rd_server.specs.serving.Chains.{Chain}
-use Rattle.rd_server.specs.serving.Calls.{Does, GivesMoment, GivesWord, calls_went, calls_lost}
+use Rattle.rd_seat.specs.Chains.{Chain}
+use Rattle.rd_seat.specs.Calls.{GivesMoment, GivesWord}
+use Rattle.rd_server.specs.serving.Calls.{Does, calls_went, calls_lost}
 use Rattle.rd_server.specs.serving.Workers.{WorkerSeen, LinkSeen, Goes, RisesBy}
 use Rattle.rd_server.specs.serving.Turns.{
   Turn,

@@ -1,12 +1,11 @@
 -- The turns of a worker: what came over its link, and the calls that follow. The last stands first.
-use Rattle.std.specs.Prelude.{◌≡◌, ℕ, ◌+◌, ◌%◌, ◌==◌, ◌≤◌, ◌<◌, Bool, true, false}
-use Rattle.std.specs.Prelude.{List, [], ◌∷◌, ◌++◌, length, Option, Some, None, ⊤}
+use Rattle.std.specs.Prelude.{◌≡◌, ℕ, ◌+◌, ◌%◌, ◌==◌, ◌≤◌, ◌<◌}
+use Rattle.std.specs.Prelude.{List, [], ◌∷◌, ◌++◌, length, ⊤}
 use Rattle.rd_base.specs.declared.peers.Peer.{Peer}
 use Rattle.udp_link.specs.Links.{Datagram}
 use Rattle.udp_link.specs.declared.links.TheConstants.{MAX_DATAGRAM}
-use Rattle.journal_model.specs.declared.steps.StepKind.TheVariants as step
-use Rattle.journal_model.specs.Machine.{Job}
-use Rattle.rd_server.specs.serving.Calls.{Call, IsHearing, IsOfJob}
+use Rattle.rd_seat.specs.Callers.{Ticks, TicksWhere, Hears}
+use Rattle.rd_server.specs.serving.Calls.{Call}
 
 -- what a receive gave
 pub data Outcome : Type 0 where
@@ -21,30 +20,6 @@ pub record Turn : Type 0 where
   pub calls : List Call
 
 -- ---- which calls follow
-
--- time passes once
-pub record Ticks (calls : List Call) : Type 0 where
-  pub tick : Call
-  pub alone : calls ≡ tick ∷ []
-  pub kind : tick.step.kind ≡ step.Tick
-
--- the job that was left is done, where one was left
-abbrev pub DoesJob : Option Job → List Call → Type 0
-DoesJob None calls = calls ≡ []
-DoesJob (Some j) calls = (c : Call) × (calls ≡ c ∷ []) × IsOfJob j c.step
-
--- the datagram is heard, and its job is done at once
-pub record Hears (peer : Peer) (datagram : List ℕ) (calls : List Call) : Type 0 where
-  pub hear : Call
-  pub job : List Call
-  pub whole : calls ≡ job ++ hear ∷ []
-  pub hearing : IsHearing peer datagram hear
-  pub done : DoesJob hear.left job
-
--- time passes, where it is its turn
-abbrev pub TicksWhere : Bool → List Call → Type 0
-TicksWhere true calls = Ticks calls
-TicksWhere false calls = calls ≡ []
 
 -- a datagram of this number, from 1 on, is heard; after each sixteenth time passes
 pub record HearsAt (number : ℕ) (peer : Peer) (datagram : List ℕ) (calls : List Call)

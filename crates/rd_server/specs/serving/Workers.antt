@@ -1,21 +1,15 @@
 -- What a worker has: its seat, its link and its clock; and what calls do with them.
 use Rattle.std.specs.Prelude.{◌≡◌, ℕ, ◌+◌, ◌-◌, ◌^◌, ◌≤◌, ◌<◌, List, ◌++◌, Option}
-use Rattle.rd_base.specs.declared.moments.Moment.{Moment}
 use Rattle.udp_link.specs.Links.{Datagram}
 use Rattle.udp_link.specs.Told.{WhereTold, Stays}
 use Rattle.udp_link.specs.declared.links.Link as links
 use Rattle.udp_link.specs.declared.clocks.Clock as clocks
 use Rattle.rd_seat.specs.Seats.{SeatSeen}
-use Rattle.rd_server.specs.serving.Chains.{Chain}
+use Rattle.rd_seat.specs.Chains.{Chain}
+use Rattle.rd_seat.specs.Calls.{GivesMoment, GivesWord}
+use Rattle.rd_seat.specs.Callers.{ClockSeen, clock_seen}
 use Rattle.rd_server.specs.serving.Sendings.{Sending, all_went, number_lost}
-use Rattle.rd_server.specs.serving.Calls.{
-  Call,
-  Does,
-  GivesMoment,
-  GivesWord,
-  calls_went,
-  calls_lost,
-}
+use Rattle.rd_server.specs.serving.Calls.{Call, Does, calls_went, calls_lost}
 
 -- ---- what is seen of them
 
@@ -33,14 +27,6 @@ link_seen g link = record {
   recv_faults = g.recv_faults link;
   send_faults = g.send_faults link;
 }
-
--- what a clock shows
-pub record ClockSeen : Type 0 where
-  pub times : Option (List Moment)
-  pub words : Option (List ℕ)
-
-abbrev pub clock_seen : {T : Type 0} → clocks.Ghosts T → T → ClockSeen
-clock_seen g clock = record { times = g.times clock; words = g.words clock }
 
 -- what a worker has
 pub record WorkerSeen : Type 0 where

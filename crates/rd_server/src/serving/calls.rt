@@ -4,7 +4,8 @@ ghost use Rattle.journal_model.specs.declared.steps.StepKind.TheVariants as step
 ghost use Rattle.coap_answers.specs.Outboxes.{most_datagrams};
 ghost use Rattle.rd_seat.specs.Heard.{IsOpenWrite};
 ghost use Rattle.rd_seat.specs.Jobs.{last_place};
-ghost use Rattle.rd_server.specs.serving.Calls.{Call, IsHearing, IsOfJob, job_at, job_held};
+ghost use Rattle.rd_seat.specs.Calls.{IsHearing, IsOfJob, job_at, job_held};
+ghost use Rattle.rd_server.specs.serving.Calls.{Call};
 ghost use Rattle.rd_server.specs.serving.Workers.{CallsMade, worker_seen};
 ghost use Rattle.rd_server.specs.serving.Sums.{CountsCalls, GrowsBy, HasRoom};
 

@@ -1,9 +1,10 @@
 //! Turns: one receive, and the calls that follow it.
 ghost use Rattle.std.specs.Prelude.{◌≡◌, ◌≤◌, ◌*◌, ◌^◌, List, length};
 ghost use Rattle.udp_link.specs.declared.links.TheConstants.{MAX_DATAGRAM};
+ghost use Rattle.rd_seat.specs.Callers.{Hears};
 ghost use Rattle.rd_server.specs.serving.Calls.{Call};
 ghost use Rattle.rd_server.specs.serving.Workers.{CallsMade, worker_seen};
-ghost use Rattle.rd_server.specs.serving.Turns.{Hears, HearsAt, Turn};
+ghost use Rattle.rd_server.specs.serving.Turns.{HearsAt, Turn};
 ghost use Rattle.rd_server.specs.serving.Sums.{CountsCalls, CountsTurn};
 ghost use Rattle.rd_server.specs.serving.Sums.{GrowsBy, IsBelow, worker_most};
 ghost use Rattle.rd_server.specs.serving.Service.{GoesOn, TurnMade};

@@ -1,9 +1,10 @@
 use Rattle.std.proofs.Common.{Bool, subst}
 use Rattle.rd_desk.specs.calls.Stepping.{is_starved_step}
 use Rattle.rd_seat.specs.Jobs.{last_place}
+use Rattle.rd_seat.proofs.CallLaws.{go_call, go-IsOfJob}
 use Rattle.rd_server.specs.serving.Calls.{Call, one_if}
 use Rattle.rd_server.specs.serving.Sums.{CountsSendings}
-use Rattle.rd_server.proofs.service.CallLaws.{go_call, go-made, go-IsOfJob, one_count}
+use Rattle.rd_server.proofs.service.CallLaws.{go-made, one_count}
 use Rattle.rd_server.proofs.serving.calls.go.Goals as goal
 
 pub returns-clause-made : goal.returns-clause-made

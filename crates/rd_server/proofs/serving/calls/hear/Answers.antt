@@ -4,16 +4,12 @@ use Rattle.journal_model.specs.Machine.{is_look_datagram}
 use Rattle.rd_desk.specs.declared.jobs.Job.{Job}
 use Rattle.rd_seat.specs.Heard.{IsOpenWrite}
 use Rattle.rd_seat.specs.Jobs.{last_place}
-use Rattle.rd_server.specs.serving.Calls.{Call, one_if, job_at}
+use Rattle.rd_seat.specs.Calls.{job_at}
+use Rattle.rd_seat.specs.Callers.{clock_seen}
+use Rattle.rd_seat.proofs.CallLaws.{hear_call, hear-IsHearing, open-held}
+use Rattle.rd_server.specs.serving.Calls.{Call, one_if}
 use Rattle.rd_server.specs.serving.Sums.{CountsSendings}
-use Rattle.rd_server.specs.serving.Workers.{clock_seen}
-use Rattle.rd_server.proofs.service.CallLaws.{
-  hear_call,
-  hear-made,
-  hear-IsHearing,
-  one_count,
-  open-held,
-}
+use Rattle.rd_server.proofs.service.CallLaws.{hear-made, one_count}
 use Rattle.rd_server.proofs.serving.calls.hear.Goals as goal
 
 pub returns-clause-made : goal.returns-clause-made

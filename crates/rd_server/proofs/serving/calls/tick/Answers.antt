@@ -1,9 +1,10 @@
 use Rattle.std.proofs.Common.{Bool, refl, subst}
 use Rattle.rd_desk.specs.calls.Stepping.{is_starved_step}
+use Rattle.rd_seat.specs.Callers.{clock_seen}
+use Rattle.rd_seat.proofs.CallLaws.{tick_call}
 use Rattle.rd_server.specs.serving.Calls.{Call, one_if}
 use Rattle.rd_server.specs.serving.Sums.{CountsSendings}
-use Rattle.rd_server.specs.serving.Workers.{clock_seen}
-use Rattle.rd_server.proofs.service.CallLaws.{tick_call, tick-made, one_count}
+use Rattle.rd_server.proofs.service.CallLaws.{tick-made, one_count}
 use Rattle.rd_server.proofs.serving.calls.tick.Goals as goal
 
 pub returns-clause-made : goal.returns-clause-made

@@ -4,8 +4,8 @@ use Rattle.coap_answers.specs.Outboxes.{most_datagrams}
 use Rattle.rd_desk.specs.declared.jobs.Job.{Job}
 use Rattle.journal_model.specs.Machine as machine
 use Rattle.rd_seat.specs.Jobs.{last_place}
-use Rattle.rd_server.specs.serving.Calls.{job_at}
-use Rattle.rd_server.specs.serving.Turns.{DoesJob}
+use Rattle.rd_seat.specs.Calls.{job_at}
+use Rattle.rd_seat.specs.Callers.{DoesJob}
 use Rattle.rd_server.proofs.service.SendLaws.{IsBelow-more}
 use Rattle.rd_server.proofs.service.CallLaws.{CallsMade-then, CountsCalls-then}
 use Rattle.rd_server.proofs.serving.turns.answer.Goals as goal
