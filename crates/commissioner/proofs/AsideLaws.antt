@@ -26,6 +26,7 @@ use Rattle.std.proofs.Common.{
   subst,
   ◌∙◌,
   arith,
+  ⊤,
 }
 use Rattle.std.specs.List.{slice_get, remove}
 use Rattle.std.specs.Prelude.{slice_set}
@@ -48,7 +49,7 @@ nothing (x ∷ lines) k line e there = cc
 number_of : (past : List Step) (ask : Ask) (i : ℕ) (line : Line)
     → IsLine past ask i line
     → line.number ≡ i
-number_of past ask i line (inl open) = open.number
+number_of past ask i line (inl opens) = opens.number
 number_of past ask i line (inr over) = over.number
 
 -- what a line says that is decided
@@ -56,14 +57,14 @@ said_of : (past : List Step) (ask : Ask) (i : ℕ) (line : Line) (o : Outcome)
     → IsLine past ask i line
     → line.outcome ≡ Some o
     → said ask i past ≡ Some o
-said_of past ask i line o (inl open) e = let none = open.outcome in absurd cc
+said_of past ask i line o (inl opens) e = let none = opens.outcome in absurd cc
 said_of past ask i line o (inr over) e = let kept = over.kept in over.said ∙ cc
 
 open_of : (past : List Step) (ask : Ask) (i : ℕ) (line : Line)
     → IsLine past ask i line
     → line.outcome ≡ None
     → IsOpen past ask i line
-open_of past ask i line (inl open) e = open
+open_of past ask i line (inl opens) e = opens
 open_of past ask i line (inr over) e = let kept = over.kept in absurd cc
 
 -- the number of a line is none of an earlier ask
@@ -205,33 +206,6 @@ all_open (ask ∷ asks) i past (x ∷ lines) (None ∷ outcomes) (suc k) are all
 )
 
 -- ---- what is said
-
-pub kept_said : (asks : List Ask) (i : ℕ) (past : List Step) (lines : List Line)
-    (outcomes : List (Option Outcome))
-    → AreOpen past asks i lines outcomes
-    → outcomes ≡ said_all asks i past
-kept_said [] i past lines outcomes are = are.1
-kept_said (ask ∷ asks) i past lines [] are = absurd are
-kept_said (ask ∷ asks) i past lines (Some o ∷ outcomes) are =
-    joined (Some o) (said ask i past) outcomes (said_all asks (suc i) past) (sym are.0)
-    (kept_said asks (suc i) past lines outcomes are.1)
-  where
-    joined : (x y : Option Outcome) (xs ys : List (Option Outcome))
-        → x ≡ y
-        → xs ≡ ys
-        → ◌≡◌ {A = List (Option Outcome)} (x ∷ xs) (y ∷ ys)
-    joined x y xs ys e f = rw (e, f) refl
-kept_said (ask ∷ asks) i past [] (None ∷ outcomes) are = absurd are
-kept_said (ask ∷ asks) i past (line ∷ lines) (None ∷ outcomes) are =
-    joined None (said ask i past) outcomes (said_all asks (suc i) past)
-    (sym (said_open past ask i line are.0))
-    (kept_said asks (suc i) past lines outcomes are.1)
-  where
-    joined : (x y : Option Outcome) (xs ys : List (Option Outcome))
-        → x ≡ y
-        → xs ≡ ys
-        → ◌≡◌ {A = List (Option Outcome)} (x ∷ xs) (y ∷ ys)
-    joined x y xs ys e f = rw (e, f) refl
 
 pub none_open : (asks : List Ask) (i : ℕ) (past : List Step) (outcomes : List (Option Outcome))
     → AreOpen past asks i [] outcomes

@@ -27,6 +27,8 @@ use Rattle.std.proofs.Common.{
   Option,
   Some,
   None,
+  Ok,
+  Err,
   refl,
   sym,
   ap,
@@ -40,7 +42,13 @@ use Rattle.std.specs.Prelude.{slice_set}
 use Rattle.std.proofs.lemmas.Bool.{eq-eqb}
 use Rattle.std.proofs.lemmas.List.Folds.{list_any-append}
 use Rattle.rd_base.specs.declared.moments.Moment.{Moment}
+use Rattle.message_model.specs.Spelling.{spelling}
+use Rattle.udp_link.specs.Told.{Stays}
+use Rattle.client_model.specs.Requests.{message_of}
+use Rattle.registrant.specs.Turns.{Outside, Sends, IsTimed, IsSpoken}
 use Rattle.rd_base.specs.declared.peers.Peer.{Peer}
+use Rattle.rd_base.specs.declared.out_of_memory.Starved.{Starved}
+use Rattle.udp_link.specs.Links.{Datagram}
 use Rattle.event_model.specs.Same.{is_same_peer}
 use Rattle.client_model.specs.declared.asks.Ask.{Ask}
 use Rattle.client_model.specs.declared.outcomes.Outcome.{Outcome}
@@ -57,14 +65,15 @@ use Rattle.commissioner.specs.Shares.{
   share,
   said,
   verdict_of,
+  said_all,
   is_busy,
   is_due,
   busy_with,
   first_due,
   sent_first,
 }
-use Rattle.commissioner.specs.Lines.{IsStage, IsOpen}
-use Rattle.commissioner.specs.Happening.{AreOpen, HasBegun, AllBegun}
+use Rattle.commissioner.specs.Lines.{IsStage, IsOpen, Begun, IsBegun, IsLost, is_to_begin}
+use Rattle.commissioner.specs.Happening.{HappensAll, AreOpen, HasBegun, AllBegun, AreBegun}
 use Rattle.commissioner.proofs.ShareLaws.{share_other, share_own, said_other}
 
 -- ---- a line
@@ -94,9 +103,9 @@ pub waits_open : (past : List Step) (ask : Ask) (i : ℕ) (line : Line) (kept : 
     → IsOpen past ask i line
     → line.ask ≡ Some kept
     → (share ask i past ≡ None) × (kept ≡ ask) × CanBeSent ask
-waits_open past ask i line kept open e =
+waits_open past ask i line kept opens e =
     waits ask i (share ask i past) kept line.talk
-    (subst (λ (a : Option Ask). IsStage ask i (share ask i past) a line.talk) e open.stage)
+    (subst (λ (a : Option Ask). IsStage ask i (share ask i past) a line.talk) e opens.stage)
 
 -- one whose ask is gone has begun
 runs : (ask : Ask) (i : ℕ) (s : Option Share) (talk : Option Talking) (busy : List Peer)
@@ -117,8 +126,8 @@ undecided ask i (Some s) (Some kept) talk h = absurd h
 pub said_open : (past : List Step) (ask : Ask) (i : ℕ) (line : Line)
     → IsOpen past ask i line
     → said ask i past ≡ None
-said_open past ask i line open =
-    undecided ask i (share ask i past) line.ask line.talk open.stage
+said_open past ask i line opens =
+    undecided ask i (share ask i past) line.ask line.talk opens.stage
 
 -- ---- which is due
 
@@ -132,12 +141,12 @@ not_due : (busy : List Peer) (past : List Step) (ask : Ask) (i : ℕ) (line : Li
     → IsOpen past ask i line
     → HasBegun busy line
     → is_due busy ask.to (share ask i past) ≡ false
-not_due busy past ask i line open (inl gone) =
+not_due busy past ask i line opens (inl gone) =
     runs ask i (share ask i past) line.talk busy
-    (subst (λ (a : Option Ask). IsStage ask i (share ask i past) a line.talk) gone open.stage)
-not_due busy past ask i line open (inr taken) =
+    (subst (λ (a : Option Ask). IsStage ask i (share ask i past) a line.talk) gone opens.stage)
+not_due busy past ask i line opens (inr taken) =
     busy_not_due busy ask.to (share ask i past)
-    (subst (λ (to : Peer). is_busy busy to ≡ true) open.to taken)
+    (subst (λ (to : Peer). is_busy busy to ≡ true) opens.to taken)
 
 over_not_due : (busy : List Peer) (to : Peer) (s : Option Share) (o : Outcome)
     → verdict_of s ≡ Some o
@@ -217,8 +226,14 @@ free_due : (busy : List Peer) (to : Peer) (s : Option Share)
     → is_due busy to s ≡ true
 free_due busy to s none free = rw (none, free) refl
 
-abbrev tos : List Line → List Peer
+abbrev pub tos : List Line → List Peer
 tos lines = map (λ line. line.to) lines
+
+pub any_tos : (lines : List Line) (to : Peer)
+    → list_any (λ (line : Line). is_same_peer line.to to) lines ≡ is_busy (tos lines) to
+any_tos [] to = refl
+any_tos (x ∷ lines) to =
+    ap (λ (b : Bool). is_same_peer x.to to || b) (any_tos lines to)
 
 -- the line at an index is the first that is due, where those before it have begun and no undecided
 -- one before it is to its directory
@@ -246,12 +261,12 @@ first_at busy (ask ∷ asks) i past [] (None ∷ outcomes) k line kept are begun
 first_at busy (ask ∷ asks) i past (x ∷ lines) (None ∷ outcomes) zero line kept are begun there
     waiting free apart =
     let same : x ≡ line = cc in
-    let open = subst (λ (l : Line). IsOpen past ask i l) same are.0 in
+    let opens = subst (λ (l : Line). IsOpen past ask i l) same are.0 in
     is_first busy ask asks i past
     (free_due busy ask.to (share ask i past)
-    (waits_open past ask i line kept open waiting).0
-    (subst (λ (to : Peer). is_busy busy to ≡ false) open.to free))
-    ∙ ap (λ (n : ℕ). Some n) (sym open.number)
+    (waits_open past ask i line kept opens waiting).0
+    (subst (λ (to : Peer). is_busy busy to ≡ false) opens.to free))
+    ∙ ap (λ (n : ℕ). Some n) (sym opens.number)
 first_at busy (ask ∷ asks) i past (x ∷ lines) (None ∷ outcomes) (suc k) line kept are begun there
     waiting free apart =
     let parts = or_false (is_same_peer x.to line.to) (is_busy (tos (take k lines)) line.to) apart in
@@ -312,23 +327,23 @@ pub begun_open : (past : List Step) (ask : Ask) (i : ℕ) (line : Line) (kept : 
       talk = Some talk;
       outcome = line.outcome;
     })
-begun_open past ask i line kept now word talk open waiting stands = record {
-  number = open.number;
-  to = open.to;
-  outcome = open.outcome;
+begun_open past ask i line kept now word talk opens waiting stands = record {
+  number = opens.number;
+  to = opens.to;
+  outcome = opens.outcome;
   stage =
       subst (λ (s : Option Share). IsStage ask i s None (Some talk))
-      (sym (share_own ask i line.number now word past open.number))
+      (sym (share_own ask i line.number now word past opens.number))
       (subst
       (λ (a : Ask). StandsFor (asked_now a i (token_of i) now.0 word) (octets_of a i) [] talk)
-      (waits_open past ask i line kept open waiting).1
+      (waits_open past ask i line kept opens waiting).1
       (subst
       (λ (n : ℕ). StandsFor
       (asked_now kept n (token_of n) now.0 word)
       (octets_of kept n)
       []
       talk)
-      open.number
+      opens.number
       stands));
 }
 
@@ -336,14 +351,14 @@ open_other : (past : List Step) (ask : Ask) (i n : ℕ) (now : Moment) (word : �
     → (n == i) ≡ false
     → IsOpen past ask i line
     → IsOpen (step.Began n now word ∷ past) ask i line
-open_other past ask i n now word line e open = record {
-  number = open.number;
-  to = open.to;
-  outcome = open.outcome;
+open_other past ask i n now word line e opens = record {
+  number = opens.number;
+  to = opens.to;
+  outcome = opens.outcome;
   stage =
       subst (λ (s : Option Share). IsStage ask i s line.ask line.talk)
       (sym (share_other ask i n now word past e))
-      open.stage;
+      opens.stage;
 }
 
 -- those behind it stand as before
@@ -410,10 +425,10 @@ begun_kept (ask ∷ asks) i past [] (None ∷ outcomes) k line new kept now word
 begun_kept (ask ∷ asks) i past (x ∷ lines) (None ∷ outcomes) zero line new kept now word are there
     begins =
     let same : x ≡ line = cc in
-    let open = subst (λ (l : Line). IsOpen past ask i l) same are.0 in (
-      begins ask i open,
+    let opens = subst (λ (l : Line). IsOpen past ask i l) same are.0 in (
+      begins ask i opens,
       kept_behind asks (suc i) line.number now word past lines outcomes
-          (let number = open.number in omega (arith, number)) are.1,
+          (let number = opens.number in omega (arith, number)) are.1,
     )
 begun_kept (ask ∷ asks) i past (x ∷ lines) (None ∷ outcomes) (suc k) line new kept now word are
     there begins =
@@ -444,9 +459,9 @@ sent_begun (ask ∷ asks) i past lines (Some o ∷ outcomes) k line kept are the
 sent_begun (ask ∷ asks) i past [] (None ∷ outcomes) k line kept are there waiting = absurd are
 sent_begun (ask ∷ asks) i past (x ∷ lines) (None ∷ outcomes) zero line kept are there waiting =
     let same : x ≡ line = cc in
-    let open = subst (λ (l : Line). IsOpen past ask i l) same are.0 in
-    let own = (waits_open past ask i line kept open waiting).1 in
-    rw (eq-eqb line.number i open.number) (rw (open.to, own, open.number) refl)
+    let opens = subst (λ (l : Line). IsOpen past ask i l) same are.0 in
+    let own = (waits_open past ask i line kept opens waiting).1 in
+    rw (eq-eqb line.number i opens.number) (rw (opens.to, own, opens.number) refl)
 sent_begun (ask ∷ asks) i past (x ∷ lines) (None ∷ outcomes) (suc k) line kept are there waiting =
     let more : suc i ≤ line.number =
     number_from asks (suc i) past lines outcomes k line are.1 there in
@@ -468,8 +483,258 @@ can_begin (ask ∷ asks) i past lines (Some o ∷ outcomes) k line kept are ther
 can_begin (ask ∷ asks) i past [] (None ∷ outcomes) k line kept are there waiting = absurd are
 can_begin (ask ∷ asks) i past (x ∷ lines) (None ∷ outcomes) zero line kept are there waiting =
     let same : x ≡ line = cc in
-    let open = subst (λ (l : Line). IsOpen past ask i l) same are.0 in
-    let w = waits_open past ask i line kept open waiting in
+    let opens = subst (λ (l : Line). IsOpen past ask i l) same are.0 in
+    let w = waits_open past ask i line kept opens waiting in
     subst CanBeSent (sym w.1) w.2
 can_begin (ask ∷ asks) i past (x ∷ lines) (None ∷ outcomes) (suc k) line kept are there waiting =
     can_begin asks (suc i) past lines outcomes k line kept are.1 there waiting
+
+-- what is known of a line whose talk began
+pub began : (ask : Ask) (line : Line) (taken : Ask) (token : List ℕ) (now : Moment) (word : ℕ)
+    (talk : Talking) (bytes : List ℕ) (before after : Outside) (left : Option Ask)
+    → line.ask ≡ Some ask
+    → line.ask ≡ Some taken
+    → left ≡ None
+    → token ≡ token_of line.number
+    → IsTimed now before.times after.times
+    → IsSpoken word before.words after.words
+    → StandsFor
+    (asked_now taken line.number token now.0 word)
+    (spelling (message_of taken line.number token))
+    []
+    talk
+    → bytes ≡ talk.octets
+    → Sends ((line.to, bytes) ∷ []) before.gone before.send_faults after.gone after.send_faults
+    → Stays before.coming after.coming
+    → after.recv_faults ≡ before.recv_faults
+    → Begun ask line
+    (record {
+      number = line.number;
+      to = line.to;
+      ask = left;
+      talk = Some talk;
+      outcome = line.outcome;
+    })
+    before
+    after
+began ask line taken token now word talk bytes before after left is was none tokens timed spoken
+    stands octets sends coming receives =
+    let same : taken ≡ ask = let e = sym was ∙ is in cc in
+    let stood : StandsFor
+    (asked_now ask line.number (token_of line.number) now.0 word)
+    (octets_of ask line.number)
+    []
+    talk =
+    subst
+    (λ (a : Ask). StandsFor (asked_now a line.number (token_of line.number) now.0 word)
+    (octets_of a line.number) [] talk) same
+    (subst
+    (λ (t : List ℕ). StandsFor (asked_now taken line.number t now.0 word)
+    (spelling (message_of taken line.number t)) [] talk) tokens stands) in
+    record {
+      now = now;
+      word = word;
+      talk = talk;
+      timed = timed;
+      spoken = spoken;
+      sends =
+          subst (λ (o : List ℕ). Sends ((line.to, o) ∷ []) before.gone before.send_faults after.gone
+          after.send_faults)
+          (octets ∙ ap (λ (t : Talking). t.octets) stood.kept)
+          sends;
+      coming = coming;
+      receives = receives;
+      stands = stood;
+      is =
+          ap (λ (a : Option Ask). record {
+            number = line.number;
+            to = line.to;
+            ask = a;
+            talk = Some talk;
+            outcome = line.outcome;
+          }) none;
+    }
+
+-- ---- what is said
+
+pub kept_said : (asks : List Ask) (i : ℕ) (past : List Step) (lines : List Line)
+    (outcomes : List (Option Outcome))
+    → AreOpen past asks i lines outcomes
+    → outcomes ≡ said_all asks i past
+kept_said [] i past lines outcomes are = are.1
+kept_said (ask ∷ asks) i past lines [] are = absurd are
+kept_said (ask ∷ asks) i past lines (Some o ∷ outcomes) are =
+    joined (Some o) (said ask i past) outcomes (said_all asks (suc i) past) (sym are.0)
+    (kept_said asks (suc i) past lines outcomes are.1)
+  where
+    joined : (x y : Option Outcome) (xs ys : List (Option Outcome))
+        → x ≡ y
+        → xs ≡ ys
+        → ◌≡◌ {A = List (Option Outcome)} (x ∷ xs) (y ∷ ys)
+    joined x y xs ys e f = rw (e, f) refl
+kept_said (ask ∷ asks) i past [] (None ∷ outcomes) are = absurd are
+kept_said (ask ∷ asks) i past (line ∷ lines) (None ∷ outcomes) are =
+    joined None (said ask i past) outcomes (said_all asks (suc i) past)
+    (sym (said_open past ask i line are.0))
+    (kept_said asks (suc i) past lines outcomes are.1)
+  where
+    joined : (x y : Option Outcome) (xs ys : List (Option Outcome))
+        → x ≡ y
+        → xs ≡ ys
+        → ◌≡◌ {A = List (Option Outcome)} (x ∷ xs) (y ∷ ys)
+    joined x y xs ys e f = rw (e, f) refl
+
+-- ---- the loop
+
+due_ask : (kept : Option Ask) (busy : Bool)
+    → (is_some kept && not busy) ≡ true
+    → ((ask : Ask) × (kept ≡ Some ask)) × (busy ≡ false)
+due_ask None busy e = absurd cc
+due_ask (Some ask) true e = absurd cc
+due_ask (Some ask) false e = ((ask, refl), refl)
+
+-- a line whose talk is to begin
+pub due_parts : (before : List Line) (line : Line)
+    → is_to_begin before line ≡ true
+    → ((ask : Ask) × (line.ask ≡ Some ask)) × (is_busy (tos before) line.to ≡ false)
+due_parts before line e =
+    let parts =
+    due_ask line.ask (list_any (λ (other : Line). is_same_peer other.to line.to) before) e in
+    (parts.0, sym (any_tos before line.to) ∙ parts.1)
+
+has_by : (kept : Option Ask) (busy : Bool)
+    → (is_some kept && not busy) ≡ false
+    → (kept ≡ None) ⊎ (busy ≡ true)
+has_by None busy e = inl refl
+has_by (Some ask) true e = inr refl
+has_by (Some ask) false e = absurd cc
+
+has_begun : (before : List Line) (line : Line)
+    → is_to_begin before line ≡ false
+    → HasBegun ([] ++ tos before) line
+has_begun before line e =
+    by (has_by line.ask (list_any (λ (other : Line). is_same_peer other.to line.to) before) e)
+  where
+    by : ((line.ask ≡ None)
+        ⊎ (list_any (λ (other : Line). is_same_peer other.to line.to) before ≡ true))
+        → HasBegun ([] ++ tos before) line
+    by (inl none) = inl none
+    by (inr busy) = inr (sym (any_tos before line.to) ∙ busy)
+
+-- the talks of the first so many lines began where they were to
+abbrev pub BeginsSo : List Ask → List Step → List (Option Outcome) → ℕ → List Line → Outside
+    → Outside → Type 0
+BeginsSo asks past outcomes at lines a b =
+    (more : List Step)
+    × HappensAll asks past more a b
+    × AreOpen (more ++ past) asks 0 lines outcomes
+    × AllBegun [] (take at lines)
+
+pub begins_first : (asks : List Ask) (past : List Step) (outcomes : List (Option Outcome))
+    (lines : List Line) (a : Outside)
+    → AreOpen past asks 0 lines outcomes
+    → BeginsSo asks past outcomes 0 lines a a
+begins_first asks past outcomes [] a are = ([], refl, are, tt)
+begins_first asks past outcomes (line ∷ lines) a are = ([], refl, are, tt)
+
+pub begins_skip : (asks : List Ask) (past : List Step) (outcomes : List (Option Outcome)) (at : ℕ)
+    (lines : List Line) (line : Line) (a b : Outside)
+    → BeginsSo asks past outcomes at lines a b
+    → slice_get lines at ≡ Some line
+    → is_to_begin (take at lines) line ≡ false
+    → BeginsSo asks past outcomes (suc at) lines a b
+begins_skip asks past outcomes at lines line a b so there due = (
+  so.0,
+  so.1,
+  so.2,
+  begun_more [] lines at line there so.3 (has_begun (take at lines) line due),
+)
+
+set_there : (lines : List Line) (at : ℕ) (line new : Line)
+    → slice_get lines at ≡ Some line
+    → slice_get (slice_set lines at new) at ≡ Some new
+set_there [] at line new there = absurd cc
+set_there (x ∷ lines) zero line new there = refl
+set_there (x ∷ lines) (suc at) line new there = set_there lines at line new there
+
+take_set_same : (lines : List Line) (at : ℕ) (new : Line)
+    → take at (slice_set lines at new) ≡ take at lines
+take_set_same [] at new = refl
+take_set_same (x ∷ lines) zero new = refl
+take_set_same (x ∷ lines) (suc at) new =
+    ap (λ (ls : List Line). x ∷ ls) (take_set_same lines at new)
+
+pub begins_next : (asks : List Ask) (past : List Step) (outcomes : List (Option Outcome)) (at : ℕ)
+    (lines : List Line) (line new : Line) (a b c : Outside)
+    → BeginsSo asks past outcomes at lines a b
+    → slice_get lines at ≡ Some line
+    → is_to_begin (take at lines) line ≡ true
+    → IsBegun line new b c
+    → BeginsSo asks past outcomes (suc at) (slice_set lines at new) a c
+begins_next asks past outcomes at lines line new a b c so there due begins =
+    let parts = due_parts (take at lines) line due in
+    let kept = parts.0.0 in
+    let begun = begins kept parts.0.1 in
+    let before = so.0 ++ past in
+    let opens : (ask : Ask) (j : ℕ)
+        → IsOpen before ask j line
+        → IsOpen (step.Began line.number begun.now begun.word ∷ before) ask j new =
+    λ ask j stands.
+    subst (λ (l : Line). IsOpen (step.Began line.number begun.now begun.word ∷ before) ask j l)
+    (sym begun.is)
+    (begun_open before ask j line kept begun.now begun.word begun.talk stands parts.0.1
+    begun.stands) in (
+      step.Began line.number begun.now begun.word ∷ so.0,
+      (
+        b,
+        so.1,
+        record {
+          due =
+              first_at [] asks 0 before lines outcomes at line kept so.2 so.3 there parts.0.1 refl
+              parts.1;
+          timed = begun.timed;
+          spoken = begun.spoken;
+          sends =
+              subst (λ (ds : List Datagram). Sends ds b.gone b.send_faults c.gone c.send_faults)
+              (sym (sent_begun asks 0 before lines outcomes at line kept so.2 there parts.0.1))
+              begun.sends;
+          coming = begun.coming;
+          receives = begun.receives;
+        },
+      ),
+      begun_kept asks 0 before lines outcomes at line new kept begun.now begun.word so.2 there
+          opens,
+      begun_more [] (slice_set lines at new) at new (set_there lines at line new there)
+          (subst (λ (ls : List Line). AllBegun [] ls) (sym (take_set_same lines at new)) so.3)
+          (inl (ap (λ (l : Line). l.ask) begun.is)),
+    )
+
+pub begins_last : (asks : List Ask) (past : List Step) (outcomes : List (Option Outcome)) (at : ℕ)
+    (lines : List Line) (a b : Outside)
+    → BeginsSo asks past outcomes at lines a b
+    → take at lines ≡ lines
+    → AreBegun {E = Starved} asks past outcomes (Ok tt) lines a b
+begins_last asks past outcomes at lines a b so all =
+    (so.0, so.1, so.2, subst (λ (ls : List Line). AllBegun [] ls) all so.3)
+
+pub begins_lost : (asks : List Ask) (past : List Step) (outcomes : List (Option Outcome)) (at : ℕ)
+    (lines after : List Line) (e : Starved) (a b c : Outside)
+    → BeginsSo asks past outcomes at lines a b
+    → IsLost b c
+    → AreBegun {E = Starved} asks past outcomes (Err e) after a c
+begins_lost asks past outcomes at lines after e a b c so lost =
+    (so.0, b, so.1, kept_said asks 0 (so.0 ++ past) lines outcomes so.2, lost)
+
+-- what may begin can be sent
+pub begins_can : (asks : List Ask) (past : List Step) (outcomes : List (Option Outcome)) (at : ℕ)
+    (lines : List Line) (line : Line) (a b : Outside)
+    → BeginsSo asks past outcomes at lines a b
+    → slice_get lines at ≡ Some line
+    → is_to_begin (take at lines) line ≡ true
+    → (ask : Ask) × (line.ask ≡ Some ask) × CanBeSent ask
+begins_can asks past outcomes at lines line a b so there due =
+    let parts = due_parts (take at lines) line due in (
+      parts.0.0,
+      parts.0.1,
+      can_begin asks 0 (so.0 ++ past) lines outcomes at line parts.0.0 so.2 there parts.0.1,
+    )

@@ -20,6 +20,7 @@ use Rattle.std.proofs.Common.{
   Option,
   Some,
   None,
+  Result,
   Ok,
   Err,
   refl,
@@ -33,6 +34,7 @@ use Rattle.std.specs.List.{slice_get}
 use Rattle.std.specs.Prelude.{slice_set}
 use Rattle.rd_base.specs.declared.moments.Moment.{Moment}
 use Rattle.rd_base.specs.declared.peers.Peer.{Peer}
+use Rattle.udp_link.specs.Told.{WhereTold, Stays}
 use Rattle.udp_link.specs.Links.{Datagram}
 use Rattle.client_model.specs.declared.asks.Ask.{Ask}
 use Rattle.client_model.specs.declared.events.Event.{Event}
@@ -46,8 +48,8 @@ use Rattle.registrant.specs.declared.turns.TellFault.TheVariants as fault
 use Rattle.registrant.specs.declared.turns.Turn.{Turn}
 use Rattle.registrant.specs.declared.turns.Turn.TheVariants as turn
 use Rattle.registrant.specs.Talking.{Talking, StandsFor}
-use Rattle.registrant.specs.Turns.{Sends, IsTurned}
-use Rattle.registrant.proofs.TurnLaws.{sends_none}
+use Rattle.registrant.specs.Turns.{Outside, Sends, IsTurned, IsTimed, TakesEvent, moment_at}
+use Rattle.registrant.proofs.TurnLaws.{sends_none, sends_after}
 use Rattle.commissioner.specs.declared.lines.Line.{Line}
 use Rattle.commissioner.specs.declared.steps.Step.{Step}
 use Rattle.commissioner.specs.declared.steps.Step.TheVariants as step
@@ -72,8 +74,17 @@ use Rattle.commissioner.specs.Lines.{
   IsTurnedIf,
   IsDatagram,
   IsHanded,
+  IsNoLink,
 }
-use Rattle.commissioner.specs.Happening.{AreOpen, AreLines}
+use Rattle.commissioner.specs.Happening.{
+  AreOpen,
+  AreLines,
+  AllBegun,
+  AreHanded,
+  IsTaken,
+  CountsTaken,
+}
+use Rattle.commissioner.proofs.BeginLaws.{none_due}
 use Rattle.commissioner.proofs.ShareLaws.{share_event, said_stays, said_silent}
 use Rattle.commissioner.proofs.SendLaws.{sends_both, sends_as}
 
@@ -99,9 +110,9 @@ pub running : (past : List Step) (ask : Ask) (i : ℕ) (line : Line) (talk : Tal
     → IsOpen past ask i line
     → line.talk ≡ Some talk
     → Running past ask i talk
-running past ask i line talk open e =
+running past ask i line talk opens e =
     running_by past ask i (share ask i past) line.ask talk refl
-    (subst (λ (t : Option Talking). IsStage ask i (share ask i past) line.ask t) e open.stage)
+    (subst (λ (t : Option Talking). IsStage ask i (share ask i past) line.ask t) e opens.stage)
 
 waiting_by : (ask : Ask) (i : ℕ) (e : Event) (s : Option Share) (kept : Option Ask)
     → IsStage ask i s kept None
@@ -117,14 +128,14 @@ pub handed_waiting : (past : List Step) (ask : Ask) (i : ℕ) (e : Event) (line 
     → IsOpen past ask i line
     → line.talk ≡ None
     → IsHanded ask i past e (Ok tt) line x n x n
-handed_waiting past ask i e line x n open none =
+handed_waiting past ask i e line x n opens none =
     let w =
     waiting_by ask i e (share ask i past) line.ask
-    (subst (λ (t : Option Talking). IsStage ask i (share ask i past) line.ask t) none open.stage) in (
+    (subst (λ (t : Option Talking). IsStage ask i (share ask i past) line.ask t) none opens.stage) in (
       inl (record {
-        number = open.number;
-        to = open.to;
-        outcome = open.outcome;
+        number = opens.number;
+        to = opens.to;
+        outcome = opens.outcome;
         stage =
             subst (λ (t : Option Talking).
             IsStage ask i (share ask i (step.Happened e ∷ past)) line.ask t) (sym none)
@@ -202,10 +213,10 @@ stage_more : (past : List Step) (ask : Ask) (i : ℕ) (line : Line) (own s : Sha
     → share ask i past ≡ Some own
     → StandsFor s.asked (octets_of ask i) s.events talk
     → IsStage ask i (Some s) line.ask (Some talk)
-stage_more past ask i line own s old talk open is shared stands =
+stage_more past ask i line own s old talk opens is shared stands =
     stage_by ask i line.ask own s old talk
     (subst (λ (t : Option Talking). IsStage ask i (Some own) line.ask t) is
-    (subst (λ (x : Option Share). IsStage ask i x line.ask line.talk) shared open.stage))
+    (subst (λ (x : Option Share). IsStage ask i x line.ask line.talk) shared opens.stage))
     stands
 
 -- what a talk came to, of a line to this directory
@@ -235,20 +246,20 @@ pub handed_going : (past : List Step) (ask : Ask) (i : ℕ) (e : Event) (line : 
       outcome = line.outcome;
     })
     x n y m
-handed_going past ask i e line old talk x y n m open is turns =
-    let r = running past ask i line old open is in
+handed_going past ask i e line old talk x y n m opens is turns =
+    let r = running past ask i line old opens is in
     let none = r.stands.undecided in
     let t =
-    turned_at past ask i e line.to turn.Going r.own old talk x y n m open.to turns r.stands in
+    turned_at past ask i e line.to turn.Going r.own old talk x y n m opens.to turns r.stands in
     let g = going_by (is_shared ask.to e) r.own (octets_of ask i) e talk x y n m t in (
       inl (record {
-        number = open.number;
-        to = open.to;
-        outcome = open.outcome;
+        number = opens.number;
+        to = opens.to;
+        outcome = opens.outcome;
         stage =
             subst (λ (s : Option Share). IsStage ask i s line.ask (Some talk))
             (sym (share_more past ask i e r.own r.is none))
-            (stage_more past ask i line r.own (share_if (is_shared ask.to e) e r.own) old talk open
+            (stage_more past ask i line r.own (share_if (is_shared ask.to e) e r.own) old talk opens
             is r.is g.0);
       }),
       sends_as
@@ -272,15 +283,15 @@ pub handed_over : (past : List Step) (ask : Ask) (i : ℕ) (e : Event) (line : L
       outcome = Some o;
     })
     x n y m
-handed_over past ask i e line old talk o x y n m open is turns =
-    let r = running past ask i line old open is in
+handed_over past ask i e line old talk o x y n m opens is turns =
+    let r = running past ask i line old opens is in
     let none = r.stands.undecided in
     let t =
-    turned_at past ask i e line.to (turn.Over (Ok o)) r.own old talk x y n m open.to turns
+    turned_at past ask i e line.to (turn.Over (Ok o)) r.own old talk x y n m opens.to turns
     r.stands in
     let g = over_by (is_shared ask.to e) r.own (octets_of ask i) e talk o x y n m t in (
       inr (record {
-        number = open.number;
+        number = opens.number;
         outcome = o;
         kept = refl;
         said =
@@ -301,16 +312,20 @@ pub handed_fault : (past : List Step) (ask : Ask) (i : ℕ) (e : Event) (line ne
     → line.talk ≡ Some old
     → TurnsSo line.to e old (turn.Over (Err f)) talk x n y m
     → IsHanded ask i past e (Err fault.Starved) new x n y m
-handed_fault past ask i e line new old talk fault.Starved x y n m open is turns =
-    let r = running past ask i line old open is in
+handed_fault past ask i e line new old talk fault.Starved x y n m opens is turns =
+    let r = running past ask i line old opens is in
     starved_by (is_shared ask.to e) r.own (octets_of ask i) e talk x y n m
-    (turned_at past ask i e line.to (turn.Over (Err fault.Starved)) r.own old talk x y n m open.to
+    (turned_at past ask i e line.to (turn.Over (Err fault.Starved)) r.own old talk x y n m opens.to
     turns r.stands)
-handed_fault past ask i e line new old talk fault.Link x y n m open is turns =
-    let r = running past ask i line old open is in
+handed_fault past ask i e line new old talk fault.Link x y n m opens is turns =
+    let r = running past ask i line old opens is in
     absurd (no_link_by (is_shared ask.to e) r.own (octets_of ask i) e talk x y n m
-    (turned_at past ask i e line.to (turn.Over (Err fault.Link)) r.own old talk x y n m open.to
+    (turned_at past ask i e line.to (turn.Over (Err fault.Link)) r.own old talk x y n m opens.to
     turns r.stands))
+
+pub no_talk : (t : Option Talking) → ((x : Talking) → t ≡ Some x → ⊥) → t ≡ None
+no_talk None h = refl
+no_talk (Some x) h = absurd (h x refl)
 
 -- ---- each line
 
@@ -455,3 +470,152 @@ mixed_last e past (ask ∷ asks) i (suc k) (line ∷ lines) (None ∷ outcomes) 
       (are.0, more.0),
       more.1,
     )
+
+-- the line behind those that were handed it
+mixed_line : (e : Event) (past : List Step) (asks : List Ask) (i k : ℕ) (lines : List Line)
+    (outcomes : List (Option Outcome)) (line : Line)
+    → AreMixed e past asks i k lines outcomes
+    → slice_get lines k ≡ Some line
+    → (ask : Ask) × (j : ℕ) × IsOpen past ask j line
+mixed_line e past [] i k lines outcomes line are there = absurd (nothing lines k line are.0 there)
+mixed_line e past (ask ∷ asks) i k lines [] line are there = absurd are
+mixed_line e past (ask ∷ asks) i k lines (Some o ∷ outcomes) line are there =
+    mixed_line e past asks (suc i) k lines outcomes line are.1 there
+mixed_line e past (ask ∷ asks) i k [] (None ∷ outcomes) line are there = absurd are
+mixed_line e past (ask ∷ asks) i zero (x ∷ lines) (None ∷ outcomes) line are there =
+    let same : x ≡ line = cc in
+    (ask, i, subst (λ (l : Line). IsOpen past ask i l) same are.0)
+mixed_line e past (ask ∷ asks) i (suc k) (x ∷ lines) (None ∷ outcomes) line are there =
+    mixed_line e past asks (suc i) k lines outcomes line are.1 there
+
+-- ---- the loop
+
+-- so many lines were handed an event, and what is sent from here on is sent from the beginning
+abbrev pub Handing : Event → List Step → List Ask → ℕ → List Line → List (Option Outcome)
+    → Option (List Datagram) → ℕ → Option (List Datagram) → ℕ → Type 0
+Handing e past asks k lines outcomes x n y m =
+    AreMixed e past asks 0 k lines outcomes
+    × ((z : Option (List Datagram)) (l : ℕ)
+    → Sends (sent_rest e past asks 0 k outcomes) y m z l
+    → Sends (sent_all asks 0 past e) x n z l)
+    × ((others : List Datagram) × Sends others x n y m)
+
+pub handing_first : (e : Event) (past : List Step) (asks : List Ask) (lines : List Line)
+    (outcomes : List (Option Outcome)) (x : Option (List Datagram)) (n : ℕ)
+    → AreOpen past asks 0 lines outcomes
+    → Handing e past asks 0 lines outcomes x n x n
+handing_first e past asks lines outcomes x n are =
+    (mixed_first e past asks 0 lines outcomes are, λ z l h. h, ([], sends_none x n))
+
+pub handing_next : (e : Event) (past : List Step) (asks : List Ask) (k : ℕ) (lines : List Line)
+    (outcomes : List (Option Outcome)) (line new : Line) (x y z : Option (List Datagram))
+    (n m l : ℕ)
+    → Handing e past asks k lines outcomes x n y m
+    → slice_get lines k ≡ Some line
+    → HandsSo e past line new y m z l
+    → Handing e past asks (suc k) (slice_set lines k new) outcomes x n z l
+handing_next e past asks k lines outcomes line new x y z n m l handing there hands =
+    let next = mixed_next e past asks 0 k lines outcomes line new y z m l handing.0 there hands in
+    let own = mixed_line e past asks 0 k lines outcomes line handing.0 there in
+    let sent = (hands own.0 own.1 own.2).1 in (
+      next.0,
+      λ w j h. handing.1 w j (next.1 w j h),
+      (
+        handing.2.0 ++ sent_by own.0 own.1 e (share own.0 own.1 past),
+        sends_both handing.2.0 (sent_by own.0 own.1 e (share own.0 own.1 past)) x y z n m l
+            handing.2.1 sent,
+      ),
+    )
+
+pub handing_last : (e : Event) (past : List Step) (asks : List Ask) (k : ℕ) (lines : List Line)
+    (outcomes : List (Option Outcome)) (x y : Option (List Datagram)) (n m : ℕ)
+    → Handing e past asks k lines outcomes x n y m
+    → length lines ≤ k
+    → AreHanded asks past outcomes e (Ok tt) lines x n y m
+handing_last e past asks k lines outcomes x y n m handing all =
+    let last = mixed_last e past asks 0 k lines outcomes handing.0 all in (
+      last.0,
+      handing.1 y m
+          (sends_as [] (sent_rest e past asks 0 k outcomes) y y m m (sym last.1) (sends_none y m)),
+    )
+
+pub handing_fault : (e : Event) (past : List Step) (asks : List Ask) (k : ℕ) (lines after : List Line)
+    (outcomes : List (Option Outcome)) (line new : Line) (f : TellFault)
+    (x y z : Option (List Datagram)) (n m l : ℕ)
+    → Handing e past asks k lines outcomes x n y m
+    → slice_get lines k ≡ Some line
+    → ((ask : Ask) (j : ℕ)
+    → IsOpen past ask j line
+    → IsHanded ask j past e (Err f) new y m z l)
+    → AreHanded asks past outcomes e (Err f) after x n z l
+handing_fault e past asks k lines after outcomes line new fault.Starved x y z n m l handing there
+    hands =
+    let own = mixed_line e past asks 0 k lines outcomes line handing.0 there in
+    let h = hands own.0 own.1 own.2 in (
+      h.0,
+      handing.2.0 ++ [],
+      sends_both handing.2.0 [] x y z n m l handing.2.1 h.1,
+    )
+handing_fault e past asks k lines after outcomes line new fault.Link x y z n m l handing there
+    hands =
+    let own = mixed_line e past asks 0 k lines outcomes line handing.0 there in
+    absurd (hands own.0 own.1 own.2)
+
+-- ---- a receive
+
+-- what was taken was handed to each; the link's receive sent nothing
+pub taken_by : (r : Result Unit TellFault) (asks : List Ask) (past : List Step)
+    (outcomes : List (Option Outcome)) (old new : List Line) (e : Event) (before after : Outside)
+    (sent : Option (List Datagram)) (faults : ℕ)
+    → AreOpen past asks 0 old outcomes
+    → AllBegun [] old
+    → WhereTold (TakesEvent e) before.coming after.coming
+    → IsTimed (moment_at e) before.times after.times
+    → Stays before.words after.words
+    → after.recv_faults ≡ before.recv_faults
+    → Stays before.gone sent
+    → faults ≡ before.send_faults
+    → AreHanded asks past outcomes e r new sent faults after.gone after.send_faults
+    → IsTaken asks past outcomes r new before after
+taken_by (Ok u) asks past outcomes old new e before after sent faults are begun takes timed words
+    receives stays same handed = (
+      e,
+      record {
+        due = none_due [] asks 0 past old outcomes are begun;
+        takes = takes;
+        timed = timed;
+        sends =
+            sends_after (sent_all asks 0 past e) before.gone sent after.gone before.send_faults
+            faults after.send_faults stays same handed.1;
+        words = words;
+        receives = receives;
+      },
+      handed.0,
+    )
+taken_by (Err fault.Starved) asks past outcomes old new (event.Came now peer octets) before after
+    sent faults are begun takes timed words receives stays same handed = record {
+      lost = (peer, octets);
+      coming = takes;
+      now = now;
+      timed = timed;
+      sent = handed.1;
+      sends =
+          sends_after handed.1 before.gone sent after.gone before.send_faults faults
+          after.send_faults stays same handed.2;
+      words = words;
+      receives = receives;
+    }
+taken_by (Err fault.Starved) asks past outcomes old new (event.Tick now) before after sent faults are
+    begun takes timed words receives stays same handed =
+    absurd handed.0
+taken_by (Err fault.Link) asks past outcomes old new e before after sent faults are begun takes timed
+    words receives stays same handed =
+    absurd handed
+
+pub counted : (r : Result Unit TellFault) (before after : ℕ)
+    → IsNoLink r
+    → after ≡ before
+    → CountsTaken before after r
+counted (Ok u) before after no same = same
+counted (Err fault.Starved) before after no same = same
+counted (Err fault.Link) before after no same = absurd no

@@ -57,8 +57,8 @@ use Rattle.commissioner.specs.Happening.{
   is_unsaid,
 }
 use Rattle.commissioner.specs.Commissioning.{Ends, IsMade, StandsFor, IsGiven, IsPolled}
-use Rattle.commissioner.proofs.BeginLaws.{none_due}
-use Rattle.commissioner.proofs.AsideLaws.{kept_said, none_open, some_open}
+use Rattle.commissioner.proofs.BeginLaws.{none_due, kept_said}
+use Rattle.commissioner.proofs.AsideLaws.{none_open, some_open}
 
 -- ---- one after the other
 
@@ -102,7 +102,7 @@ polled_going asks past xs e line lines outcomes a b c h comes are = (
   step.Happened e ∷ xs,
   (b, h, comes),
   record {
-    open = are;
+    kept = are;
     some = some_open asks 0 (step.Happened e ∷ (xs ++ past)) line lines outcomes are;
   },
 )

@@ -68,7 +68,7 @@ pub record StandsFor
     (lines : List Line)
     (outcomes : List (Option Outcome))
     : Type 0 where
-  pub open : AreOpen past asks 0 lines outcomes
+  pub kept : AreOpen past asks 0 lines outcomes
   pub some : is_unsaid outcomes ≡ true
 
 -- whatever list and past the lines stand for, so it comes

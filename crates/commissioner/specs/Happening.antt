@@ -202,12 +202,6 @@ AreHanded asks past outcomes e (Err fault.Starved) lines sent faults sent_after 
     × Sends others sent faults sent_after faults_after
 AreHanded asks past outcomes e (Err fault.Link) lines sent faults sent_after faults_after = ⊥
 
--- what is handed does not end by the link
-abbrev pub IsNoLink : Result Unit TellFault → Type 0
-IsNoLink (Ok x) = ⊤
-IsNoLink (Err fault.Starved) = ⊤
-IsNoLink (Err fault.Link) = ⊥
-
 -- a receive failed only where that was counted
 abbrev pub CountsTaken : ℕ → ℕ → Result Unit TellFault → Type 0
 CountsTaken before now (Ok x) = now ≡ before

@@ -7,6 +7,9 @@ use Rattle.std.specs.Prelude.{
   Bool,
   true,
   false,
+  not,
+  ◌&&◌,
+  is_some,
   List,
   [],
   ◌∷◌,
@@ -18,9 +21,11 @@ use Rattle.std.specs.Prelude.{
   Err,
   ⊤,
 }
+use Rattle.std.specs.List.{list_any}
 use Rattle.rd_base.specs.declared.moments.Moment.{Moment}
 use Rattle.udp_link.specs.Told.{Stays}
 use Rattle.udp_link.specs.Links.{Datagram}
+use Rattle.event_model.specs.Same.{is_same_peer}
 use Rattle.client_model.specs.declared.asks.Ask.{Ask}
 use Rattle.client_model.specs.declared.events.Event.{Event}
 use Rattle.client_model.specs.declared.events.Event.TheVariants as event
@@ -80,6 +85,11 @@ abbrev pub IsLine : List Step → Ask → ℕ → Line → Type 0
 IsLine past ask i line = IsOpen past ask i line ⊎ IsOver past ask i line
 
 -- ---- a talk begins
+
+-- the talk of a line is to begin: it has not, and none of these before it is to its directory
+abbrev pub is_to_begin : List Line → Line → Bool
+is_to_begin before line =
+    is_some line.ask && not (list_any (λ other. is_same_peer other.to line.to) before)
 
 -- it began at the next moment of the clock, with its next word, and its request was sent
 pub record Begun (ask : Ask) (old new : Line) (before after : Outside) : Type 0 where
@@ -171,3 +181,9 @@ IsHanded ask i past e (Ok x) line sent faults sent_after faults_after =
 IsHanded ask i past e (Err fault.Starved) line sent faults sent_after faults_after =
     IsDatagram e × Sends [] sent faults sent_after faults_after
 IsHanded ask i past e (Err fault.Link) line sent faults sent_after faults_after = ⊥
+
+-- what is handed does not end by the link
+abbrev pub IsNoLink : Result Unit TellFault → Type 0
+IsNoLink (Ok x) = ⊤
+IsNoLink (Err fault.Starved) = ⊤
+IsNoLink (Err fault.Link) = ⊥

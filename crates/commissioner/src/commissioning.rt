@@ -64,7 +64,7 @@ fn lines_of(alloc: Global, asks: Asks) -> Result<(Vec<Line>, Outcomes), Asks>
     let Ok(mut outcomes) = Vec::with_capacity(alloc, asks.len()) else {
         return Err(asks);
     };
-    for ask in asks.into_vec() {
+    'asks: for ask in asks.into_vec() {
         lines.push_reserved(Line::of(lines.len() as u16, ask));
         outcomes.push_reserved(None);
     }

@@ -8,9 +8,9 @@ ghost use Rattle.registrant.specs.Talking.{StandsFor};
 ghost use Rattle.registrant.specs.Turns.{Sends, seen};
 ghost use Rattle.commissioner.specs.declared.steps.Step.{Step};
 ghost use Rattle.commissioner.specs.declared.steps.Step.TheVariants as step;
-ghost use Rattle.commissioner.specs.Shares.{token_of};
+ghost use Rattle.commissioner.specs.Shares.{token_of, is_shared};
 ghost use Rattle.commissioner.specs.Lines.{IsOpen, IsBegun, IsLost, IsTurnedIf, IsHanded};
-ghost use Rattle.commissioner.specs.Lines.{event_of, is_shared};
+ghost use Rattle.commissioner.specs.Lines.{event_of, IsNoLink};
 
 use client_model::TOKEN_SIZE;
 use rd_base::{Moment, Peer, Starved};
@@ -59,7 +59,7 @@ fn turn_of<L: Link>(
 ) -> Turn
     ensures turned { (a : Asked) (octets : List ℕ) (past : List Event)
         → StandsFor a octets past talk.old
-        → IsTurnedIf (is_shared to (event_of taken)) a octets past (event_of taken) result talk.new
+        → IsTurnedIf (is_shared to (event_of taken.entry)) a octets past (event_of taken.entry) result talk.new
         (L.gone link.old) (L.send_faults link.old) (L.gone link.new) (L.send_faults link.new) }
     ensures coming { Stays (L.coming link.old) (L.coming link.new) }
     ensures receives { L.recv_faults link.new ≡ L.recv_faults link.old }
@@ -114,6 +114,7 @@ impl Line {
         ensures ok { OnOk result (IsBegun self.old self.new
             (seen L.coming L.gone L.recv_faults L.send_faults C.times C.words link.old clock.old)
             (seen L.coming L.gone L.recv_faults L.send_faults C.times C.words link.new clock.new)) }
+        ensures receives { L.recv_faults link.new ≡ L.recv_faults link.old }
         ensures err { OnErr result (IsLost
             (seen L.coming L.gone L.recv_faults L.send_faults C.times C.words link.old clock.old)
             (seen L.coming L.gone L.recv_faults L.send_faults C.times C.words link.new clock.new)) }
@@ -138,10 +139,11 @@ impl Line {
     ) -> Result<(), TellFault>
         ensures handed { (ask : Ask) (i : ℕ) (past : List Step)
             → IsOpen past ask i self.old
-            → IsHanded ask i past (event_of taken) result self.new
+            → IsHanded ask i past (event_of taken.entry) result self.new
             (L.gone link.old) (L.send_faults link.old) (L.gone link.new) (L.send_faults link.new) }
         ensures coming { Stays (L.coming link.old) (L.coming link.new) }
         ensures receives { L.recv_faults link.new ≡ L.recv_faults link.old }
+        ensures fault { IsNoLink result }
     {
         let Some(talk) = &mut self.talk else {
             return Ok(());

@@ -6,9 +6,9 @@ ghost use Rattle.client_model.specs.declared.asks.Ask.{Ask};
 ghost use Rattle.client_model.specs.declared.outcomes.Outcome.{Outcome};
 ghost use Rattle.registrant.specs.Turns.{seen};
 ghost use Rattle.commissioner.specs.declared.steps.Step.{Step};
-ghost use Rattle.commissioner.specs.Lines.{event_of};
+ghost use Rattle.commissioner.specs.Lines.{event_of, IsNoLink};
 ghost use Rattle.commissioner.specs.Happening.{AreOpen, AllBegun, IsTaken, AreHanded};
-ghost use Rattle.commissioner.specs.Happening.{IsNoLink, CountsTaken};
+ghost use Rattle.commissioner.specs.Happening.{CountsTaken};
 
 use crate::lines::{Line, Taken};
 use registrant::TellFault;
@@ -24,7 +24,7 @@ fn hand_all<L: Link>(
 ) -> Result<(), TellFault>
     ensures handed { (asks : List Ask) (past : List Step) (outcomes : List (Option Outcome))
         → AreOpen past asks 0 lines.old outcomes
-        → AreHanded asks past outcomes (event_of taken) result lines.new
+        → AreHanded asks past outcomes (event_of taken.entry) result lines.new
         (L.gone link.old) (L.send_faults link.old) (L.gone link.new) (L.send_faults link.new) }
     ensures coming { Stays (L.coming link.old) (L.coming link.new) }
     ensures receives { L.recv_faults link.new ≡ L.recv_faults link.old }
