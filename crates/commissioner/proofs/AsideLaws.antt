@@ -26,10 +26,10 @@ use Rattle.std.proofs.Common.{
   subst,
   ◌∙◌,
   arith,
-  ⊤,
+  add-one,
 }
 use Rattle.std.specs.List.{slice_get, remove}
-use Rattle.std.specs.Prelude.{slice_set}
+use Rattle.std.specs.Prelude.{slice_set, slice_index_or, ⊤}
 use Rattle.client_model.specs.declared.asks.Ask.{Ask}
 use Rattle.client_model.specs.declared.outcomes.Outcome.{Outcome}
 use Rattle.commissioner.specs.declared.lines.Line.{Line}
@@ -226,3 +226,23 @@ some_open (ask ∷ asks) i past line lines [] are = absurd are
 some_open (ask ∷ asks) i past line lines (Some o ∷ outcomes) are =
     some_open asks (suc i) past line lines outcomes are.1
 some_open (ask ∷ asks) i past line lines (None ∷ outcomes) are = refl
+
+-- ---- the loop
+
+pub there_at : {A : Type 0} (lines : List A) (at : ℕ) (line : A)
+    → at < length lines
+    → line ≡ slice_index_or lines at line
+    → slice_get lines at ≡ Some line
+there_at [] at line inside is = absurd (omega (arith, inside))
+there_at (x ∷ lines) zero line inside is = ap (λ y. Some y) (sym is)
+there_at (x ∷ lines) (suc at) line inside is = there_at lines at line (omega (arith, inside)) is
+
+pub none_next : (lines : List Line) (k n : ℕ) (line : Line)
+    → n ≡ k + 1
+    → slice_get lines k ≡ Some line
+    → line.outcome ≡ None
+    → NoneDecided (take k lines)
+    → NoneDecided (take n lines)
+none_next lines k n line e there none before =
+    subst (λ (m : ℕ). NoneDecided (take m lines)) (sym e)
+    (rw add-one (none_more lines k line there none before))

@@ -1,6 +1,7 @@
 -- Which talk begins, and what stands then.
 use Rattle.std.proofs.Common.{
   ◌≡◌,
+  ◌+◌,
   ◌<◌,
   ◌≤◌,
   ◌⊎◌,
@@ -27,6 +28,7 @@ use Rattle.std.proofs.Common.{
   Option,
   Some,
   None,
+  Result,
   Ok,
   Err,
   refl,
@@ -36,9 +38,10 @@ use Rattle.std.proofs.Common.{
   ◌∙◌,
   arith,
   append_assoc,
+  add-one,
 }
 use Rattle.std.specs.List.{list_any, slice_get}
-use Rattle.std.specs.Prelude.{slice_set}
+use Rattle.std.specs.Prelude.{slice_set, IsErrAnd}
 use Rattle.std.proofs.lemmas.Bool.{eq-eqb}
 use Rattle.std.proofs.lemmas.List.Folds.{list_any-append}
 use Rattle.rd_base.specs.declared.moments.Moment.{Moment}
@@ -738,3 +741,51 @@ begins_can asks past outcomes at lines line a b so there due =
       parts.0.1,
       can_begin asks 0 (so.0 ++ past) lines outcomes at line parts.0.0 so.2 there parts.0.1,
     )
+
+-- the same of values that are known by an equation
+pub begins_set : (asks : List Ask) (past : List Step) (outcomes : List (Option Outcome))
+    (at n : ℕ) (lines after : List Line) (line new : Line) (a b c d : Outside)
+    → n ≡ at + 1
+    → after ≡ slice_set lines at new
+    → d ≡ c
+    → BeginsSo asks past outcomes at lines a b
+    → slice_get lines at ≡ Some line
+    → is_to_begin (take at lines) line ≡ true
+    → IsBegun line new b c
+    → BeginsSo asks past outcomes n after a d
+begins_set asks past outcomes at n lines after line new a b c d e f g so there due begins =
+    subst (λ (o : Outside). BeginsSo asks past outcomes n after a o) (sym g)
+    (subst (λ (ls : List Line). BeginsSo asks past outcomes n ls a c) (sym f)
+    (subst (λ (m : ℕ). BeginsSo asks past outcomes m (slice_set lines at new) a c)
+    (sym (e ∙ add-one at))
+    (begins_next asks past outcomes at lines line new a b c so there due begins)))
+
+pub begins_not : (asks : List Ask) (past : List Step) (outcomes : List (Option Outcome))
+    (at n : ℕ) (lines after : List Line) (line : Line) (a b d : Outside)
+    → n ≡ at + 1
+    → after ≡ lines
+    → d ≡ b
+    → BeginsSo asks past outcomes at lines a b
+    → slice_get lines at ≡ Some line
+    → is_to_begin (take at lines) line ≡ false
+    → BeginsSo asks past outcomes n after a d
+begins_not asks past outcomes at n lines after line a b d e f g so there due =
+    subst (λ (o : Outside). BeginsSo asks past outcomes n after a o) (sym g)
+    (subst (λ (ls : List Line). BeginsSo asks past outcomes n ls a b) (sym f)
+    (subst (λ (m : ℕ). BeginsSo asks past outcomes m lines a b)
+    (sym (e ∙ add-one at))
+    (begins_skip asks past outcomes at lines line a b so there due)))
+
+pub starved_at : (e : Starved) (P : Result Unit Starved → Type 0) (r : Result Unit Starved)
+    → ((f : Starved) → P (Err f))
+    → IsErrAnd r (λ f. f ≡ e)
+    → P r
+starved_at e P (Ok x) h same = absurd same
+starved_at e P (Err f) h same = h f
+
+pub there_some : (lines : List Line) (at : ℕ)
+    → at < length lines
+    → (line : Line) × (slice_get lines at ≡ Some line)
+there_some [] at inside = absurd (omega (arith, inside))
+there_some (x ∷ lines) zero inside = (x, refl)
+there_some (x ∷ lines) (suc at) inside = there_some lines at (omega (arith, inside))

@@ -1,6 +1,7 @@
 -- An event is handed to each line.
 use Rattle.std.proofs.Common.{
   ◌≡◌,
+  ◌+◌,
   ◌<◌,
   ◌≤◌,
   ◌⊎◌,
@@ -29,9 +30,10 @@ use Rattle.std.proofs.Common.{
   subst,
   ◌∙◌,
   arith,
+  add-one,
 }
 use Rattle.std.specs.List.{slice_get}
-use Rattle.std.specs.Prelude.{slice_set}
+use Rattle.std.specs.Prelude.{slice_set, IsErrAnd}
 use Rattle.rd_base.specs.declared.moments.Moment.{Moment}
 use Rattle.rd_base.specs.declared.peers.Peer.{Peer}
 use Rattle.udp_link.specs.Told.{WhereTold, Stays}
@@ -616,6 +618,26 @@ pub counted : (r : Result Unit TellFault) (before after : ℕ)
     → IsNoLink r
     → after ≡ before
     → CountsTaken before after r
-counted (Ok u) before after no same = same
-counted (Err fault.Starved) before after no same = same
-counted (Err fault.Link) before after no same = absurd no
+counted (Ok u) before after heard same = same
+counted (Err fault.Starved) before after heard same = same
+counted (Err fault.Link) before after heard same = absurd heard
+
+pub fault_at : (e : TellFault) (P : Result Unit TellFault → Type 0) (r : Result Unit TellFault)
+    → P (Err e)
+    → IsErrAnd r (λ f. f ≡ e)
+    → P r
+fault_at e P (Ok x) h same = absurd same
+fault_at e P (Err f) h same = subst (λ (g : TellFault). P (Err g)) (sym same) h
+
+pub handing_set : (e : Event) (past : List Step) (asks : List Ask) (k n : ℕ) (lines : List Line)
+    (outcomes : List (Option Outcome)) (line new : Line) (x y z : Option (List Datagram))
+    (a m l : ℕ)
+    → n ≡ k + 1
+    → Handing e past asks k lines outcomes x a y m
+    → slice_get lines k ≡ Some line
+    → HandsSo e past line new y m z l
+    → Handing e past asks n (slice_set lines k new) outcomes x a z l
+handing_set e past asks k n lines outcomes line new x y z a m l is handing there hands =
+    subst (λ (j : ℕ). Handing e past asks j (slice_set lines k new) outcomes x a z l)
+    (sym (is ∙ add-one k))
+    (handing_next e past asks k lines outcomes line new x y z a m l handing there hands)

@@ -17,6 +17,8 @@ use Rattle.std.proofs.Common.{
   ◌∷◌,
   ◌++◌,
   length,
+  take,
+  drop,
   Option,
   Some,
   None,
@@ -56,7 +58,14 @@ use Rattle.commissioner.specs.Happening.{
   IsTaken,
   is_unsaid,
 }
-use Rattle.commissioner.specs.Commissioning.{Ends, IsMade, StandsFor, IsGiven, IsPolled}
+use Rattle.commissioner.specs.Commissioning.{
+  Ends,
+  IsMade,
+  StandsFor,
+  IsGiven,
+  IsPolled,
+  CountsFault,
+}
 use Rattle.commissioner.proofs.BeginLaws.{none_due, kept_said}
 use Rattle.commissioner.proofs.AsideLaws.{none_open, some_open}
 
@@ -232,3 +241,65 @@ open_more (a ∷ asks) i n ask lines (Some o ∷ outcomes) are can is =
 open_more (a ∷ asks) i n ask [] (None ∷ outcomes) are can is = absurd are
 open_more (a ∷ asks) i n ask (line ∷ lines) (None ∷ outcomes) are can is =
     (are.0, open_more asks (suc i) n ask lines outcomes are.1 can (omega (arith, is)))
+
+pub lines_next : (begun : List Ask) (ask : Ask) (n : ℕ) (line : Line) (lines after : List Line)
+    (outcomes outcomes_after : List (Option Outcome))
+    → AreOpen [] begun 0 lines outcomes
+    → CanBeSent ask
+    → n ≡ length begun
+    → line ≡ line_of n ask
+    → after ≡ lines ++ line ∷ []
+    → outcomes_after ≡ outcomes ++ None ∷ []
+    → AreOpen [] (begun ++ ask ∷ []) 0 after outcomes_after
+lines_next begun ask n line lines after outcomes outcomes_after are can is of added added_too =
+    subst (λ (os : List (Option Outcome)). AreOpen [] (begun ++ ask ∷ []) 0 after os)
+    (sym added_too)
+    (subst (λ (ls : List Line). AreOpen [] (begun ++ ask ∷ []) 0 ls (outcomes ++ None ∷ []))
+    (sym added)
+    (subst (λ (l : Line). AreOpen [] (begun ++ ask ∷ []) 0 (lines ++ l ∷ [])
+    (outcomes ++ None ∷ [])) (sym of)
+    (open_more begun 0 n ask lines outcomes are can (omega (arith, is)))))
+
+pub unsaid_first : (asks : List Ask) (i : ℕ) (lines : List Line)
+    (outcomes : List (Option Outcome))
+    → 1 ≤ length asks
+    → AreOpen [] asks i lines outcomes
+    → is_unsaid outcomes ≡ true
+unfolding share
+unsaid_first [] i lines outcomes some are = absurd (omega (arith, some))
+unsaid_first (ask ∷ asks) i lines [] some are = absurd are
+unsaid_first (ask ∷ asks) i lines (Some o ∷ outcomes) some are = let no = are.0 in absurd cc
+unsaid_first (ask ∷ asks) i lines (None ∷ outcomes) some are = refl
+
+-- ---- what a slice writes back
+
+take_front : (xs ys : List Line) → take (length xs) (xs ++ ys) ≡ xs
+take_front [] [] = refl
+take_front [] (y ∷ ys) = refl
+take_front (x ∷ xs) ys = ap (λ (zs : List Line). x ∷ zs) (take_front xs ys)
+
+pub written : (n : ℕ) (new old : List Line)
+    → n ≡ length old
+    → length new ≡ length old
+    → take n (new ++ drop (length new) old) ≡ new
+written n new old is same =
+    subst (λ (m : ℕ). take m (new ++ drop (length new) old) ≡ new) (same ∙ sym is)
+    (take_front new (drop (length new) old))
+
+pub counts_later : (f : Option TellFault) (a b c : ℕ)
+    → b ≡ a
+    → CountsFault b c f
+    → CountsFault a c f
+counts_later f a b c same counts = subst (λ (n : ℕ). CountsFault n c f) same counts
+
+-- what it gives later it gives from before a poll on
+pub given_later : (old new : List Line) (kept later outcomes : List (Option Outcome))
+    (f : Option TellFault) (a b c : Outside)
+    → ((asks : List Ask) (past : List Step)
+    → StandsFor asks past old kept
+    → IsPolled asks past polled.Going new later a b)
+    → IsGiven new later outcomes f b c
+    → IsGiven old kept outcomes f a c
+given_later old new kept later outcomes f a b c polls given = λ asks past stands.
+    let p = polls asks past stands in
+    made_later asks past p.0 outcomes f a b c p.1 (given asks (p.0 ++ past) p.2)
