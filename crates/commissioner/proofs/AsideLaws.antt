@@ -18,6 +18,7 @@ use Rattle.std.proofs.Common.{
   Option,
   Some,
   None,
+  is_some,
   true,
   false,
   refl,
@@ -246,3 +247,44 @@ pub none_next : (lines : List Line) (k n : ℕ) (line : Line)
 none_next lines k n line e there none before =
     subst (λ (m : ℕ). NoneDecided (take m lines)) (sym e)
     (rw add-one (none_more lines k line there none before))
+
+pub none_here : (o : Option Outcome) → is_some o ≡ false → o ≡ None
+none_here None e = refl
+none_here (Some o) e = absurd cc
+
+some_here : (o : Option Outcome) → is_some o ≡ true → (p : Outcome) × (o ≡ Some p)
+some_here None e = absurd cc
+some_here (Some o) e = (o, refl)
+
+-- what is put aside of the line at an index
+pub aside_put : (asks : List Ask) (past : List Step) (lines after : List Line)
+    (outcomes outcomes_after : List (Option Outcome)) (k : ℕ) (line : Line)
+    → AreLines past asks 0 lines outcomes
+    → slice_get lines k ≡ Some line
+    → is_some line.outcome ≡ true
+    → after ≡ remove lines k
+    → outcomes_after ≡ slice_set outcomes line.number line.outcome
+    → AreLines past asks 0 after outcomes_after
+aside_put asks past lines after outcomes outcomes_after k line are there decided removed settled =
+    let own = some_here line.outcome decided in
+    subst (λ (os : List (Option Outcome)). AreLines past asks 0 after os)
+    (sym (settled ∙ ap (slice_set outcomes line.number) own.1))
+    (subst (λ (ls : List Line). AreLines past asks 0 ls
+    (slice_set outcomes line.number (Some own.0))) (sym removed)
+    (aside_next asks 0 past lines outcomes k line.number line own.0 are there own.1
+    (omega arith)))
+
+pub none_kept : (lines after : List Line) (k : ℕ)
+    → k < length lines
+    → after ≡ remove lines k
+    → NoneDecided (take k lines)
+    → NoneDecided (take k after)
+none_kept lines after k inside removed none =
+    subst (λ (ls : List Line). NoneDecided (take k ls)) (sym removed)
+    (subst NoneDecided (sym (take_removed lines k inside)) none)
+
+pub one_there : (lines : List Line) (k : ℕ) (x y : Line)
+    → slice_get lines k ≡ Some x
+    → slice_get lines k ≡ Some y
+    → x ≡ y
+one_there lines k x y e f = let same : Some x ≡ Some y = sym e ∙ f in cc

@@ -22,6 +22,7 @@ use Rattle.std.proofs.Common.{
   Option,
   Some,
   None,
+  Result,
   Ok,
   Err,
   refl,
@@ -32,6 +33,7 @@ use Rattle.std.proofs.Common.{
   arith,
   append_assoc,
 }
+use Rattle.rd_base.specs.declared.out_of_memory.Starved.{Starved}
 use Rattle.client_model.specs.declared.asks.Ask.{Ask}
 use Rattle.client_model.specs.declared.events.Event.{Event}
 use Rattle.client_model.specs.declared.outcomes.Outcome.{Outcome}
@@ -303,3 +305,138 @@ pub given_later : (old new : List Line) (kept later outcomes : List (Option Outc
 given_later old new kept later outcomes f a b c polls given = λ asks past stands.
     let p = polls asks past stands in
     made_later asks past p.0 outcomes f a b c p.1 (given asks (p.0 ++ past) p.2)
+
+-- ---- the parts of a poll
+
+-- talks began, and then a receive was made
+pub record Stepped
+    (asks : List Ask)
+    (past : List Step)
+    (outcomes : List (Option Outcome))
+    (r : Result Unit TellFault)
+    (lines : List Line)
+    (a c : Outside)
+    : Type 0 where
+  pub more : List Step
+  pub between : Outside
+  pub begun : List Line
+  pub happens : HappensAll asks past more a between
+  pub kept : AreOpen (more ++ past) asks 0 begun outcomes
+  pub all : AllBegun [] begun
+  pub taken : IsTaken asks (more ++ past) outcomes r lines between c
+
+pub stepped : (asks : List Ask) (past : List Step) (items lent begun again lines : List Line)
+    (outcomes : List (Option Outcome)) (r : Result Unit TellFault) (a b c : Outside)
+    → StandsFor asks past items outcomes
+    → lent ≡ items
+    → again ≡ begun
+    → ((asks : List Ask) (past : List Step) (outcomes : List (Option Outcome))
+    → AreOpen past asks 0 lent outcomes
+    → AreBegun {E = Starved} asks past outcomes (Ok tt) begun a b)
+    → ((asks : List Ask) (past : List Step) (outcomes : List (Option Outcome))
+    → AreOpen past asks 0 again outcomes
+    → AllBegun [] again
+    → IsTaken asks past outcomes r lines b c)
+    → Stepped asks past outcomes r lines a c
+stepped asks past items lent begun again lines outcomes r a b c stands same same_again begins
+    takes =
+    let so =
+    begins asks past outcomes
+    (subst (λ (ls : List Line). AreOpen past asks 0 ls outcomes) (sym same) stands.kept) in
+    record {
+      more = so.0;
+      between = b;
+      begun = begun;
+      happens = so.1;
+      kept = so.2;
+      all = so.3;
+      taken =
+          takes asks (so.0 ++ past) outcomes
+          (subst (λ (ls : List Line). AreOpen (so.0 ++ past) asks 0 ls outcomes) (sym same_again)
+          so.2)
+          (subst (λ (ls : List Line). AllBegun [] ls) (sym same_again) so.3);
+    }
+
+pub stepped_fault : (asks : List Ask) (past : List Step) (items lines : List Line)
+    (outcomes : List (Option Outcome)) (f : TellFault) (a c : Outside)
+    → StandsFor asks past items outcomes
+    → Stepped asks past outcomes (Err f) lines a c
+    → IsMade asks past outcomes (Some f) a c
+stepped_fault asks past items lines outcomes fault.Link a c stands s =
+    polled_link asks past s.more s.begun outcomes a s.between c stands.some s.happens s.kept s.all
+    s.taken
+stepped_fault asks past items lines outcomes fault.Starved a c stands s =
+    polled_unheard asks past s.more s.begun outcomes a s.between c stands.some s.happens s.kept
+    s.taken
+
+-- the lines that are put aside then
+pub stepped_lines : (asks : List Ask) (past : List Step) (lines written : List Line)
+    (outcomes : List (Option Outcome)) (u : Unit) (a c : Outside)
+    → written ≡ lines
+    → Stepped asks past outcomes (Ok u) lines a c
+    → (later : List Step) × AreLines later asks 0 written outcomes
+stepped_lines asks past lines written outcomes u a c same s = (
+  step.Happened s.taken.0 ∷ (s.more ++ past),
+  subst (λ (ls : List Line). AreLines (step.Happened s.taken.0 ∷ (s.more ++ past)) asks 0 ls
+      outcomes) (sym same) s.taken.2,
+)
+
+abbrev pub PutsAside : List Line → List (Option Outcome) → List Line → List (Option Outcome) → Type 0
+PutsAside lines outcomes after outcomes_after =
+    (asks : List Ask) (past : List Step)
+    → AreLines past asks 0 lines outcomes
+    → AreOpen past asks 0 after outcomes_after
+
+put_open : (asks : List Ask) (past : List Step) (lines written after : List Line)
+    (outcomes outcomes_after : List (Option Outcome)) (e : Event)
+    → written ≡ lines
+    → PutsAside written outcomes after outcomes_after
+    → AreLines (step.Happened e ∷ past) asks 0 lines outcomes
+    → AreOpen (step.Happened e ∷ past) asks 0 after outcomes_after
+put_open asks past lines written after outcomes outcomes_after e same puts are =
+    puts asks (step.Happened e ∷ past)
+    (subst (λ (ls : List Line). AreLines (step.Happened e ∷ past) asks 0 ls outcomes) (sym same)
+    are)
+
+pub stepped_over : (asks : List Ask) (past : List Step) (lines written after : List Line)
+    (outcomes outcomes_after : List (Option Outcome)) (u : Unit) (a c : Outside)
+    → written ≡ lines
+    → PutsAside written outcomes after outcomes_after
+    → length after ≡ 0
+    → Stepped asks past outcomes (Ok u) lines a c
+    → IsMade asks past outcomes_after None a c
+stepped_over asks past lines written [] outcomes outcomes_after u a c same puts none s =
+    polled_over asks past s.more s.taken.0 outcomes_after a s.between c s.happens s.taken.1
+    (put_open asks (s.more ++ past) lines written [] outcomes outcomes_after s.taken.0 same puts
+    s.taken.2)
+stepped_over asks past lines written (x ∷ after) outcomes outcomes_after u a c same puts none s =
+    absurd (omega (arith, none))
+
+pub stepped_going : (asks : List Ask) (past : List Step) (lines written after : List Line)
+    (outcomes outcomes_after : List (Option Outcome)) (u : Unit) (a c : Outside)
+    → written ≡ lines
+    → PutsAside written outcomes after outcomes_after
+    → 0 < length after
+    → Stepped asks past outcomes (Ok u) lines a c
+    → IsPolled asks past polled.Going after outcomes_after a c
+stepped_going asks past lines written [] outcomes outcomes_after u a c same puts some s =
+    absurd (omega (arith, some))
+stepped_going asks past lines written (x ∷ after) outcomes outcomes_after u a c same puts some s =
+    polled_going asks past s.more s.taken.0 x after outcomes_after a s.between c s.happens s.taken.1
+    (put_open asks (s.more ++ past) lines written (x ∷ after) outcomes outcomes_after s.taken.0 same
+    puts s.taken.2)
+
+-- memory ran out where a talk was to begin
+pub stepped_lost : (asks : List Ask) (past : List Step) (items lent lines : List Line)
+    (outcomes : List (Option Outcome)) (e : Starved) (a c : Outside)
+    → StandsFor asks past items outcomes
+    → lent ≡ items
+    → ((asks : List Ask) (past : List Step) (outcomes : List (Option Outcome))
+    → AreOpen past asks 0 lent outcomes
+    → AreBegun {E = Starved} asks past outcomes (Err e) lines a c)
+    → IsMade asks past outcomes (Some fault.Starved) a c
+stepped_lost asks past items lent lines outcomes e a c stands same begins =
+    let so =
+    begins asks past outcomes
+    (subst (λ (ls : List Line). AreOpen past asks 0 ls outcomes) (sym same) stands.kept) in
+    polled_lost asks past so.0 outcomes a so.1 c stands.some so.2 so.3 so.4

@@ -12,6 +12,7 @@ use crate::Outcomes;
 use crate::beginnings::begin_all;
 use crate::lines::Line;
 use crate::turns::take_event;
+use rd_base::Starved;
 use registrant::TellFault;
 use std::alloc::Global;
 use udp_link::{Clock, Link};
@@ -75,8 +76,13 @@ pub(crate) fn poll_once<L: Link + Drop, C: Clock + Drop>(
     ensures counts { CountsPoll (L.recv_faults going.old.link) (L.recv_faults going.new.link)
         result }
 {
-    let begun = begin_all(alloc, &mut going.link, &mut going.clock, &mut going.lines);
-    if begun.is_err() {
+    let begun = begin_all(
+        alloc,
+        &mut going.link,
+        &mut going.clock,
+        &mut going.lines,
+    );
+    if let Err(Starved) = begun {
         return Polled::Over(Some(TellFault::Starved));
     }
     let taken = take_event(

@@ -1,5 +1,6 @@
 use Rattle.std.proofs.Common.{
   ◌≡◌,
+  ◌+◌,
   ◌∷◌,
   ◌++◌,
   [],
@@ -12,6 +13,7 @@ use Rattle.std.proofs.Common.{
   arith,
   append_assoc,
   length-append,
+  ℕ,
 }
 use Rattle.std.specs.List.{All}
 use Rattle.std.proofs.lemmas.List.Elements.{All-head, All-tail}
@@ -20,6 +22,9 @@ use Rattle.client_model.specs.declared.asks.Ask.{Ask}
 use Rattle.client_model.specs.Requests.{CanBeSent}
 use Rattle.commissioner.proofs.MadeLaws.{lines_next}
 use Rattle.commissioner.proofs.commissioning.lines_of.Goals as goal
+
+longer_by : {A : Type 0} (xs : List A) (x : A) → length (xs ++ x ∷ []) ≡ length xs + 1
+longer_by xs x = length-append xs (x ∷ [])
 
 pub asks-init : goal.asks-init
 asks-init c =
@@ -57,7 +62,6 @@ asks-preserved c =
     let longer : length (before.begun ++ ask ∷ []) ≡ length before.begun + 1 =
     length-append before.begun (ask ∷ []) in
     let longer_lines = length-append c.asks.lines.items (c.of.result ∷ []) in
-    let longer_outcomes = length-append c.asks.outcomes.items _ in
     let room = before.room in
     let room_too = before.room_too in
     let capacity = c.push_reserved.ensures.capacity in
@@ -79,7 +83,9 @@ asks-preserved c =
           c.push_reserved.ensures.items
           c.push_reserved-in-asks.ensures.items;
       counted = omega (arith, items, longer, longer_lines, counted);
-      counted_too = ?;
+      counted_too =
+          items_too ∙ (longer_by c.asks.outcomes.items _ ∙ (ap (λ (n : ℕ). n + 1) counted_too
+          ∙ sym longer));
       room = omega (arith, room, capacity);
       room_too = omega (arith, room_too, capacity_too);
     }
