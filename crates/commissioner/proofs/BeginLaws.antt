@@ -292,8 +292,7 @@ pub begun_more : (busy : List Peer) (lines : List Line) (k : ℕ) (line : Line)
     → AllBegun busy (take (suc k) lines)
 begun_more busy [] k line there begun has = absurd cc
 begun_more busy (x ∷ lines) zero line there begun has =
-    let same : x ≡ line = cc in
-    (
+    let same : x ≡ line = cc in (
       subst (λ (b : List Peer). HasBegun b x) (append_none busy)
           (subst (λ (l : Line). HasBegun (busy ++ []) l) (sym same) has),
       tt,
@@ -680,8 +679,8 @@ begins_next asks past outcomes at lines line new a b c so there due begins =
     let begun = begins kept parts.0.1 in
     let before = so.0 ++ past in
     let opens : (ask : Ask) (j : ℕ)
-        → IsOpen before ask j line
-        → IsOpen (step.Began line.number begun.now begun.word ∷ before) ask j new =
+    → IsOpen before ask j line
+    → IsOpen (step.Began line.number begun.now begun.word ∷ before) ask j new =
     λ ask j stands.
     subst (λ (l : Line). IsOpen (step.Began line.number begun.now begun.word ∷ before) ask j l)
     (sym begun.is)

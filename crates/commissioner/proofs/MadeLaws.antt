@@ -231,9 +231,10 @@ open_more [] i n ask lines outcomes are can is =
     subst (λ (ls : List Line). AreOpen [] (ask ∷ []) i (ls ++ line_of n ask ∷ [])
     (outcomes ++ None ∷ [])) (sym are.0)
     (subst (λ (os : List (Option Outcome)). AreOpen [] (ask ∷ []) i (line_of n ask ∷ [])
-    (os ++ None ∷ [])) (sym are.1)
-    (subst (λ (m : ℕ). IsOpen [] ask i (line_of m ask)) (the_number is) (first_open ask i can),
-    (refl, refl)))
+    (os ++ None ∷ [])) (sym are.1) (
+      subst (λ (m : ℕ). IsOpen [] ask i (line_of m ask)) (the_number is) (first_open ask i can),
+      (refl, refl),
+    ))
   where
     the_number : n ≡ i + length {A = Ask} [] → i ≡ n
     the_number e = omega (arith, e)
@@ -428,14 +429,18 @@ stepped_going asks past lines written (x ∷ after) outcomes outcomes_after u a 
 
 -- memory ran out where a talk was to begin
 pub stepped_lost : (asks : List Ask) (past : List Step) (items lent lines : List Line)
-    (outcomes : List (Option Outcome)) (e : Starved) (a c : Outside)
+    (outcomes : List (Option Outcome)) (a c : Outside)
     → StandsFor asks past items outcomes
     → lent ≡ items
     → ((asks : List Ask) (past : List Step) (outcomes : List (Option Outcome))
     → AreOpen past asks 0 lent outcomes
-    → AreBegun {E = Starved} asks past outcomes (Err e) lines a c)
+    → (more : List Step)
+    × (last : Outside)
+    × HappensAll asks past more a last
+    × (outcomes ≡ said_all asks 0 (more ++ past))
+    × IsLost last c)
     → IsMade asks past outcomes (Some fault.Starved) a c
-stepped_lost asks past items lent lines outcomes e a c stands same begins =
+stepped_lost asks past items lent lines outcomes a c stands same begins =
     let so =
     begins asks past outcomes
     (subst (λ (ls : List Line). AreOpen past asks 0 ls outcomes) (sym same) stands.kept) in

@@ -6,9 +6,9 @@ ghost use Rattle.commissioner.specs.declared.commissioning.TheConstants.{MAX_ASK
 ghost use Rattle.commissioner.specs.Happening.{AreOpen};
 ghost use Rattle.commissioner.specs.Commissioning.{IsStarted};
 
+use crate::Outcomes;
 use crate::lines::Line;
 use crate::polls::{Going, Polled, poll_once};
-use crate::Outcomes;
 use futures::future::Future;
 use futures::task::{Context, Poll};
 use rd_base::List;

@@ -76,12 +76,7 @@ pub(crate) fn poll_once<L: Link + Drop, C: Clock + Drop>(
     ensures counts { CountsPoll (L.recv_faults going.old.link) (L.recv_faults going.new.link)
         result }
 {
-    let begun = begin_all(
-        alloc,
-        &mut going.link,
-        &mut going.clock,
-        &mut going.lines,
-    );
+    let begun = begin_all(alloc, &mut going.link, &mut going.clock, &mut going.lines);
     if let Err(Starved) = begun {
         return Polled::Over(Some(TellFault::Starved));
     }

@@ -73,42 +73,42 @@ lines-preserved g c =
     g.C.Clock.times g.C.Clock.words in
     elim c.if-is_due.branch [
       | then-is_due+in_ok-begin w ↦ record {
-          begun = λ asks past outcomes are.
-              let line = slice_index_or c.lines.lines c.lines.at w.index-lines-at.result in
-              let within : c.lines.at < length c.lines.lines = omega arith in
-              let there =
-              slice_get-get_or c.lines.lines c.lines.at w.index-lines-at.result within in
-              begins_set asks past outcomes c.lines.at _ c.lines.lines c.if-is_due.lines line
-              w.begin.new.self
-              (told c.args.link.now c.args.clock.now)
-              (told c.lines.link c.lines.clock)
-              (told w.begin.new.link w.begin.new.clock)
-              (told c.if-is_due.link c.if-is_due.clock)
-              refl
-              w.lines-is
-              (rw (w.link-is, w.clock-is) refl)
-              (c.lines.invariant.begun asks past outcomes are)
-              there
-              (sym (c.is_due.ensures line there) ∙ w.if-is_due.true)
-              w.in_ok-begin.ensures.ok;
-          receives =
-              ap g.L.Link.recv_faults w.link-is
-              ∙ (w.begin.ensures.receives ∙ c.lines.invariant.receives);
-        }
+        begun = λ asks past outcomes are.
+            let line = slice_index_or c.lines.lines c.lines.at w.index-lines-at.result in
+            let within : c.lines.at < length c.lines.lines = omega arith in
+            let there =
+            slice_get-get_or c.lines.lines c.lines.at w.index-lines-at.result within in
+            begins_set asks past outcomes c.lines.at _ c.lines.lines c.if-is_due.lines line
+            w.begin.new.self
+            (told c.args.link.now c.args.clock.now)
+            (told c.lines.link c.lines.clock)
+            (told w.begin.new.link w.begin.new.clock)
+            (told c.if-is_due.link c.if-is_due.clock)
+            refl
+            w.lines-is
+            (rw (w.link-is, w.clock-is) refl)
+            (c.lines.invariant.begun asks past outcomes are)
+            there
+            (sym (c.is_due.ensures line there) ∙ w.if-is_due.true)
+            w.in_ok-begin.ensures.ok;
+        receives =
+            ap g.L.Link.recv_faults w.link-is
+            ∙ (w.begin.ensures.receives ∙ c.lines.invariant.receives);
+      }
       | else-is_due w ↦ record {
-          begun = λ asks past outcomes are.
-              let within : c.lines.at < length c.lines.lines = omega arith in
-              let t = there_some c.lines.lines c.lines.at within in
-              begins_not asks past outcomes c.lines.at _ c.lines.lines c.if-is_due.lines t.0
-              (told c.args.link.now c.args.clock.now)
-              (told c.lines.link c.lines.clock)
-              (told c.if-is_due.link c.if-is_due.clock)
-              refl
-              w.lines-is
-              (rw (w.link-is, w.clock-is) refl)
-              (c.lines.invariant.begun asks past outcomes are)
-              t.1
-              (sym (c.is_due.ensures t.0 t.1) ∙ w.if-is_due.false);
-          receives = ap g.L.Link.recv_faults w.link-is ∙ c.lines.invariant.receives;
-        }
+        begun = λ asks past outcomes are.
+            let within : c.lines.at < length c.lines.lines = omega arith in
+            let t = there_some c.lines.lines c.lines.at within in
+            begins_not asks past outcomes c.lines.at _ c.lines.lines c.if-is_due.lines t.0
+            (told c.args.link.now c.args.clock.now)
+            (told c.lines.link c.lines.clock)
+            (told c.if-is_due.link c.if-is_due.clock)
+            refl
+            w.lines-is
+            (rw (w.link-is, w.clock-is) refl)
+            (c.lines.invariant.begun asks past outcomes are)
+            t.1
+            (sym (c.is_due.ensures t.0 t.1) ∙ w.if-is_due.false);
+        receives = ap g.L.Link.recv_faults w.link-is ∙ c.lines.invariant.receives;
+      }
     ]

@@ -15,8 +15,7 @@ returns-in-Going-clause-same g c =
     (λ (going : Option _).
     GivesFrom g.L.Link.coming g.L.Link.gone g.L.Link.recv_faults g.L.Link.send_faults
     g.C.Clock.times g.C.Clock.words going x)
-    c.in-Some.ensures.value
-    (
+    c.in-Some.ensures.value (
       given_later
           c.in-Some.going.lines.items
           c.poll_once.new.going.lines.items
