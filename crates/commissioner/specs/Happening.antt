@@ -183,7 +183,8 @@ AreBegun asks past outcomes (Err x) lines before after =
     × (outcomes ≡ said_all asks 0 (more ++ past))
     × IsLost last after
 
--- an event was handed to each talk, and what is to be sent was sent; or a datagram could not be heard
+-- an event was handed to each talk, and what is to be sent was sent; or a datagram could not be
+-- heard
 abbrev pub AreHanded : List Ask
     → List Step
     → List (Option Outcome)
