@@ -100,7 +100,8 @@ pub number_below : (asks : List Ask) (i : ℕ) (past : List Step) (lines : List 
 number_below [] i past lines outcomes k d line are there is =
     absurd (nothing lines k line are.0 there)
 number_below (ask ∷ asks) i past lines [] k d line are there is = absurd are
-number_below (ask ∷ asks) i past lines (Some o ∷ outcomes) k zero line are there is = omega arith
+number_below (ask ∷ asks) i past lines (Some o ∷ outcomes) k zero line are there is =
+    omega arith
 number_below (ask ∷ asks) i past lines (Some o ∷ outcomes) k (suc d) line are there is =
     let more =
     number_below asks (suc i) past lines outcomes k d line are.1 there (omega (arith, is)) in
@@ -108,12 +109,14 @@ number_below (ask ∷ asks) i past lines (Some o ∷ outcomes) k (suc d) line ar
 number_below (ask ∷ asks) i past [] (None ∷ outcomes) k d line are there is = absurd are
 number_below (ask ∷ asks) i past (x ∷ lines) (None ∷ outcomes) k zero line are there is =
     omega arith
-number_below (ask ∷ asks) i past (x ∷ lines) (None ∷ outcomes) zero (suc d) line are there is =
+number_below (ask ∷ asks) i past (x ∷ lines) (None ∷ outcomes) zero
+    (suc d) line are there is =
     let same : x ≡ line = cc in
     let number : line.number ≡ i =
     subst (λ (l : Line). l.number ≡ i) same (number_of past ask i x are.0) in
     absurd (omega (arith, number, is))
-number_below (ask ∷ asks) i past (x ∷ lines) (None ∷ outcomes) (suc k) (suc d) line are there is =
+number_below (ask ∷ asks) i past (x ∷ lines) (None ∷ outcomes) (suc k)
+    (suc d) line are there is =
     let more =
     number_below asks (suc i) past lines outcomes k d line are.1 there (omega (arith, is)) in
     omega (arith, more)
@@ -133,25 +136,29 @@ aside_next (ask ∷ asks) i past lines (Some p ∷ outcomes) k zero line o are t
     let least : suc i ≤ line.number =
     number_least asks (suc i) past lines outcomes k line are.1 there in
     absurd (omega (arith, least, is))
-aside_next (ask ∷ asks) i past lines (Some p ∷ outcomes) k (suc d) line o are there decided is = (
-  are.0,
-  aside_next asks (suc i) past lines outcomes k d line o are.1 there decided
-      (omega (arith, is)),
-)
+aside_next (ask ∷ asks) i past lines (Some p ∷ outcomes) k
+    (suc d) line o are there decided is = (
+      are.0,
+      aside_next asks (suc i) past lines outcomes k d line o are.1 there decided
+          (omega (arith, is)),
+    )
 aside_next (ask ∷ asks) i past [] (None ∷ outcomes) k d line o are there decided is = absurd are
-aside_next (ask ∷ asks) i past (x ∷ lines) (None ∷ outcomes) zero zero line o are there decided
+aside_next (ask ∷ asks) i past (x ∷ lines)
+    (None ∷ outcomes) zero zero line o are there decided
     is =
     let same : x ≡ line = cc in (
       said_of past ask i line o (subst (λ (l : Line). IsLine past ask i l) same are.0) decided,
       are.1,
     )
-aside_next (ask ∷ asks) i past (x ∷ lines) (None ∷ outcomes) zero (suc d) line o are there decided
+aside_next (ask ∷ asks) i past (x ∷ lines) (None ∷ outcomes) zero
+    (suc d) line o are there decided
     is =
     let same : x ≡ line = cc in
     let number : line.number ≡ i =
     subst (λ (l : Line). l.number ≡ i) same (number_of past ask i x are.0) in
     absurd (omega (arith, number, is))
-aside_next (ask ∷ asks) i past (x ∷ lines) (None ∷ outcomes) (suc k) zero line o are there decided
+aside_next (ask ∷ asks) i past (x ∷ lines) (None ∷ outcomes)
+    (suc k) zero line o are there decided
     is =
     let least : suc i ≤ line.number =
     number_least asks (suc i) past lines outcomes k line are.1 there in

@@ -253,7 +253,8 @@ first_at busy [] i past lines outcomes k line kept are begun there waiting free 
     absurd (nothing lines k line are.0 there)
 first_at busy (ask ∷ asks) i past lines [] k line kept are begun there waiting free apart =
     absurd are
-first_at busy (ask ∷ asks) i past lines (Some o ∷ outcomes) k line kept are begun there waiting free
+first_at busy (ask ∷ asks) i past lines
+    (Some o ∷ outcomes) k line kept are begun there waiting free
     apart =
     past_over busy ask asks i past o are.0
     ∙ first_at busy asks (suc i) past lines outcomes k line kept are.1 begun there waiting free
@@ -270,7 +271,8 @@ first_at busy (ask ∷ asks) i past (x ∷ lines) (None ∷ outcomes) zero line 
     (waits_open past ask i line kept opens waiting).0
     (subst (λ (to : Peer). is_busy busy to ≡ false) opens.to free))
     ∙ ap (λ (n : ℕ). Some n) (sym opens.number)
-first_at busy (ask ∷ asks) i past (x ∷ lines) (None ∷ outcomes) (suc k) line kept are begun there
+first_at busy (ask ∷ asks) i past (x ∷ lines) (None ∷ outcomes)
+    (suc k) line kept are begun there
     waiting free apart =
     let parts = or_false (is_same_peer x.to line.to) (is_busy (tos (take k lines)) line.to) apart in
     past_begun busy ask asks i past
@@ -415,7 +417,8 @@ pub begun_kept : (asks : List Ask) (i : ℕ) (past : List Step) (lines : List Li
 begun_kept [] i past lines outcomes k line new kept now word are there begins =
     absurd (nothing lines k line are.0 there)
 begun_kept (ask ∷ asks) i past lines [] k line new kept now word are there begins = absurd are
-begun_kept (ask ∷ asks) i past lines (Some o ∷ outcomes) k line new kept now word are there begins =
+begun_kept (ask ∷ asks) i past lines
+    (Some o ∷ outcomes) k line new kept now word are there begins =
     let more : suc i ≤ line.number =
     number_from asks (suc i) past lines outcomes k line are.1 there in (
       said_other ask i line.number now word past (Some o)
@@ -424,7 +427,8 @@ begun_kept (ask ∷ asks) i past lines (Some o ∷ outcomes) k line new kept now
     )
 begun_kept (ask ∷ asks) i past [] (None ∷ outcomes) k line new kept now word are there begins =
     absurd are
-begun_kept (ask ∷ asks) i past (x ∷ lines) (None ∷ outcomes) zero line new kept now word are there
+begun_kept (ask ∷ asks) i past (x ∷ lines)
+    (None ∷ outcomes) zero line new kept now word are there
     begins =
     let same : x ≡ line = cc in
     let opens = subst (λ (l : Line). IsOpen past ask i l) same are.0 in (
@@ -432,7 +436,8 @@ begun_kept (ask ∷ asks) i past (x ∷ lines) (None ∷ outcomes) zero line new
       kept_behind asks (suc i) line.number now word past lines outcomes
           (let number = opens.number in omega (arith, number)) are.1,
     )
-begun_kept (ask ∷ asks) i past (x ∷ lines) (None ∷ outcomes) (suc k) line new kept now word are
+begun_kept (ask ∷ asks) i past (x ∷ lines) (None ∷ outcomes)
+    (suc k) line new kept now word are
     there begins =
     let more : suc i ≤ line.number =
     number_from asks (suc i) past lines outcomes k line are.1 there in (
@@ -459,12 +464,14 @@ sent_begun (ask ∷ asks) i past lines (Some o ∷ outcomes) k line kept are the
     rw (is_not line.number i (omega (arith, more)))
     (sent_begun asks (suc i) past lines outcomes k line kept are.1 there waiting)
 sent_begun (ask ∷ asks) i past [] (None ∷ outcomes) k line kept are there waiting = absurd are
-sent_begun (ask ∷ asks) i past (x ∷ lines) (None ∷ outcomes) zero line kept are there waiting =
+sent_begun (ask ∷ asks) i past (x ∷ lines)
+    (None ∷ outcomes) zero line kept are there waiting =
     let same : x ≡ line = cc in
     let opens = subst (λ (l : Line). IsOpen past ask i l) same are.0 in
     let own = (waits_open past ask i line kept opens waiting).1 in
     rw (eq-eqb line.number i opens.number) (rw (opens.to, own, opens.number) refl)
-sent_begun (ask ∷ asks) i past (x ∷ lines) (None ∷ outcomes) (suc k) line kept are there waiting =
+sent_begun (ask ∷ asks) i past (x ∷ lines) (None ∷ outcomes)
+    (suc k) line kept are there waiting =
     let more : suc i ≤ line.number =
     number_from asks (suc i) past lines outcomes k line are.1 there in
     rw (is_not line.number i (omega (arith, more)))
@@ -488,7 +495,8 @@ can_begin (ask ∷ asks) i past (x ∷ lines) (None ∷ outcomes) zero line kept
     let opens = subst (λ (l : Line). IsOpen past ask i l) same are.0 in
     let w = waits_open past ask i line kept opens waiting in
     subst CanBeSent (sym w.1) w.2
-can_begin (ask ∷ asks) i past (x ∷ lines) (None ∷ outcomes) (suc k) line kept are there waiting =
+can_begin (ask ∷ asks) i past (x ∷ lines) (None ∷ outcomes)
+    (suc k) line kept are there waiting =
     can_begin asks (suc i) past lines outcomes k line kept are.1 there waiting
 
 -- what is known of a line whose talk began
@@ -540,7 +548,8 @@ began ask line taken token now word talk bytes before after left is was none tok
       timed = timed;
       spoken = spoken;
       sends =
-          subst (λ (o : List ℕ). Sends ((line.to, o) ∷ []) before.gone before.send_faults after.gone
+          subst (λ (o : List ℕ).
+          Sends ((line.to, o) ∷ []) before.gone before.send_faults after.gone
           after.send_faults)
           (octets ∙ ap (λ (t : Talking). t.octets) stood.kept)
           sends;
@@ -624,7 +633,8 @@ has_begun before line e =
     by (inr busy) = inr (sym (any_tos before line.to) ∙ busy)
 
 -- the talks of the first so many lines began where they were to
-abbrev pub BeginsSo : List Ask → List Step → List (Option Outcome) → ℕ → List Line → Outside
+abbrev pub BeginsSo : List Ask → List Step → List (Option Outcome) → ℕ → List Line
+    → Outside
     → Outside → Type 0
 BeginsSo asks past outcomes at lines a b =
     (more : List Step)

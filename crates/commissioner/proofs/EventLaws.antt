@@ -133,7 +133,8 @@ pub handed_waiting : (past : List Step) (ask : Ask) (i : ℕ) (e : Event) (line 
 handed_waiting past ask i e line x n opens none =
     let w =
     waiting_by ask i e (share ask i past) line.ask
-    (subst (λ (t : Option Talking). IsStage ask i (share ask i past) line.ask t) none opens.stage) in (
+    (subst (λ (t : Option Talking). IsStage ask i (share ask i past) line.ask t) none opens.stage)
+    in (
       inl (record {
         number = opens.number;
         to = opens.to;
@@ -195,7 +196,8 @@ no_link_by : (b : Bool) (own : Share) (octets : List ℕ) (e : Event) (talk : Ta
 no_link_by true own octets e talk x y n m h = h
 no_link_by false own octets e talk x y n m h = h
 
-abbrev pub TurnsSo : Peer → Event → Talking → Turn → Talking → Option (List Datagram) → ℕ → Option (List Datagram) → ℕ → Type 0
+abbrev pub TurnsSo : Peer → Event → Talking → Turn → Talking → Option (List Datagram)
+    → ℕ → Option (List Datagram) → ℕ → Type 0
 TurnsSo to e old r new x n y m =
     (a : Asked) (octets : List ℕ) (past : List Event)
     → StandsFor a octets past old
@@ -422,7 +424,8 @@ mixed_next e past [] i k lines outcomes line new x y n m are there hands =
     absurd (nothing lines k line are.0 there)
 mixed_next e past (ask ∷ asks) i k lines [] line new x y n m are there hands = absurd are
 mixed_next e past (ask ∷ asks) i k lines (Some o ∷ outcomes) line new x y n m are there hands =
-    let more = mixed_next e past asks (suc i) k lines outcomes line new x y n m are.1 there hands in (
+    let more = mixed_next e past asks
+    (suc i) k lines outcomes line new x y n m are.1 there hands in (
       (are.0, more.0),
       decided_on e past ask asks i k o outcomes x y n m are.0 more.1,
     )
@@ -437,9 +440,11 @@ mixed_next e past (ask ∷ asks) i zero (a ∷ lines) (None ∷ outcomes) line n
           sends_both (sent_by ask i e (share ask i past)) (sent_all asks (suc i) past e) x y z n m l
           h.1 sent,
     )
-mixed_next e past (ask ∷ asks) i (suc k) (a ∷ lines) (None ∷ outcomes) line new x y n m are there
+mixed_next e past (ask ∷ asks) i (suc k) (a ∷ lines)
+    (None ∷ outcomes) line new x y n m are there
     hands =
-    let more = mixed_next e past asks (suc i) k lines outcomes line new x y n m are.1 there hands in (
+    let more = mixed_next e past asks
+    (suc i) k lines outcomes line new x y n m are.1 there hands in (
       (are.0, more.0),
       λ z l sent. more.1 z l sent,
     )
@@ -493,7 +498,8 @@ mixed_line e past (ask ∷ asks) i (suc k) (x ∷ lines) (None ∷ outcomes) lin
 -- ---- the loop
 
 -- so many lines were handed an event, and what is sent from here on is sent from the beginning
-abbrev pub Handing : Event → List Step → List Ask → ℕ → List Line → List (Option Outcome)
+abbrev pub Handing : Event → List Step → List Ask → ℕ → List Line
+    → List (Option Outcome)
     → Option (List Datagram) → ℕ → Option (List Datagram) → ℕ → Type 0
 Handing e past asks k lines outcomes x n y m =
     AreMixed e past asks 0 k lines outcomes
@@ -541,7 +547,8 @@ handing_last e past asks k lines outcomes x y n m handing all =
           (sends_as [] (sent_rest e past asks 0 k outcomes) y y m m (sym last.1) (sends_none y m)),
     )
 
-pub handing_fault : (e : Event) (past : List Step) (asks : List Ask) (k : ℕ) (lines after : List Line)
+pub handing_fault : (e : Event) (past : List Step) (asks : List Ask) (k : ℕ)
+    (lines after : List Line)
     (outcomes : List (Option Outcome)) (line new : Line) (f : TellFault)
     (x y z : Option (List Datagram)) (n m l : ℕ)
     → Handing e past asks k lines outcomes x n y m
@@ -607,10 +614,12 @@ taken_by (Err fault.Starved) asks past outcomes old new (event.Came now peer oct
       words = words;
       receives = receives;
     }
-taken_by (Err fault.Starved) asks past outcomes old new (event.Tick now) before after sent faults are
+taken_by (Err fault.Starved) asks past outcomes old new
+    (event.Tick now) before after sent faults are
     begun takes timed words receives stays same handed =
     absurd handed.0
-taken_by (Err fault.Link) asks past outcomes old new e before after sent faults are begun takes timed
+taken_by (Err fault.Link) asks past outcomes old new e before after sent faults are begun
+    takes timed
     words receives stays same handed =
     absurd handed
 

@@ -77,7 +77,8 @@ pub happens_both : (asks : List Ask) (past xs ys : List Step) (a b c : Outside)
     → HappensAll asks past xs a b
     → HappensAll asks (xs ++ past) ys b c
     → HappensAll asks past (ys ++ xs) a c
-happens_both asks past xs [] a b c h g = subst (λ (o : Outside). HappensAll asks past xs a o) (sym g) h
+happens_both asks past xs [] a b c h g =
+    subst (λ (o : Outside). HappensAll asks past xs a o) (sym g) h
 happens_both asks past xs (s ∷ ys) a b c h g = (
   g.0,
   happens_both asks past xs ys a b g.0 h g.1,
@@ -382,7 +383,8 @@ stepped_lines asks past lines written outcomes u a c same s = (
       outcomes) (sym same) s.taken.2,
 )
 
-abbrev pub PutsAside : List Line → List (Option Outcome) → List Line → List (Option Outcome) → Type 0
+abbrev pub PutsAside : List Line → List (Option Outcome) → List Line → List (Option Outcome)
+    → Type 0
 PutsAside lines outcomes after outcomes_after =
     (asks : List Ask) (past : List Step)
     → AreLines past asks 0 lines outcomes
@@ -424,7 +426,8 @@ stepped_going asks past lines written [] outcomes outcomes_after u a c same puts
     absurd (omega (arith, some))
 stepped_going asks past lines written (x ∷ after) outcomes outcomes_after u a c same puts some s =
     polled_going asks past s.more s.taken.0 x after outcomes_after a s.between c s.happens s.taken.1
-    (put_open asks (s.more ++ past) lines written (x ∷ after) outcomes outcomes_after s.taken.0 same
+    (put_open asks (s.more ++ past) lines written
+    (x ∷ after) outcomes outcomes_after s.taken.0 same
     puts s.taken.2)
 
 -- memory ran out where a talk was to begin

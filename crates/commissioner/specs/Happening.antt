@@ -141,11 +141,13 @@ AreKept Is past (ask ∷ asks) i (line ∷ lines) (None ∷ outcomes) =
     Is ask i line × AreKept Is past asks (suc i) lines outcomes
 
 -- the lines stand for the asks that are not decided
-abbrev pub AreOpen : List Step → List Ask → ℕ → List Line → List (Option Outcome) → Type 0
+abbrev pub AreOpen : List Step → List Ask → ℕ → List Line → List (Option Outcome)
+    → Type 0
 AreOpen past asks i lines outcomes = AreKept (IsOpen past) past asks i lines outcomes
 
 -- the same, where some of the lines may have been decided since
-abbrev pub AreLines : List Step → List Ask → ℕ → List Line → List (Option Outcome) → Type 0
+abbrev pub AreLines : List Step → List Ask → ℕ → List Line → List (Option Outcome)
+    → Type 0
 AreLines past asks i lines outcomes = AreKept (IsLine past) past asks i lines outcomes
 
 -- each line has begun, or stands behind another to the same directory
@@ -181,7 +183,8 @@ AreBegun asks past outcomes (Err x) lines before after =
     × (outcomes ≡ said_all asks 0 (more ++ past))
     × IsLost last after
 
--- an event was handed to each talk, and what is to be sent was sent; or a datagram could not be heard
+-- an event was handed to each talk, and what is to be sent was sent; or a datagram could not be
+-- heard
 abbrev pub AreHanded : List Ask
     → List Step
     → List (Option Outcome)

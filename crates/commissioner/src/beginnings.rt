@@ -1,5 +1,6 @@
 //! The talks that are to begin.
-ghost use Rattle.std.specs.Prelude.{◌≡◌, ◌<◌, List, Option, Some, length, take, slice_get};
+ghost use Rattle.std.specs.Prelude.{◌≡◌, ◌<◌, List, Option};
+ghost use Rattle.std.specs.Prelude.{Some, length, take, slice_get};
 ghost use Rattle.commissioner.specs.declared.lines.Line.{Line as LineOf};
 ghost use Rattle.std.specs.List.{list_any};
 ghost use Rattle.event_model.specs.Same.{is_same_peer};

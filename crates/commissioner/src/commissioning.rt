@@ -38,11 +38,11 @@ pub struct Commissioned<L: Link + Drop, C: Clock + Drop> {
 /// A list of asks that are made over one link, of which at most one at each directory runs at once:
 /// a future that gives [`Commissioned`].
 ///
-/// In each poll the talks begin that are to: those of asks before which no undecided ask to the same
-/// directory stands, in the order of the list. Each poll makes one receive, asks the clock for one
-/// moment after it, and hands a datagram to the talk with its peer; where none came, or one that is
-/// too long, time passes for each talk. It is pending, and yields, exactly where an ask is then
-/// undecided and nothing failed.
+/// In each poll the talks begin that are to: those of asks before which no undecided ask to the
+/// same directory stands, in the order of the list. Each poll makes one receive, asks the clock for
+/// one moment after it, and hands a datagram to the talk with its peer; where none came, or one
+/// that is too long, time passes for each talk. It is pending, and yields, exactly where an ask is
+/// then undecided and nothing failed.
 #[derive(Drop)]
 pub struct Commission<L: Link + Drop, C: Clock + Drop> {
     alloc: Global,

@@ -1,5 +1,6 @@
 //! An ask of a list while it is made.
-ghost use Rattle.std.specs.Prelude.{◌≡◌, ◌⊎◌, ℕ, List, Some, None, IsSome, is_some, OnOk, OnErr};
+ghost use Rattle.std.specs.Prelude.{◌≡◌, ◌⊎◌, ℕ, List, Some};
+ghost use Rattle.std.specs.Prelude.{None, IsSome, is_some, OnOk, OnErr};
 ghost use Rattle.udp_link.specs.Told.{Stays};
 ghost use Rattle.client_model.specs.declared.events.Event.{Event};
 ghost use Rattle.client_model.specs.declared.asks.Ask.{Ask};
@@ -59,7 +60,8 @@ fn turn_of<L: Link>(
 ) -> Turn
     ensures turned { (a : Asked) (octets : List ℕ) (past : List Event)
         → StandsFor a octets past talk.old
-        → IsTurnedIf (is_shared to (event_of taken.entry)) a octets past (event_of taken.entry) result talk.new
+        → IsTurnedIf (is_shared to (event_of taken.entry)) a octets past
+        (event_of taken.entry) result talk.new
         (L.gone link.old) (L.send_faults link.old) (L.gone link.new) (L.send_faults link.new) }
     ensures coming { Stays (L.coming link.old) (L.coming link.new) }
     ensures receives { L.recv_faults link.new ≡ L.recv_faults link.old }

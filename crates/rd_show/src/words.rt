@@ -3,6 +3,7 @@ ghost use Rattle.std.specs.Prelude.{◌≤◌, IfSome, IfOk};
 
 use clap::error::ErrorKind;
 use clap::{Arg, ArgAction, ArgMatches, Command, Error};
+use journal_model::limits::MAX_WORKERS;
 use std::alloc::{AllocError, Global};
 use trace_text::number_read;
 

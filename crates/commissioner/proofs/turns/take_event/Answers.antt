@@ -38,7 +38,8 @@ returns-in-TooLong-clause-taken g c = λ asks past outcomes are begun.
     let told =
     seen g.L.Link.coming g.L.Link.gone g.L.Link.recv_faults g.L.Link.send_faults
     g.C.Clock.times g.C.Clock.words in
-    taken_by c.hand_all-in-TooLong.result asks past outcomes c.args.lines.now c.hand_all-in-TooLong.new.lines
+    taken_by c.hand_all-in-TooLong.result asks past outcomes c.args.lines.now
+    c.hand_all-in-TooLong.new.lines
     (event.Tick c.now-now.result)
     (told c.args.link.now c.args.clock.now)
     (told c.hand_all-in-TooLong.new.link c.now-now.new.self)
@@ -64,7 +65,8 @@ returns-in-Nothing-clause-taken g c = λ asks past outcomes are begun.
     let told =
     seen g.L.Link.coming g.L.Link.gone g.L.Link.recv_faults g.L.Link.send_faults
     g.C.Clock.times g.C.Clock.words in
-    taken_by c.hand_all-in-Nothing.result asks past outcomes c.args.lines.now c.hand_all-in-Nothing.new.lines
+    taken_by c.hand_all-in-Nothing.result asks past outcomes c.args.lines.now
+    c.hand_all-in-Nothing.new.lines
     (event.Tick c.now-now.result)
     (told c.args.link.now c.args.clock.now)
     (told c.hand_all-in-Nothing.new.link c.now-now.new.self)
