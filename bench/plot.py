@@ -1,11 +1,11 @@
 #!/usr/bin/env python3
 """Draws measured figures: `bench/plot.py [TABLE ..]`.
 
-The tables are those of bench/figures where none is named: bench/traces.py and bench/serve.py write
-them with --table, as `make bench` does. Each picture is written to docs/ as an SVG file by gnuplot,
-which is installed where it lacks. Each measure is a point; a line leads through the means of those
-at the same number. A picture is left out, and that is said, where no line of it has figures at two
-numbers.
+The tables are those of bench/figures where none is named: bench/traces.py, bench/serve.py and
+bench/memory.py write them with --table, as `make bench` does. Each picture is written to docs/ as
+an SVG file by gnuplot, which is installed where it lacks. Each measure is a point; a line leads
+through the means of those at the same number. A picture is left out, and that is said, where no
+line of it has figures at two numbers.
 """
 
 import argparse
@@ -53,7 +53,8 @@ PICTURES = [
             "ports from which requests come", "microseconds"),
     Picture("instructions-by-registrations", "Instructions of a call in a replay", REGISTRATIONS,
             "thousand instructions", 1_000),
-    Picture("memory-by-registrations", "Most memory of a replay", REGISTRATIONS, "MiB"),
+    Picture("memory-by-registrations", "Most memory that a program has had at once", REGISTRATIONS,
+            "MiB"),
 ]
 
 

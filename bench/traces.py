@@ -13,16 +13,13 @@ draws.
 """
 
 import argparse
-import fcntl
 import os
 import re
 import shutil
 import subprocess
 import sys
 import tempfile
-import termios
 import time
-from array import array
 from concurrent.futures import ThreadPoolExecutor
 from dataclasses import dataclass, replace
 from pathlib import Path
@@ -51,9 +48,8 @@ SHORT = 300
 OBSERVERS = 64
 LISTED = 50
 
-# How many links a registration has whose lease is updated, and each one whose memory is told.
+# How many links a registration has whose lease is updated.
 LINKS = [1, 1_000]
-LINKS_EACH = 5
 
 # Types (RFC 7252 section 3) and codes (section 12.1).
 CON, ACK = 0, 2
@@ -550,36 +546,6 @@ def print_leases(bench: Bench, unit: str):
     print(row_of(LEASE.name, [cost_of(LEASE, each) for each in runs]), flush=True)
 
 
-def linked() -> Trace:
-    """As many devices as may register, each with as many short links as all have room for."""
-    trace = Trace()
-    body = ",".join(f'</{number}>;rt="l"' for number in range(LINKS_EACH)).encode()
-    for number in range(MOST):
-        options = [*path("rd"), LINK_FORMAT, *query(f"ep=n{number}", f"lt={LONG}")]
-        trace.write(device(number), POST, options, body)
-    return trace
-
-
-def waits_for_more(process: subprocess.Popen) -> bool:
-    """Whether a process has read all that was written to it, and sleeps."""
-    left = array("i", [0])
-    fcntl.ioctl(process.stdin, termios.FIONREAD, left)
-    state = Path(f"/proc/{process.pid}/stat").read_text().rsplit(")", 1)[1].split()[0]
-    return left[0] == 0 and state == "S"
-
-
-def peak_memory(program: str, trace: bytes) -> float:
-    """The most memory that a run over a trace has had at once when it waits for more, in MiB."""
-    words = [program, "--workers=1"]
-    with subprocess.Popen(words, stdin=subprocess.PIPE, stdout=subprocess.DEVNULL) as process:
-        process.stdin.write(trace)
-        process.stdin.flush()
-        while not waits_for_more(process):
-            time.sleep(0.05)
-        status = Path(f"/proc/{process.pid}/status").read_text()
-    return int(re.search(r"VmHWM:\s+(\d+) kB", status).group(1)) / 1_024
-
-
 def main():
     parser = argparse.ArgumentParser(description="What a call costs, by replayed traces.")
     parser.add_argument("program", nargs="?", default="bin/rd_replay")
@@ -587,8 +553,6 @@ def main():
     parser.add_argument("--table", type=Path, metavar="FILE", help="writes what is drawn")
     words = parser.parse_args()
     program = str(Path(words.program).resolve())
-    memory = [peak_memory(program, settled(size).text()) for size in SIZES]
-    memory_linked = peak_memory(program, linked().text())
     is_counted = shutil.which("valgrind") and not words.times
     bench = Bench(program, instructions if is_counted else nanoseconds)
     try:
@@ -599,14 +563,8 @@ def main():
             print_leases(replace(bench, measure=allocations), "allocations")
     finally:
         bench.pool.shutdown(cancel_futures=True)
-    for size, peak in zip(SIZES, memory):
-        print(f"memory at most, with {size:,} registrations of one link: {peak:.1f} MiB")
-        figures.append(Figure("memory-by-registrations", "one link each", size, peak))
-    print(f"with {MOST:,} registrations of {LINKS_EACH} links: {memory_linked:.1f} MiB")
-    figures.append(
-        Figure("memory-by-registrations", f"{LINKS_EACH} links each", MOST, memory_linked))
     if words.table:
-        head = f"bench/traces.py, {unit} and MiB of {Path(program).name}"
+        head = f"bench/traces.py, {unit} of {Path(program).name}"
         write_table(words.table, [head], figures)
 
 
