@@ -1,0 +1,8 @@
+pub mod SpokenLaws
+pub mod HeardLaws
+pub mod RefusingLaws
+pub mod CallLaws
+pub mod VoiceLaws
+pub mod ShownLaws
+pub mod AnsweredLaws
+mod Examples
