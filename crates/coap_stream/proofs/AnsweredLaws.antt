@@ -30,7 +30,9 @@ use Rattle.coap_stream.specs.Requests.{
   unasked_code,
   unasked_word,
 }
-use Rattle.coap_stream.specs.Calls.{Hears, calls_sent}
+use Rattle.rd_seat.specs.Callers.{CallerSeen, Hears}
+use Rattle.rd_seat.proofs.CallLaws.{CallsMade-none}
+use Rattle.coap_stream.specs.Calls.{as_they_came, calls_sent}
 use Rattle.coap_stream.specs.Talks.{
   Exchange,
   AnswersAs,
@@ -38,9 +40,8 @@ use Rattle.coap_stream.specs.Talks.{
   saying,
   replies_to,
 }
-use Rattle.coap_stream.specs.Made.{CallerSeen, VoiceSeen, IsAsked, Speaks}
+use Rattle.coap_stream.specs.Made.{VoiceSeen, IsAsked, Speaks}
 use Rattle.coap_stream.specs.Answered.{IsDone, MessageDone, RequestDone}
-use Rattle.coap_stream.proofs.CallLaws.{CallsMade-none}
 
 -- Octets that are written and no call.
 abbrev pub says_exchange : Shown → List ℕ → Exchange
@@ -53,7 +54,7 @@ pub says_done : (message : Shown) (octets : List ℕ) (a : CallerSeen) (v w : Vo
     → dropped_then ≡ dropped
     → IsDone (says_exchange message octets) a a v w dropped dropped_then
 says_done message octets a v w dropped dropped_then speaks same = record {
-  made = CallsMade-none a;
+  made = CallsMade-none as_they_came a;
   written = speaks;
   drops = omega (arith, same);
   few = omega arith;

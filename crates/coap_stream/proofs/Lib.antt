@@ -5,4 +5,6 @@ pub mod CallLaws
 pub mod VoiceLaws
 pub mod ShownLaws
 pub mod AnsweredLaws
+pub mod TalkLaws
+pub mod PieceLaws
 mod Examples

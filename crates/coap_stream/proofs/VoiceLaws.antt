@@ -95,7 +95,7 @@ Speaks-then a b c xs ys r s = by a.open_still b.open_still c.open_still r s
       (
         length xs + s.0.0,
         (let whole = length-append xs ys in
-        let few : s.0.0 ≤ length ys = s.0.1 in omega (arith, whole, few)),
+            let few : s.0.0 ≤ length ys = s.0.1 in omega (arith, whole, few)),
         subst (Appends a.holds c.holds) (sym (take-append-add xs ys s.0.0))
             (Appends-trans a.holds b.holds c.holds xs (take s.0.0 ys) r.0 s.0.2),
       ),
@@ -107,7 +107,7 @@ Speaks-then a b c xs ys r s = by a.open_still b.open_still c.open_still r s
       (
         r.0.0,
         (let whole = length-append xs ys in
-        let few : r.0.0 ≤ length xs = r.0.1 in omega (arith, whole, few)),
+            let few : r.0.0 ≤ length xs = r.0.1 in omega (arith, whole, few)),
         subst (λ (o : Option (List ℕ)). Appends a.holds o (take r.0.0 (xs ++ ys))) (sym s.0)
             (subst (Appends a.holds b.holds) (sym (take-append-le r.0.0 xs ys r.0.1)) r.0.2),
       ),

@@ -4,7 +4,8 @@ use Rattle.rd_base.specs.declared.peers.Peer.{Peer}
 use Rattle.coap_answers.specs.Outboxes.{most_datagrams}
 use Rattle.stream_reader.specs.Shown.{Shown}
 use Rattle.coap_stream.specs.declared.refusing.Unasked.{Unasked}
-use Rattle.coap_stream.specs.Made.{CallerSeen, VoiceSeen, CallsMade, Speaks}
+use Rattle.rd_seat.specs.Callers.{CallerSeen}
+use Rattle.coap_stream.specs.Made.{VoiceSeen, CallsMade, Speaks}
 use Rattle.coap_stream.specs.Talks.{Exchange, AnswersRequest, Answers}
 
 -- Its calls were made, its octets were written, and its ticks sent so many datagrams, which are

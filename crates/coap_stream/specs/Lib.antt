@@ -4,4 +4,5 @@ pub mod Calls
 pub mod Talks
 pub mod Made
 pub mod Answered
+pub mod Endings
 pub mod Talking

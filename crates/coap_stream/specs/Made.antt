@@ -4,39 +4,17 @@ use Rattle.std.specs.Prelude.{take, Option}
 use Rattle.std.specs.Io.KnownBytes.{Appends}
 use Rattle.rd_base.specs.Outside.{Rose}
 use Rattle.rd_base.specs.declared.outside.Sink as sinks
-use Rattle.rd_base.specs.declared.moments.Moment.{Moment}
 use Rattle.rd_base.specs.declared.peers.Peer.{Peer}
-use Rattle.udp_link.specs.Told.{WhereTold}
-use Rattle.udp_link.specs.declared.clocks.Clock as clocks
-use Rattle.rd_seat.specs.Seats.{SeatSeen}
-use Rattle.coap_stream.specs.Calls.{
-  Call,
-  Chain,
-  Does,
-  GivesMoment,
-  GivesWord,
-  Hears,
-  TicksWhere,
-  calls_sent,
-}
+use Rattle.rd_seat.specs.Callers as callers
+use Rattle.rd_seat.specs.Callers.{CallerSeen, Hears, TicksWhere}
+use Rattle.coap_stream.specs.Calls.{Call, as_they_came, calls_sent}
 use Rattle.coap_stream.specs.Talks.{replies_to}
 
 -- ---- the seat and the clock
 
--- What a caller has: a seat, and what a clock still gives.
-pub record CallerSeen : Type 0 where
-  pub seat : SeatSeen
-  pub times : Option (List Moment)
-  pub words : Option (List ℕ)
-
-abbrev pub caller_seen : {C : Type 0} → clocks.Ghosts C → SeatSeen → C → CallerSeen
-caller_seen g seat clock = record { seat = seat; times = g.times clock; words = g.words clock }
-
 -- What calls did to the seat, with what the clock gave.
-pub record CallsMade (calls : List Call) (before after : CallerSeen) : Type 0 where
-  pub seat : Chain Does before.seat calls after.seat
-  pub moments : WhereTold (λ old new. Chain GivesMoment old calls new) before.times after.times
-  pub words : WhereTold (λ old new. Chain GivesWord old calls new) before.words after.words
+abbrev pub CallsMade : List Call → CallerSeen → CallerSeen → Type 0
+CallsMade calls before after = callers.CallsMade as_they_came calls before after
 
 -- ---- the output
 

@@ -1,64 +1,25 @@
 -- What a conversation answers: each message of a connection with the calls that it led to and the
--- octets that were written for it, how it ended, and why (RFC 8323 sections 3.3, 3.4 and 5).
-use Rattle.std.specs.Prelude.{
-  ◌≡◌,
-  ℕ,
-  ◌+◌,
-  ◌%◌,
-  ◌<◌,
-  ◌≤◌,
-  ◌==◌,
-  Bool,
-  true,
-  false,
-  ◌&&◌,
-  ◌||◌,
-  List,
-  [],
-  ◌∷◌,
-  ◌++◌,
-  length,
-  reverse,
-  take,
-  Option,
-  Some,
-  None,
-  nat_lt,
-  Result,
-  Ok,
-  Err,
-  if◌then◌else◌,
-  ⊤,
-}
-use Rattle.std.specs.Io.KnownBytes.{Appends, Consumes, IsAtEnd}
-use Rattle.rd_base.specs.declared.moments.Moment.{Moment}
+-- octets that were written for it (RFC 8323 sections 3.3, 3.4 and 5).
+use Rattle.std.specs.Prelude.{◌≡◌, ℕ, ◌+◌, ◌%◌, ◌==◌, Bool, true, false, List, [], ◌∷◌, ◌++◌}
+use Rattle.std.specs.Prelude.{length, Option, Some, None, Result, Ok, Err, nat_lt}
+use Rattle.std.specs.Prelude.{if◌then◌else◌, ⊤}
 use Rattle.rd_base.specs.declared.peers.Peer.{Peer}
-use Rattle.rd_base.specs.Outside.{Rose}
-use Rattle.rd_base.specs.declared.outside.Source as sources
-use Rattle.rd_base.specs.declared.outside.Sink as sinks
-use Rattle.udp_link.specs.declared.clocks.Clock as clocks
 use Rattle.udp_link.specs.Links.{Datagram}
-use Rattle.udp_link.specs.Told.{WhereTold}
 use Rattle.message_model.specs.Spelling.{spelling, payload_spelling, options_spelling}
 use Rattle.message_model.specs.Reading.{reading}
 use Rattle.message_model.specs.Message.{Message}
-use Rattle.coap_message.specs.PartialMessages.{longest_datagram}
 use Rattle.message_model.specs.declared.messages.Unread.{Unread}
+use Rattle.coap_message.specs.PartialMessages.{longest_datagram}
 use Rattle.event_model.specs.Same.{is_same_peer}
-use Rattle.stream_model.specs.declared.messages.StreamBad.{StreamBad}
 use Rattle.stream_model.specs.declared.signals.TheConstants as signals
 use Rattle.stream_model.specs.Messages.{stream_spelling}
-use Rattle.stream_model.specs.Streams.{Stream, stream_of}
-use Rattle.stream_reader.specs.Shown.{Shown, shown_in}
-use Rattle.rd_seat.specs.Seats.{SeatSeen}
+use Rattle.stream_reader.specs.Shown.{Shown}
+use Rattle.rd_seat.specs.Callers.{Hears, TicksWhere}
 use Rattle.coap_stream.specs.declared.purposes.Meant.{Meant}
 use Rattle.coap_stream.specs.declared.purposes.Meant.TheVariants as meant
 use Rattle.coap_stream.specs.declared.refusing.Unasked.{Unasked}
 use Rattle.coap_stream.specs.declared.talked.TalkEnd.{TalkEnd}
 use Rattle.coap_stream.specs.declared.talked.TalkEnd.TheVariants as end_as
-use Rattle.coap_stream.specs.declared.talked.TalkFault.{TalkFault}
-use Rattle.coap_stream.specs.declared.talked.TalkFault.TheVariants as fault
-use Rattle.coap_stream.specs.declared.talked.Talked.{Talked}
 use Rattle.coap_stream.specs.Requests.{
   meant_by,
   heard_as,
@@ -67,16 +28,7 @@ use Rattle.coap_stream.specs.Requests.{
   unasked_code,
   unasked_word,
 }
-use Rattle.coap_stream.specs.Calls.{
-  Call,
-  Chain,
-  Does,
-  GivesMoment,
-  GivesWord,
-  Hears,
-  TicksWhere,
-  calls_sent,
-}
+use Rattle.coap_stream.specs.Calls.{Call, calls_sent}
 
 -- ---- what is written
 
@@ -228,111 +180,3 @@ AreAnswered peer (e ∷ earlier) =
     AreAnswered peer earlier
     × (ended_by earlier ≡ None)
     × Answers peer (asked_of earlier) e
-
--- ---- how it ends
-
--- What a conversation has: its seat, the octets that come and go, and its clock.
-pub record TalkSeen : Type 0 where
-  pub seat : SeatSeen
-  pub left : Option (List ℕ)
-  pub read_faults : ℕ
-  pub holds : Option (List ℕ)
-  pub write_faults : ℕ
-  pub times : Option (List Moment)
-  pub words : Option (List ℕ)
-
-abbrev pub talk_seen : {S K C : Type 0} → sources.Ghosts S → sinks.Ghosts K → clocks.Ghosts C
-    → SeatSeen → S → K → C → TalkSeen
-talk_seen s k c seat source out clock = record {
-  seat = seat;
-  left = s.left source;
-  read_faults = s.faults source;
-  holds = k.holds out;
-  write_faults = k.faults out;
-  times = c.times clock;
-  words = c.words clock;
-}
-
--- These octets, the last first, are those of the messages.
-abbrev pub AreShown : List (List ℕ) → List Exchange → Type 0
-AreShown [] [] = ⊤
-AreShown (octets ∷ earlier) (e ∷ es) = (shown_in octets ≡ Some e.message) × AreShown earlier es
-AreShown [] (e ∷ es) = ⊥
-AreShown (octets ∷ earlier) [] = ⊥
-
--- These messages, the last first, are the first of the stream.
-pub record AreFirst (messages : List (List ℕ)) (s : Stream) : Type 0 where
-  pub more : List (List ℕ)
-  pub all : s.messages ≡ reverse messages ++ more
-
--- These messages are all of the stream, and what follows them is this.
-pub record AreAll (messages : List (List ℕ)) (why : Option StreamBad) (s : Stream) : Type 0 where
-  pub all : s.messages ≡ reverse messages
-  pub follows : s.fault ≡ why
-
--- How it ended, by the messages that were answered and the stream of what was read: between two
--- messages or within one, at a bad one, or with what its last message says.
-abbrev pub EndsSo : TalkEnd → List (List ℕ) → List Exchange → Stream → Option (List ℕ) → Type 0
-EndsSo end_as.Closed messages es s left = AreAll messages None s × (s.rest ≡ [])
-    × IsAtEnd left × (ended_by es ≡ None)
-EndsSo end_as.Cut messages es s left = AreAll messages None s × (0 < length s.rest)
-    × IsAtEnd left × (ended_by es ≡ None)
-EndsSo (end_as.Refused why) messages es s left = AreAll messages (Some why) s
-    × (ended_by es ≡ None)
-EndsSo end messages es s left = ended_by es ≡ Some end
-
--- A front of these octets was written.
-abbrev pub WritesFront : Option (List ℕ) → List ℕ → Option (List ℕ) → Type 0
-WritesFront before octets now =
-    (n : ℕ) × (n ≤ length octets) × Appends before now (take n octets)
-
--- What it answers, by the messages that were answered and what was read.
-abbrev pub Concludes : List (List ℕ) → List Exchange → Stream → TalkSeen → TalkSeen
-    → Result Talked TalkFault → Type 0
-Concludes messages es s before after (Ok talked) =
-    EndsSo talked.end messages es s after.left
-    × (talked.asked ≡ asked_of es)
-    × (talked.dropped ≡ dropped_of es)
-    × Appends before.holds after.holds (opening ++ (written_of es ++ farewell talked.end))
-    × (after.write_faults ≡ before.write_faults)
-    × (after.read_faults ≡ before.read_faults)
-Concludes messages es s before after (Err fault.Read) =
-    Appends before.holds after.holds (opening ++ written_of es)
-    × (ended_by es ≡ None)
-    × (before.read_faults ≤ after.read_faults)
-    × Rose before.read_faults after.read_faults
-    × (after.write_faults ≡ before.write_faults)
-Concludes messages es s before after (Err fault.Write) =
-    ((end : TalkEnd)
-    × WritesFront before.holds (opening ++ (written_of es ++ farewell end)) after.holds)
-    × (before.write_faults ≤ after.write_faults)
-    × Rose before.write_faults after.write_faults
-    × (after.read_faults ≡ before.read_faults)
-Concludes messages es s before after (Err fault.Starved) =
-    (es ≡ [])
-    × Appends before.holds after.holds []
-    × (after.left ≡ before.left)
-    × (after.read_faults ≡ before.read_faults)
-    × (after.write_faults ≡ before.write_faults)
-
--- A conversation.
-pub record Talks (peer : Peer) (before after : TalkSeen) (result : Result Talked TalkFault)
-    : Type 0 where
-  -- The octets that were read.
-  pub taken : List ℕ
-  pub read : Consumes before.left after.left taken
-  -- Their first messages are answered, in order.
-  pub messages : List (List ℕ)
-  pub exchanges : List Exchange
-  pub shown : AreShown messages exchanges
-  pub first : AreFirst messages (stream_of taken)
-  pub answered : AreAnswered peer exchanges
-  -- Each call led the seat from where the one before it had led it.
-  pub seat : Chain Does before.seat (calls_of exchanges) after.seat
-  -- Moments and words are those that the clock gave, in order.
-  pub moments : WhereTold (λ old new. Chain GivesMoment old (calls_of exchanges) new)
-      before.times after.times
-  pub words : WhereTold (λ old new. Chain GivesWord old (calls_of exchanges) new)
-      before.words after.words
-  -- And it ended so.
-  pub concludes : Concludes messages exchanges (stream_of taken) before after result

@@ -6,9 +6,10 @@ ghost use Rattle.journal_model.specs.declared.steps.StepKind.TheVariants as step
 ghost use Rattle.coap_answers.specs.Outboxes.{most_datagrams};
 ghost use Rattle.rd_seat.specs.Heard.{IsOpenWrite};
 ghost use Rattle.rd_seat.specs.Jobs.{last_place};
-ghost use Rattle.coap_stream.specs.Calls.{Call, Hears, IsHearing, IsOfJob};
-ghost use Rattle.coap_stream.specs.Calls.{calls_sent, job_at, job_held};
-ghost use Rattle.coap_stream.specs.Made.{CallsMade, IsAsked, Speaks, caller_seen, voice_seen};
+ghost use Rattle.rd_seat.specs.Calls.{IsHearing, IsOfJob, job_at, job_held};
+ghost use Rattle.rd_seat.specs.Callers.{Hears, caller_seen};
+ghost use Rattle.coap_stream.specs.Calls.{Call, calls_sent};
+ghost use Rattle.coap_stream.specs.Made.{CallsMade, IsAsked, Speaks, voice_seen};
 ghost use Rattle.coap_stream.specs.Talks.{replies_to};
 
 use crate::carried::carry_all;
@@ -102,7 +103,16 @@ fn hear<R: Wait, K: Sink, C: Clock, G: Gate>(
     let (rt, hall, gate) = (post.rt, post.hall, post.gate);
     let now = clock.now();
     let word = clock.word();
-    let heard = seat.hear(rt, hall, gate, now, word, post.peer, datagram, &mut tally.out);
+    let heard = seat.hear(
+        rt,
+        hall,
+        gate,
+        now,
+        word,
+        post.peer,
+        datagram,
+        &mut tally.out,
+    );
     tally.still = carry_all(out, tally.still, &post.peer, &tally.out);
     tally.out.clear();
     job_in(heard)

@@ -57,7 +57,12 @@ fn put_view(octets: &mut [u8; MAX_SPOKEN], view: &View<'_>, datagram: &[u8]) -> 
     ensures few { result ≤ 1284 }
     ensures put { take result octets.new ≡ spec.carried (message_in view.now) }
 {
-    put_body(octets, view.code, view.token.octets.len(), behind_header(datagram))
+    put_body(
+        octets,
+        view.code,
+        view.token.octets.len(),
+        behind_header(datagram),
+    )
 }
 
 /// Writes a datagram without its type and Message ID (RFC 8323 section 3.2). False: the output

@@ -2,7 +2,8 @@ use Rattle.std.proofs.Common.{[], refl, sym, ◌∙◌}
 use Rattle.stream_model.specs.declared.signals.TheConstants as signals
 use Rattle.stream_reader.specs.Shown.{frame_shown}
 use Rattle.coap_stream.specs.declared.purposes.Meant.TheVariants as meant
-use Rattle.coap_stream.specs.Made.{caller_seen, voice_seen}
+use Rattle.rd_seat.specs.Callers.{caller_seen}
+use Rattle.coap_stream.specs.Made.{voice_seen}
 use Rattle.coap_stream.specs.Talks.{saying}
 use Rattle.coap_stream.proofs.AnsweredLaws.{message_said, message_asked}
 use Rattle.coap_stream.proofs.VoiceLaws.{Speaks-none}

@@ -5,7 +5,8 @@ use Rattle.coap_message.specs.Views.{message_in}
 use Rattle.stream_reader.specs.Shown.{frame_shown}
 use Rattle.coap_stream.specs.declared.refusing.Unasked.{Unasked}
 use Rattle.coap_stream.specs.Answered.{RequestDone}
-use Rattle.coap_stream.specs.Made.{caller_seen, voice_seen}
+use Rattle.rd_seat.specs.Callers.{caller_seen}
+use Rattle.coap_stream.specs.Made.{voice_seen}
 use Rattle.coap_stream.specs.Requests.{heard_as, unasked_of}
 use Rattle.coap_stream.proofs.AnsweredLaws.{Speaks-as, said_done, asked_done}
 use Rattle.coap_stream.proofs.answering.answer_heard.Goals as goal

@@ -1,8 +1,9 @@
 use Rattle.std.proofs.Common.{◌∷◌, [], ℕ, ◌+◌, Bool, refl, sym, ap, subst, arith}
-use Rattle.coap_stream.specs.Calls.{calls_sent}
+use Rattle.rd_seat.proofs.CallLaws.{CallsMade-then}
+use Rattle.coap_stream.specs.Calls.{as_they_came, calls_sent}
 use Rattle.coap_stream.specs.Made.{Speaks, voice_seen}
 use Rattle.coap_stream.specs.Talks.{replies_to}
-use Rattle.coap_stream.proofs.CallLaws.{CallsMade-then, ticks_at, no_ticks_at}
+use Rattle.coap_stream.proofs.CallLaws.{ticks_at, no_ticks_at}
 use Rattle.coap_stream.proofs.calls.ask.Goals as goal
 
 pub returns-then-tally-eq0-clause-made : goal.returns-then-tally-eq0-clause-made
@@ -18,7 +19,7 @@ returns-then-tally-eq0-clause-made g c =
             (ticked.0 ∷ []) (ap (λ (n : ℕ). n + 1) c.hear_request.ensures.asked)
             c.if-tally-eq0.true
             (record { tick = ticked.0; alone = refl; kind = ticked.1 });
-        made = CallsMade-then heard.0 (ticked.0 ∷ []) _ _ _ heard.2 ticked.2;
+        made = CallsMade-then as_they_came heard.0 (ticked.0 ∷ []) _ _ _ heard.2 ticked.2;
         written = subst (λ (b : Bool). Speaks
             (voice_seen g.K.Sink c.args.out.now c.args.tally.now.still)
             (replies_to c.args.post.now.peer (calls_sent heard.0))

@@ -4,9 +4,10 @@ use Rattle.journal_model.specs.Machine.{is_look_datagram}
 use Rattle.rd_desk.specs.declared.jobs.Job.{Job}
 use Rattle.rd_seat.specs.Heard.{IsOpenWrite}
 use Rattle.rd_seat.specs.Jobs.{last_place}
-use Rattle.coap_stream.specs.Calls.{Call, job_at}
-use Rattle.coap_stream.specs.Made.{caller_seen}
-use Rattle.coap_stream.proofs.CallLaws.{hear_call, hear-made, hear-IsHearing, open-held}
+use Rattle.rd_seat.specs.Calls.{job_at}
+use Rattle.rd_seat.specs.Callers.{caller_seen, clock_seen}
+use Rattle.rd_seat.proofs.CallLaws.{hear_call, hear-made, hear-IsHearing, open-held}
+use Rattle.coap_stream.specs.Calls.{Call, as_they_came}
 use Rattle.coap_stream.proofs.calls.hear.Goals as goal
 
 pub returns-clause-made : goal.returns-clause-made
@@ -23,9 +24,9 @@ returns-clause-made g c =
       hear-IsHearing look seat seen c.now-now.result c.word-word.result peer
           c.args.datagram.now result out refl,
       ap (λ (o : Option Job). option_map (job_at (last_place seen)) o) (sym c.job_in.ensures),
-      hear-made look (caller_seen g.C.Clock seat c.args.clock.now)
+      hear-made as_they_came look (caller_seen g.C.Clock seat c.args.clock.now)
           (caller_seen g.C.Clock c.hear-heard.new.self c.word-word.new.self)
-          (caller_seen g.C.Clock seat c.now-now.new.self) c.now-now.result
+          (clock_seen g.C.Clock c.now-now.new.self) c.now-now.result
           c.word-word.result peer c.args.datagram.now result out refl
           (record {
             grows = c.hear-heard.ensures.met;

@@ -3,10 +3,12 @@ use Rattle.std.specs.Prelude.{option_map}
 use Rattle.rd_desk.specs.declared.jobs.Job.{Job}
 use Rattle.journal_model.specs.Machine as machine
 use Rattle.rd_seat.specs.Jobs.{last_place}
-use Rattle.coap_stream.specs.Calls.{job_at, DoesJob}
+use Rattle.rd_seat.specs.Calls.{job_at}
+use Rattle.rd_seat.specs.Callers.{DoesJob}
+use Rattle.rd_seat.proofs.CallLaws.{CallsMade-then}
+use Rattle.coap_stream.specs.Calls.{as_they_came}
 use Rattle.coap_stream.specs.Made.{Speaks, voice_seen}
 use Rattle.coap_stream.specs.Talks.{replies_to}
-use Rattle.coap_stream.proofs.CallLaws.{CallsMade-then}
 use Rattle.coap_stream.proofs.VoiceLaws.{Speaks-then, replies-then}
 use Rattle.coap_stream.proofs.calls.hear_request.Goals as goal
 
@@ -31,7 +33,7 @@ returns-in-Some-clause-made g c =
             option_map (job_at (last_place c.hear-job.new.seat.seen)) o) c.in-Some.is))
             (done.0, refl, done.1);
       },
-      CallsMade-then (heard.0 ∷ []) (done.0 ∷ []) _ _ _ heard.3 done.2,
+      CallsMade-then as_they_came (heard.0 ∷ []) (done.0 ∷ []) _ _ _ heard.3 done.2,
       subst (λ (l : List ℕ). Speaks v0 l v2) (sym (replies-then peer heard.0.sent done.0.sent))
           (Speaks-then v0 v1 v2 (replies_to peer heard.0.sent) (replies_to peer done.0.sent)
           heard.4 done.3),

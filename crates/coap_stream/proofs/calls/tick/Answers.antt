@@ -1,8 +1,8 @@
 use Rattle.std.proofs.Common.{ℕ, ◌+◌, refl, ap, arith}
 use Rattle.rd_desk.specs.calls.Stepping.{is_starved_step}
-use Rattle.coap_stream.specs.Calls.{Call}
-use Rattle.coap_stream.specs.Made.{caller_seen}
-use Rattle.coap_stream.proofs.CallLaws.{tick_call, tick-made}
+use Rattle.rd_seat.specs.Callers.{caller_seen, clock_seen}
+use Rattle.rd_seat.proofs.CallLaws.{tick_call, tick-made}
+use Rattle.coap_stream.specs.Calls.{Call, as_they_came}
 use Rattle.coap_stream.proofs.calls.tick.Goals as goal
 
 pub returns-clause-made : goal.returns-clause-made
@@ -12,9 +12,9 @@ returns-clause-made g c =
     let made : Call = tick_call c.args.seat.now c.now-now.result c.word-word.result starved out in (
       made,
       refl,
-      tick-made (caller_seen g.C.Clock c.args.seat.now c.args.clock.now)
+      tick-made as_they_came (caller_seen g.C.Clock c.args.seat.now c.args.clock.now)
           (caller_seen g.C.Clock c.tick-stepped.new.self c.word-word.new.self)
-          (caller_seen g.C.Clock c.args.seat.now c.now-now.new.self) c.now-now.result
+          (clock_seen g.C.Clock c.now-now.new.self) c.now-now.result
           c.word-word.result starved out c.tick-stepped.ensures.met c.tick-stepped.ensures.made
           (record {
             moment = c.now-now.ensures.gives;
