@@ -7,4 +7,6 @@ pub mod ShownLaws
 pub mod AnsweredLaws
 pub mod TalkLaws
 pub mod PieceLaws
+pub mod AskedLaws
+pub mod ServingLaws
 mod Examples

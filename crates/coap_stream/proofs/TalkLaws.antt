@@ -70,7 +70,7 @@ drops_as peer asked meant.Abort e answers few = omega (arith, answers.dropped)
 drops_as peer asked meant.Request e answers few =
     drops_request peer asked (unasked_of (heard_as asked e.message)) e answers few
 
-asks_few : (m : Meant) (why : Option Unasked) → asked_as m why ≤ 1
+pub asks_few : (m : Meant) (why : Option Unasked) → asked_as m why ≤ 1
 asks_few meant.Passed why = omega arith
 asks_few meant.Ping why = omega arith
 asks_few meant.Release why = omega arith
@@ -78,7 +78,7 @@ asks_few meant.Abort why = omega arith
 asks_few meant.Request None = omega arith
 asks_few meant.Request (Some why) = omega arith
 
-not_spent : (x : Option TalkEnd) (n : ℕ) → None ≡ end_by x (n == most_asked)
+pub not_spent : (x : Option TalkEnd) (n : ℕ) → None ≡ end_by x (n == most_asked)
     → n ≡ most_asked → ⊥
 not_spent x n is same =
     by x (subst (λ (k : ℕ). None ≡ end_by x (k == most_asked)) same is)

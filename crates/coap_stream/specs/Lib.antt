@@ -6,3 +6,5 @@ pub mod Made
 pub mod Answered
 pub mod Endings
 pub mod Talking
+pub mod Asked
+pub mod Serving

@@ -1,11 +1,13 @@
 //! Conversations: the messages of a connection, answered one after the other.
-ghost use Rattle.std.specs.Prelude.{◌≡◌, ◌≤◌, ◌<◌, ◌*◌, ◌==◌, true, false, None, [], length};
+ghost use Rattle.std.specs.Prelude.{◌≡◌, ◌≤◌, ◌<◌, ◌*◌, ◌==◌, true, None, [], length};
+ghost use Rattle.std.specs.Prelude.{IfOk, IfSome};
 ghost use Rattle.stream_model.specs.Streams.{IsGood};
 ghost use Rattle.stream_reader.specs.Shown.{message_of};
 ghost use Rattle.rd_seat.specs.Callers.{caller_seen};
 ghost use Rattle.coap_stream.specs.Made.{Speaks, voice_seen};
 ghost use Rattle.coap_stream.specs.Requests as requests;
 ghost use Rattle.coap_stream.specs.Talks as spec;
+ghost use Rattle.coap_stream.specs.Asked.{asked_in};
 ghost use Rattle.coap_stream.specs.Endings.{SourceSeen, TalkSeen, Talks, source_seen, talk_seen};
 ghost use Rattle.coap_stream.specs.Talking.{IsHeard, TalksSo, WasHeard, is_open, is_still, told_if};
 
@@ -241,6 +243,10 @@ pub fn converse<R: Wait + AllocGlobal, S: Source, K: Sink, C: Clock, G: Gate>(
         seat.old out.old clock.old)
         (talk_seen K.Sink.own C.Clock.own (source_seen S.Source.own source.new)
         seat.new out.new clock.new) result }
+    // Where the source tells its octets, what was handed to the seat is what they say.
+    ensures counts { IfOk result (λ talked. IfSome (S.left source.old)
+        (λ octets. talked.asked ≡ asked_in octets)) }
+    ensures few { IfOk result (λ talked. talked.asked ≤ spec.most_asked) }
 {
     let Ok(outbox) = Outbox::make(rt.alloc()) else {
         return Err(TalkFault::Starved);
