@@ -4,6 +4,7 @@ pub mod RefusingLaws
 pub mod CallLaws
 pub mod VoiceLaws
 pub mod ShownLaws
+pub mod ReaderLaws
 pub mod AnsweredLaws
 pub mod TalkLaws
 pub mod PieceLaws

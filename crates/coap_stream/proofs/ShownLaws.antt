@@ -120,3 +120,16 @@ good_fits is_first octets s good shown =
 pub good_request : (s : Shown) → FitsDatagram s → is_request_code s.code ≡ true → IsRequest s
 good_request s f is =
     record { code = is; token = f.token; options = f.options; fits = f.fits }
+
+-- A good message shows something.
+pub good_shown : (is_first : Bool) (octets : List ℕ) → IsGood is_first octets
+    → (s : Shown) × (shown_in octets ≡ Some s)
+good_shown is_first octets good =
+    let m = good.message in
+    let none = first_none (lengths_fault m) (message_fault is_first m.code m.tail) good.good in
+    let tail = message_none is_first m.code m.tail none.1 in (
+      shown_by m.code m.token tail.0,
+      ap shown_in (sym good.spelled)
+          ∙ spelled_shown m good.fits.token_length
+          ∙ ap (λ (o : Option Tail). option_map (shown_by m.code m.token) o) tail.1,
+    )

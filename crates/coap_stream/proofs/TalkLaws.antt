@@ -21,6 +21,7 @@ use Rattle.coap_stream.specs.declared.talked.TalkEnd.TheVariants as end_as
 use Rattle.coap_stream.specs.Requests.{meant_by, heard_as, number_asked, unasked_of}
 use Rattle.coap_stream.specs.Calls.{as_they_came}
 use Rattle.coap_stream.specs.Made.{VoiceSeen, Speaks}
+use Rattle.coap_stream.specs.Answered.{MessageDone}
 use Rattle.coap_stream.specs.Talks.{
   Exchange,
   Answers,
@@ -88,33 +89,33 @@ not_spent x n is same =
     by (Some end) e = cc
 
 -- There is a number for one request more.
-pub heard_few : (peer : Peer) (message : Option Shown) (end : Option TalkEnd)
-    (a b : CallerSeen) (v w : VoiceSeen) (counts counted : Counts)
-    → WasHeard peer message end a b v w counts counted
-    → counts.asked < 65536 → end ≡ None → counted.asked < 65536
-heard_few peer message end a b v w counts counted was few none =
-    let more = asks_few (meant_by was.shown.code)
-    (unasked_of (heard_as counts.asked was.shown)) in
-    let least : counted.asked ≤ 65536 = omega (arith, was.asked, more, few) in
-    let other : counted.asked ≡ 65536 → ⊥ =
-    not_spent (ends_by (meant_by was.shown.code)) counted.asked (sym none ∙ was.ends) in
-    below counted.asked least other
+pub heard_few : (shown : Shown) (end : Option TalkEnd) (asked asked_then : ℕ)
+    → asked_then ≡ asked + asked_by asked shown
+    → end ≡ end_by (ends_by (meant_by shown.code)) (asked_then == most_asked)
+    → asked < 65536 → end ≡ None → asked_then < 65536
+heard_few shown end asked asked_then more ends few none =
+    let one = asks_few (meant_by shown.code) (unasked_of (heard_as asked shown)) in
+    let least : asked_then ≤ 65536 = omega (arith, more, one, few) in
+    let other : asked_then ≡ 65536 → ⊥ =
+    not_spent (ends_by (meant_by shown.code)) asked_then (sym none ∙ ends) in
+    below asked_then least other
   where
     below : (n : ℕ) → n ≤ 65536 → (n ≡ 65536 → ⊥) → n < 65536
     below n least other = omega (arith, least, other)
 
 -- And room for what its ticks send.
-pub heard_room : (peer : Peer) (message : Option Shown) (end : Option TalkEnd)
-    (a b : CallerSeen) (v w : VoiceSeen) (counts counted : Counts)
-    → WasHeard peer message end a b v w counts counted
-    → counts.dropped ≤ 1152 * counts.asked → counted.dropped ≤ 1152 * counted.asked
-heard_room peer message end a b v w counts counted was room =
-    let e = was.done.exchange in
-    let drops : e.dropped ≤ 1152 * asked_by counts.asked e.message =
-    drops_as peer counts.asked (meant_by e.message.code) e was.done.answers was.done.done.few in
-    let same : asked_by counts.asked e.message ≡ asked_by counts.asked was.shown =
-    ap (λ (s : Shown). asked_by counts.asked s) was.done.same in
-    omega (arith, drops, same, was.done.done.drops, was.asked, room)
+pub heard_room : (peer : Peer) (shown : Shown) (a b : CallerSeen) (v w : VoiceSeen)
+    (asked asked_then dropped dropped_then : ℕ)
+    → MessageDone peer asked shown a b v w dropped dropped_then
+    → asked_then ≡ asked + asked_by asked shown
+    → dropped ≤ 1152 * asked → dropped_then ≤ 1152 * asked_then
+heard_room peer shown a b v w asked asked_then dropped dropped_then done more room =
+    let e = done.exchange in
+    let drops : e.dropped ≤ 1152 * asked_by asked e.message =
+    drops_as peer asked (meant_by e.message.code) e done.answers done.done.few in
+    let same : asked_by asked e.message ≡ asked_by asked shown =
+    ap (λ (s : Shown). asked_by asked s) done.same in
+    omega (arith, drops, same, done.done.drops, more, room)
 
 -- ---- one message more
 

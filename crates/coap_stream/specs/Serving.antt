@@ -19,7 +19,6 @@ use Rattle.coap_stream.specs.declared.talked.TalkFault.{TalkFault}
 use Rattle.coap_stream.specs.declared.talked.Talked.{Talked}
 use Rattle.coap_stream.specs.declared.doors.Opened.{Opened}
 use Rattle.coap_stream.specs.declared.doors.Opened.TheVariants as opened
-use Rattle.coap_stream.specs.declared.doors.Accept as doors
 use Rattle.coap_stream.specs.declared.serving.StreamsStatus.{StreamsStatus}
 use Rattle.coap_stream.specs.declared.serving.StreamsStatus.TheVariants as status
 use Rattle.coap_stream.specs.declared.serving.StreamsFault.{StreamsFault}
@@ -218,9 +217,6 @@ pub record OutSeen : Type 0 where
 
 abbrev pub out_seen : {K : Type 0} → sinks.Ghosts K → K → OutSeen
 out_seen g out = record { holds = g.holds out; faults = g.faults out }
-
-abbrev pub door_seen : {A : Type 0} → doors.Ghosts A → A → DoorSeen
-door_seen g door = record { coming = g.coming door; faults = g.faults door }
 
 -- By the seat of a new hall all connections were served, and what came of them is answered.
 pub record ServesBySeat (sure : Type 0) (count : ℕ) (before after : ClockSeen)

@@ -3,7 +3,7 @@ ghost use Rattle.std.specs.Prelude.{◌≡◌, ◌≤◌, IfOk};
 ghost use Rattle.rd_seat.specs.Callers.{caller_seen, clock_seen};
 ghost use Rattle.coap_stream.specs.Serving as spec;
 ghost use Rattle.coap_stream.specs.Serving.{Concludes, NeverFail, ServesAll, ServesOne};
-ghost use Rattle.coap_stream.specs.Serving.{ServesStreams, door_seen, out_seen, talked_line};
+ghost use Rattle.coap_stream.specs.Serving.{ServesStreams, out_seen, talked_line};
 
 use crate::doors::{Accept, Opened};
 use crate::spoken::write_all;
@@ -155,7 +155,8 @@ pub fn serve_streams<R: Wait + AllocGlobal, A: Accept, C: Clock, G: Gate, K: Sin
     // their ends fails, what is counted is what their octets hand to the seat.
     ensures serves { ServesStreams (NeverFail A.In.Source.own A.Out.Sink.own) count
         (clock_seen C.Clock.own clock.old) (clock_seen C.Clock.own clock.new)
-        (door_seen A.Accept.own door.old) (door_seen A.Accept.own door.new)
+        (record { coming = A.coming door.old; faults = A.faults door.old })
+        (record { coming = A.coming door.new; faults = A.faults door.new })
         (out_seen K.Sink.own out.old) (out_seen K.Sink.own out.new) result }
 {
     let Ok((hall, mut seats)) = Hall::make(rt.alloc(), rt, 1) else {
