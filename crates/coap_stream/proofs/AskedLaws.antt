@@ -1,8 +1,8 @@
 -- What a conversation hands to the seat is what the octets of its connection say.
 use Rattle.std.proofs.Common.{◌≡◌, ℕ, ◌+◌, ◌<◌, ◌≤◌, ◌==◌, List, [], ◌∷◌, ◌++◌}
-use Rattle.std.proofs.Common.{Option, Some, None, Ok, Err}
+use Rattle.std.proofs.Common.{Option, Some, None, Result, Ok, Err}
 use Rattle.std.proofs.Common.{refl, sym, ap, subst, ◌∙◌, append_assoc, append-nil, arith}
-use Rattle.std.specs.Prelude.{reverse}
+use Rattle.std.specs.Prelude.{reverse, IfOk, IfSome}
 use Rattle.std.specs.Io.KnownBytes.{Consumes, IsAtEnd}
 use Rattle.std.proofs.lemmas.List.{reverse-append}
 use Rattle.rd_base.specs.declared.peers.Peer.{Peer}
@@ -11,6 +11,7 @@ use Rattle.stream_model.specs.Streams.{Stream, stream_of}
 use Rattle.stream_reader.specs.Shown.{Shown, shown_in}
 use Rattle.coap_stream.specs.declared.talked.TalkEnd.{TalkEnd}
 use Rattle.coap_stream.specs.declared.talked.TalkEnd.TheVariants as end_as
+use Rattle.coap_stream.specs.declared.talked.TalkFault.{TalkFault}
 use Rattle.coap_stream.specs.declared.talked.Talked.{Talked}
 use Rattle.coap_stream.specs.Requests.{meant_by, heard_as, unasked_of}
 use Rattle.coap_stream.specs.Talks.{
@@ -169,3 +170,22 @@ talk_counts peer before after t octets talks told =
     by end_as.Released so = ended end_as.Released so
     by end_as.Aborted so = ended end_as.Aborted so
     by end_as.Spent so = ended end_as.Spent so
+
+-- ---- whatever it answers
+
+pub counts_told : (peer : Peer) (before after : TalkSeen) (r : Result Talked TalkFault)
+    → Talks peer before after r
+    → IfOk r (λ t. IfSome before.source.left (λ octets. t.asked ≡ asked_in octets))
+counts_told peer before after (Err why) talks = tt
+counts_told peer before after (Ok t) talks = by before.source.left refl
+  where
+    by : (left : Option (List ℕ)) → before.source.left ≡ left
+        → IfSome left (λ octets. t.asked ≡ asked_in octets)
+    by None is = tt
+    by (Some octets) is = talk_counts peer before after t octets talks is
+
+pub most_told : (peer : Peer) (before after : TalkSeen) (r : Result Talked TalkFault)
+    → Talks peer before after r
+    → IfOk r (λ t. t.asked ≤ most_asked)
+most_told peer before after (Err why) talks = tt
+most_told peer before after (Ok t) talks = talk_most peer before after t talks

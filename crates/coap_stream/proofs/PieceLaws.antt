@@ -8,12 +8,13 @@ use Rattle.std.proofs.KnownBytes.{Appends-nil, Consumes-nil, Consumes-trans, Con
 use Rattle.rd_base.specs.declared.peers.Peer.{Peer}
 use Rattle.rd_base.specs.Outside.{Rose}
 use Rattle.stream_model.specs.Judging.{judge}
-use Rattle.stream_model.specs.Streams.{Stream, stream_of, partial}
+use Rattle.stream_model.specs.Streams.{Stream, stream_from, stream_of, partial}
 use Rattle.stream_reader.specs.Reading.{Held, at_beginning, stream_after}
 use Rattle.rd_seat.specs.Callers.{CallerSeen}
 use Rattle.rd_seat.proofs.CallLaws.{CallsMade-none}
 use Rattle.coap_stream.specs.declared.talked.TalkEnd.{TalkEnd}
 use Rattle.coap_stream.specs.declared.talked.TalkEnd.TheVariants as end_as
+use Rattle.coap_stream.specs.declared.talked.TalkFault.{TalkFault}
 use Rattle.coap_stream.specs.declared.talked.TalkFault.TheVariants as fault
 use Rattle.coap_stream.specs.declared.talked.Talked.{Talked}
 use Rattle.coap_stream.specs.Calls.{as_they_came}
@@ -335,3 +336,58 @@ talk_starves peer before = record {
   made = CallsMade-none as_they_came before.caller;
   concludes = (refl, Appends-nil before.holds, refl, refl);
 }
+
+-- ---- as a function has it
+
+-- The first piece may come, or the writing of the CSM failed: for counts that are none, and a
+-- reader at its beginning.
+pub begins_as : (peer : Peer) (before : TalkSeen) (spoken : VoiceSeen) (still : Bool)
+    (asked dropped : ℕ) (held : Held)
+    → Speaks (voice_of still before) opening spoken
+    → still ≡ true
+    → spoken.open_still ≡ true
+    → asked ≡ 0
+    → dropped ≡ 0
+    → held ≡ at_beginning
+    → TalksSo peer before (said_seen before spoken) (record { asked = asked; dropped = dropped })
+    held []
+begins_as peer before spoken still asked dropped held speaks is goes none no_drops new =
+    subst (λ (n : ℕ). TalksSo peer before (said_seen before spoken)
+    (record { asked = n; dropped = dropped }) held []) (sym none)
+    (subst (λ (n : ℕ). TalksSo peer before (said_seen before spoken)
+    (record { asked = 0; dropped = n }) held []) (sym no_drops)
+    (subst (λ (h : Held). TalksSo peer before (said_seen before spoken) counts_none h []) (sym new)
+    (talk_begins peer before spoken
+    (subst (λ (b : Bool). Speaks (voice_of b before) opening spoken) is speaks) goes)))
+
+pub unbegun_as : (peer : Peer) (before : TalkSeen) (spoken : VoiceSeen) (still : Bool)
+    → Speaks (voice_of still before) opening spoken
+    → still ≡ true
+    → spoken.open_still ≡ false
+    → Talks peer before (said_seen before spoken) (Err fault.Write)
+unbegun_as peer before spoken still speaks is fails =
+    talk_fails peer before (said_seen before spoken) counts_none
+    (talk_unbegun peer before spoken
+    (subst (λ (b : Bool). Speaks (voice_of b before) opening spoken) is speaks) fails)
+
+pub beginning_empty : (held : Held) → held ≡ at_beginning → stream_after held [] ≡ partial []
+unfolding judge stream_from
+beginning_empty held new =
+    subst (λ (h : Held). stream_after h [] ≡ partial []) (sym new) refl
+
+-- Its end, as it is answered.
+pub ends_as : (peer : Peer) (before now : TalkSeen) (spoken : VoiceSeen) (counts : Counts)
+    (end : TalkEnd) (still : Bool) (result : Result Talked TalkFault)
+    → TalksTo peer before now counts end
+    → Speaks (voice_of still now) (farewell end) spoken
+    → still ≡ true
+    → result ≡ told_if spoken.open_still (record {
+      end = end;
+      asked = counts.asked;
+      dropped = counts.dropped;
+    })
+    → Talks peer before (said_seen now spoken) result
+ends_as peer before now spoken counts end still result r speaks is told =
+    subst (λ (x : Result Talked TalkFault). Talks peer before (said_seen now spoken) x) (sym told)
+    (talk_ends peer before now spoken counts end r
+    (subst (λ (b : Bool). Speaks (voice_of b now) (farewell end) spoken) is speaks))
