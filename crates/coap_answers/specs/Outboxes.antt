@@ -27,7 +27,7 @@ LiesWithin size s = (s.start ≤ s.end) × (s.end ≤ size)
 -- for all of these
 pub record IsOutbox (o : Inside) : Type 0 where
   pub room : 1_474_560 ≤ vec_capacity o.octets
-  pub places : most_datagrams ≤ vec_capacity o.spans
+  pub spans : most_datagrams ≤ vec_capacity o.spans
   pub few : length o.spans.items ≤ most_datagrams
   pub short : length o.octets.items ≤ longest_datagram * length o.spans.items
   pub within : AllByRecursion (LiesWithin (length o.octets.items)) o.spans.items

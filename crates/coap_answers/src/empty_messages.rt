@@ -8,7 +8,7 @@ ghost use Rattle.coap_answers.specs.declared.mids.Mids.{Mids};
 ghost use Rattle.coap_answers.specs.Outboxes.{most_datagrams};
 ghost use Rattle.coap_answers.specs.Sendings.{Sends};
 
-use crate::Outbox;
+use crate::{Datagram, Outbox};
 use coap_message::{Kind4, TokenRef, Writer};
 use rd_base::Peer;
 
@@ -26,5 +26,5 @@ pub fn send_empty(peer: Peer, kind: Kind4, mid: u16, out: &mut Outbox)
     let Ok(datagram) = writer.finish(b"") else {
         unreachable!()
     };
-    out.push(peer, datagram);
+    out.push(peer, Datagram { octets: datagram });
 }

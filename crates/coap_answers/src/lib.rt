@@ -3,6 +3,7 @@
 #![tactic(auto)]
 
 mod bodies;
+mod datagrams;
 mod empty_messages;
 mod mids;
 mod outbox;
@@ -11,9 +12,10 @@ mod replies;
 mod server_errors;
 
 pub use bodies::{body_reply, has_asked_block, is_long, szx_of};
+pub use datagrams::Datagram;
 pub use empty_messages::send_empty;
 pub use mids::Mids;
 pub use outbox::Outbox;
-pub use refusals::{refusal_code, refusal_word};
+pub use refusals::{refusal_code, refusal_diagnostic};
 pub use replies::{Reply, answer, begin_answer, spell_notice};
 pub use server_errors::{answer_full, answer_starved, internal_server_error};

@@ -4,8 +4,7 @@ ghost use Rattle.journal_model.specs.DeskJournal.{max_workers};
 ghost use Rattle.journal_model.specs.Effects.{mid_of};
 ghost use Rattle.journal_model.specs.UnfinishedRow.{drawing};
 
-/// How many Message IDs each worker has.
-const WORKER_MIDS: u16 = 4_096;
+use journal_model::limits::WORKER_MIDS;
 
 /// The Message IDs of one worker. Each worker has 4,096 of its own, which it draws in turn, again
 /// and again.

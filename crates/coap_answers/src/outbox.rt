@@ -4,6 +4,7 @@ ghost use Rattle.std.specs.Prelude.{option_map, slice_get};
 ghost use Rattle.coap_message.specs.PartialMessages.{longest_datagram};
 ghost use Rattle.coap_answers.specs.Outboxes.{most_datagrams};
 
+use crate::Datagram;
 use message_model::MAX_MESSAGE_SIZE;
 use rd_base::{Peer, Starved};
 use std::alloc::Global;
@@ -59,13 +60,12 @@ impl Outbox {
     }
 
     /// One more datagram after the others. Takes no memory.
-    pub fn push(&mut self, peer: Peer, datagram: &[u8])
+    pub fn push(&mut self, peer: Peer, datagram: Datagram<'_>)
         requires room { length self.old < most_datagrams }
-        requires short { length datagram.now ≤ longest_datagram }
-        ensures { self.new ≡ self.old ++ (peer, datagram.now) ∷ [] }
+        ensures { self.new ≡ self.old ++ (peer, datagram.entry.octets.now) ∷ [] }
     {
         let start = self.octets.len();
-        if self.octets.extend_from_slice(datagram).is_err() {
+        if self.octets.extend_from_slice(datagram.octets).is_err() {
             unreachable!()
         }
         let end = self.octets.len();
@@ -80,7 +80,7 @@ impl Outbox {
             → self.new ≡ self.old ++ (peer, datagram.now) ∷ [] }
     {
         if self.len() < MOST && datagram.len() <= MAX_MESSAGE_SIZE {
-            self.push(peer, datagram);
+            self.push(peer, Datagram { octets: datagram });
         }
     }
 

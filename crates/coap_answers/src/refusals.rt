@@ -22,7 +22,7 @@ pub fn refusal_code(refusal: Refusal) -> u8
 }
 
 /// Its diagnostic payload (RFC 7252 section 5.5.2).
-pub fn refusal_word(refusal: Refusal) -> &'static [u8]
+pub fn refusal_diagnostic(refusal: Refusal) -> &'static [u8]
     ensures { result.now ≡ refusal_word refusal }
 {
     match refusal {

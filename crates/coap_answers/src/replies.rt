@@ -24,7 +24,7 @@ ghost use Rattle.message_model.specs.Numbers.{uint_bytes};
 ghost use Rattle.message_model.specs.Blocks.{block_value};
 ghost use Rattle.coap_answers.specs.Sendings.{IsStepOf, Sends};
 
-use crate::{Mids, Outbox};
+use crate::{Datagram, Mids, Outbox};
 use block_wise::{block_write, uint_write};
 use coap_message::{Kind4, TokenRef, View, Writer};
 use itoa::Buffer;
@@ -56,7 +56,7 @@ pub struct Reply<'a> {
 }
 
 impl<'a> Reply<'a> {
-    /// A code with a payload, without options: the word of a refusal, or nothing.
+    /// A code with a payload, without options: the diagnostic of a refusal, or nothing.
     pub fn plain(code: u8, payload: &'a [u8]) -> Reply<'a>
         ensures { reply_said result ≡ effects.diagnostic code payload.now }
     {
@@ -299,7 +299,7 @@ pub fn answer(mids: &mut Mids, peer: Peer, view: &View<'_>, reply: &Reply<'_>, o
     let Ok(datagram) = writer.finish(reply.payload) else {
         unreachable!()
     };
-    out.push(peer, datagram);
+    out.push(peer, Datagram { octets: datagram });
 }
 
 /// The octets of a notice (RFC 7641 section 4.2): a confirmable message with a reply, under this

@@ -4,7 +4,7 @@ ghost use Rattle.message_model.specs.Codes as codes_of;
 ghost use Rattle.coap_message.specs.Views.{message_in};
 ghost use Rattle.journal_model.specs.declared.steps.Step.{Step};
 ghost use Rattle.journal_model.specs.Effects as effects;
-ghost use Rattle.journal_model.specs.Effects.{answering, diagnostic, without_memory};
+ghost use Rattle.journal_model.specs.Effects.{answering, without_memory};
 ghost use Rattle.coap_answers.specs.Outboxes.{most_datagrams};
 ghost use Rattle.coap_answers.specs.Replies.{IsReply, reply_said};
 ghost use Rattle.coap_answers.specs.Sendings.{IsStepOf, Sends};
@@ -23,13 +23,14 @@ pub fn internal_server_error() -> Reply<'static>
     Reply::plain(INTERNAL_SERVER_ERROR, b"")
 }
 
-/// 5.03 with the word of what has no room.
-fn service_unavailable(word: &'static [u8]) -> Reply<'static>
-    requires { length word.now ≤ 1_024 }
-    ensures said { reply_said result ≡ diagnostic codes_of.service_unavailable word.now }
+/// 5.03 with the diagnostic that says what has no room.
+fn service_unavailable(diagnostic: &'static [u8]) -> Reply<'static>
+    requires { length diagnostic.now ≤ 1_024 }
+    ensures said { reply_said result
+        ≡ effects.diagnostic codes_of.service_unavailable diagnostic.now }
     ensures reply { IsReply result }
 {
-    Reply::plain(SERVICE_UNAVAILABLE, word)
+    Reply::plain(SERVICE_UNAVAILABLE, diagnostic)
 }
 
 /// A request is answered 5.00: memory ran out.
@@ -42,21 +43,21 @@ pub fn answer_starved(mids: &mut Mids, peer: Peer, view: &View<'_>, out: &mut Ou
     answer(mids, peer, view, &internal_server_error(), out);
 }
 
-/// A request is answered 5.03: there is no room for one more of what the word says.
+/// A request is answered 5.03: there is no room for one more of what the diagnostic says.
 pub fn answer_full(
     mids: &mut Mids,
     peer: Peer,
     view: &View<'_>,
-    word: &'static [u8],
+    diagnostic: &'static [u8],
     out: &mut Outbox,
 )
-    requires word { length word.now ≤ 1_024 }
+    requires brief { length diagnostic.now ≤ 1_024 }
     requires room { length out.old < most_datagrams }
     ensures sends { (s : Step)
         → IsStepOf s peer mids.old
         → Sends (answering s (message_in view.now)
-        (diagnostic codes_of.service_unavailable word.now) []) out.old out.new mids.old
-        mids.new }
+        (effects.diagnostic codes_of.service_unavailable diagnostic.now) []) out.old out.new
+        mids.old mids.new }
 {
-    answer(mids, peer, view, &service_unavailable(word), out);
+    answer(mids, peer, view, &service_unavailable(diagnostic), out);
 }

@@ -15,8 +15,8 @@ ghost use Rattle.directory_core.specs.LiveCounts.{counts_of};
 use crate::counts::Counts;
 use crate::kept::Kept;
 use crate::links_after::LinksAfter;
-use crate::room::MAX_REGISTRATIONS;
 use crate::{Directory, Refusal};
+use history_model::limits::MAX_REGISTRATIONS;
 use rd_base::Moment;
 use registration::Draft;
 

@@ -6,17 +6,9 @@ ghost use Rattle.registration.specs.Weights.{capped};
 ghost use Rattle.directory_core.specs.AfterEntries.{HasEntryRoom, HasRoom};
 
 use crate::Refusal;
+use history_model::limits::{MAX_ENTRIES, MAX_TEXT};
 use rd_base::{Moment, Record};
 use registration::Draft;
-
-/// The most registrations that are live.
-pub(crate) const MAX_REGISTRATIONS: u64 = 4_096;
-
-/// The most that the live registrations weigh together, in octets.
-const MAX_TEXT: u64 = 1_048_576;
-
-/// The most entries.
-const MAX_ENTRIES: u64 = 281_474_976_710_655;
 
 /// Whether one entry more is counted.
 pub(crate) fn room_for_entry(entries: u64) -> Result<(), Refusal>

@@ -2,8 +2,6 @@
 use Rattle.std.specs.Prelude.{
   ℕ,
   ◌+◌,
-  ◌-◌,
-  ◌^◌,
   Bool,
   false,
   not,
@@ -25,6 +23,11 @@ use Rattle.record_model.specs.ListingLines.{weight}
 use Rattle.history_model.specs.declared.entries.Change.{Change}
 use Rattle.history_model.specs.declared.entries.Change.TheVariants as change
 use Rattle.history_model.specs.declared.entries.Entry.{Entry}
+use Rattle.history_model.specs.declared.limits.TheConstants.{
+  MAX_REGISTRATIONS,
+  MAX_TEXT,
+  MAX_ENTRIES,
+}
 use Rattle.history_model.specs.declared.refusals.Refusal.{Refusal}
 use Rattle.history_model.specs.declared.refusals.Refusal.TheVariants as refusal
 use Rattle.history_model.specs.Leases.{live_among}
@@ -33,15 +36,15 @@ use Rattle.history_model.specs.Replay.{State, is_numbered, apply, replay}
 
 -- the most registrations that are live
 abbrev pub max_registrations : ℕ
-max_registrations = 4_096
+max_registrations = MAX_REGISTRATIONS
 
 -- the most that the live registrations weigh together
 abbrev pub max_text : ℕ
-max_text = 1_048_576
+max_text = MAX_TEXT
 
 -- the most entries of a history
 abbrev pub max_entries : ℕ
-max_entries = 2 ^ 48 - 1
+max_entries = MAX_ENTRIES
 
 -- one of the records has this number
 abbrev pub has_number : ℕ → List Record → Bool

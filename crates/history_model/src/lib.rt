@@ -3,6 +3,7 @@
 #![tactic(auto)]
 
 mod entries;
+pub mod limits;
 mod refusals;
 
 pub use entries::{Change, Entry};

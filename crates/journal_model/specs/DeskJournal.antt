@@ -5,6 +5,7 @@ use Rattle.std.specs.Prelude.{◌≡◌, ℕ, ◌<◌, ◌≤◌, max, Bool, tru
 use Rattle.std.specs.List.{list_any}
 use Rattle.event_model.specs.Events.{has_event}
 use Rattle.event_model.specs.Repeats.{is_admitting, is_ending_of}
+use Rattle.journal_model.specs.declared.limits.TheConstants.{MAX_WORKERS}
 use Rattle.journal_model.specs.declared.steps.Step.{Step}
 use Rattle.journal_model.specs.declared.steps.StepKind.{StepKind}
 use Rattle.journal_model.specs.declared.steps.StepKind.TheVariants as step
@@ -14,7 +15,7 @@ use Rattle.journal_model.specs.Rows.{row}
 
 -- the most workers
 abbrev pub max_workers : ℕ
-max_workers = 16
+max_workers = MAX_WORKERS
 
 -- the row of a place admitted a write of the worker, the peer and the datagram of a step, and no
 -- Settled or Failed ended that since

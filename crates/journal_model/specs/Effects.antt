@@ -8,6 +8,7 @@ use Rattle.message_model.specs.Message.{Message, Opt}
 use Rattle.message_model.specs.Codes as codes_of
 use Rattle.message_model.specs.Spelling.{spelling}
 use Rattle.event_model.specs.declared.notes.Note.{Note}
+use Rattle.journal_model.specs.declared.limits.TheConstants.{WORKER_MIDS}
 use Rattle.journal_model.specs.declared.steps.Step.{Step}
 
 -- what a step does: the datagrams that it sends, what it notes, and how many Message IDs it draws
@@ -38,7 +39,7 @@ sending peer octets = record { sent = (peer, octets) ∷ []; notes = []; drew = 
 
 -- how many Message IDs each worker has
 abbrev pub worker_mids : ℕ
-worker_mids = 4_096
+worker_mids = WORKER_MIDS
 
 -- the Message ID that a worker draws who drew so many before
 abbrev pub mid_of : ℕ → ℕ → ℕ

@@ -2,6 +2,7 @@
 //! and what a journal shows. Definitions and their laws; no function.
 #![tactic(auto)]
 
+pub mod limits;
 mod rows;
 mod steps;
 

@@ -49,7 +49,7 @@ use Rattle.event_model.specs.Flights.{Sent, OctetsSent, Flight, flight, notice_s
 use Rattle.event_model.specs.Due.{Transition, Watching as Shown, watching, observers_standing}
 use Rattle.event_model.proofs.SameLaws.{is_same_peer-Decides, is_same_request-Decides}
 use Rattle.journal_model.specs.EmptyMessages.{is_flight_of, waited_for}
-use Rattle.observers.specs.Watchers.{Watcher, is_named, is_sent_as, has_notice, changed_at}
+use Rattle.observers.specs.Standing.{Standing, is_named, is_sent_as, has_notice, changed_at}
 use Rattle.observers.specs.ObserverEvents.{
   observer_of,
   shown,
@@ -145,9 +145,9 @@ each_changed_first P test change still (x ∷ xs) h =
     by true more = (still x h.0, h.1)
     by false more = (h.0, more)
 
-pub each_changed_at : (P : Watcher → Type 0) (change : Watcher → Watcher)
-    → ((x : Watcher) → P x → P (change x))
-    → (i : ℕ) (xs : List Watcher)
+pub each_changed_at : (P : Standing → Type 0) (change : Standing → Standing)
+    → ((x : Standing) → P x → P (change x))
+    → (i : ℕ) (xs : List Standing)
     → AllByRecursion P xs
     → AllByRecursion P (changed_at change i xs)
 each_changed_at P change still i [] h = tt
@@ -170,16 +170,16 @@ map-changed_first {X} {Y} f test change same (x ∷ xs) =
     by true more = ap (λ (y : Y). y ∷ map f xs) (same x)
     by false more = ap (λ (ys : List Y). f x ∷ ys) more
 
-pub map-changed_at : {Y : Type 0} (f : Watcher → Y) (change : Watcher → Watcher)
-    → ((x : Watcher) → f (change x) ≡ f x)
-    → (i : ℕ) (xs : List Watcher)
+pub map-changed_at : {Y : Type 0} (f : Standing → Y) (change : Standing → Standing)
+    → ((x : Standing) → f (change x) ≡ f x)
+    → (i : ℕ) (xs : List Standing)
     → map f (changed_at change i xs) ≡ map f xs
 map-changed_at f change same i [] = refl
 map-changed_at {Y} f change same zero (x ∷ xs) = ap (λ (y : Y). y ∷ map f xs) (same x)
 map-changed_at {Y} f change same (suc i) (x ∷ xs) =
     ap (λ (ys : List Y). f x ∷ ys) (map-changed_at f change same i xs)
 
-pub length-changed_at : (change : Watcher → Watcher) (i : ℕ) (xs : List Watcher)
+pub length-changed_at : (change : Standing → Standing) (i : ℕ) (xs : List Standing)
     → length (changed_at change i xs) ≡ length xs
 length-changed_at change i [] = refl
 length-changed_at change zero (x ∷ xs) = refl
@@ -238,13 +238,13 @@ flight_as octets peer mid None = refl
 flight_as octets peer mid (Some f) = number_turned f.mid mid
 
 waited_in : (queries : ℕ → Query) (octets : OctetsSent) (past : List Event) (seen : List Transition)
-    (ws : List Watcher) (peer : Peer) (mid : ℕ)
+    (ws : List Standing) (peer : Peer) (mid : ℕ)
     → ObserversStandFor queries octets past seen ws
     → waited_for peer mid past ≡ map (observer_of queries) (filter (has_notice peer mid) ws)
 unfolding observers_standing waiting_notice
 waited_in queries octets past seen ws peer mid h = each (observers past) ws h.standing
   where
-    one : (o : Observer) (x : Watcher)
+    one : (o : Observer) (x : Standing)
         → watching octets past seen o ≡ shown queries x
         → (is_same_peer o.peer peer && is_flight_of mid (flight o past)) ≡ has_notice peer mid x
     one o x here =
@@ -253,7 +253,7 @@ waited_in queries octets past seen ws peer mid h = each (observers past) ws h.st
         ap₂ (λ a b. a && b) (ap (λ p. is_same_peer p peer) named ∙ peer_turned x.peer peer)
         (flight_as octets o.peer mid (flight o past) ∙ ap (is_sent_as mid) waits)
 
-    step : (a b : Bool) (o : Observer) (x : Watcher) (os : List Observer) (xs : List Observer)
+    step : (a b : Bool) (o : Observer) (x : Standing) (os : List Observer) (xs : List Observer)
         → a ≡ b
         → o ≡ observer_of queries x
         → os ≡ xs
@@ -264,14 +264,14 @@ waited_in queries octets past seen ws peer mid h = each (observers past) ws h.st
     step true false o x os xs e same more = absurd (false≢true (sym e))
     step false true o x os xs e same more = absurd (false≢true e)
 
-    mapped : (b : Bool) (x : Watcher) (xs : List Watcher)
+    mapped : (b : Bool) (x : Standing) (xs : List Standing)
         → cond b (observer_of queries x ∷ map (observer_of queries) xs)
         (map (observer_of queries) xs)
         ≡ map (observer_of queries) (cond b (x ∷ xs) xs)
     mapped true x xs = refl
     mapped false x xs = refl
 
-    each : (os : List Observer) (xs : List Watcher)
+    each : (os : List Observer) (xs : List Standing)
         → map (watching octets past seen) os ≡ map (shown queries) xs
         → filter (λ o. is_same_peer o.peer peer && is_flight_of mid (flight o past)) os
         ≡ map (observer_of queries) (filter (has_notice peer mid) xs)
@@ -289,7 +289,7 @@ waited_in queries octets past seen ws peer mid h = each (observers past) ws h.st
         ∙ mapped (has_notice peer mid x) x (filter (has_notice peer mid) xs)
 
 -- at most one
-only_one : (peer : Peer) (mid : ℕ) (ws : List Watcher)
+only_one : (peer : Peer) (mid : ℕ) (ws : List Standing)
     → EachAwaitsOne ws
     → filter (has_notice peer mid) ws ≡ in_list (find (has_notice peer mid) ws)
 only_one peer mid [] h = refl
@@ -299,7 +299,7 @@ only_one peer mid (w ∷ ws) h = by (has_notice peer mid w) refl (only_one peer 
     flies None e = absurd (false≢true e)
     flies (Some s) e = refl
 
-    other : (x : Watcher) (b : Bool)
+    other : (x : Standing) (b : Bool)
         → has_notice peer mid w ≡ true
         → AwaitsOne w x
         → has_notice peer mid x ≡ b
@@ -319,7 +319,7 @@ only_one peer mid (w ∷ ws) h = by (has_notice peer mid w) refl (only_one peer 
         → cond b (w ∷ filter (has_notice peer mid) ws) (filter (has_notice peer mid) ws)
         ≡ in_list (cond b (Some w) (find (has_notice peer mid) ws))
     by true e more =
-        ap (λ (xs : List Watcher). w ∷ xs)
+        ap (λ (xs : List Standing). w ∷ xs)
         (filter_none (has_notice peer mid) ws
         (each_weaker (AwaitsOne w) (λ x. has_notice peer mid x ≡ false)
         (λ x a. other x (has_notice peer mid x) e a refl) ws h.0))
@@ -328,7 +328,7 @@ only_one peer mid (w ∷ ws) h = by (has_notice peer mid w) refl (only_one peer 
 -- The observers that a message with this Message ID waits for, by the events, are the one that the
 -- table finds.
 pub waited_for-StandsFor : (queries : ℕ → Query) (octets : OctetsSent) (past : List Event)
-    (seen : List Transition) (ws : List Watcher) (peer : Peer) (mid : ℕ)
+    (seen : List Transition) (ws : List Standing) (peer : Peer) (mid : ℕ)
     → ObserversStandFor queries octets past seen ws
     → waited_for peer mid past ≡ map (observer_of queries) (in_list (find (has_notice peer mid) ws))
 waited_for-StandsFor queries octets past seen ws peer mid h =
@@ -338,7 +338,8 @@ waited_for-StandsFor queries octets past seen ws peer mid h =
 -- ---- who has a name
 
 -- An observer of this peer and token stands exactly where the table finds one.
-pub is_observer-found : (queries : ℕ → Query) (peer : Peer) (token : List ℕ) (ws : List Watcher)
+pub is_observer-found : (queries : ℕ → Query) (peer : Peer) (token : List ℕ)
+    (ws : List Standing)
     → is_observer (peer, token) (map (observer_of queries) ws)
     ≡ is_some (find (is_named peer token) ws)
 is_observer-found queries peer token [] = refl
@@ -347,6 +348,6 @@ is_observer-found queries peer token (w ∷ ws) =
     (is_observer-found queries peer token ws)
     ∙ by (is_named peer token w) (find (is_named peer token) ws)
   where
-    by : (b : Bool) (o : Option Watcher) → (b || is_some o) ≡ is_some (cond b (Some w) o)
+    by : (b : Bool) (o : Option Standing) → (b || is_some o) ≡ is_some (cond b (Some w) o)
     by true o = refl
     by false o = refl

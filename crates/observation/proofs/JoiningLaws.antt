@@ -70,14 +70,14 @@ use Rattle.journal_model.specs.Lookups.{removal, addition, without as without_na
 use Rattle.journal_model.specs.Ticks.{octets_sent}
 use Rattle.journal_model.specs.UnfinishedRow.{making}
 use Rattle.watch_table.specs.WatchedQueries.{Table, one_more, without}
-use Rattle.watch_table.specs.Watchers.{WatchesStandFor}
-use Rattle.observers.specs.Watchers.{Watcher, is_named, has_notice}
+use Rattle.watch_table.specs.ObserverCounts.{WatchesStandFor}
+use Rattle.observers.specs.Standing.{Standing, is_named, has_notice}
 use Rattle.observers.specs.ObserverEvents.{observer_of, ObserversStandFor}
 use Rattle.observers.proofs.StandLaws.{observers-StandsFor, dropped-StandsFor}
 use Rattle.observation.specs.declared.joining.Joining.{Joining}
 use Rattle.observation.specs.Joining.{
   observer_joining,
-  watcher_joining,
+  standing_joining,
   without_observer,
   Joins,
   has_room,
@@ -137,7 +137,7 @@ is_waited-StandsFor rows w peer mid h =
     (waited_for-StandsFor h.queries (octets_sent rows) (events rows) (transitions rows)
     w.observers peer mid h.observers))
   where
-    by : (o : Option Watcher)
+    by : (o : Option Standing)
         → is_some o ≡ nat_lt 0 (length (map (observer_of h.queries) (in_list o)))
     by None = refl
     by (Some x) = refl
@@ -162,7 +162,7 @@ same_kept test other same (o ∷ os) =
 
 -- the observers of other names
 others-StandsFor : (queries : ℕ → Query) (octets : OctetsSent) (past : List Event)
-    (seen : List Transition) (ws : List Watcher) (peer : Peer) (token : List ℕ)
+    (seen : List Transition) (ws : List Standing) (peer : Peer) (token : List ℕ)
     → ObserversStandFor queries octets past seen ws
     → without_name (peer, token) (observers past)
     ≡ map (observer_of queries) (without_first (is_named peer token) ws)
@@ -177,22 +177,22 @@ others-StandsFor queries octets past seen ws peer token h =
     token ws refl h))
 
 -- and how often each query is watched then
-left-AreWatchedBy : (queries : ℕ → Query) (t : Table) (ws : List Watcher) (peer : Peer)
+left-AreWatchedBy : (queries : ℕ → Query) (t : Table) (ws : List Standing) (peer : Peer)
     (token : List ℕ)
     → AreWatchedBy queries t ws
-    → AreWatchedBy queries (without (option_map (λ x. x.place) (find (is_named peer token) ws)) t)
+    → AreWatchedBy queries (without (option_map (λ x. x.slot) (find (is_named peer token) ws)) t)
     (without_first (is_named peer token) ws)
 left-AreWatchedBy queries t ws peer token h = by (find (is_named peer token) ws) refl
   where
-    by : (o : Option Watcher)
+    by : (o : Option Standing)
         → find (is_named peer token) ws ≡ o
-        → AreWatchedBy queries (without (option_map (λ (x : Watcher). x.place) o) t)
+        → AreWatchedBy queries (without (option_map (λ (x : Standing). x.slot) o) t)
         (without_first (is_named peer token) ws)
     by None none =
         subst (AreWatchedBy queries t) (sym (without_first-unfound (is_named peer token) ws none)) h
     by (Some x) found =
         let cut = cut_first (is_named peer token) ws x found in
-        subst (AreWatchedBy queries (without (Some x.place) t)) (sym cut.rest)
+        subst (AreWatchedBy queries (without (Some x.slot) t)) (sym cut.rest)
         (fewer-AreWatchedBy queries t cut.front cut.back x
         (subst (AreWatchedBy queries t) cut.whole h))
 
@@ -206,7 +206,7 @@ pub room-StandsFor : (rows : List Row) (w : Watching) (query : Query) (peer : Pe
     → WatchingStandsFor rows w
     → ((standing : List Observer)
     → WatchesStandFor standing
-    (without (option_map (λ x. x.place) (find (is_named peer token) w.observers)) w.watches)
+    (without (option_map (λ x. x.slot) (find (is_named peer token) w.observers)) w.watches)
     → added
     ≡ has_room query (length (without_first (is_named peer token) w.observers)) standing)
     → added ≡ has_room_for query (without_name (peer, token) (observers (events rows)))
@@ -224,14 +224,14 @@ room-StandsFor rows w query peer token added h room =
     (sym (others-StandsFor h.queries (octets_sent rows) (events rows) (transitions rows) w.observers
     peer token h.observers)))
   where
-    left : List Watcher
+    left : List Standing
     left = without_first (is_named peer token) w.observers
 
     watched : AreWatchedBy h.queries
-        (without (option_map (λ (x : Watcher). x.place) (find (is_named peer token) w.observers))
+        (without (option_map (λ (x : Standing). x.slot) (find (is_named peer token) w.observers))
         w.watches) left
     watched = left-AreWatchedBy h.queries w.watches w.observers peer token record {
-      placed = h.placed;
+      in_slots = h.in_slots;
       watches =
           subst (λ standing. WatchesStandFor standing w.watches)
           (observers-StandsFor h.queries (octets_sent rows) (events rows) (transitions rows)
@@ -266,16 +266,16 @@ WatchingStandsFor-joined rows s starved done query j true w w' new is h =
     (subst (λ e.
     WatchingStandsFor (making rows s starved e)
     (record {
-      watches = one_more is.place query left.watches;
+      watches = one_more is.slot query left.watches;
       observers = left.observers
-          ++ watcher_joining is.place j
+          ++ standing_joining is.slot j
           ∷ [];
     }))
     (joined_noting done (removal (j.peer, j.token) standing)
     (addition (observer_joining query j) (arc_value j.body)))
     (WatchingStandsFor-added rows s starved
     (joined done (noting (removal (j.peer, j.token) standing))) query
-    (watcher_joining is.place j) left new refl refl is.place_for
+    (standing_joining is.slot j) left new refl refl is.slot_for
     (WatchingStandsFor-left rows s starved done j.peer j.token w h)))
   where
     standing : List Observer
@@ -286,9 +286,9 @@ WatchingStandsFor-joined rows s starved done query j true w w' new is h =
 
     same : ◌≡◌ {A = Watching}
         (record {
-          watches = one_more is.place query left.watches;
+          watches = one_more is.slot query left.watches;
           observers = left.observers
-              ++ watcher_joining is.place j
+              ++ standing_joining is.slot j
               ∷ [];
         }) w'
     same = ap₂ (λ t ws. record { watches = t; observers = ws }) (sym is.watches) (sym is.observers)
@@ -299,7 +299,7 @@ pub room-IfOk : (rows : List Row) (w : Watching) (query : Query) (peer : Peer) (
     → WatchingStandsFor rows w
     → ((standing : List Observer)
     → WatchesStandFor standing
-    (without (option_map (λ x. x.place) (find (is_named peer token) w.observers)) w.watches)
+    (without (option_map (λ x. x.slot) (find (is_named peer token) w.observers)) w.watches)
     → IfOk r (λ added. added
     ≡ has_room query (length (without_first (is_named peer token) w.observers))
     standing))
@@ -332,8 +332,8 @@ pub joined-AreWatched : (query : Query) (j : Joining) (r : Result Bool Starved) 
 joined-AreWatched query j (Ok true) w w' new is h =
     both-AreWatched (sym is.watches) (sym is.observers)
     (more-AreWatched (without_observer j.peer j.token w).watches
-    (without_observer j.peer j.token w).observers (watcher_joining is.place j) is.place query
-    is.place_for refl new (left-AreWatched (is_named j.peer j.token) w.watches w.observers h))
+    (without_observer j.peer j.token w).observers (standing_joining is.slot j) is.slot query
+    is.slot_for refl new (left-AreWatched (is_named j.peer j.token) w.watches w.observers h))
 joined-AreWatched query j (Ok false) w w' new is h =
     subst (λ (v : Watching). AreWatched v.watches v.observers) (sym is)
     (left-AreWatched (is_named j.peer j.token) w.watches w.observers h)

@@ -54,7 +54,7 @@ use Rattle.watch_table.specs.WatchedQueries.{
   all_unmarked,
 }
 use Rattle.watch_table.proofs.EntryLaws.{each_found}
-use Rattle.observers.specs.Watchers.{Watcher, marked}
+use Rattle.observers.specs.Standing.{Standing, marked}
 use Rattle.observation.specs.Marks.{touched_where, all_touched_where, all_lapsed, handed, IsHanded}
 use Rattle.observation.specs.Watching.{IsUnmarked}
 
@@ -125,15 +125,15 @@ lapsing_touched from to records t =
 
 -- ---- marks that are handed on
 
-due_or : Watcher → Bool → Watcher
+due_or : Standing → Bool → Standing
 due_or w due = record w { due = due }
 
 -- an observer whose query is not marked
-handed-unmarked : (t : Table) (w : Watcher) → is_marked_at w.place t ≡ false → IsHanded t w
+handed-unmarked : (t : Table) (w : Standing) → is_marked_at w.slot t ≡ false → IsHanded t w
 handed-unmarked t w none m = absurd (false≢true (sym none ∙ m))
 
 -- one more of them, by its index
-handed_more : (t : Table) (ws : List Watcher) (i : ℕ) (w : Watcher)
+handed_more : (t : Table) (ws : List Standing) (i : ℕ) (w : Standing)
     → slice_get ws i ≡ Some w
     → IsHanded t w
     → AllByRecursion (IsHanded t) (take i ws)
@@ -144,93 +144,95 @@ handed_more t (x ∷ ws) zero w there here h =
 handed_more t (x ∷ ws) (suc i) w there here h = (h.0, handed_more t ws i w there here h.1)
 
 -- a mark that is handed on leaves those that were handed on before
-handed_still : (t : Table) (place : ℕ) (ws : List Watcher) (i : ℕ)
+handed_still : (t : Table) (slot : ℕ) (ws : List Standing) (i : ℕ)
     → AllByRecursion (IsHanded t) (take i ws)
-    → AllByRecursion (IsHanded t) (take i (map (marked place) ws))
-handed_still t place [] i h = h
-handed_still t place (x ∷ ws) zero h = tt
-handed_still t place (x ∷ ws) (suc i) h =
-    ((λ m. ap (λ b. b || x.place == place) (h.0 m)), handed_still t place ws i h.1)
+    → AllByRecursion (IsHanded t) (take i (map (marked slot) ws))
+handed_still t slot [] i h = h
+handed_still t slot (x ∷ ws) zero h = tt
+handed_still t slot (x ∷ ws) (suc i) h =
+    ((λ m. ap (λ b. b || x.slot == slot) (h.0 m)), handed_still t slot ws i h.1)
 
 -- and the observer with an index is marked with the others
-marked_at : (place : ℕ) (ws : List Watcher) (i : ℕ) (w : Watcher)
+marked_at : (slot : ℕ) (ws : List Standing) (i : ℕ) (w : Standing)
     → slice_get ws i ≡ Some w
-    → slice_get (map (marked place) ws) i ≡ Some (marked place w)
-marked_at place [] i w there = absurd cc
-marked_at place (x ∷ ws) zero w there =
-    let here : x ≡ w = cc in ap (λ (y : Watcher). Some (marked place y)) here
-marked_at place (x ∷ ws) (suc i) w there = marked_at place ws i w there
+    → slice_get (map (marked slot) ws) i ≡ Some (marked slot w)
+marked_at slot [] i w there = absurd cc
+marked_at slot (x ∷ ws) zero w there =
+    let here : x ≡ w = cc in ap (λ (y : Standing). Some (marked slot y)) here
+marked_at slot (x ∷ ws) (suc i) w there = marked_at slot ws i w there
 
 -- what is handed on in the end is as before
-handed_marked : (t : Table) (place : ℕ) (ws : List Watcher)
-    → is_marked_at place t ≡ true
-    → map (handed t) (map (marked place) ws) ≡ map (handed t) ws
+handed_marked : (t : Table) (slot : ℕ) (ws : List Standing)
+    → is_marked_at slot t ≡ true
+    → map (handed t) (map (marked slot) ws) ≡ map (handed t) ws
 unfolding due_or
-handed_marked t place [] m = refl
-handed_marked t place (w ∷ ws) m =
-    ap₂ (λ (x : Watcher) (xs : List Watcher). x ∷ xs)
-    (ap (due_or w) (by w.due (w.place == place) refl)) (handed_marked t place ws m)
+handed_marked t slot [] m = refl
+handed_marked t slot (w ∷ ws) m =
+    ap₂ (λ (x : Standing) (xs : List Standing). x ∷ xs)
+    (ap (due_or w) (by w.due (w.slot == slot) refl)) (handed_marked t slot ws m)
   where
     by : (due b : Bool)
-        → (w.place == place) ≡ b
-        → ((due || b) || is_marked_at w.place t) ≡ (due || is_marked_at w.place t)
+        → (w.slot == slot) ≡ b
+        → ((due || b) || is_marked_at w.slot t) ≡ (due || is_marked_at w.slot t)
     by true b e = refl
     by false false e = refl
-    by false true e = sym (ap (λ p. is_marked_at p t) (eqb-true w.place place e) ∙ m)
+    by false true e = sym (ap (λ p. is_marked_at p t) (eqb-true w.slot slot e) ∙ m)
 
 -- those that all marks were handed on to
-all_handed : (t : Table) (ws : List Watcher)
+all_handed : (t : Table) (ws : List Standing)
     → AllByRecursion (IsHanded t) ws
     → map (handed t) ws ≡ ws
 unfolding due_or
 all_handed t [] h = refl
 all_handed t (w ∷ ws) h =
-    ap₂ (λ (x : Watcher) (xs : List Watcher). x ∷ xs)
-    (ap (due_or w) (by w.due (is_marked_at w.place t) refl h.0)) (all_handed t ws h.1)
+    ap₂ (λ (x : Standing) (xs : List Standing). x ∷ xs)
+    (ap (due_or w) (by w.due (is_marked_at w.slot t) refl h.0)) (all_handed t ws h.1)
   where
     by : (due m : Bool)
-        → is_marked_at w.place t ≡ m
-        → (is_marked_at w.place t ≡ true → due ≡ true)
+        → is_marked_at w.slot t ≡ m
+        → (is_marked_at w.slot t ≡ true → due ≡ true)
         → (due || m) ≡ due
     by true m e g = refl
     by false false e g = refl
     by false true e g = sym (g e)
 
 -- A walk over observers, to each of which up to an index the mark of its query was handed on.
-pub record Walked (t : Table) (before ws : List Watcher) (i : ℕ) : Type 0 where
+pub record Walked (t : Table) (before ws : List Standing) (i : ℕ) : Type 0 where
   pub handed_on : AllByRecursion (IsHanded t) (take i ws)
   pub later : map (handed t) ws ≡ map (handed t) before
   pub len : length ws ≡ length before
 
-marked_length : (place : ℕ) (ws : List Watcher) → length (map (marked place) ws) ≡ length ws
-marked_length place [] = refl
-marked_length place (w ∷ ws) = ap suc (marked_length place ws)
+marked_length : (slot : ℕ) (ws : List Standing) → length (map (marked slot) ws) ≡ length ws
+marked_length slot [] = refl
+marked_length slot (w ∷ ws) = ap suc (marked_length slot ws)
 
-inside_at : (ws : List Watcher) (i : ℕ) → i < length ws → (w : Watcher) × (slice_get ws i ≡ Some w)
+inside_at : (ws : List Standing) (i : ℕ) → i < length ws
+    → (w : Standing) × (slice_get ws i ≡ Some w)
 inside_at [] i inside = absurd (omega (arith, inside))
 inside_at (w ∷ ws) zero inside = (w, refl)
 inside_at (w ∷ ws) (suc i) inside = inside_at ws i (omega (arith, inside))
 
--- the next observer is marked with all whose query has its place
-pub walked-marked : (t : Table) (before ws : List Watcher) (i place : ℕ)
+-- the next observer is marked with all whose query has its slot
+pub walked-marked : (t : Table) (before ws : List Standing) (i slot : ℕ)
     → i < length ws
-    → is_marked_at place t ≡ true
-    → ((w : Watcher) → slice_get ws i ≡ Some w → place ≡ w.place)
+    → is_marked_at slot t ≡ true
+    → ((w : Standing) → slice_get ws i ≡ Some w → slot ≡ w.slot)
     → Walked t before ws i
-    → Walked t before (map (marked place) ws) (i + 1)
-walked-marked t before ws i place inside m own h = by (inside_at ws i inside)
+    → Walked t before (map (marked slot) ws) (i + 1)
+walked-marked t before ws i slot inside m own h = by (inside_at ws i inside)
   where
-    by : (w : Watcher) × (slice_get ws i ≡ Some w) → Walked t before (map (marked place) ws) (i + 1)
+    by : (w : Standing) × (slice_get ws i ≡ Some w)
+        → Walked t before (map (marked slot) ws) (i + 1)
     by found = record {
-      handed_on = subst (λ n. AllByRecursion (IsHanded t) (take n (map (marked place) ws))) next
-          (handed_more t (map (marked place) ws) i (marked place found.0)
-          (marked_at place ws i found.0 found.1)
+      handed_on = subst (λ n. AllByRecursion (IsHanded t) (take n (map (marked slot) ws))) next
+          (handed_more t (map (marked slot) ws) i (marked slot found.0)
+          (marked_at slot ws i found.0 found.1)
           (λ _.
-          ap (λ p. found.0.due || found.0.place == p) (own found.0 found.1)
-          ∙ (ap (λ b. found.0.due || b) (eqb-refl found.0.place) ∙ either found.0.due))
-          (handed_still t place ws i h.handed_on));
-      later = handed_marked t place ws m ∙ h.later;
-      len = marked_length place ws ∙ h.len;
+          ap (λ p. found.0.due || found.0.slot == p) (own found.0 found.1)
+          ∙ (ap (λ b. found.0.due || b) (eqb-refl found.0.slot) ∙ either found.0.due))
+          (handed_still t slot ws i h.handed_on));
+      later = handed_marked t slot ws m ∙ h.later;
+      len = marked_length slot ws ∙ h.len;
     }
       where
         next : suc i ≡ i + 1
@@ -241,14 +243,14 @@ walked-marked t before ws i place inside m own h = by (inside_at ws i inside)
         either false = refl
 
 -- or the mark was handed on to it
-pub walked-other : (t : Table) (before ws : List Watcher) (i : ℕ)
+pub walked-other : (t : Table) (before ws : List Standing) (i : ℕ)
     → i < length ws
-    → ((w : Watcher) → slice_get ws i ≡ Some w → IsHanded t w)
+    → ((w : Standing) → slice_get ws i ≡ Some w → IsHanded t w)
     → Walked t before ws i
     → Walked t before ws (i + 1)
 walked-other t before ws i inside own h = by (inside_at ws i inside)
   where
-    by : (w : Watcher) × (slice_get ws i ≡ Some w) → Walked t before ws (i + 1)
+    by : (w : Standing) × (slice_get ws i ≡ Some w) → Walked t before ws (i + 1)
     by found = record {
       handed_on =
           subst (λ n. AllByRecursion (IsHanded t) (take n ws)) next
@@ -261,7 +263,7 @@ walked-other t before ws i inside own h = by (inside_at ws i inside)
         next = omega arith
 
 -- at its end
-pub walked-all : (t : Table) (before ws : List Watcher) (i : ℕ)
+pub walked-all : (t : Table) (before ws : List Standing) (i : ℕ)
     → length ws ≤ i
     → Walked t before ws i
     → ws ≡ map (handed t) before
@@ -271,12 +273,13 @@ walked-all t before ws i past h =
 
 -- ---- no marks
 
-unmarked_at : (place : ℕ) (t : Table) → AllByRecursion IsUnmarked t → is_marked_at place t ≡ false
-unmarked_at place t h = by (lookup (nat_eq place) t) refl
+unmarked_at : (slot : ℕ) (t : Table) → AllByRecursion IsUnmarked t
+    → is_marked_at slot t ≡ false
+unmarked_at slot t h = by (lookup (nat_eq slot) t) refl
   where
-    by : (o : Option Watched) → lookup (nat_eq place) t ≡ o → is_marked o ≡ false
+    by : (o : Option Watched) → lookup (nat_eq slot) t ≡ o → is_marked o ≡ false
     by None e = refl
-    by (Some w) e = each_found (λ (x : Watched). x.marked ≡ false) (nat_eq place) t w h e
+    by (Some w) e = each_found (λ (x : Watched). x.marked ≡ false) (nat_eq slot) t w h e
 
 -- where no mark is set there is none to take off, and none to hand on
 pub unmarked_same : (t : Table) → AllByRecursion IsUnmarked t → all_unmarked t ≡ t
@@ -285,11 +288,11 @@ unmarked_same (e ∷ t) h =
     ap₂ (λ (x : ℕ × Watched) (xs : Table). x ∷ xs)
     (ap (λ b. (e.0, record e.1 { marked = b })) (sym h.0)) (unmarked_same t h.1)
 
-pub unmarked_handed : (t : Table) (ws : List Watcher)
+pub unmarked_handed : (t : Table) (ws : List Standing)
     → AllByRecursion IsUnmarked t
     → map (handed t) ws ≡ ws
 unmarked_handed t ws h = all_handed t ws (each ws)
   where
-    each : (xs : List Watcher) → AllByRecursion (IsHanded t) xs
+    each : (xs : List Standing) → AllByRecursion (IsHanded t) xs
     each [] = tt
-    each (x ∷ xs) = (handed-unmarked t x (unmarked_at x.place t h), each xs)
+    each (x ∷ xs) = (handed-unmarked t x (unmarked_at x.slot t h), each xs)

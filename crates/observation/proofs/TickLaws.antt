@@ -55,9 +55,9 @@ use Rattle.watch_table.specs.WatchedQueries.{
   with_body,
 }
 use Rattle.watch_table.proofs.EntryLaws.{each_found, each_set}
-use Rattle.watch_table.proofs.PlacedLaws.{query_at-body}
+use Rattle.watch_table.proofs.WatchedAtLaws.{query_at-body}
 use Rattle.watch_table.proofs.TouchedLaws.{with_body-StandsFor}
-use Rattle.observers.specs.Watchers.{Watcher, is_ready, first_from, next_ready}
+use Rattle.observers.specs.Standing.{Standing, is_ready, first_from, next_ready}
 use Rattle.observers.specs.ObserverEvents.{observer_of, shown}
 use Rattle.observers.proofs.StandLaws.{
   observers-StandsFor,
@@ -68,7 +68,7 @@ use Rattle.observers.proofs.MarkLaws.{awaited-StandsFor}
 use Rattle.observation.specs.Notices.{first_observer, next_noticed}
 use Rattle.observation.specs.Watching.{
   Watching,
-  IsPlaced,
+  IsInSlot,
   HasListing,
   IsUnmarked,
   AreWatched,
@@ -106,7 +106,7 @@ got_inside (y ∷ ys) zero inside = (y, refl)
 got_inside (y ∷ ys) (suc i) inside = got_inside ys i (omega (arith, inside))
 
 -- by the events and by the table
-same_at : (rows : List Row) (w : Watching) (i : ℕ) (o : Observer) (x : Watcher)
+same_at : (rows : List Row) (w : Watching) (i : ℕ) (o : Observer) (x : Standing)
     → (h : WatchingStandsFor rows w)
     → slice_get (observers (events rows)) i ≡ Some o
     → slice_get w.observers i ≡ Some x
@@ -121,30 +121,30 @@ same_at rows w i o x h at there =
     (option_map (observer_of h.queries)) there)) in
     cc
 
--- its query is watched at its place
-pub watched_here : (t : Table) (ws : List Watcher) (i : ℕ) (x : Watcher)
+-- its query is watched in its slot
+pub watched_here : (t : Table) (ws : List Standing) (i : ℕ) (x : Standing)
     → AreWatched t ws
     → slice_get ws i ≡ Some x
-    → IsSome (watched_at x.place t)
+    → IsSome (watched_at x.slot t)
 watched_here t ws i x h there =
-    by (watched_at x.place t) (each_at (IsPlaced t h.queries) ws i x h.by.placed there)
+    by (watched_at x.slot t) (each_at (IsInSlot t h.queries) ws i x h.by.in_slots there)
   where
     by : (o : Option Watched)
-        → option_map (λ (v : Watched). v.query) o ≡ Some (h.queries x.place)
+        → option_map (λ (v : Watched). v.query) o ≡ Some (h.queries x.slot)
         → IsSome o
     by None e = absurd cc
     by (Some v) e = refl
 
-pub query-StandsFor : (rows : List Row) (w : Watching) (i : ℕ) (o : Observer) (x : Watcher)
+pub query-StandsFor : (rows : List Row) (w : Watching) (i : ℕ) (o : Observer) (x : Standing)
     (query : Query)
     → WatchingStandsFor rows w
     → slice_get (observers (events rows)) i ≡ Some o
     → slice_get w.observers i ≡ Some x
-    → Some query ≡ query_at x.place w.watches → query ≡ o.query
+    → Some query ≡ query_at x.slot w.watches → query ≡ o.query
 query-StandsFor rows w i o x query h at there is =
-    let own : Some query ≡ Some (h.queries x.place) =
-    is ∙ each_at (IsPlaced w.watches h.queries) w.observers i x h.placed there in
-    let same : query ≡ h.queries x.place = cc in
+    let own : Some query ≡ Some (h.queries x.slot) =
+    is ∙ each_at (IsInSlot w.watches h.queries) w.observers i x h.in_slots there in
+    let same : query ≡ h.queries x.slot = cc in
     same ∙ sym (ap (λ (y : Observer). y.query) (same_at rows w i o x h at there))
 
 -- ---- bodies
@@ -158,49 +158,50 @@ if_some view P None o is h = tt
 if_some view P (Some x) o is h = h (view x) (sym is)
 
 -- a body that is kept is the listing now
-pub body-StandsFor : (rows : List Row) (w : Watching) (i : ℕ) (o : Observer) (x : Watcher)
+pub body-StandsFor : (rows : List Row) (w : Watching) (i : ℕ) (o : Observer) (x : Standing)
     (body : List ℕ)
     → WatchingStandsFor rows w
     → slice_get (observers (events rows)) i ≡ Some o
     → slice_get w.observers i ≡ Some x
-    → body_at x.place w.watches ≡ Some body → body ≡ listing o.query (entries rows) (now rows)
+    → body_at x.slot w.watches ≡ Some body
+    → body ≡ listing o.query (entries rows) (now rows)
 body-StandsFor rows w i o x body h at there is =
-    by (watched_at x.place w.watches) refl is
-    (each_at (IsPlaced w.watches h.queries) w.observers i x h.placed there)
+    by (watched_at x.slot w.watches) refl is
+    (each_at (IsInSlot w.watches h.queries) w.observers i x h.in_slots there)
     ∙ ap (λ q. listing q (entries rows) (now rows))
     (sym (ap (λ (y : Observer). y.query) (same_at rows w i o x h at there)))
   where
     by : (v : Option Watched)
-        → watched_at x.place w.watches ≡ v
+        → watched_at x.slot w.watches ≡ v
         → option_and_then (λ (y : Watched). y.body) v ≡ Some body
-        → option_map (λ (y : Watched). y.query) v ≡ Some (h.queries x.place)
-        → body ≡ listing (h.queries x.place) (entries rows) (now rows)
+        → option_map (λ (y : Watched). y.query) v ≡ Some (h.queries x.slot)
+        → body ≡ listing (h.queries x.slot) (entries rows) (now rows)
     by None e g p = absurd cc
     by (Some v) e g p =
-        let query : v.query ≡ h.queries x.place = cc in
+        let query : v.query ≡ h.queries x.slot = cc in
         each_found (λ (y : Watched).
         (text : List ℕ)
         → y.body ≡ Some text
-        → text ≡ listing y.query (entries rows) (now rows)) (nat_eq x.place) w.watches v
+        → text ≡ listing y.query (entries rows) (now rows)) (nat_eq x.slot) w.watches v
         h.bodies e body g
         ∙ ap (λ q. listing q (entries rows) (now rows)) query
 
 -- a body that is the listing now is kept
-pub kept_body-StandsFor : (rows : List Row) (w : Watching) (i : ℕ) (o : Observer) (x : Watcher)
+pub kept_body-StandsFor : (rows : List Row) (w : Watching) (i : ℕ) (o : Observer) (x : Standing)
     (body : List ℕ)
     → body ≡ listing o.query (entries rows) (now rows)
     → slice_get (observers (events rows)) i ≡ Some o
     → slice_get w.observers i ≡ Some x
     → WatchingStandsFor rows w
     → WatchingStandsFor rows
-    (record { watches = with_body x.place body w.watches; observers = w.observers })
+    (record { watches = with_body x.slot body w.watches; observers = w.observers })
 kept_body-StandsFor rows w i o x body is at there h = record {
   queries = h.queries;
-  placed =
-      each_weaker (IsPlaced w.watches h.queries)
-      (IsPlaced (with_body x.place body w.watches) h.queries)
-      (λ y p. query_at-body x.place y.place body w.watches ∙ p) w.observers h.placed;
-  watches = with_body-StandsFor x.place body (observers (events rows)) w.watches h.watches;
+  in_slots =
+      each_weaker (IsInSlot w.watches h.queries)
+      (IsInSlot (with_body x.slot body w.watches) h.queries)
+      (λ y p. query_at-body x.slot y.slot body w.watches ∙ p) w.observers h.in_slots;
+  watches = with_body-StandsFor x.slot body (observers (events rows)) w.watches h.watches;
   observers = h.observers;
   confirmable = h.confirmable;
   unmarked = each IsUnmarked (λ p v e fits. fits) h.unmarked;
@@ -211,41 +212,41 @@ kept_body-StandsFor rows w i o x body is at there h = record {
       ∙ (is ∙ ap (λ q. listing q (entries rows) (now rows)) (query v e))) h.bodies;
 }
   where
-    query : (v : Watched) → watched_at x.place w.watches ≡ Some v → o.query ≡ v.query
+    query : (v : Watched) → watched_at x.slot w.watches ≡ Some v → o.query ≡ v.query
     query v e =
-        let own : Some v.query ≡ Some (h.queries x.place) =
+        let own : Some v.query ≡ Some (h.queries x.slot) =
         sym (ap (option_map (λ (y : Watched). y.query)) e)
-        ∙ each_at (IsPlaced w.watches h.queries) w.observers i x h.placed there in
-        let same : v.query ≡ h.queries x.place = cc in
+        ∙ each_at (IsInSlot w.watches h.queries) w.observers i x h.in_slots there in
+        let same : v.query ≡ h.queries x.slot = cc in
         ap (λ (y : Observer). y.query) (same_at rows w i o x h at there) ∙ sym same
 
     each : (P : ℕ × Watched → Type 0)
         → ((p : ℕ) (v : Watched)
-        → watched_at x.place w.watches ≡ Some v
+        → watched_at x.slot w.watches ≡ Some v
         → P (p, v)
         → P (p, record v { body = Some body }))
         → AllByRecursion P w.watches
-        → AllByRecursion P (with_body x.place body w.watches)
-    each P still fits = by (watched_at x.place w.watches) refl
+        → AllByRecursion P (with_body x.slot body w.watches)
+    each P still fits = by (watched_at x.slot w.watches) refl
       where
         by : (v : Option Watched)
-            → watched_at x.place w.watches ≡ v
-            → AllByRecursion P (body_set v x.place body w.watches)
+            → watched_at x.slot w.watches ≡ v
+            → AllByRecursion P (body_set v x.slot body w.watches)
         by None e = fits
         by (Some v) e =
-            each_set P (nat_eq x.place) w.watches v (record v { body = Some body }) e
+            each_set P (nat_eq x.slot) w.watches v (record v { body = Some body }) e
             (λ p holds. still p v e holds) fits
 
-pub kept_body-AreWatched : (place : ℕ) (body : List ℕ) (t : Table) (ws : List Watcher)
+pub kept_body-AreWatched : (slot : ℕ) (body : List ℕ) (t : Table) (ws : List Standing)
     → AreWatched t ws
-    → AreWatched (with_body place body t) ws
-kept_body-AreWatched place body t ws h = record {
+    → AreWatched (with_body slot body t) ws
+kept_body-AreWatched slot body t ws h = record {
   queries = h.queries;
   by = record {
-    placed =
-        each_weaker (IsPlaced t h.queries) (IsPlaced (with_body place body t) h.queries)
-        (λ y p. query_at-body place y.place body t ∙ p) ws h.by.placed;
-    watches = with_body-StandsFor place body (map (observer_of h.queries) ws) t h.by.watches;
+    in_slots =
+        each_weaker (IsInSlot t h.queries) (IsInSlot (with_body slot body t) h.queries)
+        (λ y p. query_at-body slot y.slot body t ∙ p) ws h.by.in_slots;
+    watches = with_body-StandsFor slot body (map (observer_of h.queries) ws) t h.by.watches;
   };
   apart = h.apart;
 }
@@ -260,7 +261,7 @@ unfolding next_ready next_noticed observers_standing
 next-StandsFor rows w from h =
     sym (dropped from (observers (events rows)) w.observers h.observers.standing)
   where
-    one : (o : Observer) (x : Watcher)
+    one : (o : Observer) (x : Standing)
         → watching (octets_sent rows) (events rows) (transitions rows) o ≡ shown h.queries x
         → (is_due o (events rows) (transitions rows) && not (is_waited_for o.peer (events rows)))
         ≡ is_ready w.observers x
@@ -270,7 +271,7 @@ next-StandsFor rows w from h =
         ∙ sym (awaited-StandsFor h.queries (octets_sent rows) (events rows) (transitions rows)
         w.observers x.peer h.observers))
 
-    walked : (i : ℕ) (os : List Observer) (xs : List Watcher)
+    walked : (i : ℕ) (os : List Observer) (xs : List Standing)
         → map (watching (octets_sent rows) (events rows) (transitions rows)) os
         ≡ map (shown h.queries) xs
         → first_observer (λ o.
@@ -291,7 +292,7 @@ next-StandsFor rows w from h =
         ap₂ (λ (b : Bool) (r : Option ℕ). cond b (Some i) r) (one o x here)
         (walked (i + 1) os xs rest)
 
-    dropped : (k : ℕ) (os : List Observer) (xs : List Watcher)
+    dropped : (k : ℕ) (os : List Observer) (xs : List Standing)
         → map (watching (octets_sent rows) (events rows) (transitions rows)) os
         ≡ map (shown h.queries) xs
         → first_observer (λ o.
@@ -312,7 +313,7 @@ next-StandsFor rows w from h =
 -- ---- what is kept of an observer
 
 -- it is the observer of the events, with what they say of it
-pub record IsKeptAs (rows : List Row) (o : Observer) (x : Watcher) : Type 0 where
+pub record IsKeptAs (rows : List Row) (o : Observer) (x : Standing) : Type 0 where
   pub peer : o.peer ≡ x.peer
   pub token : o.token ≡ x.token
   pub key : o.key ≡ x.key
@@ -322,7 +323,7 @@ pub record IsKeptAs (rows : List Row) (o : Observer) (x : Watcher) : Type 0 wher
   pub waits : waiting_notice (octets_sent rows) (events rows) o ≡ x.flight
 
 -- For the tick: each observer is kept at the index that it has by the events.
-pub kept-StandsFor : (rows : List Row) (w : Watching) (i : ℕ) (o : Observer) (x : Watcher)
+pub kept-StandsFor : (rows : List Row) (w : Watching) (i : ℕ) (o : Observer) (x : Standing)
     → WatchingStandsFor rows w
     → slice_get (observers (events rows)) i ≡ Some o
     → slice_get w.observers i ≡ Some x

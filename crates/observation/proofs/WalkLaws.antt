@@ -33,17 +33,18 @@ use Rattle.std.proofs.Common.{
 use Rattle.std.proofs.lemmas.Bool.Decides.{nat_tests}
 use Rattle.rd_base.specs.Firsts.{without_first}
 use Rattle.rd_base.proofs.lemmas.Firsts.{without_first-unfound, length-without_found}
-use Rattle.observers.specs.Watchers.{Watcher}
+use Rattle.observers.specs.Standing.{Standing}
 
-from_index : (xs : List Watcher) (i : ℕ) (x : Watcher)
+from_index : (xs : List Standing) (i : ℕ) (x : Standing)
     → slice_get xs i ≡ Some x
     → drop i xs ≡ x ∷ drop (suc i) xs
 from_index [] i x there = absurd cc
-from_index (y ∷ ys) zero x there = let same : y ≡ x = cc in ap (λ (z : Watcher). z ∷ ys) same
+from_index (y ∷ ys) zero x there =
+    let same : y ≡ x = cc in ap (λ (z : Standing). z ∷ ys) same
 from_index (y ∷ ys) (suc i) x there = from_index ys i x there
 
 -- the one with an index passes, or it does not
-pub find-here : (test : Watcher → Bool) (xs : List Watcher) (i : ℕ) (x : Watcher)
+pub find-here : (test : Standing → Bool) (xs : List Standing) (i : ℕ) (x : Standing)
     → slice_get xs i ≡ Some x
     → test x ≡ true
     → find test (drop i xs) ≡ Some x
@@ -51,7 +52,7 @@ find-here test xs i x there passes =
     ap (find test) (from_index xs i x there)
     ∙ ap (λ b. cond b (Some x) (find test (drop (suc i) xs))) passes
 
-pub find-later : (test : Watcher → Bool) (xs : List Watcher) (i : ℕ) (x : Watcher)
+pub find-later : (test : Standing → Bool) (xs : List Standing) (i : ℕ) (x : Standing)
     → slice_get xs i ≡ Some x
     → test x ≡ false
     → find test (drop (i + 1) xs) ≡ find test (drop i xs)
@@ -62,7 +63,7 @@ find-later test xs i x there fails =
     ∙ sym (ap (find test) (from_index xs i x there)))
 
 -- an index past all
-pub past-all : (xs : List Watcher) (i : ℕ) → None ≡ slice_get xs i → length xs ≤ i
+pub past-all : (xs : List Standing) (i : ℕ) → None ≡ slice_get xs i → length xs ≤ i
 past-all [] i none = omega arith
 past-all (x ∷ xs) zero none = absurd cc
 past-all (x ∷ xs) (suc i) none = let rest = past-all xs i none in omega (arith, rest)
@@ -72,30 +73,30 @@ past-all (x ∷ xs) (suc i) none = let rest = past-all xs i none in omega (arith
 one_fewer : (m n : ℕ) → m + 1 ≡ n → nat_lt 1_024 n ≡ nat_le 1_024 m
 one_fewer m n h = grind (arith, nat_tests, h)
 
-pub full-Some : (test : Watcher → Bool) (ws : List Watcher) (place n : ℕ)
-    → Some place ≡ option_map (λ x. x.place) (find test ws)
+pub full-Some : (test : Standing → Bool) (ws : List Standing) (slot n : ℕ)
+    → Some slot ≡ option_map (λ x. x.slot) (find test ws)
     → n ≡ length ws
     → nat_lt 1_024 n ≡ nat_le 1_024 (length (without_first test ws))
-full-Some test ws place n found is = by (find test ws) refl found
+full-Some test ws slot n found is = by (find test ws) refl found
   where
-    by : (o : Option Watcher)
+    by : (o : Option Standing)
         → find test ws ≡ o
-        → Some place ≡ option_map (λ (x : Watcher). x.place) o
+        → Some slot ≡ option_map (λ (x : Standing). x.slot) o
         → nat_lt 1_024 n ≡ nat_le 1_024 (length (without_first test ws))
     by None e g = absurd cc
     by (Some x) e g =
         let fewer = length-without_found test ws x e in
         one_fewer (length (without_first test ws)) n (fewer ∙ sym is)
 
-pub full-None : (test : Watcher → Bool) (ws : List Watcher) (n : ℕ)
-    → None ≡ option_map (λ x. x.place) (find test ws)
+pub full-None : (test : Standing → Bool) (ws : List Standing) (n : ℕ)
+    → None ≡ option_map (λ x. x.slot) (find test ws)
     → n ≡ length ws
     → nat_le 1_024 n ≡ nat_le 1_024 (length (without_first test ws))
 full-None test ws n found is = by (find test ws) refl found
   where
-    by : (o : Option Watcher)
+    by : (o : Option Standing)
         → find test ws ≡ o
-        → None ≡ option_map (λ (x : Watcher). x.place) o
+        → None ≡ option_map (λ (x : Standing). x.slot) o
         → nat_le 1_024 n ≡ nat_le 1_024 (length (without_first test ws))
     by None e g = ap (nat_le 1_024) (is ∙ sym (ap length (without_first-unfound test ws e)))
     by (Some x) e g = absurd cc

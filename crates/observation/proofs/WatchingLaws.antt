@@ -121,7 +121,7 @@ StandsIn rows w =
 pub to_parts : (rows : List Row) (w : Watching) → WatchingStandsFor rows w → StandsIn rows w
 to_parts rows w h = record {
   queries = h.queries;
-  placed = h.placed;
+  in_slots = h.in_slots;
   watches = h.watches;
   observers = h.observers;
   confirmable = h.confirmable;
@@ -132,7 +132,7 @@ to_parts rows w h = record {
 pub from_parts : (rows : List Row) (w : Watching) → StandsIn rows w → WatchingStandsFor rows w
 from_parts rows w h = record {
   queries = h.queries;
-  placed = h.placed;
+  in_slots = h.in_slots;
   watches = h.watches;
   observers = h.observers;
   confirmable = h.confirmable;
@@ -144,12 +144,12 @@ from_parts rows w h = record {
 pub WatchingStandsFor-empty : WatchingStandsFor [] (record { watches = []; observers = [] })
 unfolding events transitions observers
 WatchingStandsFor-empty = record {
-  queries = λ place. record { kind = kind.Resource; criteria = []; page = None; count = None };
-  placed = tt;
-  watches = record { watchers = λ query. refl; some = tt; apart = tt };
+  queries = λ slot. record { kind = kind.Resource; criteria = []; page = None; count = None };
+  in_slots = tt;
+  watches = record { observers = λ query. refl; some = tt; apart = tt };
   observers =
       empty-StandsFor
-      (λ place. record { kind = kind.Resource; criteria = []; page = None; count = None })
+      (λ slot. record { kind = kind.Resource; criteria = []; page = None; count = None })
       (octets_sent []);
   confirmable = tt;
   unmarked = tt;

@@ -77,9 +77,9 @@ use Rattle.journal_model.proofs.observers.DueRows.{transitions_below}
 use Rattle.journal_model.proofs.observers.SentOctets.{octets_sent-own}
 use Rattle.exchange_core.specs.declared.resends.Again.TheVariants as again
 use Rattle.exchange_core.specs.Retransmissions.{Resends, kept_due}
-use Rattle.watch_table.specs.WatchedQueries.{one_more, one_fewer, without, IsPlaceFor}
-use Rattle.observers.specs.Watchers.{
-  Watcher,
+use Rattle.watch_table.specs.WatchedQueries.{one_more, one_fewer, without, IsSlotFor}
+use Rattle.observers.specs.Standing.{
+  Standing,
   is_named,
   has_notice,
   is_awaited,
@@ -118,7 +118,7 @@ use Rattle.observation.proofs.FoundObservers.{
   is_observer-found,
 }
 use Rattle.observation.proofs.WatchedLaws.{without_notice, with_query, with_own, with_same}
-use Rattle.observation.proofs.WatcherParts.{
+use Rattle.observation.proofs.StandingParts.{
   noticed_stands,
   gone_stands,
   other_queries,
@@ -208,10 +208,10 @@ WatchingStandsFor-acked rows s starved done peer mid w h =
     w.observers peer mid h.observers))
     (by (find (has_notice peer mid) w.observers) refl)
   where
-    now_landed : List Watcher
+    now_landed : List Standing
     now_landed = changed_first (has_notice peer mid) landed w.observers
 
-    by : (o : Option Watcher) → find (has_notice peer mid) w.observers ≡ o
+    by : (o : Option Standing) → find (has_notice peer mid) w.observers ≡ o
         → WatchingStandsFor (making rows s starved
         (joined done (noting (map (λ (x : Observer). note.Landed peer mid)
         (map (observer_of h.queries) (in_list o))))))
@@ -244,7 +244,7 @@ WatchingStandsFor-acked rows s starved done peer mid w h =
 
 -- what is left of the table without the one that a note removes
 gone_one : (rows : List Row) (s : Step) (starved : Bool) (done : Effects) (peer : Peer)
-    (token : List ℕ) (w : Watching) (left : List Watcher) (x : Watcher)
+    (token : List ℕ) (w : Watching) (left : List Standing) (x : Standing)
     → Cut w.observers left x
     → ((queries : ℕ → Query) (octets : OctetsSent) (past : List Event) (seen : List Transition)
     (e : Event)
@@ -254,13 +254,13 @@ gone_one : (rows : List Row) (s : Step) (starved : Bool) (done : Effects) (peer 
     → WatchingStandsFor (making rows s starved done) w
     → WatchingStandsFor
     (making rows s starved (joined done (noting (note.Unwatched peer token ∷ []))))
-    (record { watches = one_fewer x.place w.watches; observers = left })
+    (record { watches = one_fewer x.slot w.watches; observers = left })
 gone_one rows s starved done peer token w left x cut gone h =
     subst (λ ws.
     WatchingStandsFor later
-    (record { watches = one_fewer x.place w.watches; observers = ws })) (sym cut.rest)
+    (record { watches = one_fewer x.slot w.watches; observers = ws })) (sym cut.rest)
     (stands_after rows s starved done more
-    (record { watches = one_fewer x.place w.watches; observers = cut.front ++ cut.back })
+    (record { watches = one_fewer x.slot w.watches; observers = cut.front ++ cut.back })
     (gone_stands (octets_sent later) past (e ∷ past) (transitions later) (entries later) (now later)
     w cut.front cut.back x cut.whole before
     (subst (ObserversStandFor before.queries (octets_sent later) (e ∷ past) (transitions later))
@@ -290,7 +290,7 @@ pub WatchingStandsFor-reset : (rows : List Row) (s : Step) (starved : Bool) (don
     (making rows s starved (joined done (noting (map (λ o. note.Unwatched o.peer o.token)
     (waited_for peer mid (events (making rows s starved done)))))))
     (record {
-      watches = without (option_map (λ x. x.place) (find (has_notice peer mid) w.observers))
+      watches = without (option_map (λ x. x.slot) (find (has_notice peer mid) w.observers))
           w.watches;
       observers = without_first (has_notice peer mid) w.observers;
     })
@@ -304,13 +304,13 @@ WatchingStandsFor-reset rows s starved done peer mid w h =
     w.observers peer mid h.observers))
     (by (find (has_notice peer mid) w.observers) refl)
   where
-    w' : Option Watcher → Watching
+    w' : Option Standing → Watching
     w' found = record {
-      watches = without (option_map (λ (x : Watcher). x.place) found) w.watches;
+      watches = without (option_map (λ (x : Standing). x.slot) found) w.watches;
       observers = without_first (has_notice peer mid) w.observers;
     }
 
-    by : (o : Option Watcher) → find (has_notice peer mid) w.observers ≡ o
+    by : (o : Option Standing) → find (has_notice peer mid) w.observers ≡ o
         → WatchingStandsFor (making rows s starved
         (joined done (noting (map (λ (y : Observer). note.Unwatched y.peer y.token)
         (map (observer_of h.queries) (in_list o)))))) (w' o)
@@ -334,7 +334,7 @@ pub WatchingStandsFor-left : (rows : List Row) (s : Step) (starved : Bool) (done
     → WatchingStandsFor (making rows s starved (joined done
     (noting (removal (peer, token) (observers (events (making rows s starved done)))))))
     (record {
-      watches = without (option_map (λ x. x.place) (find (is_named peer token) w.observers))
+      watches = without (option_map (λ x. x.slot) (find (is_named peer token) w.observers))
           w.watches;
       observers = without_first (is_named peer token) w.observers;
     })
@@ -350,13 +350,13 @@ WatchingStandsFor-left rows s starved done peer token w h =
     ∙ is_observer-found h.queries peer token w.observers))
     (by (find (is_named peer token) w.observers) refl)
   where
-    w' : Option Watcher → Watching
+    w' : Option Standing → Watching
     w' found = record {
-      watches = without (option_map (λ (x : Watcher). x.place) found) w.watches;
+      watches = without (option_map (λ (x : Standing). x.slot) found) w.watches;
       observers = without_first (is_named peer token) w.observers;
     }
 
-    by : (o : Option Watcher)
+    by : (o : Option Standing)
         → find (is_named peer token) w.observers ≡ o
         → WatchingStandsFor (making rows s starved
         (joined done (noting (cond (is_some o) (note.Unwatched peer token ∷ []) []))))
@@ -375,12 +375,12 @@ WatchingStandsFor-left rows s starved done peer token w h =
 
 -- An observer is taken out whose notice is given up.
 pub WatchingStandsFor-timed_out : (rows : List Row) (s : Step) (starved : Bool) (done : Effects)
-    (i : ℕ) (x : Watcher) (w : Watching)
+    (i : ℕ) (x : Standing) (w : Watching)
     → slice_get w.observers i ≡ Some x
     → WatchingStandsFor (making rows s starved done) w
     → WatchingStandsFor
     (making rows s starved (joined done (noting (note.Unwatched x.peer x.token ∷ []))))
-    (record { watches = one_fewer x.place w.watches; observers = remove w.observers i })
+    (record { watches = one_fewer x.slot w.watches; observers = remove w.observers i })
 WatchingStandsFor-timed_out rows s starved done i x w there h =
     gone_one rows s starved done x.peer x.token w (remove w.observers i) x
     (cut_at w.observers i x there)
@@ -390,7 +390,7 @@ WatchingStandsFor-timed_out rows s starved done i x w there h =
 -- ---- one is added
 
 -- the observer that the table keeps, by its query
-abbrev observer_with : Query → Watcher → Observer
+abbrev observer_with : Query → Standing → Observer
 observer_with query x = record {
   peer = x.peer;
   token = x.token;
@@ -399,32 +399,32 @@ observer_with query x = record {
   szx = x.szx;
 }
 
--- An observer is added, for which a body was formed, at the place of its query.
+-- An observer is added, for which a body was formed, in the slot of its query.
 pub WatchingStandsFor-added : (rows : List Row) (s : Step) (starved : Bool) (done : Effects)
-    (query : Query) (x : Watcher) (w : Watching)
+    (query : Query) (x : Standing) (w : Watching)
     → list_any (is_named x.peer x.token) w.observers ≡ false
     → x.flight ≡ None
     → x.due ≡ false
-    → IsPlaceFor query x.place w.watches → WatchingStandsFor (making rows s starved done) w
+    → IsSlotFor query x.slot w.watches → WatchingStandsFor (making rows s starved done) w
     → WatchingStandsFor
     (making rows s starved (joined done (noting (addition (observer_with query x) x.last))))
-    (record { watches = one_more x.place query w.watches; observers = w.observers ++ x ∷ [] })
+    (record { watches = one_more x.slot query w.watches; observers = w.observers ++ x ∷ [] })
 WatchingStandsFor-added rows s starved done query x w new quiet calm for h =
     stands_after rows s starved done more
-    (record { watches = one_more x.place query w.watches; observers = w.observers ++ x ∷ [] })
+    (record { watches = one_more x.slot query w.watches; observers = w.observers ++ x ∷ [] })
     (added_stands (octets_sent later) past (formed ∷ watched ∷ past) (transitions later)
     (entries later) (now later) w x query for quiet before
-    (added-StandsFor (with_query x.place query before.queries) (octets_sent later) past
+    (added-StandsFor (with_query x.slot query before.queries) (octets_sent later) past
     (transitions later) watched formed w.observers x new quiet calm
     (ap (λ q.
     note.Watched
     (record { peer = x.peer; token = x.token; query = q; key = x.key; szx = x.szx }))
-    (sym (with_own x.place query before.queries))) refl
+    (sym (with_own x.slot query before.queries))) refl
     (none_later rows (row_with s (row_moment rows s) starved (joined done more)))
-    (other_queries before.queries (with_query x.place query before.queries) (octets_sent later) past
+    (other_queries before.queries (with_query x.slot query before.queries) (octets_sent later) past
     (transitions later) w.observers
-    (with_same x.place query before.queries w.watches w.observers before.watches.apart for
-    before.placed) before.observers)))
+    (with_same x.slot query before.queries w.watches w.observers before.watches.apart for
+    before.in_slots) before.observers)))
   where
     more : Effects
     more = noting (addition (observer_with query x) x.last)
@@ -450,7 +450,7 @@ WatchingStandsFor-added rows s starved done query x w new quiet calm for h =
 
 -- one more note about the notice of an observer
 noticed_one : (rows : List Row) (s : Step) (starved : Bool) (done more : Effects) (n : Note)
-    (ws : List Watcher) (w : Watching)
+    (ws : List Standing) (w : Watching)
     → more.notes ≡ n ∷ []
     → entries_in (n ∷ []) ≡ []
     → map without_notice ws ≡ map without_notice w.observers
@@ -488,7 +488,7 @@ noticed_one rows s starved done more n ws w one none same confirmable step h =
 
 -- The listing of an observer was found unchanged.
 pub WatchingStandsFor-unchanged : (rows : List Row) (s : Step) (starved : Bool) (done : Effects)
-    (i : ℕ) (x : Watcher) (w : Watching)
+    (i : ℕ) (x : Standing) (w : Watching)
     → slice_get w.observers i ≡ Some x
     → WatchingStandsFor (making rows s starved done) w
     → WatchingStandsFor
@@ -547,7 +547,7 @@ last_sent rows s starved done more peer mid octets is none fits =
 
 -- A notice was formed for an observer, to whose peer none is in flight.
 pub WatchingStandsFor-formed : (rows : List Row) (s : Step) (starved : Bool) (done : Effects)
-    (i : ℕ) (x : Watcher) (body : List ℕ) (sent : Sent) (w : Watching)
+    (i : ℕ) (x : Standing) (body : List ℕ) (sent : Sent) (w : Watching)
     → slice_get w.observers i ≡ Some x
     → is_awaited x.peer w.observers ≡ false
     → list_any (λ d. is_same_peer d.0 x.peer && is_confirmable_with sent.mid d.1) done.sent ≡ false
@@ -586,7 +586,7 @@ WatchingStandsFor-formed rows s starved done i x body sent w there free unsent f
 
 -- The notice in flight to an observer was sent again.
 pub WatchingStandsFor-again : (rows : List Row) (s : Step) (starved : Bool) (done : Effects)
-    (moment i : ℕ) (x : Watcher) (sent : Sent) (w : Watching)
+    (moment i : ℕ) (x : Standing) (sent : Sent) (w : Watching)
     → slice_get w.observers i ≡ Some x
     → x.flight ≡ Some sent
     → kept_due moment sent.resend ≡ again.Send

@@ -56,19 +56,19 @@ use Rattle.watch_table.specs.WatchedQueries.{
   unmarked,
   all_unmarked,
 }
-use Rattle.watch_table.specs.Watchers.{WatchesStandFor}
+use Rattle.watch_table.specs.ObserverCounts.{WatchesStandFor}
 use Rattle.watch_table.proofs.EntryLaws.{each_found}
 use Rattle.watch_table.proofs.TouchedLaws.{Keeps, kept-StandsFor, unmarked-StandsFor}
-use Rattle.observers.specs.Watchers.{Watcher}
+use Rattle.observers.specs.Standing.{Standing}
 use Rattle.observers.specs.ObserverEvents.{shown, ObserversStandFor}
 use Rattle.observers.proofs.StandLaws.{observers-StandsFor, awaits_kept}
 use Rattle.observation.specs.Marks.{touched_where, all_touched_where, handed}
-use Rattle.observation.specs.Watching.{Watching, IsPlaced, IsUnmarked, IsConfirmable}
+use Rattle.observation.specs.Watching.{Watching, IsInSlot, IsUnmarked, IsConfirmable}
 
 -- ---- by parts
 
 -- after marks were handed on
-abbrev pub handed_on : Table → List Watcher → Watching
+abbrev pub handed_on : Table → List Standing → Watching
 handed_on t ws = record { watches = all_unmarked t; observers = map (handed t) ws }
 
 -- a body that is set is the listing of its query
@@ -80,7 +80,7 @@ IsListing history moment e =
 pub record StandsOver (octets : OctetsSent) (past : List Event) (seen : List Transition)
     (history : List Entry) (moment : ℕ) (w : Watching) : Type 0 where
   pub queries : ℕ → Query
-  pub placed : AllByRecursion (IsPlaced w.watches queries) w.observers
+  pub in_slots : AllByRecursion (IsInSlot w.watches queries) w.observers
   pub watches : WatchesStandFor (observers past) w.watches
   pub observers : ObserversStandFor queries octets past seen w.observers
   pub confirmable : AllByRecursion IsConfirmable w.observers
@@ -94,7 +94,7 @@ pub shown_same : (octets others : OctetsSent) (past later : List Event)
     → StandsOver octets past seen history moment w → StandsOver others later more history moment w
 shown_same octets others past later seen more history moment w same h = record {
   queries = h.queries;
-  placed = h.placed;
+  in_slots = h.in_slots;
   watches =
       subst (λ standing. WatchesStandFor standing w.watches)
       (observers-StandsFor h.queries octets past seen w.observers h.observers
@@ -126,7 +126,7 @@ octets_kept octets others past seen history moment w keeps h =
     shown_same octets others past past seen seen history moment w
     (each (observers past) w.observers h.confirmable h.observers.standing) h
   where
-    one : (o : Observer) (x : Watcher)
+    one : (o : Observer) (x : Standing)
         → IsConfirmable x
         → watching octets past seen o ≡ shown h.queries x
         → watching others past seen o ≡ watching octets past seen o
@@ -137,7 +137,7 @@ octets_kept octets others past seen history moment w keeps h =
         (λ f flies. keeps f.formed.place o.peer f.mid (c (notice_sent octets o.peer f)
         (sym waits ∙ ap (option_map (notice_sent octets o.peer)) flies))))
 
-    each : (os : List Observer) (xs : List Watcher)
+    each : (os : List Observer) (xs : List Standing)
         → AllByRecursion IsConfirmable xs
         → map (watching octets past seen) os ≡ map (shown h.queries) xs
         → map (watching others past seen) os ≡ map (watching octets past seen) os
@@ -161,11 +161,11 @@ noted_aside octets past seen history moment w place at word notes none h =
 
 -- ---- changes of the registrations
 
--- marks and bodies leave queries and watchers
+-- marks and bodies leave queries and observers
 pub touched_where-Keeps : (test : Query → Bool) → Keeps (touched_where test)
 touched_where-Keeps test = record {
   query = λ w. query w (test w.query);
-  watchers = λ w. watchers w (test w.query);
+  observers = λ w. counted w (test w.query);
 }
   where
     query : (w : Watched) (b : Bool)
@@ -173,19 +173,19 @@ touched_where-Keeps test = record {
     query w true = refl
     query w false = refl
 
-    watchers : (w : Watched) (b : Bool)
-        → (cond b (record w { marked = true; body = None }) w).watchers ≡ w.watchers
-    watchers w true = refl
-    watchers w false = refl
+    counted : (w : Watched) (b : Bool)
+        → (cond b (record w { marked = true; body = None }) w).observers ≡ w.observers
+    counted w true = refl
+    counted w false = refl
 
--- so they leave what is watched at each place
+-- so they leave what is watched in each slot
 query_kept : (change : Watched → Watched)
     → Keeps change
-    → (place : ℕ) (t : Table)
-    → query_at place (map (λ (e : ℕ × Watched). (e.0, change e.1)) t) ≡ query_at place t
-query_kept change keeps place t =
-    ap (option_map (λ (w : Watched). w.query)) (lookup-map_values change (nat_eq place) t)
-    ∙ by (lookup (nat_eq place) t)
+    → (slot : ℕ) (t : Table)
+    → query_at slot (map (λ (e : ℕ × Watched). (e.0, change e.1)) t) ≡ query_at slot t
+query_kept change keeps slot t =
+    ap (option_map (λ (w : Watched). w.query)) (lookup-map_values change (nat_eq slot) t)
+    ∙ by (lookup (nat_eq slot) t)
   where
     by : (o : Option Watched)
         → option_map (λ (w : Watched). w.query) (option_map change o)
@@ -193,27 +193,27 @@ query_kept change keeps place t =
     by None = refl
     by (Some w) = ap (λ q. Some q) (keeps.query w)
 
-pub placed_kept : (change : Watched → Watched)
+pub in_slots_kept : (change : Watched → Watched)
     → Keeps change
-    → (queries : ℕ → Query) (t : Table) (ws : List Watcher)
-    → AllByRecursion (IsPlaced t queries) ws
-    → AllByRecursion (IsPlaced (map (λ (e : ℕ × Watched). (e.0, change e.1)) t) queries) ws
-placed_kept change keeps queries t ws placed =
-    each_weaker (IsPlaced t queries)
-    (IsPlaced (map (λ (e : ℕ × Watched). (e.0, change e.1)) t) queries)
-    (λ x p. query_kept change keeps x.place t ∙ p) ws placed
+    → (queries : ℕ → Query) (t : Table) (ws : List Standing)
+    → AllByRecursion (IsInSlot t queries) ws
+    → AllByRecursion (IsInSlot (map (λ (e : ℕ × Watched). (e.0, change e.1)) t) queries) ws
+in_slots_kept change keeps queries t ws in_slots =
+    each_weaker (IsInSlot t queries)
+    (IsInSlot (map (λ (e : ℕ × Watched). (e.0, change e.1)) t) queries)
+    (λ x p. query_kept change keeps x.slot t ∙ p) ws in_slots
 
 pub unmarked-Keeps : Keeps unmarked
-unmarked-Keeps = record { query = λ w. refl; watchers = λ w. refl }
+unmarked-Keeps = record { query = λ w. refl; observers = λ w. refl }
 
 -- the query of an observer is marked exactly where it passes
-marked_where : (test : Query → Bool) (queries : ℕ → Query) (t : Table) (x : Watcher)
+marked_where : (test : Query → Bool) (queries : ℕ → Query) (t : Table) (x : Standing)
     → AllByRecursion IsUnmarked t
-    → IsPlaced t queries x
-    → is_marked_at x.place (all_touched_where test t) ≡ test (queries x.place)
-marked_where test queries t x none placed =
-    ap is_marked (lookup-map_values (touched_where test) (nat_eq x.place) t)
-    ∙ by (lookup (nat_eq x.place) t) refl placed
+    → IsInSlot t queries x
+    → is_marked_at x.slot (all_touched_where test t) ≡ test (queries x.slot)
+marked_where test queries t x none in_slots =
+    ap is_marked (lookup-map_values (touched_where test) (nat_eq x.slot) t)
+    ∙ by (lookup (nat_eq x.slot) t) refl in_slots
   where
     one : (w : Watched) (b : Bool)
         → test w.query ≡ b
@@ -223,14 +223,14 @@ marked_where test queries t x none placed =
     one w false e m = m
 
     by : (o : Option Watched)
-        → lookup (nat_eq x.place) t ≡ o
-        → option_map (λ (w : Watched). w.query) o ≡ Some (queries x.place)
-        → is_marked (option_map (touched_where test) o) ≡ test (queries x.place)
+        → lookup (nat_eq x.slot) t ≡ o
+        → option_map (λ (w : Watched). w.query) o ≡ Some (queries x.slot)
+        → is_marked (option_map (touched_where test) o) ≡ test (queries x.slot)
     by None e p = absurd cc
     by (Some w) e p =
-        let same : w.query ≡ queries x.place = cc in
+        let same : w.query ≡ queries x.slot = cc in
         one w (test w.query) refl
-        (each_found (λ (y : Watched). y.marked ≡ false) (nat_eq x.place) t w none e)
+        (each_found (λ (y : Watched). y.marked ≡ false) (nat_eq x.slot) t w none e)
         ∙ ap test same
 
 -- Changes of the registrations that give other lines to the queries that pass a test, and to no
@@ -248,16 +248,16 @@ pub touched_stands : (test : Query → Bool) (octets : OctetsSent) (past : List 
 unfolding observers_standing
 touched_stands test octets past seen more history later moment now w due same h = record {
   queries = h.queries;
-  placed = each_map (IsPlaced (all_unmarked touched) h.queries) (handed touched) w.observers
-      (placed_kept unmarked unmarked-Keeps h.queries touched w.observers
-      (placed_kept (touched_where test) (touched_where-Keeps test) h.queries w.watches
-      w.observers h.placed));
+  in_slots = each_map (IsInSlot (all_unmarked touched) h.queries) (handed touched) w.observers
+      (in_slots_kept unmarked unmarked-Keeps h.queries touched w.observers
+      (in_slots_kept (touched_where test) (touched_where-Keeps test) h.queries w.watches
+      w.observers h.in_slots));
   watches =
       unmarked-StandsFor (observers past) touched
       (kept-StandsFor (touched_where test) (touched_where-Keeps test) (observers past) w.watches
       h.watches);
   observers = record {
-    standing = each (observers past) w.observers due h.placed h.observers.standing;
+    standing = each (observers past) w.observers due h.in_slots h.observers.standing;
     awaited =
         awaits_kept (handed touched) (record { peer = λ x. refl; flight = λ x flies. flies })
         w.observers h.observers.awaited;
@@ -283,25 +283,25 @@ touched_stands test octets past seen more history later moment now w due same h 
     or_turned false true = refl
     or_turned false false = refl
 
-    one : (o : Observer) (x : Watcher)
+    one : (o : Observer) (x : Standing)
         → is_due o past more ≡ (test o.query || is_due o past seen)
-        → IsPlaced w.watches h.queries x
+        → IsInSlot w.watches h.queries x
         → watching octets past seen o ≡ shown h.queries x
         → watching octets past more o ≡ shown h.queries (handed touched x)
-    one o x d placed here =
+    one o x d in_slots here =
         let query = ap (λ (y : Shown). y.observer.query) here in
         let before = ap (λ (y : Shown). y.due) here in
         ap (λ (b : Bool). record (watching octets past seen o) { due = b })
         (d
         ∙ (ap₂ (λ q b. test q || b) query before
-        ∙ (or_turned (test (h.queries x.place)) x.due
+        ∙ (or_turned (test (h.queries x.slot)) x.due
         ∙ ap (λ b. x.due || b)
-        (sym (marked_where test h.queries w.watches x h.unmarked placed)))))
-        ∙ ap (λ (y : Shown). record y { due = x.due || is_marked_at x.place touched }) here
+        (sym (marked_where test h.queries w.watches x h.unmarked in_slots)))))
+        ∙ ap (λ (y : Shown). record y { due = x.due || is_marked_at x.slot touched }) here
 
-    each : (os : List Observer) (xs : List Watcher)
+    each : (os : List Observer) (xs : List Standing)
         → AllByRecursion (λ o. is_due o past more ≡ (test o.query || is_due o past seen)) os
-        → AllByRecursion (IsPlaced w.watches h.queries) xs
+        → AllByRecursion (IsInSlot w.watches h.queries) xs
         → map (watching octets past seen) os ≡ map (shown h.queries) xs
         → map (watching octets past more) os ≡ map (shown h.queries) (map (handed touched) xs)
     each [] [] d p e = refl

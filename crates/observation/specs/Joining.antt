@@ -35,8 +35,8 @@ use Rattle.event_model.specs.Observers.{
   number_watched,
 }
 use Rattle.journal_model.specs.Lookups.{removal, addition}
-use Rattle.watch_table.specs.WatchedQueries.{one_more, without, IsPlaceFor}
-use Rattle.observers.specs.Watchers.{Watcher, is_named}
+use Rattle.watch_table.specs.WatchedQueries.{one_more, without, IsSlotFor}
+use Rattle.observers.specs.Standing.{Standing, is_named}
 use Rattle.observation.specs.declared.joining.Joining.{Joining}
 use Rattle.observation.specs.Watching.{Watching}
 
@@ -50,13 +50,13 @@ observer_joining query j = record {
   szx = j.szx;
 }
 
--- as the table keeps it, with the place of its query: it is not due, a body was formed for it, and
+-- as the table keeps it, with the slot of its query: it is not due, a body was formed for it, and
 -- no notice is in flight
-abbrev pub watcher_joining : ℕ → Joining → Watcher
-watcher_joining place j = record {
+abbrev pub standing_joining : ℕ → Joining → Standing
+standing_joining slot j = record {
   peer = j.peer;
   token = j.token;
-  place = place;
+  slot = slot;
   key = j.key;
   szx = j.szx;
   due = false;
@@ -67,16 +67,16 @@ watcher_joining place j = record {
 -- without the observer of a peer and a token
 abbrev pub without_observer : Peer → List ℕ → Watching → Watching
 without_observer peer token w = record {
-  watches = without (option_map (λ x. x.place) (find (is_named peer token) w.observers)) w.watches;
+  watches = without (option_map (λ x. x.slot) (find (is_named peer token) w.observers)) w.watches;
   observers = without_first (is_named peer token) w.observers;
 }
 
--- with one more observer, whose query is watched at its place
+-- with one more observer, whose query is watched in its slot
 pub record IsAdded (query : Query) (j : Joining) (before after : Watching) : Type 0 where
-  pub place : ℕ
-  pub place_for : IsPlaceFor query place before.watches
-  pub watches : after.watches ≡ one_more place query before.watches
-  pub observers : after.observers ≡ before.observers ++ watcher_joining place j ∷ []
+  pub slot : ℕ
+  pub slot_for : IsSlotFor query slot before.watches
+  pub watches : after.watches ≡ one_more slot query before.watches
+  pub observers : after.observers ≡ before.observers ++ standing_joining slot j ∷ []
 
 -- what comes of it: an observer of the same peer and token goes, and then this one is added or has
 -- no room; where memory ran out, nothing changes

@@ -4,7 +4,7 @@ use Rattle.std.specs.Prelude.{◌≡◌, Bool, true, ◌||◌, List, map, fold, 
 use Rattle.rd_base.specs.declared.queries.Query.{Query}
 use Rattle.rd_base.specs.declared.records.Record.{Record}
 use Rattle.watch_table.specs.WatchedQueries.{Watched, Table, is_marked_at, all_touched}
-use Rattle.observers.specs.Watchers.{Watcher}
+use Rattle.observers.specs.Standing.{Standing}
 
 -- a watched query after changes of the registrations that gave other lines to the queries that pass
 -- a test: where it passes, it is marked, and its body is dropped
@@ -20,9 +20,9 @@ abbrev pub all_lapsed : List Record → Table → Table
 all_lapsed records t = fold (λ before r. all_touched (Some r) None before) t records
 
 -- an observer that the mark of its query was handed on to
-abbrev pub handed : Table → Watcher → Watcher
-handed t w = record w { due = w.due || is_marked_at w.place t }
+abbrev pub handed : Table → Standing → Standing
+handed t w = record w { due = w.due || is_marked_at w.slot t }
 
 -- the mark of its query, where it is set, was handed on to the observer
-abbrev pub IsHanded : Table → Watcher → Type 0
-IsHanded t w = is_marked_at w.place t ≡ true → w.due ≡ true
+abbrev pub IsHanded : Table → Standing → Type 0
+IsHanded t w = is_marked_at w.slot t ≡ true → w.due ≡ true

@@ -22,10 +22,10 @@ use Rattle.event_model.specs.Observers.{observers}
 use Rattle.event_model.specs.Flights.{Sent, is_waited_for}
 use Rattle.event_model.specs.Due.{Transition, is_due}
 use Rattle.journal_model.specs.Effects.{Effects}
-use Rattle.observers.specs.Watchers.{Watcher}
+use Rattle.observers.specs.Standing.{Standing}
 
 -- a notice with a body is formed: it is sent and noted, and draws a Message ID
-abbrev pub forming : Watcher → List ℕ → Sent → Effects
+abbrev pub forming : Standing → List ℕ → Sent → Effects
 forming x body sent = record {
   sent = (x.peer, sent.octets) ∷ [];
   notes = note.Formed x.peer x.token body (Some sent.mid) ∷ [];
@@ -33,7 +33,7 @@ forming x body sent = record {
 }
 
 -- a notice is sent again
-abbrev pub sending_again : Watcher → Sent → Effects
+abbrev pub sending_again : Standing → Sent → Effects
 sending_again x sent = record {
   sent = (x.peer, sent.octets) ∷ [];
   notes = note.Again x.peer sent.mid ∷ [];

@@ -11,36 +11,37 @@ use Rattle.journal_model.specs.Journal.{events, entries, now, transitions}
 use Rattle.journal_model.specs.Ticks.{octets_sent, is_confirmable_with}
 use Rattle.watch_table.specs.WatchedQueries as watched
 use Rattle.watch_table.specs.WatchedQueries.{Watched, query_at}
-use Rattle.watch_table.specs.Watchers.{WatchesStandFor}
-use Rattle.observers.specs.Watchers.{Watcher, is_named}
+use Rattle.watch_table.specs.ObserverCounts.{WatchesStandFor}
+use Rattle.observers.specs.Standing.{Standing, is_named}
 use Rattle.observers.specs.ObserverEvents.{observer_of, ObserversStandFor}
 
--- the watched queries at their places, and the observers, each with the place of its query
+-- the watched queries in their slots, and the observers, each with the slot of its query
 pub record Watching : Type 0 where
   pub watches : watched.Table
-  pub observers : List Watcher
+  pub observers : List Standing
 
--- the query of an observer is watched at its place
-abbrev pub IsPlaced : watched.Table → (ℕ → Query) → Watcher → Type 0
-IsPlaced t queries w = query_at w.place t ≡ Some (queries w.place)
+-- the query of an observer is watched in its slot
+abbrev pub IsInSlot : watched.Table → (ℕ → Query) → Standing → Type 0
+IsInSlot t queries w = query_at w.slot t ≡ Some (queries w.slot)
 
--- by the queries at their places, each query is watched as often as it is observed
-pub record AreWatchedBy (queries : ℕ → Query) (t : watched.Table) (ws : List Watcher) : Type 0 where
-  pub placed : AllByRecursion (IsPlaced t queries) ws
+-- by the queries in their slots, each query is watched as often as it is observed
+pub record AreWatchedBy (queries : ℕ → Query) (t : watched.Table)
+    (ws : List Standing) : Type 0 where
+  pub in_slots : AllByRecursion (IsInSlot t queries) ws
   pub watches : WatchesStandFor (map (observer_of queries) ws) t
 
 -- two observers have not the same peer and token
-abbrev pub IsOtherName : Watcher → Watcher → Type 0
+abbrev pub IsOtherName : Standing → Standing → Type 0
 IsOtherName w other = is_named w.peer w.token other ≡ false
 
 -- no two have (RFC 7641 section 4.1)
-abbrev pub HaveOtherNames : List Watcher → Type 0
+abbrev pub HaveOtherNames : List Standing → Type 0
 HaveOtherNames [] = Unit {0}
 HaveOtherNames (w ∷ ws) = AllByRecursion (IsOtherName w) ws × HaveOtherNames ws
 
 -- each query is watched as often as it is observed, and no two observers have the same peer and
 -- token
-pub record AreWatched (t : watched.Table) (ws : List Watcher) : Type 0 where
+pub record AreWatched (t : watched.Table) (ws : List Standing) : Type 0 where
   pub queries : ℕ → Query
   pub by : AreWatchedBy queries t ws
   pub apart : HaveOtherNames ws
@@ -55,7 +56,7 @@ abbrev pub IsUnmarked : ℕ × Watched → Type 0
 IsUnmarked e = e.1.marked ≡ false
 
 -- a notice in flight is a confirmable message with its Message ID
-abbrev pub IsConfirmable : Watcher → Type 0
+abbrev pub IsConfirmable : Standing → Type 0
 IsConfirmable w = (s : Sent) → w.flight ≡ Some s → is_confirmable_with s.mid s.octets ≡ true
 
 -- they stand for a journal: the observers of its events, each due as its transitions say and with
@@ -63,7 +64,7 @@ IsConfirmable w = (s : Sent) → w.flight ≡ Some s → is_confirmable_with s.m
 -- left, and each body that is set is the listing now
 pub record WatchingStandsFor (rows : List Row) (w : Watching) : Type 0 where
   pub queries : ℕ → Query
-  pub placed : AllByRecursion (IsPlaced w.watches queries) w.observers
+  pub in_slots : AllByRecursion (IsInSlot w.watches queries) w.observers
   pub watches : WatchesStandFor (observers (events rows)) w.watches
   pub observers : ObserversStandFor queries (octets_sent rows) (events rows) (transitions rows)
       w.observers

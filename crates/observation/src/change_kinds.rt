@@ -19,7 +19,7 @@ pub enum ChangeKind {
 }
 
 /// Whether both states of a registration have the same base and the same attributes.
-fn is_placed_alike(old: &Record, new: &Record) -> bool
+fn is_described_alike(old: &Record, new: &Record) -> bool
     ensures { IsTrue result → (old.now.base ≡ new.now.base) × (old.now.attrs ≡ new.now.attrs) }
 {
     old.base == new.base && old.attrs == new.attrs
@@ -33,7 +33,7 @@ pub(crate) fn stays_as_shown(kind: ChangeKind, old: Option<&Record>, new: Option
         → StaysAsShown (option_copied old.entry) (option_copied new.entry) }
 {
     match (kind, old, new) {
-        (ChangeKind::Update, Some(old), Some(new)) => is_placed_alike(old, new),
+        (ChangeKind::Update, Some(old), Some(new)) => is_described_alike(old, new),
         _ => false,
     }
 }

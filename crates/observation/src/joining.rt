@@ -8,9 +8,9 @@ ghost use Rattle.rd_base.specs.Firsts.{without_first};
 ghost use Rattle.event_model.specs.declared.notes.Observer.{Observer as Observed};
 ghost use Rattle.event_model.specs.Observers.{max_observers};
 ghost use Rattle.watch_table.specs.WatchedQueries.{one_fewer, without};
-ghost use Rattle.watch_table.specs.Watchers.{WatchesStandFor};
-ghost use Rattle.observers.specs.Watchers.{Watcher, is_named, has_notice};
-ghost use Rattle.observation.specs.Joining.{Joins, has_room, watcher_joining};
+ghost use Rattle.watch_table.specs.ObserverCounts.{WatchesStandFor};
+ghost use Rattle.observers.specs.Standing.{Standing, is_named, has_notice};
+ghost use Rattle.observation.specs.Joining.{Joins, has_room, standing_joining};
 
 use event_model::limits::MAX_OBSERVERS;
 use exchange_core::Token;
@@ -20,7 +20,7 @@ use std::alloc::Global;
 use std::sync::Arc;
 use watch_table::{WatchFault, WatchTable};
 
-/// Who asks to observe a lookup: all that is kept of it but the place of its query.
+/// Who asks to observe a lookup: all that is kept of it but the slot of its query.
 #[derive(Drop)]
 pub struct Joining {
     /// Where its notices go.
@@ -36,14 +36,14 @@ pub struct Joining {
 }
 
 impl Joining {
-    /// The observer, with the place of its query.
-    fn at(self, place: u32) -> Observer
-        ensures { result ≡ watcher_joining place self }
+    /// The observer, with the slot of its query.
+    fn at(self, slot: u32) -> Observer
+        ensures { result ≡ standing_joining slot self }
     {
         Observer {
             peer: self.peer,
             token: self.token,
-            place,
+            place: slot,
             key: self.key,
             szx: self.szx,
             due: false,
@@ -60,10 +60,10 @@ fn is_of(observer: &Observer, peer: &Peer, token: &Token) -> bool
     *token == observer.token && *peer == observer.peer
 }
 
-/// The place of the query of the observer of a peer and a token, where there is one.
-fn place_named(observers: &Observers, peer: &Peer, token: &Token) -> Option<u32>
+/// The slot of the query of the observer of a peer and a token, where there is one.
+fn slot_named(observers: &Observers, peer: &Peer, token: &Token) -> Option<u32>
     ensures { result
-        ≡ option_map (λ x. x.place) (find (is_named peer.now token.now) observers.now) }
+        ≡ option_map (λ x. x.slot) (find (is_named peer.now token.now) observers.now) }
 {
     'observers: for index in 0..observers.len() {
         if let Some(observer) = observers.at(index) {
@@ -76,10 +76,10 @@ fn place_named(observers: &Observers, peer: &Peer, token: &Token) -> Option<u32>
 }
 
 /// Whether as many observers stand as there are at most, beside that of a peer and a token, whose
-/// query has this place where there is one.
+/// query has this slot where there is one.
 fn is_full_beside(observers: &Observers, before: Option<u32>) -> bool
     ensures { (peer : Endpoint) (token : List ℕ)
-        → before ≡ option_map (λ x. x.place) (find (is_named peer token) observers.now)
+        → before ≡ option_map (λ x. x.slot) (find (is_named peer token) observers.now)
         → result
         ≡ nat_le max_observers (length (without_first (is_named peer token) observers.now)) }
 {
@@ -89,8 +89,8 @@ fn is_full_beside(observers: &Observers, before: Option<u32>) -> bool
     }
 }
 
-/// Takes out the observer of a peer and a token, and one watcher of its query; whether there is
-/// one.
+/// Takes out the observer of a peer and a token, and its query has one observer fewer; whether
+/// there is one.
 pub(crate) fn leave(
     watches: &mut WatchTable,
     observers: &mut Observers,
@@ -99,7 +99,7 @@ pub(crate) fn leave(
 ) -> bool
     ensures found { result ≡ is_some (find (is_named peer.now token.now) observers.old) }
     ensures watches { watches.new
-        ≡ without (option_map (λ x. x.place) (find (is_named peer.now token.now) observers.old))
+        ≡ without (option_map (λ x. x.slot) (find (is_named peer.now token.now) observers.old))
         watches.old }
     ensures observers { observers.new ≡ without_first (is_named peer.now token.now) observers.old }
 {
@@ -112,8 +112,8 @@ pub(crate) fn leave(
     }
 }
 
-/// Takes out the observer of a peer whose notice in flight has a Message ID, and one watcher of its
-/// query; whether there is one.
+/// Takes out the observer of a peer whose notice in flight has a Message ID, and its query has one
+/// observer fewer; whether there is one.
 pub(crate) fn reset(
     watches: &mut WatchTable,
     observers: &mut Observers,
@@ -122,7 +122,7 @@ pub(crate) fn reset(
 ) -> bool
     ensures found { result ≡ is_some (find (has_notice peer.now mid) observers.old) }
     ensures watches { watches.new
-        ≡ without (option_map (λ x. x.place) (find (has_notice peer.now mid) observers.old))
+        ≡ without (option_map (λ x. x.slot) (find (has_notice peer.now mid) observers.old))
         watches.old }
     ensures observers { observers.new ≡ without_first (has_notice peer.now mid) observers.old }
 {
@@ -135,22 +135,22 @@ pub(crate) fn reset(
     }
 }
 
-/// Takes out the observer with an index, and one watcher of its query.
+/// Takes out the observer with an index, and its query has one observer fewer.
 pub(crate) fn take_out(watches: &mut WatchTable, observers: &mut Observers, index: usize)
     requires { index < length observers.old }
-    ensures watches { (x : Watcher)
+    ensures watches { (x : Standing)
         → slice_get observers.old index ≡ Some x
-        → watches.new ≡ one_fewer x.place watches.old }
+        → watches.new ≡ one_fewer x.slot watches.old }
     ensures observers { observers.new ≡ remove observers.old index }
 {
     let gone = observers.timed_out(index);
     watches.unwatch(gone.place);
 }
 
-/// The place of the query of the observer with an index.
-pub(crate) fn place_at(observers: &Observers, index: usize) -> u32
+/// The slot of the query of the observer with an index.
+pub(crate) fn slot_at(observers: &Observers, index: usize) -> u32
     requires { index < length observers.now }
-    ensures { (x : Watcher) → slice_get observers.now index ≡ Some x → result ≡ x.place }
+    ensures { (x : Standing) → slice_get observers.now index ≡ Some x → result ≡ x.slot }
 {
     match observers.at(index) {
         Some(observer) => observer.place,
@@ -192,20 +192,20 @@ pub(crate) fn join(
         { watches = watches.old; observers = observers.old }) result
         (record { watches = watches.new; observers = observers.new }) }
     ensures room { (standing : List Observed)
-        → WatchesStandFor standing (without (option_map (λ x. x.place)
+        → WatchesStandFor standing (without (option_map (λ x. x.slot)
         (find (is_named joining.peer joining.token) observers.old)) watches.old)
         → IfOk result (λ added. added
         ≡ has_room query.now (length (without_first (is_named joining.peer joining.token)
         observers.old)) standing) }
 {
-    let before = place_named(observers, &joining.peer, &joining.token);
+    let before = slot_named(observers, &joining.peer, &joining.token);
     if is_full_beside(observers, before) {
         leave(watches, observers, &joining.peer, &joining.token);
         return Ok(false);
     }
     match watches.watch(alloc, before, query) {
-        Ok(place) => {
-            replace(observers, joining.at(place));
+        Ok(slot) => {
+            replace(observers, joining.at(slot));
             Ok(true)
         }
         Err(WatchFault::FullWatches) => {

@@ -6,7 +6,7 @@ ghost use Rattle.history_model.specs.ChangedParts.{is_lapse_of};
 ghost use Rattle.history_model.specs.Replay.{replay};
 ghost use Rattle.history_model.specs.Versions.{VersionStandsFor};
 ghost use Rattle.watch_table.specs.WatchedQueries.{is_marked_at, all_unmarked};
-ghost use Rattle.observers.specs.Watchers.{Watcher};
+ghost use Rattle.observers.specs.Standing.{Standing};
 ghost use Rattle.observation.specs.Marks.{all_touched_where, handed, IsHanded};
 ghost use Rattle.observation.specs.Watching.{AreWatched};
 
@@ -15,13 +15,13 @@ use observers::Observers;
 use rd_base::Moment;
 use watch_table::WatchTable;
 
-/// The place of the query of the observer with an index, where that is marked and the observer is
+/// The slot of the query of the observer with an index, where that is marked and the observer is
 /// not due.
-fn place_to_mark(watches: &WatchTable, observers: &Observers, index: usize) -> Option<u32>
-    ensures marked { IfSome result (λ place. is_marked_at place watches.now ≡ true) }
-    ensures own { (w : Watcher)
+fn slot_to_mark(watches: &WatchTable, observers: &Observers, index: usize) -> Option<u32>
+    ensures marked { IfSome result (λ slot. is_marked_at slot watches.now ≡ true) }
+    ensures own { (w : Standing)
         → slice_get observers.now index ≡ Some w
-        → MatchOption result (IsHanded watches.now w) (λ place. place ≡ w.place) }
+        → MatchOption result (IsHanded watches.now w) (λ slot. slot ≡ w.slot) }
 {
     let Some(observer) = observers.at(index) else {
         return None;
@@ -40,8 +40,8 @@ fn mark_observers(watches: &WatchTable, observers: &mut Observers)
     ensures { observers.new ≡ map (handed watches.now) observers.old }
 {
     'observers: for index in 0..observers.len() {
-        if let Some(place) = place_to_mark(watches, observers, index) {
-            observers.mark(place);
+        if let Some(slot) = slot_to_mark(watches, observers, index) {
+            observers.mark(slot);
         }
     }
 }
@@ -71,7 +71,7 @@ pub(crate) fn touch_lapsing(
         ≡ all_touched_where (λ query. is_lapse_of query from.0 to.0 (replay history).records)
         watches.old }
     ensures none { result ≡ false → watches.new ≡ watches.old }
-    ensures watched { (standing : List Watcher)
+    ensures watched { (standing : List Standing)
         → AreWatched watches.old standing
         → AreWatched watches.new standing }
 {

@@ -25,8 +25,8 @@ ghost use Rattle.journal_model.specs.Ticks.{is_confirmable_with};
 ghost use Rattle.journal_model.specs.UnfinishedRow.{making};
 ghost use Rattle.exchange_core.specs.Retransmissions.{Resends};
 ghost use Rattle.observers.specs.ObserverEvents.{notice_due};
-ghost use Rattle.observers.specs.Watchers.{Watcher, is_awaited, next_ready, noticed, due_of};
-ghost use Rattle.observers.specs.Watchers.{timed, changed_at};
+ghost use Rattle.observers.specs.Standing.{Standing, is_awaited, next_ready, noticed, due_of};
+ghost use Rattle.observers.specs.Standing.{timed, changed_at};
 ghost use Rattle.observation.specs.ChangeKinds.{kind_of};
 ghost use Rattle.observation.specs.Directories.{DirectoryStandsFor};
 ghost use Rattle.observation.specs.Entering.{IsEntered};
@@ -50,9 +50,9 @@ use watch_table::WatchTable;
 /// watched as often as it is observed.
 #[derive(Drop)]
 pub struct Watching {
-    /// The watched queries, each at its place.
+    /// The watched queries, each in its slot.
     watches: WatchTable,
-    /// The observers, each with the place of its query.
+    /// The observers, each with the slot of its query.
     observers: Observers,
 }
 
@@ -211,7 +211,7 @@ impl Watching {
             → result ≡ next_noticed from (events rows) (transitions rows) }
         ensures ready { result ≡ next_ready from self.now.observers }
         ensures within { IfSome result (λ i. (from ≤ i) × (i < length self.now.observers)) }
-        ensures free { (x : Watcher)
+        ensures free { (x : Standing)
             → IfSome result (λ i. slice_get self.now.observers i ≡ Some x
             → is_awaited x.peer self.now.observers ≡ false) }
     {
@@ -226,8 +226,7 @@ impl Watching {
             → slice_get (observers (events rows)) index ≡ Some o
             → result.now ≡ o.query }
     {
-        self.watches
-            .query(joining::place_at(&self.observers, index))
+        self.watches.query(joining::slot_at(&self.observers, index))
     }
 
     /// The body of the query of the observer with an index, where one is kept: it is the listing
@@ -240,7 +239,7 @@ impl Watching {
             → IfSome result (λ body. arc_value body.now
             ≡ listing o.query (entries rows) (now rows)) }
     {
-        self.watches.body(joining::place_at(&self.observers, index))
+        self.watches.body(joining::slot_at(&self.observers, index))
     }
 
     /// Keeps a body for the query of the observer with an index, so that it is formed once for all
@@ -254,19 +253,19 @@ impl Watching {
             → WatchingStandsFor rows self.new }
         ensures same { self.new.observers ≡ self.old.observers }
     {
-        let place = joining::place_at(&self.observers, index);
-        self.watches.set_body(place, body);
+        let slot = joining::slot_at(&self.observers, index);
+        self.watches.set_body(slot, body);
     }
 
     /// A notice with a body was formed for the observer with an index, to whose peer none is in
     /// flight: it is due no longer. Takes no memory.
     pub fn formed(&mut self, index: usize, flight: Sent, body: Arc<Bytes>)
         requires within { index < length self.old.observers }
-        requires free { (x : Watcher)
+        requires free { (x : Standing)
             → slice_get self.old.observers index ≡ Some x
             → is_awaited x.peer self.old.observers ≡ false }
         ensures stands { (rows : List Row) (s : Step) (starved : Bool) (done : Effects)
-            (x : Watcher)
+            (x : Standing)
             → slice_get self.old.observers index ≡ Some x
             → list_any (λ d. is_same_peer d.0 x.peer
             && is_confirmable_with flight.mid d.1) done.sent
@@ -291,7 +290,7 @@ impl Watching {
     pub fn unchanged(&mut self, index: usize)
         requires { index < length self.old.observers }
         ensures stands { (rows : List Row) (s : Step) (starved : Bool) (done : Effects)
-            (x : Watcher)
+            (x : Standing)
             → slice_get self.old.observers index ≡ Some x
             → WatchingStandsFor (making rows s starved done) self.old
             → WatchingStandsFor (making rows s starved
@@ -310,7 +309,7 @@ impl Watching {
             → slice_get (observers (events rows)) index ≡ Some o
             → result ≡ notice_due now.0 (flight o (events rows)) }
         ensures stands { (rows : List Row) (s : Step) (starved : Bool) (done : Effects)
-            (x : Watcher) (sent : Message)
+            (x : Standing) (sent : Message)
             → result ≡ Again.Send
             → slice_get self.old.observers index ≡ Some x
             → x.flight ≡ Some sent
@@ -320,7 +319,7 @@ impl Watching {
             self.new }
         ensures unsent { result ≢ Again.Send → self.new ≡ self.old }
         ensures len { length self.new.observers ≡ length self.old.observers }
-        ensures answer { (x : Watcher)
+        ensures answer { (x : Standing)
             → slice_get self.old.observers index ≡ Some x
             → result ≡ due_of now.0 x.flight }
         ensures kept { self.new.observers ≡ changed_at (timed now.0) index self.old.observers }
@@ -332,7 +331,7 @@ impl Watching {
     pub fn timed_out(&mut self, index: usize)
         requires { index < length self.old.observers }
         ensures stands { (rows : List Row) (s : Step) (starved : Bool) (done : Effects)
-            (x : Watcher)
+            (x : Standing)
             → slice_get self.old.observers index ≡ Some x
             → WatchingStandsFor (making rows s starved done) self.old
             → WatchingStandsFor (making rows s starved

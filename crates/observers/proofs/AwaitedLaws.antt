@@ -44,8 +44,8 @@ use Rattle.rd_base.specs.declared.peers.Peer.{Peer}
 use Rattle.event_model.specs.Same.{is_same_peer}
 use Rattle.event_model.specs.Flights.{Sent}
 use Rattle.event_model.proofs.SameLaws.{is_same_peer-refl}
-use Rattle.observers.specs.Watchers.{
-  Watcher,
+use Rattle.observers.specs.Standing.{
+  Standing,
   is_awaited,
   is_ready,
   marked,
@@ -59,40 +59,40 @@ use Rattle.observers.specs.AwaitedPeers.{awaited_of, flights_of, Tells, AreAwait
 
 -- ---- a change that starts and ends no flight
 
-pub record LeavesFlights (change : Watcher → Watcher) : Type 0 where
-  pub peer : (w : Watcher) → (change w).peer ≡ w.peer
-  pub flight : (w : Watcher) → is_some (change w).flight ≡ is_some w.flight
+pub record LeavesFlights (change : Standing → Standing) : Type 0 where
+  pub peer : (w : Standing) → (change w).peer ≡ w.peer
+  pub flight : (w : Standing) → is_some (change w).flight ≡ is_some w.flight
 
-awaits : Peer → Watcher → Bool
+awaits : Peer → Standing → Bool
 awaits peer w = is_same_peer w.peer peer && is_some w.flight
 
-same_here : (change : Watcher → Watcher)
+same_here : (change : Standing → Standing)
     → LeavesFlights change
-    → (peer : Peer) (w : Watcher)
+    → (peer : Peer) (w : Standing)
     → (is_same_peer (change w).peer peer && is_some (change w).flight)
     ≡ (is_same_peer w.peer peer && is_some w.flight)
 same_here change leaves peer w =
     ap₂ (λ p b. is_same_peer p peer && b) (leaves.peer w) (leaves.flight w)
 
-awaited_map : (change : Watcher → Watcher)
+awaited_map : (change : Standing → Standing)
     → LeavesFlights change
-    → (peer : Peer) (ws : List Watcher)
+    → (peer : Peer) (ws : List Standing)
     → is_awaited peer (map change ws) ≡ is_awaited peer ws
 awaited_map change leaves peer [] = refl
 awaited_map change leaves peer (w ∷ ws) =
     ap₂ (λ a b. a || b) (same_here change leaves peer w) (awaited_map change leaves peer ws)
 
-flights_map : (change : Watcher → Watcher)
+flights_map : (change : Standing → Standing)
     → LeavesFlights change
-    → (ws : List Watcher)
+    → (ws : List Standing)
     → flights_of (map change ws) ≡ flights_of ws
 flights_map change leaves [] = refl
 flights_map change leaves (w ∷ ws) =
     ap₂ (λ b n. if b then suc n else n) (leaves.flight w) (flights_map change leaves ws)
 
-awaited_at : (change : Watcher → Watcher)
+awaited_at : (change : Standing → Standing)
     → LeavesFlights change
-    → (peer : Peer) (i : ℕ) (ws : List Watcher)
+    → (peer : Peer) (i : ℕ) (ws : List Standing)
     → is_awaited peer (changed_at change i ws) ≡ is_awaited peer ws
 awaited_at change leaves peer i [] = refl
 awaited_at change leaves peer zero (w ∷ ws) =
@@ -101,9 +101,9 @@ awaited_at change leaves peer (suc i) (w ∷ ws) =
     ap (λ b. (is_same_peer w.peer peer && is_some w.flight) || b)
     (awaited_at change leaves peer i ws)
 
-flights_at : (change : Watcher → Watcher)
+flights_at : (change : Standing → Standing)
     → LeavesFlights change
-    → (i : ℕ) (ws : List Watcher)
+    → (i : ℕ) (ws : List Standing)
     → flights_of (changed_at change i ws) ≡ flights_of ws
 flights_at change leaves i [] = refl
 flights_at change leaves zero (w ∷ ws) =
@@ -111,9 +111,9 @@ flights_at change leaves zero (w ∷ ws) =
 flights_at change leaves (suc i) (w ∷ ws) =
     ap (λ n. if is_some w.flight then suc n else n) (flights_at change leaves i ws)
 
-pub map-AreAwaited : (change : Watcher → Watcher)
+pub map-AreAwaited : (change : Standing → Standing)
     → LeavesFlights change
-    → (ws : List Watcher) (peers : List Peer)
+    → (ws : List Standing) (peers : List Peer)
     → AreAwaited ws peers
     → AreAwaited (map change ws) peers
 map-AreAwaited change leaves ws peers h = record {
@@ -121,9 +121,9 @@ map-AreAwaited change leaves ws peers h = record {
   few = subst (λ n. length peers ≤ n) (sym (flights_map change leaves ws)) h.few;
 }
 
-pub at-AreAwaited : (change : Watcher → Watcher)
+pub at-AreAwaited : (change : Standing → Standing)
     → LeavesFlights change
-    → (i : ℕ) (ws : List Watcher) (peers : List Peer)
+    → (i : ℕ) (ws : List Standing) (peers : List Peer)
     → AreAwaited ws peers
     → AreAwaited (changed_at change i ws) peers
 at-AreAwaited change leaves i ws peers h = record {
@@ -131,8 +131,8 @@ at-AreAwaited change leaves i ws peers h = record {
   few = subst (λ n. length peers ≤ n) (sym (flights_at change leaves i ws)) h.few;
 }
 
-pub marked-LeavesFlights : (place : ℕ) → LeavesFlights (marked place)
-marked-LeavesFlights place = record { peer = λ w. refl; flight = λ w. refl }
+pub marked-LeavesFlights : (slot : ℕ) → LeavesFlights (marked slot)
+marked-LeavesFlights slot = record { peer = λ w. refl; flight = λ w. refl }
 
 pub seen-LeavesFlights : LeavesFlights seen
 seen-LeavesFlights = record { peer = λ w. refl; flight = λ w. refl }
@@ -154,7 +154,7 @@ and_false : (a : Bool) → (a && false) ≡ false
 and_false true = refl
 and_false false = refl
 
-awaited_pushed : (peer : Peer) (ws : List Watcher) (w : Watcher)
+awaited_pushed : (peer : Peer) (ws : List Standing) (w : Standing)
     → w.flight ≡ None
     → is_awaited peer (ws ++ w ∷ []) ≡ is_awaited peer ws
 awaited_pushed peer [] w quiet =
@@ -164,14 +164,14 @@ awaited_pushed peer [] w quiet =
 awaited_pushed peer (x ∷ ws) w quiet =
     ap (λ b. (is_same_peer x.peer peer && is_some x.flight) || b) (awaited_pushed peer ws w quiet)
 
-flights_pushed : (ws : List Watcher) (w : Watcher)
+flights_pushed : (ws : List Standing) (w : Standing)
     → w.flight ≡ None
     → flights_of (ws ++ w ∷ []) ≡ flights_of ws
 flights_pushed [] w quiet = ap (λ (o : Option Sent). if is_some o then suc zero else zero) quiet
 flights_pushed (x ∷ ws) w quiet =
     ap (λ n. if is_some x.flight then suc n else n) (flights_pushed ws w quiet)
 
-pub pushed-AreAwaited : (ws : List Watcher) (peers : List Peer) (w : Watcher)
+pub pushed-AreAwaited : (ws : List Standing) (peers : List Peer) (w : Standing)
     → w.flight ≡ None
     → AreAwaited ws peers
     → AreAwaited (ws ++ w ∷ []) peers
@@ -183,7 +183,7 @@ pushed-AreAwaited ws peers w quiet h = record {
 -- ---- a notice is formed
 
 -- an observer of a peer that is not awaited awaits nothing
-quiet_at : (ws : List Watcher) (i : ℕ) (w : Watcher)
+quiet_at : (ws : List Standing) (i : ℕ) (w : Standing)
     → slice_get ws i ≡ Some w
     → is_awaited w.peer ws ≡ false
     → is_some w.flight ≡ false
@@ -208,7 +208,8 @@ quiet_at (x ∷ ws) (suc i) w there free =
     rest true h = absurd (false≢true (sym h))
     rest false h = h
 
-awaited_noticed : (s : Sent) (body : List ℕ) (peer : Peer) (ws : List Watcher) (i : ℕ) (w : Watcher)
+awaited_noticed : (s : Sent) (body : List ℕ) (peer : Peer) (ws : List Standing) (i : ℕ)
+    (w : Standing)
     → slice_get ws i ≡ Some w
     → is_some w.flight ≡ false
     → is_awaited peer (changed_at (noticed s body) i ws)
@@ -219,7 +220,7 @@ awaited_noticed s body peer (x ∷ ws) zero w there quiet =
     let here : (is_same_peer x.peer peer && is_some x.flight) ≡ false =
     ap (λ y. is_same_peer y.peer peer && is_some y.flight) same
     ∙ (ap (λ b. is_same_peer w.peer peer && b) quiet ∙ and_false (is_same_peer w.peer peer)) in
-    ap (λ (y : Watcher). (is_same_peer y.peer peer && true) || is_awaited peer ws) same
+    ap (λ (y : Standing). (is_same_peer y.peer peer && true) || is_awaited peer ws) same
     ∙ (turned (is_same_peer w.peer peer) (is_awaited peer ws)
     ∙ ap (λ a. (a || is_awaited peer ws) || is_same_peer w.peer peer) (sym here))
   where
@@ -238,14 +239,15 @@ awaited_noticed s body peer (x ∷ ws) (suc i) w there quiet =
     moved true b c = refl
     moved false b c = refl
 
-flights_noticed : (s : Sent) (body : List ℕ) (ws : List Watcher) (i : ℕ) (w : Watcher)
+flights_noticed : (s : Sent) (body : List ℕ) (ws : List Standing) (i : ℕ) (w : Standing)
     → slice_get ws i ≡ Some w
     → is_some w.flight ≡ false
     → flights_of (changed_at (noticed s body) i ws) ≡ suc (flights_of ws)
 flights_noticed s body [] i w there quiet = absurd cc
 flights_noticed s body (x ∷ ws) zero w there quiet =
     let same : x ≡ w = cc in
-    let here : is_some x.flight ≡ false = ap (λ (y : Watcher). is_some y.flight) same ∙ quiet in
+    let here : is_some x.flight ≡ false = ap (λ (y : Standing). is_some y.flight) same
+    ∙ quiet in
     ap (λ b. suc (if b then suc (flights_of ws) else flights_of ws)) (sym here)
 flights_noticed s body (x ∷ ws) (suc i) w there quiet =
     ap (λ n. if is_some x.flight then suc n else n) (flights_noticed s body ws i w there quiet)
@@ -273,8 +275,9 @@ length_pushed : (peers : List Peer) (p : Peer) → length (peers ++ p ∷ []) �
 length_pushed [] p = refl
 length_pushed (x ∷ peers) p = ap suc (length_pushed peers p)
 
-pub noticed-AreAwaited : (s : Sent) (body : List ℕ) (ws : List Watcher) (peers : List Peer) (i : ℕ)
-    (w : Watcher)
+pub noticed-AreAwaited : (s : Sent) (body : List ℕ) (ws : List Standing) (peers : List Peer)
+    (i : ℕ)
+    (w : Standing)
     → slice_get ws i ≡ Some w
     → is_awaited w.peer ws ≡ false
     → AreAwaited ws peers
@@ -294,7 +297,7 @@ noticed-AreAwaited s body ws peers i w there free h =
     }
 
 -- fewer notices are in flight than there are observers, where one of them awaits nothing
-flights_few : (ws : List Watcher) → flights_of ws ≤ length ws
+flights_few : (ws : List Standing) → flights_of ws ≤ length ws
 flights_few [] = omega arith
 flights_few (w ∷ ws) = by (is_some w.flight) (flights_few ws)
   where
@@ -304,14 +307,15 @@ flights_few (w ∷ ws) = by (is_some w.flight) (flights_few ws)
     by true few = omega (arith, few)
     by false few = omega (arith, few)
 
-fewer_flights : (ws : List Watcher) (i : ℕ) (w : Watcher)
+fewer_flights : (ws : List Standing) (i : ℕ) (w : Standing)
     → slice_get ws i ≡ Some w
     → is_some w.flight ≡ false
     → flights_of ws < length ws
 fewer_flights [] i w there quiet = absurd cc
 fewer_flights (x ∷ ws) zero w there quiet =
     let same : x ≡ w = cc in
-    let here : is_some x.flight ≡ false = ap (λ (y : Watcher). is_some y.flight) same ∙ quiet in
+    let here : is_some x.flight ≡ false = ap (λ (y : Standing). is_some y.flight) same
+    ∙ quiet in
     let few = flights_few ws in
     let none : flights_of (x ∷ ws) ≡ flights_of ws =
     ap (λ b. if b then suc (flights_of ws) else flights_of ws) here in
@@ -325,7 +329,7 @@ fewer_flights (x ∷ ws) (suc i) w there quiet =
     by true few = omega (arith, few)
     by false few = omega (arith, few)
 
-pub room-AreAwaited : (ws : List Watcher) (peers : List Peer) (i : ℕ) (w : Watcher)
+pub room-AreAwaited : (ws : List Standing) (peers : List Peer) (i : ℕ) (w : Standing)
     → slice_get ws i ≡ Some w
     → is_awaited w.peer ws ≡ false
     → AreAwaited ws peers
@@ -336,7 +340,7 @@ room-AreAwaited ws peers i w there free h =
 
 -- ---- gathered anew
 
-tells_of : (peer : Peer) (ws : List Watcher)
+tells_of : (peer : Peer) (ws : List Standing)
     → list_any (λ q. is_same_peer q peer) (awaited_of ws) ≡ is_awaited peer ws
 tells_of peer [] = refl
 tells_of peer (w ∷ ws) = by (is_some w.flight) (tells_of peer ws)
@@ -353,7 +357,7 @@ tells_of peer (w ∷ ws) = by (is_some w.flight) (tells_of peer ws)
     by false more =
         more ∙ ap (λ a. a || is_awaited peer ws) (sym (and_false (is_same_peer w.peer peer)))
 
-length_of : (ws : List Watcher) → length (awaited_of ws) ≡ flights_of ws
+length_of : (ws : List Standing) → length (awaited_of ws) ≡ flights_of ws
 length_of [] = refl
 length_of (w ∷ ws) = by (is_some w.flight) (length_of ws)
   where
@@ -364,7 +368,7 @@ length_of (w ∷ ws) = by (is_some w.flight) (length_of ws)
     by true more = ap suc more
     by false more = more
 
-pub of-AreAwaited : (ws : List Watcher) → AreAwaited ws (awaited_of ws)
+pub of-AreAwaited : (ws : List Standing) → AreAwaited ws (awaited_of ws)
 of-AreAwaited ws = record {
   tells = λ peer. tells_of peer ws;
   few = let same = length_of ws in omega (arith, same);
@@ -374,11 +378,11 @@ pub empty-AreAwaited : AreAwaited [] []
 empty-AreAwaited = record { tells = λ peer. refl; few = omega arith }
 
 -- from one observer on
-pub gathered-none : (ws : List Watcher) → awaited_of (drop 0 ws) ≡ awaited_of ws
+pub gathered-none : (ws : List Standing) → awaited_of (drop 0 ws) ≡ awaited_of ws
 gathered-none [] = refl
 gathered-none (w ∷ ws) = refl
 
-from_index : (xs : List Watcher) (i : ℕ) (w : Watcher)
+from_index : (xs : List Standing) (i : ℕ) (w : Standing)
     → w ≡ get_or xs i w
     → i < length xs
     → drop i xs ≡ w ∷ drop (suc i) xs
@@ -387,7 +391,7 @@ from_index (x ∷ xs) zero w is inside = ap (λ y. y ∷ xs) (sym is)
 from_index (x ∷ xs) (suc i) w is inside = from_index xs i w is (omega (arith, inside))
 
 -- the peer of one more is gathered, or it awaits nothing
-pub gathered-more : (ws : List Watcher) (i : ℕ) (w : Watcher) (peers : List Peer)
+pub gathered-more : (ws : List Standing) (i : ℕ) (w : Standing) (peers : List Peer)
     → w ≡ get_or ws i w
     → i < length ws
     → is_some w.flight ≡ true
@@ -401,7 +405,7 @@ gathered-more ws i w peers is inside flies h =
     (sym (ap awaited_of (from_index ws i w is inside) ∙ (rw flies refl)))
     ∙ h))
 
-pub gathered-other : (ws : List Watcher) (i : ℕ) (w : Watcher) (peers : List Peer)
+pub gathered-other : (ws : List Standing) (i : ℕ) (w : Standing) (peers : List Peer)
     → w ≡ get_or ws i w
     → i < length ws
     → is_some w.flight ≡ false
@@ -413,13 +417,13 @@ gathered-other ws i w peers is inside quiet h =
     ∙ (ap (λ xs. peers ++ xs) (sym (ap awaited_of (from_index ws i w is inside) ∙ (rw quiet refl)))
     ∙ h)
 
-drop_past : (xs : List Watcher) (i : ℕ) → length xs ≤ i → drop i xs ≡ []
+drop_past : (xs : List Standing) (i : ℕ) → length xs ≤ i → drop i xs ≡ []
 drop_past [] zero over = refl
 drop_past [] (suc i) over = refl
 drop_past (x ∷ xs) zero over = absurd (omega arith)
 drop_past (x ∷ xs) (suc i) over = drop_past xs i (omega arith)
 
-pub gathered-all : (ws : List Watcher) (i : ℕ) (peers : List Peer)
+pub gathered-all : (ws : List Standing) (i : ℕ) (peers : List Peer)
     → length ws ≤ i
     → peers ++ awaited_of (drop i ws) ≡ awaited_of ws
     → peers ≡ awaited_of ws
@@ -428,16 +432,17 @@ gathered-all ws i peers over h =
 
 -- ---- a notice is formed, as the table does it
 
-got : (ws : List Watcher) (i : ℕ) → i < length ws → (w : Watcher) × (slice_get ws i ≡ Some w)
+got : (ws : List Standing) (i : ℕ) → i < length ws
+    → (w : Standing) × (slice_get ws i ≡ Some w)
 got [] i inside = absurd (omega (arith, inside))
 got (x ∷ ws) zero inside = (x, refl)
 got (x ∷ ws) (suc i) inside = got ws i (omega (arith, inside))
 
 -- no notice is in flight to the peer of the one with an index
-abbrev pub IsFreeAt : ℕ → List Watcher → Type 0
-IsFreeAt i ws = (w : Watcher) → slice_get ws i ≡ Some w → is_awaited w.peer ws ≡ false
+abbrev pub IsFreeAt : ℕ → List Standing → Type 0
+IsFreeAt i ws = (w : Standing) → slice_get ws i ≡ Some w → is_awaited w.peer ws ≡ false
 
-pub formed-room : (ws now : List Watcher) (peers : List Peer) (i : ℕ)
+pub formed-room : (ws now : List Standing) (peers : List Peer) (i : ℕ)
     → ws ≡ now
     → i < length now
     → IsFreeAt i now
@@ -452,14 +457,14 @@ formed-room ws now peers i same inside free h few =
     let as_long : length ws ≡ length now = ap length same in
     omega (arith, room, as_long, few)
 
-pub formed-AreAwaited : (s : Sent) (body : List ℕ) (ws now after : List Watcher)
+pub formed-AreAwaited : (s : Sent) (body : List ℕ) (ws now after : List Standing)
     (peers more : List Peer) (i : ℕ) (p : Peer)
     → ws ≡ now
     → i < length now
     → IsFreeAt i now
     → AreAwaited ws peers
     → after ≡ changed_at (noticed s body) i ws
-    → ((w : Watcher) → slice_get ws i ≡ Some w → p ≡ w.peer)
+    → ((w : Standing) → slice_get ws i ≡ Some w → p ≡ w.peer)
     → more ≡ peers ++ p ∷ []
     → AreAwaited after more
 formed-AreAwaited s body ws now after peers more i p same inside free h is at pushed =
@@ -472,7 +477,7 @@ formed-AreAwaited s body ws now after peers more i p same inside free h is at pu
     (noticed-AreAwaited s body ws peers i one.0 here alone h))
 
 -- whether one is due and free, by the peers that are kept apart
-pub free-ready : (ws : List Watcher) (peers : List Peer) (w : Watcher) (peer : Peer) (b : Bool)
+pub free-ready : (ws : List Standing) (peers : List Peer) (w : Standing) (peer : Peer) (b : Bool)
     → Tells ws peers
     → true ≡ w.due
     → peer ≡ w.peer

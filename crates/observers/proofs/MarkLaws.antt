@@ -1,4 +1,4 @@
--- For the crate above: marks that are handed on one place after the other, and what a table stands
+-- For the crate above: marks that are handed on one slot after the other, and what a table stands
 -- for after a transition. And whom a table waits for, by events.
 use Rattle.std.proofs.Common.{
   ◌≡◌,
@@ -42,18 +42,18 @@ use Rattle.event_model.specs.Flights.{
 }
 use Rattle.event_model.specs.Due.{Transition, Watching, is_change_of, watching, observers_standing}
 use Rattle.event_model.proofs.DueLaws.{IsLookedAt, due_more}
-use Rattle.observers.specs.Watchers.{Watcher, is_awaited, marked}
+use Rattle.observers.specs.Standing.{Standing, is_awaited, marked}
 use Rattle.observers.specs.ObserverEvents.{shown, AwaitsOne, EachAwaitsOne, ObserversStandFor}
 use Rattle.observers.proofs.EventLaws.{parts}
 use Rattle.observers.proofs.StandLaws.{StartsNone, awaits_kept}
 
--- ---- marks of places, handed on
+-- ---- marks of slots, handed on
 
--- an observer after the marks of places: it is due where its query's place is marked
-abbrev pub handed : (ℕ → Bool) → Watcher → Watcher
-handed marks w = record w { due = w.due || marks w.place }
+-- an observer after the marks of slots: it is due where its query's slot is marked
+abbrev pub handed : (ℕ → Bool) → Standing → Standing
+handed marks w = record w { due = w.due || marks w.slot }
 
-with_due : Watcher → Bool → Watcher
+with_due : Standing → Bool → Standing
 with_due w due = record w { due = due }
 
 or_false : (a : Bool) → (a || false) ≡ a
@@ -71,19 +71,19 @@ or_turned false true = refl
 or_turned false false = refl
 
 -- no mark
-pub handed-none : (ws : List Watcher) → map (handed (λ place. false)) ws ≡ ws
+pub handed-none : (ws : List Standing) → map (handed (λ slot. false)) ws ≡ ws
 unfolding with_due
 handed-none [] = refl
 handed-none (w ∷ ws) = ap₂ (λ x xs. x ∷ xs) (ap (with_due w) (or_false w.due)) (handed-none ws)
 
--- the mark of one place more
-pub handed-more : (marks : ℕ → Bool) (place : ℕ) (ws : List Watcher)
-    → map (marked place) (map (handed marks) ws) ≡ map (handed (λ p. marks p || p == place)) ws
+-- the mark of one slot more
+pub handed-more : (marks : ℕ → Bool) (slot : ℕ) (ws : List Standing)
+    → map (marked slot) (map (handed marks) ws) ≡ map (handed (λ p. marks p || p == slot)) ws
 unfolding with_due
-handed-more marks place [] = refl
-handed-more marks place (w ∷ ws) =
-    ap₂ (λ x xs. x ∷ xs) (ap (with_due w) (or_more w.due (marks w.place) (w.place == place)))
-    (handed-more marks place ws)
+handed-more marks slot [] = refl
+handed-more marks slot (w ∷ ws) =
+    ap₂ (λ x xs. x ∷ xs) (ap (with_due w) (or_more w.due (marks w.slot) (w.slot == slot)))
+    (handed-more marks slot ws)
 
 -- ---- a transition
 
@@ -101,11 +101,11 @@ standing-changed octets events t seen (o ∷ xs) looked =
     ap₂ (λ x rest. x ∷ rest) (ap (λ d. record (watching octets events seen o) { due = d })
     (due_more o events t seen looked.0)) (standing-changed octets events t seen xs looked.1)
 
--- where the marks are exactly the changes of the queries at the places, the table stands for one
+-- where the marks are exactly the changes of the queries in the slots, the table stands for one
 -- transition more
 pub marks-StandsFor : (queries : ℕ → Query) (octets : OctetsSent) (events : List Event)
-    (t : Transition) (seen : List Transition) (marks : ℕ → Bool) (ws : List Watcher)
-    → AllByRecursion (λ w. marks w.place ≡ is_change_of (queries w.place) t) ws
+    (t : Transition) (seen : List Transition) (marks : ℕ → Bool) (ws : List Standing)
+    → AllByRecursion (λ w. marks w.slot ≡ is_change_of (queries w.slot) t) ws
     → AllByRecursion (λ o. IsLookedAt o events t.place) (observers events)
     → ObserversStandFor queries octets events seen ws
     → ObserversStandFor queries octets events (t ∷ seen) (map (handed marks) ws)
@@ -118,14 +118,14 @@ marks-StandsFor queries octets events t seen marks ws exact looked h = record {
       awaits_kept (handed marks) (record { peer = λ w. refl; flight = λ w f. f }) ws h.awaited;
 }
   where
-    each : (xs : List Watcher)
-        → AllByRecursion (λ w. marks w.place ≡ is_change_of (queries w.place) t) xs
+    each : (xs : List Standing)
+        → AllByRecursion (λ w. marks w.slot ≡ is_change_of (queries w.slot) t) xs
         → map (changed_by t) (map (shown queries) xs) ≡ map (shown queries) (map (handed marks) xs)
     each [] e = refl
     each (w ∷ xs) e =
         ap₂ (λ x rest. x ∷ rest)
         (ap (λ d. record (shown queries w) { due = d })
-        (ap (λ b. b || w.due) (sym e.0) ∙ or_turned (marks w.place) w.due)) (each xs e.1)
+        (ap (λ b. b || w.due) (sym e.0) ∙ or_turned (marks w.slot) w.due)) (each xs e.1)
 
 -- ---- who is waited for
 
@@ -136,7 +136,7 @@ is_some_map f (Some x) = refl
 -- a notice is in flight to one of the observers of a peer by the table exactly where it is by the
 -- events
 pub awaited-StandsFor : (queries : ℕ → Query) (octets : OctetsSent) (events : List Event)
-    (seen : List Transition) (ws : List Watcher) (peer : Peer)
+    (seen : List Transition) (ws : List Standing) (peer : Peer)
     → ObserversStandFor queries octets events seen ws
     → is_awaited peer ws ≡ is_waited_for peer events
 unfolding observers_standing is_waited_for waiting_notice
@@ -146,7 +146,8 @@ awaited-StandsFor queries octets events seen ws peer h =
     test : Watching → Bool
     test x = is_same_peer x.observer.peer peer && is_some x.waits
 
-    in_table : (xs : List Watcher) → list_any test (map (shown queries) xs) ≡ is_awaited peer xs
+    in_table : (xs : List Standing)
+        → list_any test (map (shown queries) xs) ≡ is_awaited peer xs
     in_table [] = refl
     in_table (w ∷ xs) = ap (λ b. (is_same_peer w.peer peer && is_some w.flight) || b) (in_table xs)
 

@@ -80,8 +80,8 @@ use Rattle.exchange_core.specs.declared.resends.Again.TheVariants as again
 use Rattle.exchange_core.specs.Retransmissions.{Resends, kept_due}
 use Rattle.exchange_core.proofs.ResendLaws.{kept_due-deadline, kept_after-unsent}
 use Rattle.rd_base.specs.Firsts.{changed_first, without_first}
-use Rattle.observers.specs.Watchers.{
-  Watcher,
+use Rattle.observers.specs.Standing.{
+  Standing,
   is_named,
   is_sent_as,
   has_notice,
@@ -122,11 +122,11 @@ use Rattle.observers.proofs.EventLaws.{
 
 -- ---- pairs
 
-to_pairs : (ws : List Watcher) → EachAwaitsOne ws → PairsByRecursion AwaitsOne ws
+to_pairs : (ws : List Standing) → EachAwaitsOne ws → PairsByRecursion AwaitsOne ws
 to_pairs [] h = tt
 to_pairs (w ∷ ws) h = (h.0, to_pairs ws h.1)
 
-from_pairs : (ws : List Watcher) → PairsByRecursion AwaitsOne ws → EachAwaitsOne ws
+from_pairs : (ws : List Standing) → PairsByRecursion AwaitsOne ws → EachAwaitsOne ws
 from_pairs [] h = tt
 from_pairs (w ∷ ws) h = (h.0, from_pairs ws h.1)
 
@@ -144,36 +144,36 @@ pairs_unmap R f (x ∷ xs) h = (each_unmap (R (f x)) f xs h.0, pairs_unmap R f x
 
 -- ---- at most one passes
 
-abbrev pub Only : (Watcher → Bool) → Watcher → Watcher → Type 0
+abbrev pub Only : (Standing → Bool) → Standing → Standing → Type 0
 Only test x y = test x ≡ true → test y ≡ false
 
-abbrev pub OnlyOne : (Watcher → Bool) → List Watcher → Type 0
+abbrev pub OnlyOne : (Standing → Bool) → List Standing → Type 0
 OnlyOne test ws = PairsByRecursion (Only test) ws
 
 -- one that passes changes, and others stay
-abbrev pub where_passes : (Watcher → Bool) → (Watcher → Watcher) → Watcher → Watcher
+abbrev pub where_passes : (Standing → Bool) → (Standing → Standing) → Standing → Standing
 where_passes test change w = if test w then change w else w
 
-none_changes : (test : Watcher → Bool) (change : Watcher → Watcher) (ws : List Watcher)
+none_changes : (test : Standing → Bool) (change : Standing → Standing) (ws : List Standing)
     → AllByRecursion (λ w. test w ≡ false) ws
     → map (where_passes test change) ws ≡ ws
 none_changes test change [] h = refl
 none_changes test change (w ∷ ws) h =
     ap₂ (λ x xs. x ∷ xs) (rw h.0 refl) (none_changes test change ws h.1)
 
-none_goes : (test : Watcher → Bool) (ws : List Watcher)
+none_goes : (test : Standing → Bool) (ws : List Standing)
     → AllByRecursion (λ w. test w ≡ false) ws
     → filter (λ w. not (test w)) ws ≡ ws
 none_goes test [] h = refl
 none_goes test (w ∷ ws) h = rw h.0 (ap (λ rest. w ∷ rest) (none_goes test ws h.1))
 
-rest_fails : (test : Watcher → Bool) (w : Watcher) (ws : List Watcher)
+rest_fails : (test : Standing → Bool) (w : Standing) (ws : List Standing)
     → AllByRecursion (Only test w) ws
     → test w ≡ true
     → AllByRecursion (λ x. test x ≡ false) ws
 rest_fails test w ws only e = each_weaker (Only test w) (λ x. test x ≡ false) (λ x o. o e) ws only
 
-only_first : (test : Watcher → Bool) (change : Watcher → Watcher) (ws : List Watcher)
+only_first : (test : Standing → Bool) (change : Standing → Standing) (ws : List Standing)
     → OnlyOne test ws
     → map (where_passes test change) ws ≡ changed_first test change ws
 unfolding changed_first
@@ -188,7 +188,7 @@ only_first test change (w ∷ ws) only = by (test w) refl (only_first test chang
     by false e more = ap (λ rest. w ∷ rest) more
 
 -- what holds of each holds of the one with an index
-each_at : (P : Watcher → Type 0) (ws : List Watcher) (i : ℕ) (w : Watcher)
+each_at : (P : Standing → Type 0) (ws : List Standing) (i : ℕ) (w : Standing)
     → AllByRecursion P ws
     → slice_get ws i ≡ Some w
     → P w
@@ -196,7 +196,8 @@ each_at P [] i w h is = absurd cc
 each_at P (x ∷ ws) zero w h is = let same : x ≡ w = cc in subst P same h.0
 each_at P (x ∷ ws) (suc i) w h is = each_at P ws i w h.1 is
 
-before_fails : (test : Watcher → Bool) (x : Watcher) (ws : List Watcher) (i : ℕ) (w : Watcher)
+before_fails : (test : Standing → Bool) (x : Standing) (ws : List Standing) (i : ℕ)
+    (w : Standing)
     → AllByRecursion (Only test x) ws
     → slice_get ws i ≡ Some w
     → test w ≡ true
@@ -207,8 +208,8 @@ before_fails test x ws i w only is passes = by (test x) refl
     by false e = refl
     by true e = absurd (false≢true (sym (each_at (Only test x) ws i w only is e) ∙ passes))
 
-only_at : (test : Watcher → Bool) (change : Watcher → Watcher) (ws : List Watcher) (i : ℕ)
-    (w : Watcher)
+only_at : (test : Standing → Bool) (change : Standing → Standing) (ws : List Standing) (i : ℕ)
+    (w : Standing)
     → OnlyOne test ws
     → slice_get ws i ≡ Some w
     → test w ≡ true
@@ -223,7 +224,7 @@ only_at test change (x ∷ ws) (suc i) w only is passes =
     let other = before_fails test x ws i w only.0 is passes in
     ap₂ (λ y ys. y ∷ ys) (rw other refl) (only_at test change ws i w only.1 is passes)
 
-only_gone : (test : Watcher → Bool) (ws : List Watcher)
+only_gone : (test : Standing → Bool) (ws : List Standing)
     → OnlyOne test ws
     → filter (λ w. not (test w)) ws ≡ without_first test ws
 unfolding without_first
@@ -238,7 +239,7 @@ only_gone test (w ∷ ws) only = by (test w) refl (only_gone test ws only.1)
     by true e more = none_goes test ws (rest_fails test w ws only.0 e)
     by false e more = ap (λ rest. w ∷ rest) more
 
-only_removed : (test : Watcher → Bool) (ws : List Watcher) (i : ℕ) (w : Watcher)
+only_removed : (test : Standing → Bool) (ws : List Standing) (i : ℕ) (w : Standing)
     → OnlyOne test ws
     → slice_get ws i ≡ Some w
     → test w ≡ true
@@ -253,7 +254,8 @@ only_removed test (x ∷ ws) (suc i) w only is passes =
     rw other (ap (λ rest. x ∷ rest) (only_removed test ws i w only.1 is passes))
 
 -- the first that passes one test is the only one that passes another
-found_each : (P : Watcher → Type 0) (test : Watcher → Bool) (ws : List Watcher) (w : Watcher)
+found_each : (P : Standing → Type 0) (test : Standing → Bool) (ws : List Standing)
+    (w : Standing)
     → AllByRecursion P ws
     → find test ws ≡ Some w
     → P w
@@ -264,7 +266,7 @@ found_each P test (x ∷ ws) w h is = by (test x) is (found_each P test ws w h.1
     by true g more = let same : x ≡ w = cc in subst P same h.0
     by false g more = more g
 
-found_gone : (test other : Watcher → Bool) (ws : List Watcher) (w : Watcher)
+found_gone : (test other : Standing → Bool) (ws : List Standing) (w : Standing)
     → OnlyOne other ws
     → find test ws ≡ Some w
     → other w ≡ true
@@ -295,10 +297,10 @@ found_gone test other (x ∷ ws) w only is passes = by (test x) is (found_gone t
 
 -- ---- names
 
-abbrev pub NamesApart : Watcher → Watcher → Type 0
+abbrev pub NamesApart : Standing → Standing → Type 0
 NamesApart x y = is_same_request (x.peer, x.token) (y.peer, y.token) ≡ false
 
-named_only : (peer : Peer) (token : List ℕ) (ws : List Watcher)
+named_only : (peer : Peer) (token : List ℕ) (ws : List Standing)
     → PairsByRecursion NamesApart ws
     → OnlyOne (is_named peer token) ws
 named_only peer token ws apart =
@@ -316,14 +318,14 @@ map_back octets events transitions [] = refl
 map_back octets events transitions (x ∷ xs) =
     ap (λ rest. x ∷ rest) (map_back octets events transitions xs)
 
-map_shown : (queries : ℕ → Query) (ws : List Watcher)
+map_shown : (queries : ℕ → Query) (ws : List Standing)
     → map (λ (x : Watching). x.observer) (map (shown queries) ws) ≡ map (observer_of queries) ws
 map_shown queries [] = refl
 map_shown queries (w ∷ ws) = ap (λ rest. observer_of queries w ∷ rest) (map_shown queries ws)
 
 -- the observers that stand are those of the table
 pub observers-StandsFor : (queries : ℕ → Query) (octets : OctetsSent) (events : List Event)
-    (transitions : List Transition) (ws : List Watcher)
+    (transitions : List Transition) (ws : List Standing)
     → ObserversStandFor queries octets events transitions ws
     → observers events ≡ map (observer_of queries) ws
 unfolding observers_standing
@@ -333,7 +335,7 @@ observers-StandsFor queries octets events transitions ws h =
 
 -- no two of the table have one name
 names_apart : (queries : ℕ → Query) (octets : OctetsSent) (events : List Event)
-    (transitions : List Transition) (ws : List Watcher)
+    (transitions : List Transition) (ws : List Standing)
     → ObserversStandFor queries octets events transitions ws
     → PairsByRecursion NamesApart ws
 names_apart queries octets events transitions ws h =
@@ -346,7 +348,7 @@ map_length f [] = refl
 map_length f (x ∷ xs) = ap suc (map_length f xs)
 
 pub length-StandsFor : (queries : ℕ → Query) (octets : OctetsSent) (events : List Event)
-    (transitions : List Transition) (ws : List Watcher)
+    (transitions : List Transition) (ws : List Standing)
     → ObserversStandFor queries octets events transitions ws
     → length (observers events) ≡ length ws
 length-StandsFor queries octets events transitions ws h =
@@ -371,9 +373,9 @@ map_then f g [] = refl
 map_then f g (x ∷ xs) = ap (λ rest. f (g x) ∷ rest) (map_then f g xs)
 
 -- a change of each of those that stand, by a change of each of the table
-changes : (queries : ℕ → Query) (f : Watching → Watching) (g : Watcher → Watcher)
-    → ((w : Watcher) → f (shown queries w) ≡ shown queries (g w))
-    → (xs : List Watching) (ws : List Watcher)
+changes : (queries : ℕ → Query) (f : Watching → Watching) (g : Standing → Standing)
+    → ((w : Standing) → f (shown queries w) ≡ shown queries (g w))
+    → (xs : List Watching) (ws : List Standing)
     → xs ≡ map (shown queries) ws
     → map f xs ≡ map (shown queries) (map g ws)
 changes queries f g same xs ws is =
@@ -381,7 +383,7 @@ changes queries f g same xs ws is =
     ∙ (map_agrees f (shown queries) (λ w. shown queries (g w)) same ws
     ∙ map_then (shown queries) g ws)
 
-filter_shown : (queries : ℕ → Query) (test : Watching → Bool) (ws : List Watcher)
+filter_shown : (queries : ℕ → Query) (test : Watching → Bool) (ws : List Standing)
     → filter test (map (shown queries) ws)
     ≡ map (shown queries) (filter (λ w. test (shown queries w)) ws)
 filter_shown queries test [] = refl
@@ -400,7 +402,8 @@ filter_shown queries test (w ∷ ws) = by (test (shown queries w)) (filter_shown
 -- ---- one is removed
 
 gone_StandsFor : (queries : ℕ → Query) (octets : OctetsSent) (events : List Event)
-    (transitions : List Transition) (e : Event) (peer : Peer) (token : List ℕ) (ws : List Watcher)
+    (transitions : List Transition) (e : Event) (peer : Peer) (token : List ℕ)
+    (ws : List Standing)
     → e.note ≡ note.Unwatched peer token
     → ObserversStandFor queries octets events transitions ws
     → ObserversStandFor queries octets (e ∷ events) transitions
@@ -420,7 +423,8 @@ gone_StandsFor queries octets events transitions e peer token ws is h = record {
 }
 
 pub dropped-StandsFor : (queries : ℕ → Query) (octets : OctetsSent) (events : List Event)
-    (transitions : List Transition) (e : Event) (peer : Peer) (token : List ℕ) (ws : List Watcher)
+    (transitions : List Transition) (e : Event) (peer : Peer) (token : List ℕ)
+    (ws : List Standing)
     → e.note ≡ note.Unwatched peer token
     → ObserversStandFor queries octets events transitions ws
     → ObserversStandFor queries octets (e ∷ events) transitions
@@ -432,8 +436,8 @@ dropped-StandsFor queries octets events transitions e peer token ws is h =
     (gone_StandsFor queries octets events transitions e peer token ws is h)
 
 pub reset-StandsFor : (queries : ℕ → Query) (octets : OctetsSent) (events : List Event)
-    (transitions : List Transition) (e : Event) (peer : Peer) (mid : ℕ) (ws : List Watcher)
-    (w : Watcher)
+    (transitions : List Transition) (e : Event) (peer : Peer) (mid : ℕ) (ws : List Standing)
+    (w : Standing)
     → find (has_notice peer mid) ws ≡ Some w
     → e.note ≡ note.Unwatched w.peer w.token
     → ObserversStandFor queries octets events transitions ws
@@ -447,7 +451,7 @@ reset-StandsFor queries octets events transitions e peer mid ws w there is h =
     (gone_StandsFor queries octets events transitions e w.peer w.token ws is h)
 
 pub removed-StandsFor : (queries : ℕ → Query) (octets : OctetsSent) (events : List Event)
-    (transitions : List Transition) (e : Event) (ws : List Watcher) (i : ℕ) (w : Watcher)
+    (transitions : List Transition) (e : Event) (ws : List Standing) (i : ℕ) (w : Standing)
     → slice_get ws i ≡ Some w
     → e.note ≡ note.Unwatched w.peer w.token
     → ObserversStandFor queries octets events transitions ws
@@ -462,13 +466,13 @@ removed-StandsFor queries octets events transitions e ws i w there is h =
 -- ---- one changes
 
 -- a change that starts no flight
-pub record StartsNone (change : Watcher → Watcher) : Type 0 where
-  pub peer : (w : Watcher) → (change w).peer ≡ w.peer
-  pub flight : (w : Watcher) → is_some (change w).flight ≡ true → is_some w.flight ≡ true
+pub record StartsNone (change : Standing → Standing) : Type 0 where
+  pub peer : (w : Standing) → (change w).peer ≡ w.peer
+  pub flight : (w : Standing) → is_some (change w).flight ≡ true → is_some w.flight ≡ true
 
-pub awaits_kept : (change : Watcher → Watcher)
+pub awaits_kept : (change : Standing → Standing)
     → StartsNone change
-    → (ws : List Watcher)
+    → (ws : List Standing)
     → EachAwaitsOne ws
     → EachAwaitsOne (map change ws)
 awaits_kept change starts ws h =
@@ -479,7 +483,7 @@ awaits_kept change starts ws h =
     (starts.flight x fx) (starts.flight y fy))
     ws (each_one (λ w. Unit {0}) (λ w. tt) ws) (to_pairs ws h))
 
-where_starts_none : (test : Watcher → Bool) (change : Watcher → Watcher)
+where_starts_none : (test : Standing → Bool) (change : Standing → Standing)
     → StartsNone change
     → StartsNone (where_passes test change)
 where_starts_none test change starts = record {
@@ -487,11 +491,11 @@ where_starts_none test change starts = record {
   flight = λ w. flight w (test w);
 }
   where
-    peer : (w : Watcher) (b : Bool) → (cond b (change w) w).peer ≡ w.peer
+    peer : (w : Standing) (b : Bool) → (cond b (change w) w).peer ≡ w.peer
     peer w true = starts.peer w
     peer w false = refl
 
-    flight : (w : Watcher) (b : Bool)
+    flight : (w : Standing) (b : Bool)
         → is_some (cond b (change w) w).flight ≡ true
         → is_some w.flight ≡ true
     flight w true h = starts.flight w h
@@ -501,7 +505,7 @@ seen-StartsNone : StartsNone seen
 seen-StartsNone = record { peer = λ w. refl; flight = λ w h. h }
 
 pub unchanged-StandsFor : (queries : ℕ → Query) (octets : OctetsSent) (events : List Event)
-    (transitions : List Transition) (e : Event) (ws : List Watcher) (i : ℕ) (w : Watcher)
+    (transitions : List Transition) (e : Event) (ws : List Standing) (i : ℕ) (w : Standing)
     → slice_get ws i ≡ Some w
     → e.note ≡ note.Unchanged w.peer w.token
     → NoneLater e.place transitions
@@ -521,7 +525,7 @@ unchanged-StandsFor queries octets events transitions e ws i w there is low h =
           h.awaited;
     }
   where
-    test : Watcher → Bool
+    test : Standing → Bool
     test = is_named w.peer w.token
 
     at : map (where_passes test seen) ws ≡ changed_at seen i ws
@@ -530,7 +534,7 @@ unchanged-StandsFor queries octets events transitions e ws i w there is low h =
         (named_only w.peer w.token ws (names_apart queries octets events transitions ws h))
         there (is_same_request-refl (w.peer, w.token))
 
-    by : (x : Watcher) (b : Bool)
+    by : (x : Standing) (b : Bool)
         → cond b (parts (observer_of queries x) false (Some x.last) x.flight) (shown queries x)
         ≡ shown queries (cond b (seen x) x)
     by x true = refl
@@ -550,7 +554,8 @@ message_same octets e peer s same h =
     kept = rw (sym h.sent, sym h.wait, sym h.again) refl
 
 pub formed-StandsFor : (queries : ℕ → Query) (octets : OctetsSent) (events : List Event)
-    (transitions : List Transition) (e : Event) (ws : List Watcher) (i : ℕ) (w : Watcher) (s : Sent)
+    (transitions : List Transition) (e : Event) (ws : List Standing) (i : ℕ) (w : Standing)
+    (s : Sent)
     (body : List ℕ)
     → slice_get ws i ≡ Some w
     → is_awaited w.peer ws ≡ false
@@ -574,7 +579,7 @@ formed-StandsFor queries octets events transitions e ws i w s body there free is
       awaited = awaits;
     }
   where
-    test : Watcher → Bool
+    test : Standing → Bool
     test = is_named w.peer w.token
 
     n : Event
@@ -591,12 +596,12 @@ formed-StandsFor queries octets events transitions e ws i w s body there free is
     fresh_here : Resends n [] s.resend
     fresh_here = record { sent = fresh.sent; wait = fresh.wait; again = fresh.again }
 
-    same_name : (x : Watcher) → test x ≡ true → x.peer ≡ w.peer
+    same_name : (x : Standing) → test x ≡ true → x.peer ≡ w.peer
     same_name x e' =
         sym (ap (λ (name : RequestName). name.0)
         ((is_same_request-Decides (w.peer, w.token) (x.peer, x.token)).0 e'))
 
-    by : (x : Watcher) (b : Bool)
+    by : (x : Standing) (b : Bool)
         → test x ≡ b
         → cond b (parts (observer_of queries x) false (Some body)
         (Some (message_formed octets n x.peer s.mid))) (shown queries x)
@@ -608,10 +613,10 @@ formed-StandsFor queries octets events transitions e ws i w s body there free is
     by x false e' = refl
 
     -- an observer of the peer awaits nothing before
-    Free : Watcher → Type 0
+    Free : Standing → Type 0
     Free x = is_same_peer x.peer w.peer ≡ true → is_some x.flight ≡ true → ⊥
 
-    frees : (xs : List Watcher) → is_awaited w.peer xs ≡ false → AllByRecursion Free xs
+    frees : (xs : List Standing) → is_awaited w.peer xs ≡ false → AllByRecursion Free xs
     frees [] none = tt
     frees (x ∷ xs) none =
         let both =
@@ -622,7 +627,7 @@ formed-StandsFor queries octets events transitions e ws i w s body there free is
               both.1,
         )
 
-    pair : (x y : Watcher)
+    pair : (x y : Standing)
         → Free x
         → Free y
         → NamesApart x y × AwaitsOne x y
@@ -654,7 +659,7 @@ formed-StandsFor queries octets events transitions e ws i w s body there free is
 
 -- ---- acknowledgements and retransmissions
 
-noticed_as : (peer : Peer) (mid : ℕ) (w : Watcher)
+noticed_as : (peer : Peer) (mid : ℕ) (w : Standing)
     → has_notice peer mid w ≡ true
     → (peer ≡ w.peer) × (is_some w.flight ≡ true)
 noticed_as peer mid w e =
@@ -665,14 +670,14 @@ noticed_as peer mid w e =
     by None h = absurd (false≢true h)
     by (Some s) h = refl
 
-noticed_only : (peer : Peer) (mid : ℕ) (ws : List Watcher)
+noticed_only : (peer : Peer) (mid : ℕ) (ws : List Standing)
     → EachAwaitsOne ws
     → OnlyOne (has_notice peer mid) ws
 noticed_only peer mid ws h =
     pairs_weaker AwaitsOne (Only (has_notice peer mid))
     (λ x y a e. by x y a e (has_notice peer mid y) refl) ws (to_pairs ws h)
   where
-    by : (x y : Watcher)
+    by : (x y : Standing)
         → AwaitsOne x y
         → has_notice peer mid x ≡ true
         → (b : Bool)
@@ -688,7 +693,7 @@ landed-StartsNone : StartsNone landed
 landed-StartsNone = record { peer = λ w. refl; flight = λ w h. absurd (false≢true h) }
 
 pub landed-StandsFor : (queries : ℕ → Query) (octets : OctetsSent) (events : List Event)
-    (transitions : List Transition) (e : Event) (peer : Peer) (mid : ℕ) (ws : List Watcher)
+    (transitions : List Transition) (e : Event) (peer : Peer) (mid : ℕ) (ws : List Standing)
     → e.note ≡ note.Landed peer mid
     → ObserversStandFor queries octets events transitions ws
     → ObserversStandFor queries octets (e ∷ events) transitions
@@ -708,26 +713,26 @@ landed-StandsFor queries octets events transitions e peer mid ws is h =
           ws h.awaited;
     }
   where
-    test : Watcher → Bool
+    test : Standing → Bool
     test = has_notice peer mid
 
     -- an observer by its flight
-    with_flight : Watcher → Option Sent → Watcher
+    with_flight : Standing → Option Sent → Standing
     with_flight x o = record x { flight = o }
 
-    none : (x : Watcher) (b : Bool)
+    none : (x : Standing) (b : Bool)
         → shown queries (with_flight x None)
         ≡ shown queries (cond b (landed (with_flight x None)) (with_flight x None))
     none x true = refl
     none x false = refl
 
-    some : (x : Watcher) (s : Sent) (b : Bool)
+    some : (x : Standing) (s : Sent) (b : Bool)
         → parts (observer_of queries x) x.due (Some x.last) (cond b None (Some s))
         ≡ shown queries (cond b (landed (with_flight x (Some s))) (with_flight x (Some s)))
     some x s true = refl
     some x s false = refl
 
-    same : (x : Watcher) (o : Option Sent)
+    same : (x : Standing) (o : Option Sent)
         → landed_for peer mid (shown queries (with_flight x o))
         ≡ shown queries (where_passes test landed (with_flight x o))
     same x None = none x (is_same_peer peer x.peer && false)
@@ -739,7 +744,8 @@ timed_once : (now : ℕ) (s : Sent)
 timed_once now s sends = rw sends refl
 
 pub again-StandsFor : (queries : ℕ → Query) (octets : OctetsSent) (events : List Event)
-    (transitions : List Transition) (e : Event) (now : ℕ) (ws : List Watcher) (i : ℕ) (w : Watcher)
+    (transitions : List Transition) (e : Event) (now : ℕ) (ws : List Standing) (i : ℕ)
+    (w : Standing)
     (s : Sent)
     → slice_get ws i ≡ Some w
     → w.flight ≡ Some s
@@ -764,10 +770,10 @@ again-StandsFor queries octets events transitions e now ws i w s there flies sen
           h.awaited;
     }
   where
-    test : Watcher → Bool
+    test : Standing → Bool
     test = has_notice w.peer s.mid
 
-    again_now : Watcher → Watcher
+    again_now : Standing → Standing
     again_now x = record x { flight = option_map (sent_again e.moment) x.flight }
 
     passes : test w ≡ true
@@ -794,7 +800,7 @@ again-StandsFor queries octets events transitions e now ws i w s there flies sen
         ∙ (ap (λ m. Some (sent_again m s)) when
         ∙ (sym (timed_once now s sends) ∙ ap (kept_of now) (sym flies))))
 
-    timed_at : (xs : List Watcher) (j : ℕ)
+    timed_at : (xs : List Standing) (j : ℕ)
         → slice_get xs j ≡ Some w
         → changed_at again_now j xs ≡ changed_at (timed now) j xs
     timed_at [] j is' = refl
@@ -803,23 +809,23 @@ again-StandsFor queries octets events transitions e now ws i w s there flies sen
         ap (λ y. y ∷ xs) (ap again_now here ∙ (timed_here ∙ ap (timed now) (sym here)))
     timed_at (x ∷ xs) (suc j) is' = ap (λ rest. x ∷ rest) (timed_at xs j is')
 
-    with_flight : Watcher → Option Sent → Watcher
+    with_flight : Standing → Option Sent → Standing
     with_flight x o = record x { flight = o }
 
-    none : (x : Watcher) (b : Bool)
+    none : (x : Standing) (b : Bool)
         → shown queries (with_flight x None)
         ≡ shown queries (cond b (again_now (with_flight x None)) (with_flight x None))
     none x true = refl
     none x false = refl
 
-    some : (x : Watcher) (m : Sent) (b : Bool)
+    some : (x : Standing) (m : Sent) (b : Bool)
         → parts (observer_of queries x) x.due (Some x.last)
         (Some (cond b (sent_again e.moment m) m))
         ≡ shown queries (cond b (again_now (with_flight x (Some m))) (with_flight x (Some m)))
     some x m true = refl
     some x m false = refl
 
-    same : (x : Watcher) (o : Option Sent)
+    same : (x : Standing) (o : Option Sent)
         → again_for w.peer s.mid e.moment (shown queries (with_flight x o))
         ≡ shown queries (where_passes test again_now (with_flight x o))
     same x None = none x (is_same_peer w.peer x.peer && false)
@@ -827,7 +833,7 @@ again-StandsFor queries octets events transitions e now ws i w s there flies sen
 
 -- ---- one is added
 
-none_named : (queries : ℕ → Query) (peer : Peer) (token : List ℕ) (ws : List Watcher)
+none_named : (queries : ℕ → Query) (peer : Peer) (token : List ℕ) (ws : List Standing)
     → list_any (is_named peer token) ws ≡ false
     → list_any (λ (x : Observer). is_same_request (peer, token) (name_of x))
     (map (observer_of queries) ws)
@@ -838,7 +844,7 @@ none_named queries peer token (w ∷ ws) none =
     rw both.0 (none_named queries peer token ws both.1)
 
 pub added-StandsFor : (queries : ℕ → Query) (octets : OctetsSent) (events : List Event)
-    (transitions : List Transition) (watched formed : Event) (ws : List Watcher) (w : Watcher)
+    (transitions : List Transition) (watched formed : Event) (ws : List Standing) (w : Standing)
     → list_any (is_named w.peer w.token) ws ≡ false
     → w.flight ≡ None
     → w.due ≡ false
@@ -887,7 +893,7 @@ got_map f (x ∷ xs) (suc i) = got_map f xs i
 
 -- the observer with an index, in the table and by events
 pub same_at : (queries : ℕ → Query) (octets : OctetsSent) (events : List Event)
-    (transitions : List Transition) (ws : List Watcher) (i : ℕ) (o : Observer) (w : Watcher)
+    (transitions : List Transition) (ws : List Standing) (i : ℕ) (o : Observer) (w : Standing)
     → ObserversStandFor queries octets events transitions ws
     → slice_get (observers events) i ≡ Some o
     → slice_get ws i ≡ Some w
@@ -913,8 +919,8 @@ due_flight now octets peer (Some f) =
     (record { sent = refl; wait = refl; again = refl })
 
 pub due-StandsFor : (queries : ℕ → Query) (octets : OctetsSent) (events : List Event)
-    (transitions : List Transition) (now : ℕ) (ws : List Watcher) (i : ℕ) (o : Observer)
-    (w : Watcher)
+    (transitions : List Transition) (now : ℕ) (ws : List Standing) (i : ℕ) (o : Observer)
+    (w : Standing)
     → ObserversStandFor queries octets events transitions ws
     → slice_get (observers events) i ≡ Some o
     → slice_get ws i ≡ Some w
@@ -927,7 +933,7 @@ due-StandsFor queries octets events transitions now ws i o w h at there =
 
 -- ---- what is not sent again
 
-unsent : (now : ℕ) (w : Watcher) → due_of now w.flight ≢ again.Send → timed now w ≡ w
+unsent : (now : ℕ) (w : Standing) → due_of now w.flight ≢ again.Send → timed now w ≡ w
 unsent now w other = ap (λ (o : Option Sent). record w { flight = o }) (by w.flight other)
   where
     by : (o : Option Sent) → due_of now o ≢ again.Send → kept_of now o ≡ o
@@ -937,7 +943,7 @@ unsent now w other = ap (λ (o : Option Sent). record w { flight = o }) (by w.fl
         (kept_after-unsent (kept_due now s.resend) now s.resend h)
 
 -- a change of the one with an index that changes nothing
-pub unsent-same : (now : ℕ) (ws : List Watcher) (i : ℕ) (w : Watcher)
+pub unsent-same : (now : ℕ) (ws : List Standing) (i : ℕ) (w : Standing)
     → slice_get ws i ≡ Some w
     → due_of now w.flight ≢ again.Send
     → changed_at (timed now) i ws ≡ ws
@@ -949,7 +955,7 @@ unsent-same now (x ∷ ws) (suc i) w there other =
     ap (λ rest. x ∷ rest) (unsent-same now ws i w there other)
 
 -- what is due of the observer with an index is what is due of its notice
-pub sends-at : (now : ℕ) (w : Watcher) (s : Sent) (due : Again)
+pub sends-at : (now : ℕ) (w : Standing) (s : Sent) (due : Again)
     → w.flight ≡ Some s
     → due ≡ due_of now w.flight
     → due ≡ again.Send

@@ -1,3 +1,3 @@
-pub mod Watchers
+pub mod Standing
 pub mod ObserverEvents
 pub mod AwaitedPeers

@@ -31,20 +31,20 @@ use Rattle.event_model.specs.Due.{Transition, Watching, observers_standing}
 use Rattle.exchange_core.specs.declared.resends.Again.{Again}
 use Rattle.exchange_core.specs.declared.resends.Again.TheVariants as again
 use Rattle.exchange_core.specs.Retransmissions.{due_at}
-use Rattle.observers.specs.Watchers.{Watcher}
+use Rattle.observers.specs.Standing.{Standing}
 
--- an observer of the table as the notes speak of it, by the query that is watched at each place
-abbrev pub observer_of : (ℕ → Query) → Watcher → Observer
+-- an observer of the table as the notes speak of it, by the query that is watched in each slot
+abbrev pub observer_of : (ℕ → Query) → Standing → Observer
 observer_of queries w = record {
   peer = w.peer;
   token = w.token;
-  query = queries w.place;
+  query = queries w.slot;
   key = w.key;
   szx = w.szx;
 }
 
 -- the observer, whether it is due, its last body and its notice in flight
-abbrev pub shown : (ℕ → Query) → Watcher → Watching
+abbrev pub shown : (ℕ → Query) → Standing → Watching
 shown queries w = record {
   observer = observer_of queries w;
   due = w.due;
@@ -53,22 +53,22 @@ shown queries w = record {
 }
 
 -- of two observers of one peer at most one has a notice in flight (RFC 7252 section 4.7, NSTART)
-abbrev pub AwaitsOne : Watcher → Watcher → Type 0
+abbrev pub AwaitsOne : Standing → Standing → Type 0
 AwaitsOne w other =
     is_same_peer other.peer w.peer ≡ true
     → is_some w.flight ≡ true
     → is_some other.flight ≡ true
     → ⊥
 
-abbrev pub EachAwaitsOne : List Watcher → Type 0
+abbrev pub EachAwaitsOne : List Standing → Type 0
 EachAwaitsOne [] = Unit {0}
 EachAwaitsOne (w ∷ ws) = AllByRecursion (AwaitsOne w) ws × EachAwaitsOne ws
 
--- by the queries at their places, and by the octets that rows sent, a table stands for events and
+-- by the queries in their slots, and by the octets that rows sent, a table stands for events and
 -- transitions: it shows the observers that stand, in their order, and for no peer are two notices
 -- in flight
 pub record ObserversStandFor (queries : ℕ → Query) (octets : OctetsSent) (events : List Event)
-    (transitions : List Transition) (ws : List Watcher) : Type 0 where
+    (transitions : List Transition) (ws : List Standing) : Type 0 where
   pub standing : observers_standing octets events transitions ≡ map (shown queries) ws
   pub awaited : EachAwaitsOne ws
 

@@ -1,8 +1,8 @@
 //! An observer of a lookup.
 ghost use Rattle.std.specs.Prelude.{◌≡◌};
 ghost use Rattle.std.specs.Arc.{arc_value};
-ghost use Rattle.observers.specs.Watchers.{is_named, has_notice, marked, noticed, seen, landed};
-ghost use Rattle.observers.specs.Watchers.{due_of, timed};
+ghost use Rattle.observers.specs.Standing.{is_named, has_notice, marked, noticed, seen, landed};
+ghost use Rattle.observers.specs.Standing.{due_of, timed};
 
 use exchange_core::{Again, Sent, Token};
 use rd_base::{Bytes, Key, Moment, Peer};
@@ -16,7 +16,7 @@ pub struct Observer {
     pub peer: Peer,
     /// The token of its request, which each notice has.
     pub token: Token,
-    /// The place where its query is watched.
+    /// The slot of the watch table in which its query is watched; contracts call it `slot`.
     pub place: u32,
     /// The key of its request.
     pub key: Key,
@@ -32,16 +32,16 @@ pub struct Observer {
 
 impl Model for Observer {
     ghost use Rattle.std.specs.Arc.{arc_value};
-    ghost use Rattle.observers.specs.Watchers.{Watcher};
+    ghost use Rattle.observers.specs.Standing.{Standing};
 
-    ghost Value = { Watcher };
+    ghost Value = { Standing };
 
     ghost view = { λ o. record {
       peer =
           o.peer;
       token =
           o.token;
-      place =
+      slot =
           o.place;
       key =
           o.key;
@@ -85,11 +85,11 @@ impl Observer {
         }
     }
 
-    /// Is due where its query is watched at this place.
-    pub(crate) fn mark(&mut self, place: u32)
-        ensures { self.new ≡ marked place self.old }
+    /// Is due where its query is watched in this slot.
+    pub(crate) fn mark(&mut self, slot: u32)
+        ensures { self.new ≡ marked slot self.old }
     {
-        self.due = self.due || self.place == place;
+        self.due = self.due || self.place == slot;
     }
 
     /// A notice with this body was formed for it.

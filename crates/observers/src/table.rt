@@ -13,9 +13,9 @@ ghost use Rattle.event_model.specs.Flights.{OctetsSent, Sent as Message, flight,
 ghost use Rattle.event_model.specs.Due.{Transition};
 ghost use Rattle.exchange_core.specs.Retransmissions.{Resends};
 ghost use Rattle.rd_base.specs.Firsts.{changed_first, without_first};
-ghost use Rattle.observers.specs.Watchers.{Watcher, is_named, has_notice, is_awaited, next_ready};
-ghost use Rattle.observers.specs.Watchers.{marked, noticed, seen, landed, due_of, timed};
-ghost use Rattle.observers.specs.Watchers.{changed_at};
+ghost use Rattle.observers.specs.Standing.{Standing, is_named, has_notice, is_awaited, next_ready};
+ghost use Rattle.observers.specs.Standing.{marked, noticed, seen, landed, due_of, timed};
+ghost use Rattle.observers.specs.Standing.{changed_at};
 ghost use Rattle.observers.specs.ObserverEvents.{observer_of, ObserversStandFor, NoneLater};
 ghost use Rattle.observers.specs.ObserverEvents.{notice_due};
 
@@ -47,9 +47,9 @@ pub struct Observers {
 impl Model for Observers {
     ghost use Rattle.std.specs.Prelude.{◌≤◌, List, vec_len, vec_capacity};
     ghost use Rattle.event_model.specs.Observers.{max_observers};
-    ghost use Rattle.observers.specs.Watchers.{Watcher};
+    ghost use Rattle.observers.specs.Standing.{Standing};
 
-    ghost Value = { List Watcher };
+    ghost Value = { List Standing };
 
     ghost use Rattle.observers.specs.AwaitedPeers.{AreAwaited};
 
@@ -122,11 +122,11 @@ impl Observers {
         taken
     }
 
-    /// Marks the observers whose query is watched at a place: they are due.
-    pub fn mark(&mut self, place: u32)
-        ensures { self.new ≡ map (marked place) self.old }
+    /// Marks the observers whose query is watched in a slot: they are due.
+    pub fn mark(&mut self, slot: u32)
+        ensures { self.new ≡ map (marked slot) self.old }
     {
-        mark_all(&mut self.items, place);
+        mark_all(&mut self.items, slot);
     }
 
     /// The first index from a number on of an observer that is due and to whose peer no notice is
@@ -134,7 +134,7 @@ impl Observers {
     pub fn next_due(&self, from: usize) -> Option<usize>
         ensures next { result ≡ next_ready from self.now }
         ensures within { IfSome result (λ i. (from ≤ i) × (i < length self.now)) }
-        ensures free { (w : Watcher)
+        ensures free { (w : Standing)
             → IfSome result
             (λ i. slice_get self.now i ≡ Some w → is_awaited w.peer self.now ≡ false) }
     {
@@ -145,12 +145,12 @@ impl Observers {
     /// flight: it is due no longer, and the notice is in flight to it.
     pub fn formed(&mut self, index: usize, flight: Sent, body: Arc<Bytes>)
         requires within { index < length self.old }
-        requires free { (w : Watcher)
+        requires free { (w : Standing)
             → slice_get self.old index ≡ Some w
             → is_awaited w.peer self.old ≡ false }
         ensures formed { self.new ≡ changed_at (noticed flight (arc_value body)) index self.old }
         ensures stands { (queries : ℕ → Query) (octets : OctetsSent) (events : List Event)
-            (transitions : List Transition) (e : Event) (w : Watcher)
+            (transitions : List Transition) (e : Event) (w : Standing)
             → slice_get self.old index ≡ Some w
             → e.note ≡ note.Formed w.peer w.token (arc_value body) (Some flight.mid)
             → flight.octets ≡ octets e.place w.peer flight.mid
@@ -169,7 +169,7 @@ impl Observers {
         requires { index < length self.old }
         ensures seen { self.new ≡ changed_at seen index self.old }
         ensures stands { (queries : ℕ → Query) (octets : OctetsSent) (events : List Event)
-            (transitions : List Transition) (e : Event) (w : Watcher)
+            (transitions : List Transition) (e : Event) (w : Standing)
             → slice_get self.old index ≡ Some w
             → e.note ≡ note.Unchanged w.peer w.token
             → NoneLater e.place transitions
@@ -201,7 +201,7 @@ impl Observers {
         ensures found { result ≡ find (has_notice peer.now mid) self.old }
         ensures left { self.new ≡ without_first (has_notice peer.now mid) self.old }
         ensures stands { (queries : ℕ → Query) (octets : OctetsSent) (events : List Event)
-            (transitions : List Transition) (e : Event) (w : Watcher)
+            (transitions : List Transition) (e : Event) (w : Standing)
             → result ≡ Some w
             → e.note ≡ note.Unwatched w.peer w.token
             → ObserversStandFor queries octets events transitions self.old
@@ -217,7 +217,7 @@ impl Observers {
     /// `Resend::at_tick`; `Wait` where none is in flight.
     pub fn timeout(&mut self, now: Moment, index: usize) -> Again
         requires { index < length self.old }
-        ensures due { (w : Watcher)
+        ensures due { (w : Standing)
             → slice_get self.old index ≡ Some w
             → result ≡ due_of now.0 w.flight }
         ensures kept { self.new ≡ changed_at (timed now.0) index self.old }
@@ -227,7 +227,7 @@ impl Observers {
             → slice_get (observers events) index ≡ Some o
             → result ≡ notice_due now.0 (flight o events) }
         ensures stands { (queries : ℕ → Query) (octets : OctetsSent) (events : List Event)
-            (transitions : List Transition) (e : Event) (w : Watcher) (s : Message)
+            (transitions : List Transition) (e : Event) (w : Standing) (s : Message)
             → result ≡ Again.Send
             → slice_get self.old index ≡ Some w
             → w.flight ≡ Some s

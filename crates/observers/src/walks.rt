@@ -7,9 +7,9 @@ ghost use Rattle.event_model.specs.Same.{is_same_peer};
 ghost use Rattle.event_model.specs.Observers.{max_observers};
 ghost use Rattle.observers.specs.AwaitedPeers.{awaited_of, Tells};
 ghost use Rattle.rd_base.specs.Firsts.{changed_first, without_first};
-ghost use Rattle.observers.specs.Watchers.{Watcher, is_named, has_notice, is_awaited, is_ready};
-ghost use Rattle.observers.specs.Watchers.{next_ready, marked, noticed, seen, landed, due_of};
-ghost use Rattle.observers.specs.Watchers.{timed, changed_at};
+ghost use Rattle.observers.specs.Standing.{Standing, is_named, has_notice, is_awaited, is_ready};
+ghost use Rattle.observers.specs.Standing.{next_ready, marked, noticed, seen, landed, due_of};
+ghost use Rattle.observers.specs.Standing.{timed, changed_at};
 
 use crate::Observer;
 use exchange_core::{Again, Sent, Token};
@@ -37,11 +37,11 @@ pub(crate) fn index_of_notice(observers: &[Observer], peer: &Peer, mid: u16) -> 
 /// Takes out the observer with an index, where there is one: it is the first that passes a test
 /// where its index is that of the first.
 pub(crate) fn take(observers: &mut Vec<Observer>, index: Option<usize>) -> Option<Observer>
-    requires { (test : Watcher → Bool) × (index ≡ position test observers.old.items) }
-    ensures found { (test : Watcher → Bool)
+    requires { (test : Standing → Bool) × (index ≡ position test observers.old.items) }
+    ensures found { (test : Standing → Bool)
         → index ≡ position test observers.old.items
         → result ≡ find test observers.old.items }
-    ensures left { (test : Watcher → Bool)
+    ensures left { (test : Standing → Bool)
         → index ≡ position test observers.old.items
         → observers.new.items ≡ without_first test observers.old.items }
     ensures len { vec_len observers.new ≤ vec_len observers.old }
@@ -53,14 +53,14 @@ pub(crate) fn take(observers: &mut Vec<Observer>, index: Option<usize>) -> Optio
     }
 }
 
-/// Marks the observers whose query is watched at a place.
-pub(crate) fn mark_all(observers: &mut Vec<Observer>, place: u32)
-    ensures marked { observers.new.items ≡ map (marked place) observers.old.items }
+/// Marks the observers whose query is watched in a slot.
+pub(crate) fn mark_all(observers: &mut Vec<Observer>, slot: u32)
+    ensures marked { observers.new.items ≡ map (marked slot) observers.old.items }
     ensures len { vec_len observers.new ≡ vec_len observers.old }
     ensures capacity { vec_capacity observers.new ≡ vec_capacity observers.old }
 {
     'items: for item in observers.iter_mut() {
-        item.mark(place);
+        item.mark(slot);
     }
 }
 
@@ -97,7 +97,9 @@ fn is_among(peers: &[Peer], peer: &Peer) -> bool
 
 /// Whether an observer is due, and its peer is none of those that notices are in flight to.
 fn is_free(awaited: &[Peer], observer: &Observer) -> bool
-    ensures { (ws : List Watcher) → Tells ws awaited.now → result ≡ is_ready ws observer.now }
+    ensures { (ws : List Standing)
+        → Tells ws awaited.now
+        → result ≡ is_ready ws observer.now }
 {
     if !observer.is_due() {
         return false;
@@ -124,7 +126,7 @@ pub(crate) fn next_in(observers: &[Observer], awaited: &[Peer], from: usize) -> 
 /// The peer of the observer with an index.
 pub(crate) fn peer_at(observers: &[Observer], index: usize) -> Peer
     requires { index < length observers.now }
-    ensures { (w : Watcher) → slice_get observers.now index ≡ Some w → result ≡ w.peer }
+    ensures { (w : Standing) → slice_get observers.now index ≡ Some w → result ≡ w.peer }
 {
     *observers[index].peer()
 }
@@ -153,7 +155,7 @@ pub(crate) fn see_at(observers: &mut Vec<Observer>, index: usize)
 /// What is due of the notice of the observer with an index.
 pub(crate) fn time_at(observers: &mut Vec<Observer>, index: usize, now: Moment) -> Again
     requires { index < length observers.old.items }
-    ensures due { (w : Watcher)
+    ensures due { (w : Standing)
         → slice_get observers.old.items index ≡ Some w
         → result ≡ due_of now.0 w.flight }
     ensures kept { observers.new.items ≡ changed_at (timed now.0) index observers.old.items }

@@ -23,7 +23,7 @@ ghost use Rattle.rd_desk.specs.calls.Staging.{LeavesStaged};
 ghost use Rattle.rd_desk.specs.calls.Stepping.{is_starved_step};
 ghost use Rattle.rd_desk.specs.calls.Ticking.{tick_takes_memory};
 ghost use Rattle.rd_desk.specs.calls.Steps.{IsCalled, Made};
-ghost use Rattle.rd_desk.specs.calls.Watchers.{IsShown, IsObserverAfter};
+ghost use Rattle.rd_desk.specs.calls.ShownObservers.{IsShown, IsObserverAfter};
 
 use crate::tables::Tables;
 use crate::{Admitted, Arrival, KeepJob, Mids, Outbox, Stepped, Watcher, WriteJob};

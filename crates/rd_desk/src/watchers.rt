@@ -5,7 +5,7 @@ ghost use Rattle.event_model.specs.Observers.{observers};
 ghost use Rattle.journal_model.specs.declared.rows.Row.{Row};
 ghost use Rattle.journal_model.specs.Journal.{events};
 ghost use Rattle.rd_desk.specs.calls.Desks.{StandsFor};
-ghost use Rattle.rd_desk.specs.calls.Watchers.{IsShown, IsShownAs, IsObserverAfter};
+ghost use Rattle.rd_desk.specs.calls.ShownObservers.{IsShown, IsShownAs, IsObserverAfter};
 
 use crate::tables::Tables;
 use exchange_core::Token;

@@ -32,7 +32,7 @@ use Rattle.rd_server.specs.Fields.{cut, onto_first}
 abbrev cut_at : ℕ → List ℕ → Option (List ℕ × List ℕ)
 cut_at i text = Some (take i text, drop (suc i) text)
 
--- the pieces round a place
+-- the pieces round an offset
 abbrev cut_there : Bool → ℕ → List ℕ → Option (List ℕ × List ℕ)
 cut_there b i text = cond b (cut_at i text) None
 

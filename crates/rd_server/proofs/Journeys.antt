@@ -47,7 +47,7 @@ use Rattle.rd_server.specs.Journal.{Journal, journal, goes_on, rows_after, after
 use Rattle.rd_server.specs.Machines.{IsMachineAt}
 use Rattle.rd_server.specs.Endings.{IsFrontOf}
 use Rattle.rd_server.specs.Sessions.{
-  Place,
+  Point,
   IsAt,
   Leads,
   Halts,
@@ -68,7 +68,7 @@ use Rattle.rd_server.proofs.Fronts.{
   whole_front,
 }
 
--- what stops after a place, seen from the place before it
+-- what stops after a point, seen from the point before it
 pub halts_before : (j : Journal) (before after written : List ℕ) (old mid new : Option (List ℕ))
     (halt : Stop)
     → after ≡ before ++ written
@@ -100,21 +100,23 @@ halts_before j before after written old mid new stop.Starved e a h = (
 )
 
 -- octets, and then more of them
-joined : (workers : ℕ) (place next : Place) (fed more written rest : List ℕ)
-    → Leads workers place fed next written
-    → journal_from workers place ((fed ++ more) ++ rest) ≡ journal_from workers next (more ++ rest)
-joined workers place next fed more written rest leads =
-    ap (journal_from workers place) (append_assoc fed more rest) ∙ leads.same (more ++ rest)
+joined : (workers : ℕ) (point next : Point) (fed more written rest : List ℕ)
+    → Leads workers point fed next written
+    → journal_from workers point ((fed ++ more) ++ rest)
+    ≡ journal_from workers next (more ++ rest)
+joined workers point next fed more written rest leads =
+    ap (journal_from workers point) (append_assoc fed more rest) ∙ leads.same (more ++ rest)
 
--- what was fed after a place was fed from the place before it
-pub feeds_after : (workers : ℕ) (place next : Place) (fed more written : List ℕ) (session : Session)
+-- what was fed after a point was fed from the point before it
+pub feeds_after : (workers : ℕ) (point next : Point) (fed more written : List ℕ)
+    (session : Session)
     (old mid new : Option (List ℕ)) (result : Option Stop)
     →
-    Leads workers place fed next written
+    Leads workers point fed next written
     → Appends old mid written
     → Feeds workers next more session mid new result
-    → Feeds workers place (fed ++ more) session old new result
-feeds_after workers place next fed more written session old mid new None leads a h = record {
+    → Feeds workers point (fed ++ more) session old new result
+feeds_after workers point next fed more written session old mid new None leads a h = record {
   next = h.next;
   at = h.at;
   written = written ++ h.written;
@@ -122,32 +124,32 @@ feeds_after workers place next fed more written session old mid new None leads a
     texts =
         h.leads.texts
         ∙ ap (λ (l : List ℕ). l ++ h.written) leads.texts
-        ∙ append_assoc (text place.rows) written h.written;
-    same = λ rest. joined workers place next fed more written rest leads ∙ h.leads.same rest;
+        ∙ append_assoc (text point.rows) written h.written;
+    same = λ rest. joined workers point next fed more written rest leads ∙ h.leads.same rest;
   };
   appends = Appends-trans old mid new written h.written a h.appends;
 }
-feeds_after workers place next fed more written session old mid new (Some halt) leads a h = λ rest.
-    subst (λ (j : Journal). Halts j (text place.rows) old new halt)
-    (sym (joined workers place next fed more written rest leads))
-    (halts_before (journal_from workers next (more ++ rest)) (text place.rows) (text next.rows)
+feeds_after workers point next fed more written session old mid new (Some halt) leads a h = λ rest.
+    subst (λ (j : Journal). Halts j (text point.rows) old new halt)
+    (sym (joined workers point next fed more written rest leads))
+    (halts_before (journal_from workers next (more ++ rest)) (text point.rows) (text next.rows)
     written old mid new halt leads.texts a (h rest))
 
 -- the journal after a line feed
-line_ends : (workers : ℕ) (place : Place) (line rest : List ℕ)
-    → cut 10 place.pending ≡ None
+line_ends : (workers : ℕ) (point : Point) (line rest : List ℕ)
+    → cut 10 point.pending ≡ None
     → cut 10 line ≡ None
     →
-    journal_from workers place ((line ++ 10 ∷ []) ++ rest)
-    ≡ goes_on (after_line workers place.rows (place.pending ++ line)) place.rows place.number
-    (λ more. journal workers more (place.number + 1) (lines_of rest))
-line_ends workers place line rest o e =
-    ap (λ (l : List ℕ). journal workers place.rows place.number (lines_of (place.pending ++ l)))
+    journal_from workers point ((line ++ 10 ∷ []) ++ rest)
+    ≡ goes_on (after_line workers point.rows (point.pending ++ line)) point.rows point.number
+    (λ more. journal workers more (point.number + 1) (lines_of rest))
+line_ends workers point line rest o e =
+    ap (λ (l : List ℕ). journal workers point.rows point.number (lines_of (point.pending ++ l)))
     (append_assoc line (10 ∷ []) rest)
-    ∙ ap (λ (l : List ℕ). journal workers place.rows place.number (lines_of l))
-    (sym (append_assoc place.pending line (10 ∷ rest)))
-    ∙ ap (journal workers place.rows place.number)
-    (lines_first (place.pending ++ line) rest (cut-append 10 place.pending line o e))
+    ∙ ap (λ (l : List ℕ). journal workers point.rows point.number (lines_of l))
+    (sym (append_assoc point.pending line (10 ∷ rest)))
+    ∙ ap (journal workers point.rows point.number)
+    (lines_first (point.pending ++ line) rest (cut-append 10 point.pending line o e))
 
 pub ok_and : (r : Result (List Row) Reason) (P : List Row → Type 0)
     → IsOkAnd r P
@@ -183,81 +185,81 @@ pub starved_halts : (rows : List Row) (j : Journal) (old new : Option (List ℕ)
 starved_halts rows j old new a p = ([], front_nothing _ _ (whole_front _ j p), a)
 
 -- a line and its line feed were fed
-pub line_fed : (workers : ℕ) (place : Place) (line : List ℕ) (session : Session)
+pub line_fed : (workers : ℕ) (point : Point) (line : List ℕ) (session : Session)
     (old new : Option (List ℕ)) (result : Option Stop)
-    → cut 10 place.pending ≡ None
+    → cut 10 point.pending ≡ None
     → cut 10 line ≡ None
     →
     session.pending ≡ []
-    → DoesLine workers place.rows place.number (place.pending ++ line) session old new result
-    → Feeds workers place (line ++ 10 ∷ []) session old new result
-line_fed workers place line session old new None o e empty h =
+    → DoesLine workers point.rows point.number (point.pending ++ line) session old new result
+    → Feeds workers point (line ++ 10 ∷ []) session old new result
+line_fed workers point line session old new None o e empty h =
     let p = ok_and _ _ h in
     record {
-      next = record { rows = p.0; number = place.number + 1; pending = [] };
+      next = record { rows = p.0; number = point.number + 1; pending = [] };
       at = record { machine = p.2.0; line = p.2.1; pending = empty; «open» = refl };
       written = p.2.2.0;
       leads = record {
         texts = p.2.2.1;
         same =
             λ rest.
-            line_ends workers place line rest o e
+            line_ends workers point line rest o e
             ∙ ap (λ (r : Result (List Row) Reason).
-            goes_on r place.rows place.number
-            (λ more. journal workers more (place.number + 1) (lines_of rest))) p.1;
+            goes_on r point.rows point.number
+            (λ more. journal workers more (point.number + 1) (lines_of rest))) p.1;
       };
       appends = p.2.2.2;
     }
-line_fed workers place line session old new (Some (stop.Bad bad)) o e empty h = λ rest.
+line_fed workers point line session old new (Some (stop.Bad bad)) o e empty h = λ rest.
     let p = err_and _ _ h.0 in
     let eq =
-    line_ends workers place line rest o e
+    line_ends workers point line rest o e
     ∙ ap (λ (r : Result (List Row) Reason).
-    goes_on r place.rows place.number
-    (λ more. journal workers more (place.number + 1) (lines_of rest))) p.1 in
+    goes_on r point.rows point.number
+    (λ more. journal workers more (point.number + 1) (lines_of rest))) p.1 in
     let here : Halts
-    (record { rows = place.rows; bad = Some (record { line = place.number; why = p.0 }) })
-    (text place.rows) old new (stop.Bad bad) =
-    (ap (λ (b : LineBad). Some b) (sym p.2), [], sym (append-nil (text place.rows)), h.1) in
-    subst (λ (j : Journal). Halts j (text place.rows) old new (stop.Bad bad)) (sym eq) here
-line_fed workers place line session old new (Some stop.Unwritten) o e empty h = λ rest.
+    (record { rows = point.rows; bad = Some (record { line = point.number; why = p.0 }) })
+    (text point.rows) old new (stop.Bad bad) =
+    (ap (λ (b : LineBad). Some b) (sym p.2), [], sym (append-nil (text point.rows)), h.1) in
+    subst (λ (j : Journal). Halts j (text point.rows) old new (stop.Bad bad)) (sym eq) here
+line_fed workers point line session old new (Some stop.Unwritten) o e empty h = λ rest.
     let p = ok_and _ _ h in
     let eq =
-    line_ends workers place line rest o e
+    line_ends workers point line rest o e
     ∙ ap (λ (r : Result (List Row) Reason).
-    goes_on r place.rows place.number
-    (λ more. journal workers more (place.number + 1) (lines_of rest))) p.1 in
-    subst (λ (j : Journal). Halts j (text place.rows) old new stop.Unwritten) (sym eq)
-    (unwritten_halts place.rows p.0 (journal workers p.0 (place.number + 1) (lines_of rest)) old
-    new p.2 (journal_front workers p.0 (place.number + 1) (lines_of rest)))
-line_fed workers place line session old new (Some stop.Starved) o e empty h = λ rest.
-    starved_halts place.rows (journal_from workers place ((line ++ 10 ∷ []) ++ rest)) old new h
-    (journal_front workers place.rows place.number
-    (lines_of (place.pending ++ ((line ++ 10 ∷ []) ++ rest))))
+    goes_on r point.rows point.number
+    (λ more. journal workers more (point.number + 1) (lines_of rest))) p.1 in
+    subst (λ (j : Journal). Halts j (text point.rows) old new stop.Unwritten) (sym eq)
+    (unwritten_halts point.rows p.0 (journal workers p.0 (point.number + 1) (lines_of rest)) old
+    new p.2 (journal_front workers p.0 (point.number + 1) (lines_of rest)))
+line_fed workers point line session old new (Some stop.Starved) o e empty h = λ rest.
+    starved_halts point.rows (journal_from workers point ((line ++ 10 ∷ []) ++ rest)) old new h
+    (journal_front workers point.rows point.number
+    (lines_of (point.pending ++ ((line ++ 10 ∷ []) ++ rest))))
 
 -- what was kept of a line that has begun
-pub kept : (workers : ℕ) (place : Place) (rest : List ℕ) (old : Session) (session : Session)
+pub kept : (workers : ℕ) (point : Point) (rest : List ℕ) (old : Session) (session : Session)
     (held : Option (List ℕ))
-    → IsAt workers place old
+    → IsAt workers point old
     → cut 10 rest ≡ None
     → session.machine ≡ old.machine
     → session.line ≡ old.line
-    → session.pending ≡ old.pending ++ rest → Feeds workers place rest session held held None
-kept workers place rest old session held at e desk line pending = record {
-  next = record { rows = place.rows; number = place.number; pending = place.pending ++ rest };
+    → session.pending ≡ old.pending ++ rest → Feeds workers point rest session held held None
+kept workers point rest old session held at e desk line pending = record {
+  next = record { rows = point.rows; number = point.number; pending = point.pending ++ rest };
   at = record {
-    machine = subst (IsMachineAt workers place.rows) (sym desk) at.machine;
+    machine = subst (IsMachineAt workers point.rows) (sym desk) at.machine;
     line = line ∙ at.line;
     pending = pending ∙ ap (λ (l : List ℕ). l ++ rest) at.pending;
-    «open» = cut-append 10 place.pending rest at.«open» e;
+    «open» = cut-append 10 point.pending rest at.«open» e;
   };
   written = [];
   leads = record {
-    texts = sym (append-nil (text place.rows));
+    texts = sym (append-nil (text point.rows));
     same =
         λ more.
-        ap (λ (l : List ℕ). journal workers place.rows place.number (lines_of l))
-        (sym (append_assoc place.pending rest more));
+        ap (λ (l : List ℕ). journal workers point.rows point.number (lines_of l))
+        (sym (append_assoc point.pending rest more));
   };
   appends = Appends-nil held;
 }
@@ -270,115 +272,117 @@ long_is_long bytes h =
     (lt-ltb max_line (length bytes) h)
 
 -- a line that has begun and is too long is bad, whatever comes
-pub too_long : (workers : ℕ) (place : Place) (rest : List ℕ) (held : Option (List ℕ))
+pub too_long : (workers : ℕ) (point : Point) (rest : List ℕ) (held : Option (List ℕ))
     (session : Session)
-    → cut 10 place.pending ≡ None
+    → cut 10 point.pending ≡ None
     → cut 10 rest ≡ None
-    → max_line < length place.pending + length rest
-    → Feeds workers place rest session held held
-    (Some (stop.Bad (record { line = place.number; why = reason.Long })))
-too_long workers place rest held session o e h = begun (place.pending ++ rest) refl where
+    → max_line < length point.pending + length rest
+    → Feeds workers point rest session held held
+    (Some (stop.Bad (record { line = point.number; why = reason.Long })))
+too_long workers point rest held session o e h = begun (point.pending ++ rest) refl where
   begun : (front : List ℕ)
-      → place.pending ++ rest ≡ front
+      → point.pending ++ rest ≡ front
       → (more : List ℕ)
-      → Halts (journal_from workers place (rest ++ more)) (text place.rows) held held
-      (stop.Bad (record { line = place.number; why = reason.Long }))
-  begun [] same more = absurd (omega (arith, length-append place.pending rest, ap length same))
+      → Halts (journal_from workers point (rest ++ more)) (text point.rows) held held
+      (stop.Bad (record { line = point.number; why = reason.Long }))
+  begun [] same more = absurd (omega (arith, length-append point.pending rest, ap length same))
   begun (b ∷ bs) same more =
       let whole : cut 10 (b ∷ bs) ≡ None =
-      subst (λ (l : List ℕ). cut 10 l ≡ None) same (cut-append 10 place.pending rest o e) in
+      subst (λ (l : List ℕ). cut 10 l ≡ None) same (cut-append 10 point.pending rest o e) in
       let l = lines_begin b bs more whole in
       let bad : line_of ((b ∷ bs) ++ l.more) ≡ Err reason.Long =
       long_is_long _
       (omega (
         arith,
-        length-append place.pending rest,
+        length-append point.pending rest,
         ap length same,
         length-append (b ∷
             bs) l.more,
       )) in
       let eq :
-      journal_from workers place (rest ++ more)
+      journal_from workers point (rest ++ more)
       ≡ record {
-        rows = place.rows;
+        rows = point.rows;
         bad = Some (record {
-          line = place.number;
+          line = point.number;
           why = reason.Long;
         });
       } =
-      ap (λ (x : List ℕ). journal workers place.rows place.number (lines_of x))
-      (sym (append_assoc place.pending rest more) ∙ ap (λ (x : List ℕ). x ++ more) same)
-      ∙ ap (journal workers place.rows place.number) l.are
+      ap (λ (x : List ℕ). journal workers point.rows point.number (lines_of x))
+      (sym (append_assoc point.pending rest more) ∙ ap (λ (x : List ℕ). x ++ more) same)
+      ∙ ap (journal workers point.rows point.number) l.are
       ∙ ap (λ (o : Result Line Reason).
-      goes_on (rows_after place.rows (step_of_line workers place.rows o)) place.rows
-      place.number (λ rows. journal workers rows (place.number + 1) l.others)) bad in
+      goes_on (rows_after point.rows (step_of_line workers point.rows o)) point.rows
+      point.number (λ rows. journal workers rows (point.number + 1) l.others)) bad in
       subst (λ (j : Journal).
-      Halts j (text place.rows) held held
-      (stop.Bad (record { line = place.number; why = reason.Long }))) (sym eq)
-      (refl, [], sym (append-nil (text place.rows)), Appends-nil held)
+      Halts j (text point.rows) held held
+      (stop.Bad (record { line = point.number; why = reason.Long }))) (sym eq)
+      (refl, [], sym (append-nil (text point.rows)), Appends-nil held)
 
 -- memory runs out while a line is kept
-pub unkept : (workers : ℕ) (place : Place) (rest : List ℕ) (held : Option (List ℕ))
+pub unkept : (workers : ℕ) (point : Point) (rest : List ℕ) (held : Option (List ℕ))
     (session : Session)
-    → Feeds workers place rest session held held (Some stop.Starved)
-unkept workers place rest held session =
+    → Feeds workers point rest session held held (Some stop.Starved)
+unkept workers point rest held session =
     λ more.
-    starved_halts place.rows (journal_from workers place (rest ++ more)) held held
-    (Appends-nil held) (journal_front workers place.rows place.number
-    (lines_of (place.pending ++ (rest ++ more))))
+    starved_halts point.rows (journal_from workers point (rest ++ more)) held held
+    (Appends-nil held) (journal_front workers point.rows point.number
+    (lines_of (point.pending ++ (rest ++ more))))
 
 -- a line and its line feed were fed to a session
-pub line_fed_at : (workers : ℕ) (place : Place) (line whole : List ℕ) (before session : Session)
+pub line_fed_at : (workers : ℕ) (point : Point) (line whole : List ℕ) (before session : Session)
     (old new : Option (List ℕ)) (result : Option Stop)
-    → IsAt workers place before
+    → IsAt workers point before
     → cut 10 line ≡ None
     →
     session.pending ≡ []
     → whole ≡ before.pending ++ line
-    → DoesLine workers place.rows before.line whole session old new result
-    → Feeds workers place (line ++ 10 ∷ []) session old new result
-line_fed_at workers place line whole before session old new result at e empty same h =
-    let text_is : whole ≡ place.pending ++ line =
+    → DoesLine workers point.rows before.line whole session old new result
+    → Feeds workers point (line ++ 10 ∷ []) session old new result
+line_fed_at workers point line whole before session old new result at e empty same h =
+    let text_is : whole ≡ point.pending ++ line =
     same ∙ ap (λ (l : List ℕ). l ++ line) at.pending in
-    line_fed workers place line session old new result at.«open» e empty
-    (subst (λ (n : ℕ). DoesLine workers place.rows n (place.pending ++ line) session old new result)
+    line_fed workers point line session old new result at.«open» e empty
+    (subst (λ (n : ℕ).
+    DoesLine workers point.rows n (point.pending ++ line) session old new result)
     at.line
-    (subst (λ (l : List ℕ). DoesLine workers place.rows before.line l session old new result)
+    (subst (λ (l : List ℕ). DoesLine workers point.rows before.line l session old new result)
     text_is h))
 
 -- a line that a session began is too long
-pub too_long_at : (workers : ℕ) (place : Place) (rest : List ℕ) (held : Option (List ℕ))
+pub too_long_at : (workers : ℕ) (point : Point) (rest : List ℕ) (held : Option (List ℕ))
     (before session : Session)
-    → IsAt workers place before
+    → IsAt workers point before
     → cut 10 rest ≡ None
     → max_line < length before.pending + length rest
-    → Feeds workers place rest session held held
+    → Feeds workers point rest session held held
     (Some (stop.Bad (record { line = before.line; why = reason.Long })))
-too_long_at workers place rest held before session at e long =
+too_long_at workers point rest held before session at e long =
     subst (λ (n : ℕ).
-    Feeds workers place rest session held held
+    Feeds workers point rest session held held
     (Some (stop.Bad (record { line = n; why = reason.Long })))) (sym at.line)
-    (too_long workers place rest held session at.«open» e (omega (arith, ap length at.pending)))
+    (too_long workers point rest held session at.«open» e (omega (arith, ap length at.pending)))
 
 -- what was fed after what had been fed
-pub feeds_more : (workers : ℕ) (place : Place) (fed more whole : List ℕ) (before session : Session)
+pub feeds_more : (workers : ℕ) (point : Point) (fed more whole : List ℕ)
+    (before session : Session)
     (old mid new : Option (List ℕ)) (result : Option Stop)
-    → (go : Goes workers place fed before old mid)
+    → (go : Goes workers point fed before old mid)
     → Feeds workers go.next more session mid new result
     → whole ≡ fed ++ more
-    → Feeds workers place whole session old new result
-feeds_more workers place fed more whole before session old mid new result go h same =
-    subst (λ (l : List ℕ). Feeds workers place l session old new result) (sym same)
-    (feeds_after workers place go.next fed more go.written session old mid new result go.leads
+    → Feeds workers point whole session old new result
+feeds_more workers point fed more whole before session old mid new result go h same =
+    subst (λ (l : List ℕ). Feeds workers point l session old new result) (sym same)
+    (feeds_after workers point go.next fed more go.written session old mid new result go.leads
     go.appends h)
 
 -- a stop stays a stop, whatever more was to be fed
-pub stops_anyway : (workers : ℕ) (place : Place) (fed more whole : List ℕ) (session : Session)
+pub stops_anyway : (workers : ℕ) (point : Point) (fed more whole : List ℕ) (session : Session)
     (old new : Option (List ℕ)) (halt : Stop)
-    → Feeds workers place fed session old new (Some halt)
-    → whole ≡ fed ++ more → Feeds workers place whole session old new (Some halt)
-stops_anyway workers place fed more whole session old new halt h same = λ rest.
-    subst (λ (l : List ℕ). Halts (journal_from workers place l) (text place.rows) old new halt)
+    → Feeds workers point fed session old new (Some halt)
+    → whole ≡ fed ++ more → Feeds workers point whole session old new (Some halt)
+stops_anyway workers point fed more whole session old new halt h same = λ rest.
+    subst (λ (l : List ℕ). Halts (journal_from workers point l) (text point.rows) old new halt)
     (sym (ap (λ (l : List ℕ). l ++ rest) same ∙ append_assoc fed more rest)) (h (more ++ rest))
 
 -- a piece of which a line and its line feed were fed
@@ -399,13 +403,13 @@ pub counts_still : (before now : ℕ) (result : Option Stop)
 counts_still before now result e h = subst (λ (n : ℕ). CountsUnwritten n now result) e (h now)
 
 -- nothing was fed yet
-pub begins : (workers : ℕ) (place : Place) (session : Session) (held : Option (List ℕ))
-    → IsAt workers place session
-    → Goes workers place [] session held held
-begins workers place session held at = record {
-  next = place;
+pub begins : (workers : ℕ) (point : Point) (session : Session) (held : Option (List ℕ))
+    → IsAt workers point session
+    → Goes workers point [] session held held
+begins workers point session held at = record {
+  next = point;
   at = at;
   written = [];
-  leads = record { texts = sym (append-nil (text place.rows)); same = λ rest. refl };
+  leads = record { texts = sym (append-nil (text point.rows)); same = λ rest. refl };
   appends = Appends-nil held;
 }

@@ -35,7 +35,7 @@ use Rattle.rd_server.specs.Journal.{Journal, journal, goes_on, after_line, whole
 use Rattle.rd_server.specs.Machines.{IsMachineAt}
 use Rattle.rd_server.specs.Endings.{IsFrontOf}
 use Rattle.rd_server.specs.Sessions.{
-  Place,
+  Point,
   IsAt,
   Halts,
   DoesLine,
@@ -50,79 +50,80 @@ use Rattle.rd_server.proofs.Fronts.{front_take, front_behind, front_nothing, jou
 use Rattle.rd_server.proofs.Journeys.{ok_and, err_and, unwritten_halts, starved_halts}
 
 -- the journal when the trace has ended after a line that lacks its line feed
-ends_after : (workers : ℕ) (place : Place)
-    → cut 10 place.pending ≡ None
-    → (place.pending ≡ [] → ⊥)
+ends_after : (workers : ℕ) (point : Point)
+    → cut 10 point.pending ≡ None
+    → (point.pending ≡ [] → ⊥)
     →
-    journal_from workers place []
-    ≡ goes_on (after_line workers place.rows place.pending) place.rows place.number
+    journal_from workers point []
+    ≡ goes_on (after_line workers point.rows point.pending) point.rows point.number
     (λ more. record { rows = more; bad = None })
-ends_after workers place o some =
-    ap (λ (l : List ℕ). journal workers place.rows place.number (lines_of l))
-    (append-nil place.pending)
-    ∙ ap (journal workers place.rows place.number) (lines_last place.pending o)
-    ∙ one place.pending some where
+ends_after workers point o some =
+    ap (λ (l : List ℕ). journal workers point.rows point.number (lines_of l))
+    (append-nil point.pending)
+    ∙ ap (journal workers point.rows point.number) (lines_last point.pending o)
+    ∙ one point.pending some where
       one : (l : List ℕ)
           → (l ≡ [] → ⊥)
-          → journal workers place.rows place.number (one_line l)
-          ≡ goes_on (after_line workers place.rows l) place.rows place.number
+          → journal workers point.rows point.number (one_line l)
+          ≡ goes_on (after_line workers point.rows l) point.rows point.number
           (λ more. record { rows = more; bad = None })
       one [] some = absurd (some refl)
       one (b ∷ bs) some = refl
 
-abbrev ended : Place → Result (List Row) Reason → Journal
-ended place r = goes_on r place.rows place.number (λ more. record { rows = more; bad = None })
+abbrev ended : Point → Result (List Row) Reason → Journal
+ended point r = goes_on r point.rows point.number (λ more. record { rows = more; bad = None })
 
-last_at : (workers : ℕ) (place : Place) (session : Session) (old new : Option (List ℕ))
+last_at : (workers : ℕ) (point : Point) (session : Session) (old new : Option (List ℕ))
     (result : Option Stop)
-    → cut 10 place.pending ≡ None
-    → (place.pending ≡ [] → ⊥)
+    → cut 10 point.pending ≡ None
+    → (point.pending ≡ [] → ⊥)
     →
-    DoesLine workers place.rows place.number place.pending session old new result
-    → EndsLines workers place session old new result
-last_at workers place session old new None o some h =
+    DoesLine workers point.rows point.number point.pending session old new result
+    → EndsLines workers point session old new result
+last_at workers point session old new None o some h =
     let p =
-    ok_and (after_line workers place.rows place.pending)
+    ok_and (after_line workers point.rows point.pending)
     (λ (more : List Row).
     IsMachineAt workers more session.machine
-    × (session.line ≡ place.number + 1)
-    × WritesMore place.rows more old new None) h in
-    (p.0, p.2.0, ends_after workers place o some ∙ ap (ended place) p.1, p.2.2)
-last_at workers place session old new (Some (stop.Bad bad)) o some h =
+    × (session.line ≡ point.number + 1)
+    × WritesMore point.rows more old new None) h in
+    (p.0, p.2.0, ends_after workers point o some ∙ ap (ended point) p.1, p.2.2)
+last_at workers point session old new (Some (stop.Bad bad)) o some h =
     let p =
-    err_and (after_line workers place.rows place.pending)
-    (λ (why : Reason). bad ≡ record { line = place.number; why = why }) h.0 in
+    err_and (after_line workers point.rows point.pending)
+    (λ (why : Reason). bad ≡ record { line = point.number; why = why }) h.0 in
     let here : Halts
-    (record { rows = place.rows; bad = Some (record { line = place.number; why = p.0 }) })
-    (text place.rows) old new (stop.Bad bad) =
-    (ap (λ (b : LineBad). Some b) (sym p.2), [], sym (append-nil (text place.rows)), h.1) in
-    subst (λ (j : Journal). Halts j (text place.rows) old new (stop.Bad bad))
-    (sym (ends_after workers place o some ∙ ap (ended place) p.1)) here
-last_at workers place session old new (Some stop.Unwritten) o some h =
+    (record { rows = point.rows; bad = Some (record { line = point.number; why = p.0 }) })
+    (text point.rows) old new (stop.Bad bad) =
+    (ap (λ (b : LineBad). Some b) (sym p.2), [], sym (append-nil (text point.rows)), h.1) in
+    subst (λ (j : Journal). Halts j (text point.rows) old new (stop.Bad bad))
+    (sym (ends_after workers point o some ∙ ap (ended point) p.1)) here
+last_at workers point session old new (Some stop.Unwritten) o some h =
     let p =
-    ok_and (after_line workers place.rows place.pending)
-    (λ (more : List Row). WritesMore place.rows more old new (Some stop.Unwritten)) h in
-    subst (λ (j : Journal). Halts j (text place.rows) old new stop.Unwritten)
-    (sym (ends_after workers place o some ∙ ap (ended place) p.1))
-    (unwritten_halts place.rows p.0 (record { rows = p.0; bad = None }) old new p.2
+    ok_and (after_line workers point.rows point.pending)
+    (λ (more : List Row). WritesMore point.rows more old new (Some stop.Unwritten)) h in
+    subst (λ (j : Journal). Halts j (text point.rows) old new stop.Unwritten)
+    (sym (ends_after workers point o some ∙ ap (ended point) p.1))
+    (unwritten_halts point.rows p.0 (record { rows = p.0; bad = None }) old new p.2
     ([], sym (append-nil (text p.0))))
-last_at workers place session old new (Some stop.Starved) o some h =
-    starved_halts place.rows (journal_from workers place []) old new h
-    (journal_front workers place.rows place.number (lines_of (place.pending ++ [])))
+last_at workers point session old new (Some stop.Starved) o some h =
+    starved_halts point.rows (journal_from workers point []) old new h
+    (journal_front workers point.rows point.number (lines_of (point.pending ++ [])))
 
 -- the last line was done, without its line feed
-pub last_done : (workers : ℕ) (place : Place) (line : List ℕ) (before session : Session)
+pub last_done : (workers : ℕ) (point : Point) (line : List ℕ) (before session : Session)
     (old new : Option (List ℕ)) (result : Option Stop)
-    → IsAt workers place before
+    → IsAt workers point before
     → (before.pending ≡ [] → ⊥)
     → line ≡ before.pending
     →
-    DoesLine workers place.rows before.line line session old new result
-    → EndsLines workers place session old new result
-last_done workers place line before session old new result at some same h =
-    last_at workers place session old new result at.«open» (λ e. some (at.pending ∙ e))
-    (subst (λ (n : ℕ). DoesLine workers place.rows n place.pending session old new result) at.line
-    (subst (λ (l : List ℕ). DoesLine workers place.rows before.line l session old new result)
+    DoesLine workers point.rows before.line line session old new result
+    → EndsLines workers point session old new result
+last_done workers point line before session old new result at some same h =
+    last_at workers point session old new result at.«open» (λ e. some (at.pending ∙ e))
+    (subst (λ (n : ℕ). DoesLine workers point.rows n point.pending session old new result)
+    at.line
+    (subst (λ (l : List ℕ). DoesLine workers point.rows before.line l session old new result)
     (same ∙ at.pending) h))
 
 -- the journal has no bad line
@@ -160,35 +161,35 @@ finished_at rows more old mid new sent (Some stop.Starved) e a h = (
 )
 
 -- all lines were done, and the line that ends the output was written as far as it was
-pub finished : (workers : ℕ) (place : Place) (session : Session) (old mid new : Option (List ℕ))
+pub finished : (workers : ℕ) (point : Point) (session : Session) (old mid new : Option (List ℕ))
     (result : Option Stop)
-    → EndsLines workers place session old mid None
+    → EndsLines workers point session old mid None
     → ((rows : List Row)
     → IsMachineAt workers rows session.machine
     → Writes mid new (last_line rows) result)
-    → Finishes (journal_from workers place []) (text place.rows) old new result
-finished workers place session old mid new result h w =
-    subst (λ (j : Journal). Finishes j (text place.rows) old new result) (sym h.2)
-    (finished_at place.rows h.0 old mid new h.3.0 result h.3.1 h.3.2 (w h.0 h.1))
+    → Finishes (journal_from workers point []) (text point.rows) old new result
+finished workers point session old mid new result h w =
+    subst (λ (j : Journal). Finishes j (text point.rows) old new result) (sym h.2)
+    (finished_at point.rows h.0 old mid new h.3.0 result h.3.1 h.3.2 (w h.0 h.1))
 
-nothing_left : (workers : ℕ) (place : Place)
-    → place.pending ≡ []
-    → journal_from workers place [] ≡ record {
-      rows = place.rows;
+nothing_left : (workers : ℕ) (point : Point)
+    → point.pending ≡ []
+    → journal_from workers point [] ≡ record {
+      rows = point.rows;
       bad = None;
     }
 unfolding lines_of
-nothing_left workers place e =
-    ap (λ (l : List ℕ). journal workers place.rows place.number (lines_of (l ++ []))) e
+nothing_left workers point e =
+    ap (λ (l : List ℕ). journal workers point.rows point.number (lines_of (l ++ []))) e
 
 -- no line has begun
-pub none_begun : (workers : ℕ) (place : Place) (before : Session) (held : Option (List ℕ))
-    → IsAt workers place before
+pub none_begun : (workers : ℕ) (point : Point) (before : Session) (held : Option (List ℕ))
+    → IsAt workers point before
     → before.pending ≡ []
-    → EndsLines workers place before held held None
-none_begun workers place before held at empty = (
-  place.rows,
+    → EndsLines workers point before held held None
+none_begun workers point before held at empty = (
+  point.rows,
   at.machine,
-  nothing_left workers place (sym at.pending ∙ empty),
-  ([], sym (append-nil (text place.rows)), Appends-nil held),
+  nothing_left workers point (sym at.pending ∙ empty),
+  ([], sym (append-nil (text point.rows)), Appends-nil held),
 )

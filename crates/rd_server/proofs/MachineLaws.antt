@@ -371,47 +371,48 @@ ticked workers rows number moment word now old new before after at lent does =
 -- ---- the last line
 
 -- its text, with a line feed
-end_text : (entries lives watchers : List ℕ)
-    → codes "end " ++ (entries ++ (codes " " ++ (lives ++ (codes " " ++ (watchers ++ codes "\n")))))
-    ≡ ended (codes "end " ++ (entries ++ (codes " " ++ (lives ++ (codes " " ++ watchers)))))
-end_text entries lives watchers =
+end_text : (entries lives observing : List ℕ)
+    → codes "end "
+    ++ (entries ++ (codes " " ++ (lives ++ (codes " " ++ (observing ++ codes "\n")))))
+    ≡ ended (codes "end " ++ (entries ++ (codes " " ++ (lives ++ (codes " " ++ observing)))))
+end_text entries lives observing =
     sym (ap (λ (l : List ℕ). codes "end " ++ l)
-    (append_assoc entries (codes " " ++ (lives ++ (codes " " ++ watchers))) (10 ∷ [])
+    (append_assoc entries (codes " " ++ (lives ++ (codes " " ++ observing))) (10 ∷ [])
     ∙ ap (λ (l : List ℕ). entries ++ (codes " " ++ l))
-    (append_assoc lives (codes " " ++ watchers) (10 ∷ []))))
+    (append_assoc lives (codes " " ++ observing) (10 ∷ []))))
 
 -- what ends the output of a machine, by how many entries its version has, how many registrations
 -- are live in it and how many watch
-pub end_is : (workers : ℕ) (rows : List Row) (machine : Machine) (entered lives watchers : ℕ)
+pub end_is : (workers : ℕ) (rows : List Row) (machine : Machine) (entered lives observing : ℕ)
     → IsMachineAt workers rows machine
     → entered ≡ machine.desk.tables.version.entries
     → ((first : ℕ) (history : List Entry)
     → VersionStandsFor first history machine.desk.tables.version
     → lives ≡ length (live history machine.latest.0))
-    → watchers ≡ length machine.desk.tables.watching.observers
+    → observing ≡ length machine.desk.tables.watching.observers
     → codes "end "
     ++ (decimal entered
-    ++ (codes " " ++ (decimal lives ++ (codes " " ++ (decimal watchers ++ codes "\n")))))
+    ++ (codes " " ++ (decimal lives ++ (codes " " ++ (decimal observing ++ codes "\n")))))
     ≡ last_line rows
 unfolding last_line
-end_is workers rows machine entered lives watchers at enters lives_are watch =
+end_is workers rows machine entered lives observing at enters lives_are watch =
     let counted = at.desk.directory.history.entries in
     let entries_are : entered ≡ length (entries rows) = omega (arith, enters, counted) in
     let live_are : lives ≡ length (live (entries rows) (latest rows)) =
     lives_are 0 (entries rows) at.desk.directory.history
     ∙ ap (λ n. length (live (entries rows) n)) at.moment in
-    let observers_are : watchers ≡ length (observers (events rows)) =
+    let observers_are : observing ≡ length (observers (events rows)) =
     watch ∙ sym (length-StandsFor rows machine.desk.tables.watching at.desk.watching) in
-    end_text (decimal entered) (decimal lives) (decimal watchers)
+    end_text (decimal entered) (decimal lives) (decimal observing)
     ∙ (ap (λ n.
     ended (codes "end "
     ++ (decimal n
-    ++ (codes " " ++ (decimal lives ++ (codes " " ++ decimal watchers))))))
+    ++ (codes " " ++ (decimal lives ++ (codes " " ++ decimal observing))))))
     entries_are
     ∙ (ap (λ n.
     ended (codes "end "
     ++ (decimal (length (entries rows))
-    ++ (codes " " ++ (decimal n ++ (codes " " ++ decimal watchers)))))) live_are
+    ++ (codes " " ++ (decimal n ++ (codes " " ++ decimal observing)))))) live_are
     ∙ ap (λ n.
     ended (codes "end "
     ++ (decimal (length (entries rows))

@@ -1,4 +1,4 @@
--- How a replay goes from one place in a trace to another.
+-- How a replay goes from one point in a trace to another.
 use Rattle.std.specs.Prelude.{
   ◌≡◌,
   ℕ,
@@ -32,42 +32,43 @@ use Rattle.rd_server.specs.Journal.{Journal, journal, after_line, whole_text}
 use Rattle.rd_server.specs.Machines.{IsMachineAt}
 use Rattle.rd_server.specs.Endings.{IsFrontOf}
 
--- a place in a trace: the rows so far, the number of the next line, and what has come of that line
-pub record Place : Type 0 where
+-- a point in a trace: the rows so far, the number of the next line, and what has come of that line
+pub record Point : Type 0 where
   pub rows : List Row
   pub number : ℕ
   pub pending : List ℕ
 
--- the journal of what comes from a place on, for a number of workers
-abbrev pub journal_from : ℕ → Place → List ℕ → Journal
-journal_from workers place bytes =
-    journal workers place.rows place.number (lines_of (place.pending ++ bytes))
+-- the journal of what comes from a point on, for a number of workers
+abbrev pub journal_from : ℕ → Point → List ℕ → Journal
+journal_from workers point bytes =
+    journal workers point.rows point.number (lines_of (point.pending ++ bytes))
 
 -- the beginning of a trace
-abbrev pub start : Place
+abbrev pub start : Point
 start = record { rows = []; number = 1; pending = [] }
 
--- a session of so many workers stands at a place, in the middle of a line
-pub record IsAt (workers : ℕ) (place : Place) (session : Session) : Type 0 where
-  pub machine : IsMachineAt workers place.rows session.machine
-  pub line : session.line ≡ place.number
-  pub pending : session.pending ≡ place.pending
-  pub «open» : cut 10 place.pending ≡ None
+-- a session of so many workers stands at a point, in the middle of a line
+pub record IsAt (workers : ℕ) (point : Point) (session : Session) : Type 0 where
+  pub machine : IsMachineAt workers point.rows session.machine
+  pub line : session.line ≡ point.number
+  pub pending : session.pending ≡ point.pending
+  pub «open» : cut 10 point.pending ≡ None
 
--- a session stands at some place of some trace
+-- a session stands at some point of some trace
 abbrev pub IsSession : Session → Type 0
-IsSession session = (workers : ℕ) × (place : Place) × IsAt workers place session
+IsSession session = (workers : ℕ) × (point : Point) × IsAt workers point session
 
 -- a session stands at the beginning of a trace
 abbrev pub IsStarted : Session → Type 0
 IsStarted session = (workers : ℕ) × IsAt workers start session
 
--- octets lead from a place to another, and are answered by a text
-pub record Leads (workers : ℕ) (place : Place) (bytes : List ℕ) (next : Place) (written : List ℕ) :
+-- octets lead from a point to another, and are answered by a text
+pub record Leads (workers : ℕ) (point : Point) (bytes : List ℕ) (next : Point)
+    (written : List ℕ) :
     Type 0 where
-  pub texts : text next.rows ≡ text place.rows ++ written
+  pub texts : text next.rows ≡ text point.rows ++ written
   pub same : (rest : List ℕ)
-      → journal_from workers place (bytes ++ rest) ≡ journal_from workers next rest
+      → journal_from workers point (bytes ++ rest) ≡ journal_from workers next rest
 
 -- what is written after a stop, with what stood before
 abbrev pub Halts : Journal → List ℕ → Option (List ℕ) → Option (List ℕ) → Stop → Type 0
@@ -85,28 +86,28 @@ Halts journal before old new stop.Starved =
     × IsFrontOf (before ++ written) (whole_text journal)
     × Appends old new written
 
--- the session went to the place to which the octets lead, and what answers them was written
-pub record Goes (workers : ℕ) (place : Place) (bytes : List ℕ) (session : Session)
+-- the session went to the point to which the octets lead, and what answers them was written
+pub record Goes (workers : ℕ) (point : Point) (bytes : List ℕ) (session : Session)
     (old new : Option (List ℕ)) : Type 0 where
-  pub next : Place
+  pub next : Point
   pub at : IsAt workers next session
   pub written : List ℕ
-  pub leads : Leads workers place bytes next written
+  pub leads : Leads workers point bytes next written
   pub appends : Appends old new written
 
--- octets were fed to a session at a place: it goes on, or stops, whatever would have come
+-- octets were fed to a session at a point: it goes on, or stops, whatever would have come
 abbrev pub Feeds : ℕ
-    → Place
+    → Point
     → List ℕ
     → Session
     → Option (List ℕ)
     → Option (List ℕ)
     → Option Stop
     → Type 0
-Feeds workers place bytes session old new None = Goes workers place bytes session old new
-Feeds workers place bytes session old new (Some halt) =
+Feeds workers point bytes session old new None = Goes workers point bytes session old new
+Feeds workers point bytes session old new (Some halt) =
     (rest : List ℕ)
-    → Halts (journal_from workers place (bytes ++ rest)) (text place.rows) old new halt
+    → Halts (journal_from workers point (bytes ++ rest)) (text point.rows) old new halt
 
 -- the input has ended: all is written, or not
 abbrev pub Finishes : Journal → List ℕ → Option (List ℕ) → Option (List ℕ) → Option Stop → Type 0
@@ -180,24 +181,24 @@ DoesLine workers rows number line session old new (Some stop.Starved) = Appends 
 
 -- the last line was done: the trace is at its end
 abbrev pub EndsLines : ℕ
-    → Place
+    → Point
     → Session
     → Option (List ℕ)
     → Option (List ℕ)
     → Option Stop
     → Type 0
-EndsLines workers place session old new None =
+EndsLines workers point session old new None =
     (more : List Row)
     × IsMachineAt workers more session.machine
-    × (journal_from workers place [] ≡ record { rows = more; bad = None })
-    × WritesMore place.rows more old new None
-EndsLines workers place session old new (Some halt) =
-    Halts (journal_from workers place []) (text place.rows) old new halt
+    × (journal_from workers point [] ≡ record { rows = more; bad = None })
+    × WritesMore point.rows more old new None
+EndsLines workers point session old new (Some halt) =
+    Halts (journal_from workers point []) (text point.rows) old new halt
 
 -- what a session was fed while the trace was read: to its end, or until the source failed or the
 -- replay stopped
 abbrev pub FeedsRead : ℕ
-    → Place
+    → Point
     → List ℕ
     → Session
     → Option (List ℕ)
@@ -205,16 +206,16 @@ abbrev pub FeedsRead : ℕ
     → Option (List ℕ)
     → Read
     → Type 0
-FeedsRead workers place taken session old new left read.End =
-    Goes workers place taken session old new × IsAtEnd left
-FeedsRead workers place taken session old new left read.Failed =
-    Goes workers place taken session old new
-FeedsRead workers place taken session old new left (read.Stopped halt) =
-    Feeds workers place taken session old new (Some halt)
+FeedsRead workers point taken session old new left read.End =
+    Goes workers point taken session old new × IsAtEnd left
+FeedsRead workers point taken session old new left read.Failed =
+    Goes workers point taken session old new
+FeedsRead workers point taken session old new left (read.Stopped halt) =
+    Feeds workers point taken session old new (Some halt)
 
 -- the octets that were taken from a source were fed
 abbrev pub ReadsAll : ℕ
-    → Place
+    → Point
     → Session
     → Option (List ℕ)
     → Option (List ℕ)
@@ -222,7 +223,7 @@ abbrev pub ReadsAll : ℕ
     → Option (List ℕ)
     → Read
     → Type 0
-ReadsAll workers place session old new left now result =
+ReadsAll workers point session old new left now result =
     (taken : List ℕ)
     × Consumes left now taken
-    × FeedsRead workers place taken session old new now result
+    × FeedsRead workers point taken session old new now result

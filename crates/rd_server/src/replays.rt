@@ -9,7 +9,7 @@ ghost use Rattle.trace_model.specs.Steps as steps;
 ghost use Rattle.rd_server.specs.Endings as ends;
 ghost use Rattle.rd_server.specs.Endings.{IsWritten, EndsBy, CountsReads, CountsWrites, IsReported};
 ghost use Rattle.rd_server.specs.MadeRuns.{IsWrittenFor};
-ghost use Rattle.rd_server.specs.Sessions.{Place, IsAt, IsSession, IsStarted, ReadsAll};
+ghost use Rattle.rd_server.specs.Sessions.{Point, IsAt, IsSession, IsStarted, ReadsAll};
 ghost use Rattle.rd_server.specs.Sessions.{CountsFailed, CountsStopped, start};
 ghost use Rattle.rd_server.specs.Words.{AreDevices, IsWorkers, words_said, workers_of};
 
@@ -33,9 +33,10 @@ fn read_all<S: Source, K: Sink>(
     out: &mut K,
 ) -> Read
     requires { IsSession session.old }
-    ensures read { (workers : ℕ) (place : Place)
-        → IsAt workers place session.old
-        → ReadsAll workers place session.new (K.holds out.old) (K.holds out.new) (S.left source.old)
+    ensures read { (workers : ℕ) (point : Point)
+        → IsAt workers point session.old
+        → ReadsAll workers point session.new (K.holds out.old) (K.holds out.new)
+        (S.left source.old)
         (S.left source.new) result }
     ensures failed { CountsFailed (S.faults source.old) (S.faults source.new) result }
     ensures stopped { CountsStopped (K.faults out.old) (K.faults out.new) result }

@@ -10,7 +10,7 @@ ghost use Rattle.trace_model.specs.Steps as steps;
 ghost use Rattle.rd_server.specs.Fields as fields;
 ghost use Rattle.rd_server.specs.Machines.{IsMachine, IsMachineAt, PerformsFor, lines_sent};
 ghost use Rattle.rd_server.specs.Sessions.{CountsAll, CountsUnwritten, Writes, DoesLine, Feeds};
-ghost use Rattle.rd_server.specs.Sessions.{EndsLines, Finishes, IsAt, IsSession, Place};
+ghost use Rattle.rd_server.specs.Sessions.{EndsLines, Finishes, IsAt, IsSession, Point};
 ghost use Rattle.rd_server.specs.Sessions.{journal_from, start};
 
 use crate::endings::Stop;
@@ -132,9 +132,9 @@ impl Session {
     fn end_line<K: Sink>(&mut self, alloc: Global, line: &[u8], out: &mut K) -> Option<Stop>
         requires stands { IsSession self.old }
         requires whole { None ≡ fields.cut 10 line.now }
-        ensures fed { (workers : ℕ) (place : Place)
-            → IsAt workers place self.old
-            → Feeds workers place (line.now
+        ensures fed { (workers : ℕ) (point : Point)
+            → IsAt workers point self.old
+            → Feeds workers point (line.now
             ++ 10 ∷ []) self.new (K.holds out.old) (K.holds out.new) result }
         ensures cause { CountsUnwritten (K.faults out.old) (K.faults out.new) result }
     {
@@ -151,9 +151,9 @@ impl Session {
     /// Keeps the beginning of a line, if no line is longer.
     fn keep(&mut self, rest: &[u8]) -> Option<Stop>
         requires { None ≡ fields.cut 10 rest.now }
-        ensures fed { (workers : ℕ) (place : Place) (held : Option (List ℕ))
-            → IsAt workers place self.old
-            → Feeds workers place rest.now self.new held held result }
+        ensures fed { (workers : ℕ) (point : Point) (held : Option (List ℕ))
+            → IsAt workers point self.old
+            → Feeds workers point rest.now self.new held held result }
         ensures cause { (count : ℕ) → CountsUnwritten count count result }
     {
         if self.pending.len() + rest.len() > MAX_LINE {
@@ -171,8 +171,8 @@ impl Session {
     /// Does the lines that end in a piece of the trace, and keeps the beginning of the next.
     pub fn feed<K: Sink>(&mut self, alloc: Global, piece: &[u8], out: &mut K) -> Option<Stop>
         requires { IsSession self.old }
-        ensures fed { (workers : ℕ) (place : Place) → IsAt workers place self.old
-            → Feeds workers place piece.now self.new (K.holds out.old) (K.holds out.new) result }
+        ensures fed { (workers : ℕ) (point : Point) → IsAt workers point self.old
+            → Feeds workers point piece.now self.new (K.holds out.old) (K.holds out.new) result }
         ensures cause { CountsUnwritten (K.faults out.old) (K.faults out.new) result }
     {
         let mut rest = piece;
@@ -188,8 +188,8 @@ impl Session {
     /// Does the last line, if it lacks its line feed.
     fn last_line<K: Sink>(&mut self, alloc: Global, out: &mut K) -> Option<Stop>
         requires { IsSession self.old }
-        ensures done { (workers : ℕ) (place : Place) → IsAt workers place self.old
-            → EndsLines workers place self.new (K.holds out.old) (K.holds out.new) result }
+        ensures done { (workers : ℕ) (point : Point) → IsAt workers point self.old
+            → EndsLines workers point self.new (K.holds out.old) (K.holds out.new) result }
         ensures cause { CountsUnwritten (K.faults out.old) (K.faults out.new) result }
     {
         if self.pending.is_empty() {
@@ -219,9 +219,9 @@ impl Session {
     /// The trace has ended: does the last line, and writes the line that ends the output.
     pub fn finish<K: Sink>(&mut self, alloc: Global, out: &mut K) -> Option<Stop>
         requires { IsSession self.old }
-        ensures finished { (workers : ℕ) (place : Place)
-            → IsAt workers place self.old
-            → Finishes (journal_from workers place []) (text place.rows) (K.holds out.old)
+        ensures finished { (workers : ℕ) (point : Point)
+            → IsAt workers point self.old
+            → Finishes (journal_from workers point []) (text point.rows) (K.holds out.old)
             (K.holds out.new) result }
         ensures cause { CountsUnwritten (K.faults out.old) (K.faults out.new) result }
     {

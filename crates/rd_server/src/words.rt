@@ -8,15 +8,13 @@ ghost use Rattle.rd_server.specs.declared.words.Name.TheVariants as name;
 use crate::command_line::matches_of;
 use crate::options::{Asked, words_ask};
 use clap::ArgMatches;
+use journal_model::limits::MAX_WORKERS;
 use rd_base::Starved;
 use std::alloc::Global;
 use std::env;
 use std::env::Env;
 use std::io::ErrorKind;
 use trace_text::number_read;
-
-/// The most workers.
-pub(crate) const MAX_WORKERS: u64 = 16;
 
 /// The most devices of a trace that is made.
 const MAX_DEVICES: u64 = 4_000;

@@ -1,24 +1,22 @@
 //! Whose request each worker serves.
 
 use super::names::MessageName;
+use journal_model::limits::MAX_WORKERS;
 use rd_base::{Starved, peer_text};
 use std::alloc::Global;
-
-/// The most workers of a directory.
-pub(crate) const MOST_WORKERS: usize = 16;
 
 /// The request that each worker serves, where it holds a job.
 #[derive(Clone, Copy, Debug)]
 pub(crate) struct Serving {
     /// By the number of the worker.
-    requests: [Option<MessageName>; MOST_WORKERS],
+    requests: [Option<MessageName>; MAX_WORKERS as usize],
 }
 
 impl Serving {
     /// No worker serves a request.
     pub(crate) fn nothing() -> Serving {
         Serving {
-            requests: [None; MOST_WORKERS],
+            requests: [None; MAX_WORKERS as usize],
         }
     }
 

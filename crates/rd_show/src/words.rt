@@ -1,7 +1,6 @@
 //! The words of the command line: their form is tested, and clap reads them.
 ghost use Rattle.std.specs.Prelude.{◌≤◌, IfSome, IfOk};
 
-use super::serving::MOST_WORKERS;
 use clap::error::ErrorKind;
 use clap::{Arg, ArgAction, ArgMatches, Command, Error};
 use std::alloc::{AllocError, Global};
@@ -54,7 +53,7 @@ impl From<Error> for Otherwise {
 fn count_of(text: &str) -> Option<u8>
     ensures { IfSome result (λ workers. workers ≤ 16) }
 {
-    match number_read(MOST_WORKERS as u64, text.as_bytes())? {
+    match number_read(MAX_WORKERS, text.as_bytes())? {
         0 => None,
         workers => Some(workers as u8),
     }

@@ -71,7 +71,7 @@ fn one_by_one(alloc: Global, octets: &[u8]) -> Result<String, Starved> {
     Ok(page)
 }
 
-/// The first place where octets can be cut so that they give another text.
+/// The first offset at which octets can be cut so that they give another text.
 fn first_other(alloc: Global, octets: &[u8], whole: &str) -> Result<Option<usize>, Starved> {
     'cuts: for at in 0..octets.len() {
         if in_two(alloc, octets, at)?.as_str() != whole {

@@ -203,7 +203,7 @@ sends_one went d x y n m adds counts = (
 )
 
 -- what is sent after the link's receive, by which nothing was sent
-sends_after : (ds : List Datagram) (x y z : Option (List Datagram)) (n m k : ℕ)
+pub sends_after : (ds : List Datagram) (x y z : Option (List Datagram)) (n m k : ℕ)
     → Stays x y
     → m ≡ n
     → Sends ds y m z k

@@ -17,5 +17,5 @@ pub use client_model::{Ask, AskBad, Location, Opts, Outcome, Purpose};
 pub use registering::{refresh_ask, register_ask, remove_ask};
 pub use talks::Talk;
 pub use telling::{Registrant, Told};
-pub use turns::TellFault;
+pub use turns::{TellFault, Turn, hear_turn, send, tick_turn};
 pub use verdicts::{TalkAgain, TalkHeard};

@@ -26,7 +26,7 @@ pub enum TellFault {
 
 /// What a turn came to.
 #[derive(Debug, Drop)]
-pub(crate) enum Turn {
+pub enum Turn {
     /// Nothing is decided yet.
     Going,
     /// The verdict, or why there is none.
@@ -34,7 +34,7 @@ pub(crate) enum Turn {
 }
 
 /// Sends a datagram. One whose send failed is lost, and the link has counted it.
-pub(crate) fn send<L: Link>(link: &mut L, peer: Peer, octets: &[u8])
+pub fn send<L: Link>(link: &mut L, peer: Peer, octets: &[u8])
     ensures sends { Sends ((peer, octets.now) ∷ []) (L.gone link.old) (L.send_faults link.old)
         (L.gone link.new) (L.send_faults link.new) }
     ensures coming { Stays (L.coming link.old) (L.coming link.new) }
@@ -57,7 +57,7 @@ fn acknowledge<L: Link>(link: &mut L, peer: Peer, octets: &Option<[u8; 4]>)
 }
 
 /// A datagram is handed to the talk, and a confirmable answer is acknowledged.
-fn hear_turn<L: Link>(
+pub fn hear_turn<L: Link>(
     alloc: Global,
     link: &mut L,
     talk: &mut Talk,
@@ -85,7 +85,7 @@ fn hear_turn<L: Link>(
 }
 
 /// Time passes, and the request may be sent again.
-fn tick_turn<L: Link>(link: &mut L, talk: &mut Talk, now: Moment) -> Turn
+pub fn tick_turn<L: Link>(link: &mut L, talk: &mut Talk, now: Moment) -> Turn
     ensures turned { (a : Asked) (octets : List ℕ) (past : List Event)
         → StandsFor a octets past talk.old
         → IsTurned a octets past (event.Tick now) result talk.new (L.gone link.old)

@@ -30,7 +30,7 @@ fn put_option(request: &mut Writer, number: u32, value: &[u8])
     requires ascends { end_number 0 request.old.options ≤ number }
     requires number { number ≤ last_number }
     requires value { length value.now ≤ longest_value }
-    requires short { length (spelling (with_last_option request.old (number, value.now)))
+    requires fits { length (spelling (with_last_option request.old (number, value.now)))
         ≤ longest_datagram }
     ensures { request.new ≡ with_last_option request.old (number, value.now) }
 {
@@ -54,7 +54,7 @@ fn core_request(mid: u16, token: TokenRef<'_>) -> Writer
 #[tactic(auto, using(crate::proofs::AskLaws::spelled_some))]
 fn datagram_of(alloc: Global, mut request: Writer) -> Result<Bytes, Starved>
     requires open { request.payload ≡ [] }
-    requires short { length (spelling request) ≤ longest_datagram }
+    requires fits { length (spelling request) ≤ longest_datagram }
     ensures spelled { IfOk result (λ bytes. bytes ≡ spelling request) }
     ensures some { IfOk result (λ bytes. 0 < length bytes) }
     ensures fits { IfOk result (λ bytes. length bytes ≤ longest_datagram) }

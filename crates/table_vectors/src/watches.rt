@@ -148,35 +148,35 @@ impl Watches {
         })
     }
 
-    /// Watches a query, and tells its place; None where there is no room.
+    /// Watches a query, and tells its slot; None where there is no room.
     fn watch(&mut self, instead_of: Option<u32>, query: &Query) -> Result<Option<u32>, Starved> {
         match self.table.watch(self.alloc, instead_of, query) {
-            Ok(place) => Ok(Some(place)),
+            Ok(slot) => Ok(Some(slot)),
             Err(WatchFault::FullWatches) => Ok(None),
             Err(WatchFault::Starved) => Err(Starved),
         }
     }
 
-    /// Watches a query, in place of what was watched at a place where one is named, and writes
-    /// its place.
+    /// Watches a query, instead of what was watched in a slot where one is named, and writes
+    /// its slot.
     fn watch_said(&mut self, page: &mut String, said: &str) -> Result<(), NoAnswer> {
-        let (place, query) = cut(said);
+        let (slot, query) = cut(said);
         let query = query_of(self.alloc, query)?;
-        let instead_of = match place {
+        let instead_of = match slot {
             "-" => None,
-            _ => Some(place_of(place)?),
+            _ => Some(slot_of(slot)?),
         };
         match self.watch(instead_of, &query)? {
-            Some(place) => put_numbers(page, &[u64::from(place)])?,
+            Some(slot) => put_numbers(page, &[u64::from(slot)])?,
             None => page.push_str("full")?,
         }
         Ok(())
     }
 
     /// Watches the first pages of one line of the links of a resource type, so many, and writes
-    /// how many have the place of their number.
+    /// how many have the slot of their number.
     fn watch_pages(&mut self, page: &mut String, said: &str) -> Result<(), NoAnswer> {
-        let count = place_of(said)?;
+        let count = slot_of(said)?;
         let mut query = query_of(self.alloc, "res rt=lux count=1")?;
         let mut in_order = 0;
         for number in 0..count {
@@ -189,18 +189,18 @@ impl Watches {
         Ok(())
     }
 
-    /// Writes which places are marked.
+    /// Writes which slots are marked.
     fn put_marked(&self, page: &mut String) -> Result<(), Starved> {
-        let mut places = Vec::new(self.alloc);
-        for place in 0..257 {
-            if self.table.marked(place) {
-                places.push(u64::from(place))?;
+        let mut slots = Vec::new(self.alloc);
+        for slot in 0..257 {
+            if self.table.marked(slot) {
+                slots.push(u64::from(slot))?;
             }
         }
-        put_numbers(page, places.as_slice())
+        put_numbers(page, slots.as_slice())
     }
 
-    /// Shows a change of a registration, and writes which places are marked then.
+    /// Shows a change of a registration, and writes which slots are marked then.
     fn touch(&mut self, page: &mut String, said: &str) -> Result<(), NoAnswer> {
         let (old, new) = cut(said);
         let old = some_record(self.alloc, old)?;
@@ -210,27 +210,27 @@ impl Watches {
         Ok(())
     }
 
-    /// Writes the body that is kept for a place, or the query that is watched there. `Form`: no
+    /// Writes the body that is kept for a slot, or the query that is watched there. `Form`: no
     /// body is kept for it.
     fn read(&self, page: &mut String, verb: &str, said: &str) -> Result<(), NoAnswer> {
-        let place = place_of(said)?;
-        let Some(body) = self.table.body(place) else {
+        let slot = slot_of(said)?;
+        let Some(body) = self.table.body(slot) else {
             page.push_str("none")?;
             return Ok(());
         };
         if verb == "query" {
-            put_query(page, self.table.query(place))?;
+            put_query(page, self.table.query(slot))?;
         } else {
             put_octets(page, body.as_slice())?;
         }
         Ok(())
     }
 
-    /// Sets the body for a place.
+    /// Sets the body for a slot.
     fn set(&mut self, said: &str) -> Result<(), NoAnswer> {
-        let (place, body) = cut(said);
-        let place = place_of(place)?;
-        self.table.set_body(place, body_of(self.alloc, body)?);
+        let (slot, body) = cut(said);
+        let slot = slot_of(slot)?;
+        self.table.set_body(slot, body_of(self.alloc, body)?);
         Ok(())
     }
 
@@ -242,7 +242,7 @@ impl Watches {
             "new" => self.table = WatchTable::make(self.alloc)?,
             "watch" => self.watch_said(page, rest)?,
             "watch_pages" => self.watch_pages(page, rest)?,
-            "unwatch" => self.table.unwatch(place_of(rest)?),
+            "unwatch" => self.table.unwatch(slot_of(rest)?),
             "touch" => self.touch(page, rest)?,
             "marked" => self.put_marked(page)?,
             "clear" => self.table.clear(),
@@ -254,7 +254,7 @@ impl Watches {
     }
 }
 
-/// The place that a word names. `Form`: it names none.
-fn place_of(word: &str) -> Result<u32, NoAnswer> {
+/// The slot that a word names. `Form`: it names none.
+fn slot_of(word: &str) -> Result<u32, NoAnswer> {
     Ok(number_of(word, 4_294_967_295)? as u32)
 }

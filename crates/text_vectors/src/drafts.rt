@@ -34,7 +34,7 @@ struct Submission {
 
 /// Where a request comes from. `Form`: it says no peer.
 fn peer_of(request: &Request<'_>) -> Result<Peer, NoAnswer> {
-    match peer_read(request.place) {
+    match peer_read(request.path) {
         Ok(peer) => Ok(peer),
         Err(_) => Err(NoAnswer::Form),
     }

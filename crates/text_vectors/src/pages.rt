@@ -45,7 +45,7 @@ pub(crate) fn put_number(page: &mut String, name: &str, number: u64) -> Result<(
     Ok(write!(page, "{name}={number}")?)
 }
 
-/// Writes a fault with its place.
+/// Writes a fault with its offset.
 pub(crate) fn put_fault(page: &mut String, name: &str, at: usize) -> Result<(), Starved> {
     Ok(write!(page, "{name} at {at}")?)
 }

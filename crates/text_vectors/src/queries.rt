@@ -14,9 +14,9 @@ use rd_base::{Kind, Query, RegParams, Starved, UpdateParams};
 use std::alloc::Global;
 use vector_words::NoAnswer;
 
-/// What a place says that options are read as.
-fn reading_of(place: &str) -> Result<Reading, NoAnswer> {
-    match place {
+/// What a path says that options are read as.
+fn reading_of(path: &str) -> Result<Reading, NoAnswer> {
+    match path {
         "register" => Ok(Reading::Register),
         "simple" => Ok(Reading::Simple),
         "update" => Ok(Reading::Update),
@@ -25,9 +25,9 @@ fn reading_of(place: &str) -> Result<Reading, NoAnswer> {
     }
 }
 
-/// What a place says that is looked up.
-fn kind_of(place: &str) -> Result<Kind, NoAnswer> {
-    match place {
+/// What a path says that is looked up.
+fn kind_of(path: &str) -> Result<Kind, NoAnswer> {
+    match path {
         "res" => Ok(Kind::Resource),
         "ep" => Ok(Kind::Endpoint),
         "core" => Ok(Kind::Discovery),
@@ -38,7 +38,7 @@ fn kind_of(place: &str) -> Result<Kind, NoAnswer> {
 /// The query that a word says. `Form`: it says none.
 pub(crate) fn query_of(alloc: Global, word: &str) -> Result<Query, NoAnswer> {
     let request = Request::of(alloc, word)?;
-    let kind = kind_of(request.place)?;
+    let kind = kind_of(request.path)?;
     match lookup_query(alloc, kind, request.queries()) {
         Ok(query) => Ok(query),
         Err(QueryBad::At { .. }) => Err(NoAnswer::Form),
@@ -93,7 +93,7 @@ fn put_registration(
     alloc: Global,
     request: &Request<'_>,
 ) -> Result<(), NoAnswer> {
-    let simple = match request.place {
+    let simple = match request.path {
         "register" => false,
         "simple" => true,
         _ => return Err(NoAnswer::Form),
@@ -140,7 +140,7 @@ fn put_query(page: &mut String, query: &Query) -> Result<(), Starved> {
 
 /// Writes what the options of a lookup are read as.
 fn put_lookup(page: &mut String, alloc: Global, request: &Request<'_>) -> Result<(), NoAnswer> {
-    let kind = kind_of(request.place)?;
+    let kind = kind_of(request.path)?;
     match lookup_query(alloc, kind, request.queries()) {
         Ok(query) => put_query(page, &query)?,
         Err(bad) => put_bad(page, bad)?,
@@ -157,7 +157,7 @@ pub(crate) fn put_answer(
 ) -> Result<bool, NoAnswer> {
     let request = Request::of(alloc, said)?;
     match call {
-        "fault" => put_first_fault(page, reading_of(request.place)?, request.queries())?,
+        "fault" => put_first_fault(page, reading_of(request.path)?, request.queries())?,
         "reg_params" => put_registration(page, alloc, &request)?,
         "update_params" => put_update(page, alloc, request.queries())?,
         "lookup_query" => put_lookup(page, alloc, &request)?,

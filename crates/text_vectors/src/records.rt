@@ -58,8 +58,8 @@ pub(crate) fn items_of(alloc: Global, said: &str) -> Result<Items, NoAnswer> {
 }
 
 /// The number of a location. `Form`: it is none.
-fn number_at(place: &str) -> Result<u64, NoAnswer> {
-    match place.strip_prefix("/rd/") {
+fn number_at(path: &str) -> Result<u64, NoAnswer> {
+    match path.strip_prefix("/rd/") {
         Some(digits) => number_of(digits, u64::MAX),
         None => Err(NoAnswer::Form),
     }
@@ -69,7 +69,7 @@ fn number_at(place: &str) -> Result<u64, NoAnswer> {
 pub(crate) fn record_of(alloc: Global, said: &str) -> Result<Record, NoAnswer> {
     let (word, links) = cut(said);
     let request = Request::of(alloc, word)?;
-    let number = number_at(request.place)?;
+    let number = number_at(request.path)?;
     let RegParams {
         name,
         lt,

@@ -35,7 +35,7 @@ impl<'a> Pieces<'a> for Listed<'a> {
 #[derive(Drop)]
 pub(crate) struct Request<'a> {
     /// What stands before the question mark.
-    pub place: &'a str,
+    pub path: &'a str,
     /// The query options.
     pub options: Vec<Bytes>,
 }
@@ -44,16 +44,16 @@ impl<'a> Request<'a> {
     /// What a word says. `Starved`: out of memory.
     pub fn of(alloc: Global, word: &'a str) -> Result<Request<'a>, Starved> {
         let mut options = Vec::new(alloc);
-        let Some((place, query)) = word.split_once('?') else {
+        let Some((path, query)) = word.split_once('?') else {
             return Ok(Request {
-                place: word,
+                path: word,
                 options,
             });
         };
         'options: for option in query.split('&') {
             options.push(octets_of(alloc, option)?)?;
         }
-        Ok(Request { place, options })
+        Ok(Request { path, options })
     }
 
     /// The options, one after another.

@@ -1,4 +1,4 @@
--- What is known of each watched query, and what is found at a place, after one is taken out or
+-- What is known of each watched query, and what is found in a slot, after one is taken out or
 -- changed.
 use Rattle.std.proofs.Common.{
   ◌≡◌,
@@ -45,14 +45,14 @@ use Rattle.watch_table.specs.WatchedQueries.{
   Watched,
   Table,
   watched_at,
-  place_of,
+  slot_of,
   one_more,
   one_fewer,
   fewer_at,
   fewer_of,
   without,
 }
-use Rattle.watch_table.specs.Places.{has_last, CanCount}
+use Rattle.watch_table.specs.Slots.{has_last, CanCount}
 
 -- ---- each of them
 
@@ -71,20 +71,20 @@ each_found P test (e ∷ es) w h is = by (test e.0) is (each_found P test es w h
     by true g more = let same : e.1 ≡ w = cc in subst P same h.0
     by false g more = more g
 
--- and of its place
-pub each_placed : (P : ℕ → Type 0) (place : ℕ) (t : Table) (w : Watched)
+-- and of its slot
+pub each_in_slot : (P : ℕ → Type 0) (slot : ℕ) (t : Table) (w : Watched)
     → AllByRecursion (λ (e : ℕ × Watched). P e.0) t
-    → lookup (nat_eq place) t ≡ Some w
-    → P place
-each_placed P place [] w h is = absurd cc
-each_placed P place (e ∷ es) w h is = by (nat_eq place e.0) refl is (each_placed P place es w h.1)
+    → lookup (nat_eq slot) t ≡ Some w
+    → P slot
+each_in_slot P slot [] w h is = absurd cc
+each_in_slot P slot (e ∷ es) w h is = by (nat_eq slot e.0) refl is (each_in_slot P slot es w h.1)
   where
     by : (b : Bool)
-        → nat_eq place e.0 ≡ b
-        → cond b (Some e.1) (lookup (nat_eq place) es) ≡ Some w
-        → (lookup (nat_eq place) es ≡ Some w → P place)
-        → P place
-    by true same g more = subst P (sym (eqb-true place e.0 same)) h.0
+        → nat_eq slot e.0 ≡ b
+        → cond b (Some e.1) (lookup (nat_eq slot) es) ≡ Some w
+        → (lookup (nat_eq slot) es ≡ Some w → P slot)
+        → P slot
+    by true same g more = subst P (sym (eqb-true slot e.0 same)) h.0
     by false same g more = more g
 
 pub each_removed : (P : ℕ × Watched → Type 0) (test : ℕ → Bool) (t : Table)
@@ -99,10 +99,10 @@ each_removed P test (e ∷ es) h = by (test e.0) (each_removed P test es h.1)
     by true more = h.1
     by false more = (h.0, more)
 
--- one is replaced, at its place
+-- one is replaced, in its slot
 pub each_set : (P : ℕ × Watched → Type 0) (test : ℕ → Bool) (t : Table) (w v : Watched)
     → lookup test t ≡ Some w
-    → ((place : ℕ) → P (place, w) → P (place, v))
+    → ((slot : ℕ) → P (slot, w) → P (slot, v))
     → AllByRecursion P t
     → AllByRecursion P (set_value test t v)
 each_set P test [] w v is step h = tt
@@ -118,92 +118,93 @@ each_set P test (e ∷ es) w v is step h = by (test e.0) is (λ g. each_set P te
 -- ---- what can be counted
 
 pub can_count : (t : Table)
-    → list_any (λ (w : Watched). nat_le (2 ^ 64 - 1) w.watchers) (values_of t) ≡ false
+    → list_any (λ (w : Watched). nat_le (2 ^ 64 - 1) w.observers) (values_of t) ≡ false
     → CanCount t
 can_count [] h = tt
 can_count (e ∷ es) h =
     let both =
-    or_parts (nat_le (2 ^ 64 - 1) e.1.watchers)
-    (list_any (λ (w : Watched). nat_le (2 ^ 64 - 1) w.watchers) (values_of es)) h in
-    (leb-false (2 ^ 64 - 1) e.1.watchers both.0, can_count es both.1)
+    or_parts (nat_le (2 ^ 64 - 1) e.1.observers)
+    (list_any (λ (w : Watched). nat_le (2 ^ 64 - 1) w.observers) (values_of es)) h in
+    (leb-false (2 ^ 64 - 1) e.1.observers both.0, can_count es both.1)
 
-can_count-fewer : (place : ℕ) (t : Table) → CanCount t → CanCount (one_fewer place t)
+can_count-fewer : (slot : ℕ) (t : Table) → CanCount t → CanCount (one_fewer slot t)
 unfolding one_fewer
-can_count-fewer place t h = by (watched_at place t) refl
+can_count-fewer slot t h = by (watched_at slot t) refl
   where
     of : (w : Watched) (b : Bool)
-        → watched_at place t ≡ Some w
-        → CanCount (cond b (remove_entry (nat_eq place) t)
-        (set_value (nat_eq place) t (record w { watchers = w.watchers - 1 })))
-    of w true is = each_removed (λ e. e.1.watchers < 2 ^ 64 - 1) (nat_eq place) t h
+        → watched_at slot t ≡ Some w
+        → CanCount (cond b (remove_entry (nat_eq slot) t)
+        (set_value (nat_eq slot) t (record w { observers = w.observers - 1 })))
+    of w true is = each_removed (λ e. e.1.observers < 2 ^ 64 - 1) (nat_eq slot) t h
     of w false is =
-        each_set (λ e. e.1.watchers < 2 ^ 64 - 1) (nat_eq place) t w
-        (record w { watchers = w.watchers - 1 }) is (λ _ below. omega (arith, below)) h
+        each_set (λ e. e.1.observers < 2 ^ 64 - 1) (nat_eq slot) t w
+        (record w { observers = w.observers - 1 }) is (λ _ below. omega (arith, below)) h
 
-    by : (o : Option Watched) → watched_at place t ≡ o → CanCount (fewer_at o place t)
+    by : (o : Option Watched) → watched_at slot t ≡ o → CanCount (fewer_at o slot t)
     by None is = h
-    by (Some w) is = of w (nat_le w.watchers 1) is
+    by (Some w) is = of w (nat_le w.observers 1) is
 
 pub can_count-without : (instead_of : Option ℕ) (t : Table)
     → CanCount t
     → CanCount (without instead_of t)
 can_count-without None t h = h
-can_count-without (Some place) t h = can_count-fewer place t h
+can_count-without (Some slot) t h = can_count-fewer slot t h
 
 -- ---- one fewer, and one more
 
-pub fewer-last : (place : ℕ) (t : Table)
-    → has_last (watched_at place t) ≡ true
-    → remove_entry (nat_eq place) t ≡ one_fewer place t
+pub fewer-last : (slot : ℕ) (t : Table)
+    → has_last (watched_at slot t) ≡ true
+    → remove_entry (nat_eq slot) t ≡ one_fewer slot t
 unfolding one_fewer
-fewer-last place t h = by (watched_at place t) h
+fewer-last slot t h = by (watched_at slot t) h
   where
     by : (o : Option Watched)
         → has_last o ≡ true
-        → remove_entry (nat_eq place) t ≡ fewer_at o place t
+        → remove_entry (nat_eq slot) t ≡ fewer_at o slot t
     by None g = absurd (false≢true g)
     by (Some w) g = rw g refl
 
-pub fewer-counted : (place : ℕ) (t : Table) (w : Watched)
-    → watched_at place t ≡ Some w
-    → has_last (watched_at place t) ≡ false
-    → set_value (nat_eq place) t (record w { watchers = w.watchers - 1 }) ≡ one_fewer place t
+pub fewer-counted : (slot : ℕ) (t : Table) (w : Watched)
+    → watched_at slot t ≡ Some w
+    → has_last (watched_at slot t) ≡ false
+    → set_value (nat_eq slot) t (record w { observers = w.observers - 1 }) ≡ one_fewer slot t
 unfolding one_fewer
-fewer-counted place t w is h =
-    let last : nat_le w.watchers 1 ≡ false = sym (ap has_last is) ∙ h in rw (is, last) refl
+fewer-counted slot t w is h =
+    let last : nat_le w.observers 1 ≡ false = sym (ap has_last is) ∙ h in rw (is, last) refl
 
-pub fewer-none : (place : ℕ) (t : Table) → watched_at place t ≡ None → t ≡ one_fewer place t
+pub fewer-none : (slot : ℕ) (t : Table) → watched_at slot t ≡ None → t ≡ one_fewer slot t
 unfolding one_fewer
-fewer-none place t is = rw is refl
+fewer-none slot t is = rw is refl
 
-pub more-counted : (place : ℕ) (query : Query) (t : Table) (w : Watched)
-    → watched_at place t ≡ Some w
-    → set_value (nat_eq place) t (record w { watchers = w.watchers + 1 }) ≡ one_more place query t
-more-counted place query t w is = rw is refl
+pub more-counted : (slot : ℕ) (query : Query) (t : Table) (w : Watched)
+    → watched_at slot t ≡ Some w
+    → set_value (nat_eq slot) t (record w { observers = w.observers + 1 })
+    ≡ one_more slot query t
+more-counted slot query t w is = rw is refl
 
--- something is watched at the place of a query
-pub place_of-used : (query : Query) (place : ℕ) (t : Table)
-    → place_of query t ≡ Some place
-    → is_some (watched_at place t) ≡ true
-place_of-used query place [] is = absurd cc
-place_of-used query place (e ∷ es) is =
-    by (is_same_query e.1.query query) is (place_of-used query place es)
+-- something is watched in the slot of a query
+pub slot_of-used : (query : Query) (slot : ℕ) (t : Table)
+    → slot_of query t ≡ Some slot
+    → is_some (watched_at slot t) ≡ true
+slot_of-used query slot [] is = absurd cc
+slot_of-used query slot (e ∷ es) is =
+    by (is_same_query e.1.query query) is (slot_of-used query slot es)
   where
     or : (b : Bool)
-        → is_some (lookup (nat_eq place) es) ≡ true
-        → is_some (cond b (Some e.1) (lookup (nat_eq place) es)) ≡ true
+        → is_some (lookup (nat_eq slot) es) ≡ true
+        → is_some (cond b (Some e.1) (lookup (nat_eq slot) es)) ≡ true
     or true g = refl
     or false g = g
 
     by : (b : Bool)
         → option_map (λ (x : ℕ × Watched). x.0)
         (cond b (Some e) (find (λ (x : ℕ × Watched). is_same_query x.1.query query) es))
-        ≡ Some place
-        → (place_of query es ≡ Some place → is_some (watched_at place es) ≡ true)
-        → is_some (watched_at place (e ∷ es)) ≡ true
+        ≡ Some slot
+        → (slot_of query es ≡ Some slot → is_some (watched_at slot es) ≡ true)
+        → is_some (watched_at slot (e ∷ es)) ≡ true
     by true g more =
-        let same : e.0 ≡ place = cc in
-        let here : nat_eq place e.0 ≡ true =
-        subst (λ n. nat_eq place n ≡ true) (sym same) (eqb-refl place) in
+        let same : e.0 ≡ slot = cc in
+        let here : nat_eq slot e.0 ≡ true =
+        subst (λ n. nat_eq slot n ≡ true) (sym same) (eqb-refl slot) in
         rw here refl
-    by false g more = or (nat_eq place e.0) (more g)
+    by false g more = or (nat_eq slot e.0) (more g)

@@ -1,12 +1,12 @@
--- Queries: QueryLaws (when two are the same). Marks: MarkLaws. Places: PlaceLaws (a free one, and
--- each after the other), EntryLaws (one watcher more, and one fewer). What comes of watching:
--- OutcomeLaws. The observers that a table stands for: WatcherLaws (one more, one fewer, how many
--- queries), TouchedLaws (what leaves queries and watchers), PlacedLaws (the query at a place).
+-- Queries: QueryLaws (when two are the same). Marks: MarkLaws. Slots: SlotLaws (a free one, and
+-- each after the other), EntryLaws (one observer more, and one fewer). What comes of watching:
+-- OutcomeLaws. The observers that a table stands for: ObserverLaws (one more, one fewer, how many
+-- queries), TouchedLaws (what leaves queries and observers), WatchedAtLaws (the query in a slot).
 pub mod QueryLaws
 pub mod MarkLaws
-pub mod PlaceLaws
+pub mod SlotLaws
 pub mod EntryLaws
 pub mod OutcomeLaws
-pub mod WatcherLaws
+pub mod ObserverLaws
 pub mod TouchedLaws
-pub mod PlacedLaws
+pub mod WatchedAtLaws

@@ -1,4 +1,4 @@
--- What changes neither queries nor watchers leaves the observers that a table stands for.
+-- What changes neither queries nor observers leaves the observers that a table stands for.
 use Rattle.std.proofs.Common.{
   if◌then◌else◌,
   ◌≡◌,
@@ -44,14 +44,20 @@ use Rattle.watch_table.specs.WatchedQueries.{
   body_set,
   with_body,
 }
-use Rattle.watch_table.specs.Watchers.{watchers_by, watchers_of, IsApart, AreApart, WatchesStandFor}
+use Rattle.watch_table.specs.ObserverCounts.{
+  counted_by,
+  counted_of,
+  IsApart,
+  AreApart,
+  WatchesStandFor,
+}
 use Rattle.watch_table.proofs.EntryLaws.{each_set}
-use Rattle.watch_table.proofs.WatcherLaws.{apart-set}
+use Rattle.watch_table.proofs.ObserverLaws.{apart-set}
 
--- a change leaves the query and its watchers
+-- a change leaves the query and its observers
 pub record Keeps (change : Watched → Watched) : Type 0 where
   pub query : (w : Watched) → (change w).query ≡ w.query
-  pub watchers : (w : Watched) → (change w).watchers ≡ w.watchers
+  pub observers : (w : Watched) → (change w).observers ≡ w.observers
 
 abbrev pub each_changed : (Watched → Watched) → Table → Table
 each_changed change t = map (λ (e : ℕ × Watched). (e.0, change e.1)) t
@@ -59,15 +65,16 @@ each_changed change t = map (λ (e : ℕ × Watched). (e.0, change e.1)) t
 sums_kept : (change : Watched → Watched)
     → Keeps change
     → (q : Query) (t : Table)
-    → watchers_of q (each_changed change t) ≡ watchers_of q t
+    → counted_of q (each_changed change t) ≡ counted_of q t
 sums_kept change keeps q [] = refl
 sums_kept change keeps q (e ∷ es) =
-    sum_by-cons (watchers_by q) (e.0, change e.1) (each_changed change es)
+    sum_by-cons (counted_by q) (e.0, change e.1) (each_changed change es)
     ∙ (ap₂ (λ m n. m + n) here (sums_kept change keeps q es)
-    ∙ sym (sum_by-cons (watchers_by q) e es))
+    ∙ sym (sum_by-cons (counted_by q) e es))
   where
-    here : watchers_by q (e.0, change e.1) ≡ watchers_by q e
-    here = ap₂ (λ x n. if is_same_query x q then n else 0) (keeps.query e.1) (keeps.watchers e.1)
+    here : counted_by q (e.0, change e.1) ≡ counted_by q e
+    here = ap₂ (λ x n. if is_same_query x q then n else 0) (keeps.query e.1)
+        (keeps.observers e.1)
 
 apart_kept : (change : Watched → Watched)
     → Keeps change
@@ -93,18 +100,18 @@ pub kept-StandsFor : (change : Watched → Watched)
     → WatchesStandFor standing t
     → WatchesStandFor standing (each_changed change t)
 kept-StandsFor change keeps standing t h = record {
-  watchers = λ q. sums_kept change keeps q t ∙ h.watchers q;
+  observers = λ q. sums_kept change keeps q t ∙ h.observers q;
   some =
-      each_map (λ e. 0 < e.1.watchers) (λ (e : ℕ × Watched). (e.0, change e.1)) t
-      (each_weaker (λ e. 0 < e.1.watchers) (λ e. 0 < (change e.1).watchers)
-      (λ e some. subst (λ n. 0 < n) (sym (keeps.watchers e.1)) some) t h.some);
+      each_map (λ e. 0 < e.1.observers) (λ (e : ℕ × Watched). (e.0, change e.1)) t
+      (each_weaker (λ e. 0 < e.1.observers) (λ e. 0 < (change e.1).observers)
+      (λ e some. subst (λ n. 0 < n) (sym (keeps.observers e.1)) some) t h.some);
   apart = apart_kept change keeps t h.apart;
 }
 
 touched-Keeps : (old new : Option Record) → Keeps (touched old new)
 touched-Keeps old new = record {
   query = λ w. query w (is_other_part w.query old new);
-  watchers = λ w. watchers w (is_other_part w.query old new);
+  observers = λ w. counted w (is_other_part w.query old new);
 }
   where
     query : (w : Watched) (b : Bool)
@@ -112,10 +119,10 @@ touched-Keeps old new = record {
     query w true = refl
     query w false = refl
 
-    watchers : (w : Watched) (b : Bool)
-        → (cond b (record w { marked = true; body = None }) w).watchers ≡ w.watchers
-    watchers w true = refl
-    watchers w false = refl
+    counted : (w : Watched) (b : Bool)
+        → (cond b (record w { marked = true; body = None }) w).observers ≡ w.observers
+    counted w true = refl
+    counted w false = refl
 
 pub touched-StandsFor : (old new : Option Record) (standing : List Observer) (t : Table)
     → WatchesStandFor standing t
@@ -127,50 +134,51 @@ pub unmarked-StandsFor : (standing : List Observer) (t : Table)
     → WatchesStandFor standing t
     → WatchesStandFor standing (all_unmarked t)
 unmarked-StandsFor standing t h =
-    kept-StandsFor unmarked (record { query = λ w. refl; watchers = λ w. refl }) standing t h
+    kept-StandsFor unmarked (record { query = λ w. refl; observers = λ w. refl }) standing t h
 
--- what is at a place is replaced by what has the same query and watchers
+-- what is in a slot is replaced by what has the same query and observers
 sum_replaced : (q : Query) (test : ℕ → Bool) (t : Table) (w v : Watched)
     → lookup test t ≡ Some w
     → v.query ≡ w.query
-    → v.watchers ≡ w.watchers
-    → watchers_of q (set_value test t v) ≡ watchers_of q t
+    → v.observers ≡ w.observers
+    → counted_of q (set_value test t v) ≡ counted_of q t
 sum_replaced q test [] w v is query count = refl
 sum_replaced q test (e ∷ es) w v is query count =
     by (test e.0) is (λ g. sum_replaced q test es w v g query count)
   where
     by : (b : Bool)
         → cond b (Some e.1) (lookup test es) ≡ Some w
-        → (lookup test es ≡ Some w → watchers_of q (set_value test es v) ≡ watchers_of q es)
-        → watchers_of q (cond b ((e.0, v) ∷ es) (e ∷ set_value test es v)) ≡ watchers_of q (e ∷ es)
+        → (lookup test es ≡ Some w → counted_of q (set_value test es v) ≡ counted_of q es)
+        → counted_of q (cond b ((e.0, v) ∷ es) (e ∷ set_value test es v))
+        ≡ counted_of q (e ∷ es)
     by true g more =
         let same : e.1 ≡ w = cc in
-        let here : watchers_by q (e.0, v) ≡ watchers_by q e =
+        let here : counted_by q (e.0, v) ≡ counted_by q e =
         ap₂ (λ x n. if is_same_query x q then n else 0)
         (query ∙ ap (λ (x : Watched). x.query) (sym same))
-        (count ∙ ap (λ (x : Watched). x.watchers) (sym same)) in
-        sum_by-cons (watchers_by q) (e.0, v) es
-        ∙ (ap (λ n. n + watchers_of q es) here ∙ sym (sum_by-cons (watchers_by q) e es))
+        (count ∙ ap (λ (x : Watched). x.observers) (sym same)) in
+        sum_by-cons (counted_by q) (e.0, v) es
+        ∙ (ap (λ n. n + counted_of q es) here ∙ sym (sum_by-cons (counted_by q) e es))
     by false g more =
-        sum_by-cons (watchers_by q) e (set_value test es v)
-        ∙ (ap (λ n. watchers_by q e + n) (more g) ∙ sym (sum_by-cons (watchers_by q) e es))
+        sum_by-cons (counted_by q) e (set_value test es v)
+        ∙ (ap (λ n. counted_by q e + n) (more g) ∙ sym (sum_by-cons (counted_by q) e es))
 
-pub with_body-StandsFor : (place : ℕ) (body : List ℕ) (standing : List Observer) (t : Table)
+pub with_body-StandsFor : (slot : ℕ) (body : List ℕ) (standing : List Observer) (t : Table)
     → WatchesStandFor standing t
-    → WatchesStandFor standing (with_body place body t)
-with_body-StandsFor place body standing t h = by (watched_at place t) refl
+    → WatchesStandFor standing (with_body slot body t)
+with_body-StandsFor slot body standing t h = by (watched_at slot t) refl
   where
     by : (o : Option Watched)
-        → watched_at place t ≡ o
-        → WatchesStandFor standing (body_set o place body t)
+        → watched_at slot t ≡ o
+        → WatchesStandFor standing (body_set o slot body t)
     by None is = h
     by (Some w) is = record {
-      watchers =
+      observers =
           λ q.
-          sum_replaced q (nat_eq place) t w (record w { body = Some body }) is refl refl
-          ∙ h.watchers q;
+          sum_replaced q (nat_eq slot) t w (record w { body = Some body }) is refl refl
+          ∙ h.observers q;
       some =
-          each_set (λ e. 0 < e.1.watchers) (nat_eq place) t w (record w { body = Some body }) is
+          each_set (λ e. 0 < e.1.observers) (nat_eq slot) t w (record w { body = Some body }) is
           (λ _ some. some) h.some;
-      apart = apart-set (nat_eq place) t w (record w { body = Some body }) is refl h.apart;
+      apart = apart-set (nat_eq slot) t w (record w { body = Some body }) is refl h.apart;
     }

@@ -1,4 +1,4 @@
 pub mod WatchedQueries
-pub mod Watchers
+pub mod ObserverCounts
 pub mod Outcomes
-pub mod Places
+pub mod Slots

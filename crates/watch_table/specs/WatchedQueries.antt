@@ -1,4 +1,4 @@
--- Watched queries, each at its place: what is at a place, and what changes (RFC 7641 section 1.3).
+-- Watched queries, each in its slot: what is in a slot, and what changes (RFC 7641 section 1.3).
 use Rattle.std.specs.Prelude.{
   ◌≡◌,
   ℕ,
@@ -35,84 +35,84 @@ use Rattle.event_model.specs.Observers.{max_watched}
 -- the body that was last formed for it
 pub record Watched : Type 0 where
   pub query : Query
-  pub watchers : ℕ
+  pub observers : ℕ
   pub marked : Bool
   pub body : Option (List ℕ)
 
--- the watched queries, each with its place
+-- the watched queries, each with its slot
 abbrev pub Table : Type 0
 Table = List (ℕ × Watched)
 
--- what is watched at a place
+-- what is watched in a slot
 abbrev pub watched_at : ℕ → Table → Option Watched
-watched_at place t = lookup (nat_eq place) t
+watched_at slot t = lookup (nat_eq slot) t
 
--- the query that is watched at a place
+-- the query that is watched in a slot
 abbrev pub query_at : ℕ → Table → Option Query
-query_at place t = option_map (λ w. w.query) (watched_at place t)
+query_at slot t = option_map (λ w. w.query) (watched_at slot t)
 
 -- something is watched, and it is marked
 abbrev pub is_marked : Option Watched → Bool
 is_marked None = false
 is_marked (Some w) = w.marked
 
--- the query of a place is marked
+-- the query of a slot is marked
 abbrev pub is_marked_at : ℕ → Table → Bool
-is_marked_at place t = is_marked (watched_at place t)
+is_marked_at slot t = is_marked (watched_at slot t)
 
--- the body that was last formed for the query of a place, as it still is
+-- the body that was last formed for the query of a slot, as it still is
 abbrev pub body_at : ℕ → Table → Option (List ℕ)
-body_at place t = option_and_then (λ w. w.body) (watched_at place t)
+body_at slot t = option_and_then (λ w. w.body) (watched_at slot t)
 
--- the place where a query is watched
-abbrev pub place_of : Query → Table → Option ℕ
-place_of query t = option_map (λ e. e.0) (find (λ e. is_same_query e.1.query query) t)
+-- the slot where a query is watched
+abbrev pub slot_of : Query → Table → Option ℕ
+slot_of query t = option_map (λ e. e.0) (find (λ e. is_same_query e.1.query query) t)
 
--- a query with its first watcher: no mark, and no body
+-- a query with its first observer: no mark, and no body
 abbrev pub watched_first : Query → Watched
-watched_first query = record { query = query; watchers = 1; marked = false; body = None }
+watched_first query = record { query = query; observers = 1; marked = false; body = None }
 
--- one watcher more of a query, by what is watched at its place
+-- one observer more of a query, by what is watched in its slot
 abbrev pub more_at : Option Watched → ℕ → Query → Table → Table
-more_at None place query t = t ++ (place, watched_first query) ∷ []
-more_at (Some w) place query t = set_value (nat_eq place) t (record w { watchers = w.watchers + 1 })
+more_at None slot query t = t ++ (slot, watched_first query) ∷ []
+more_at (Some w) slot query t = set_value (nat_eq slot) t (record w { observers = w.observers + 1 })
 
--- one watcher more of a query at a place
+-- one observer more of a query in a slot
 abbrev pub one_more : ℕ → Query → Table → Table
-one_more place query t = more_at (watched_at place t) place query t
+one_more slot query t = more_at (watched_at slot t) slot query t
 
--- one watcher fewer of what is watched at a place: it goes with its last
+-- one observer fewer of what is watched in a slot: it goes with its last
 abbrev pub fewer_of : Watched → ℕ → Table → Table
-fewer_of w place t =
-    if nat_le w.watchers 1
-    then remove_entry (nat_eq place) t
-    else set_value (nat_eq place) t (record w { watchers = w.watchers - 1 })
+fewer_of w slot t =
+    if nat_le w.observers 1
+    then remove_entry (nat_eq slot) t
+    else set_value (nat_eq slot) t (record w { observers = w.observers - 1 })
 
 abbrev pub fewer_at : Option Watched → ℕ → Table → Table
-fewer_at None place t = t
-fewer_at (Some w) place t = fewer_of w place t
+fewer_at None slot t = t
+fewer_at (Some w) slot t = fewer_of w slot t
 
--- one watcher fewer at a place: its query goes with its last
+-- one observer fewer in a slot: its query goes with its last
 unfoldable pub one_fewer : ℕ → Table → Table
-one_fewer place t = fewer_at (watched_at place t) place t
+one_fewer slot t = fewer_at (watched_at slot t) slot t
 
--- one watcher fewer at the place that an observer had before, where it had one
+-- one observer fewer in the slot that an observer had before, where it had one
 abbrev pub without : Option ℕ → Table → Table
 without None t = t
-without (Some place) t = one_fewer place t
+without (Some slot) t = one_fewer slot t
 
--- the place of a query to be watched: its own, or else one of the first 257 where nothing is
+-- the slot of a query to be watched: its own, or else one of the first 257 where nothing is
 -- watched
-abbrev pub IsPlaceOf : Option ℕ → ℕ → Table → Type 0
-IsPlaceOf (Some own) place t = place ≡ own
-IsPlaceOf None place t = (watched_at place t ≡ None) × (place ≤ max_watched)
+abbrev pub IsSlotOf : Option ℕ → ℕ → Table → Type 0
+IsSlotOf (Some own) slot t = slot ≡ own
+IsSlotOf None slot t = (watched_at slot t ≡ None) × (slot ≤ max_watched)
 
-abbrev pub IsPlaceFor : Query → ℕ → Table → Type 0
-IsPlaceFor query place t = IsPlaceOf (place_of query t) place t
+abbrev pub IsSlotFor : Query → ℕ → Table → Type 0
+IsSlotFor query slot t = IsSlotOf (slot_of query t) slot t
 
 -- so many other queries are watched that there is no room for one more
 pub record IsFullFor (query : Query) (t : Table) : Type 0 where
-  pub other : place_of query t ≡ None
+  pub other : slot_of query t ≡ None
   pub full : max_watched ≤ length t
 
 -- a watched query after a change of a registration: where its lines changed it is marked, and its
@@ -132,11 +132,11 @@ unmarked w = record w { marked = false }
 abbrev pub all_unmarked : Table → Table
 all_unmarked t = map (λ e. (e.0, unmarked e.1)) t
 
--- the body of what is watched at a place, where something is
+-- the body of what is watched in a slot, where something is
 abbrev pub body_set : Option Watched → ℕ → List ℕ → Table → Table
-body_set None place body t = t
-body_set (Some w) place body t = set_value (nat_eq place) t (record w { body = Some body })
+body_set None slot body t = t
+body_set (Some w) slot body t = set_value (nat_eq slot) t (record w { body = Some body })
 
--- the body of the query of a place
+-- the body of the query of a slot
 abbrev pub with_body : ℕ → List ℕ → Table → Table
-with_body place body t = body_set (watched_at place t) place body t
+with_body slot body t = body_set (watched_at slot t) slot body t

@@ -3,8 +3,8 @@
 #![tactic(auto)]
 
 mod faults;
-mod places;
 mod same_queries;
+mod slots;
 mod table;
 mod watch;
 

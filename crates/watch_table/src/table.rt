@@ -5,13 +5,13 @@ ghost use Rattle.std.specs.Option.{option_copied};
 ghost use Rattle.std.specs.Arc.{arc_value};
 ghost use Rattle.event_model.specs.declared.notes.Observer.{Observer};
 ghost use Rattle.watch_table.specs.WatchedQueries.{watched_at, query_at, is_marked_at, body_at};
-ghost use Rattle.watch_table.specs.WatchedQueries.{one_more, one_fewer, without, IsPlaceFor};
+ghost use Rattle.watch_table.specs.WatchedQueries.{one_more, one_fewer, without, IsSlotFor};
 ghost use Rattle.watch_table.specs.WatchedQueries.{IsFullFor, all_touched, all_unmarked};
 ghost use Rattle.watch_table.specs.WatchedQueries.{with_body};
-ghost use Rattle.watch_table.specs.Watchers.{WatchesStandFor, IsFullAmong};
+ghost use Rattle.watch_table.specs.ObserverCounts.{WatchesStandFor, IsFullAmong};
 
 use crate::WatchFault;
-use crate::places::{leave, set_body, touch_at, unmark_at, watch_instead};
+use crate::slots::{leave, set_body, touch_at, unmark_at, watch_instead};
 use crate::watch::Watch;
 use event_model::limits::MAX_WATCHED;
 use indexmap::IndexMap;
@@ -20,11 +20,11 @@ use std::alloc::Global;
 use std::marker::Model;
 use std::sync::Arc;
 
-/// The queries that observers watch (RFC 7641 section 1.3), each at a place of its own as long as
+/// The queries that observers watch (RFC 7641 section 1.3), each in a slot of its own as long as
 /// it is watched.
 #[derive(Drop)]
 pub struct WatchTable {
-    /// The watched queries by their places.
+    /// The watched queries by their slots.
     watches: IndexMap<u32, Watch>,
 }
 
@@ -52,8 +52,8 @@ impl WatchTable {
         Ok(WatchTable { watches })
     }
 
-    /// One watcher more of a query, whose place is answered. Where `instead_of` names a place, that
-    /// place first has one watcher fewer, as by `unwatch`. `FullWatches`: 256 other queries are
+    /// One observer more of a query, whose slot is answered. Where `instead_of` names a slot, that
+    /// slot first has one observer fewer, as by `unwatch`. `FullWatches`: 256 other queries are
     /// watched after that, and it stays so. `Starved`: out of memory, and nothing changed.
     pub fn watch(
         &mut self,
@@ -61,10 +61,10 @@ impl WatchTable {
         instead_of: Option<u32>,
         query: &Query,
     ) -> Result<u32, WatchFault>
-        ensures place { IfOk result (λ place. IsPlaceFor query.now place
+        ensures slot { IfOk result (λ slot. IsSlotFor query.now slot
             (without instead_of self.old)) }
-        ensures watched { IfOk result (λ place. self.new
-            ≡ one_more place query.now (without instead_of self.old)) }
+        ensures watched { IfOk result (λ slot. self.new
+            ≡ one_more slot query.now (without instead_of self.old)) }
         ensures stands { (standing : List Observer) (o : Observer)
             → o.query ≡ query.now
             → WatchesStandFor standing (without instead_of self.old)
@@ -72,8 +72,8 @@ impl WatchTable {
         ensures refused { result ≡ Err WatchFault.FullWatches
             → IsFullFor query.now (without instead_of self.old) }
         ensures accepted { IsFullFor query.now (without instead_of self.old)
-            → (place : ℕ)
-            → result ≢ Ok place }
+            → (slot : ℕ)
+            → result ≢ Ok slot }
         ensures refused_among { (standing : List Observer)
             → WatchesStandFor standing (without instead_of self.old)
             → result ≡ Err WatchFault.FullWatches
@@ -81,8 +81,8 @@ impl WatchTable {
         ensures accepted_among { (standing : List Observer)
             → WatchesStandFor standing (without instead_of self.old)
             → IsFullAmong query.now standing
-            → (place : ℕ)
-            → result ≢ Ok place }
+            → (slot : ℕ)
+            → result ≢ Ok slot }
         ensures left { result ≡ Err WatchFault.FullWatches
             → self.new ≡ without instead_of self.old }
         ensures starved { result ≡ Err WatchFault.Starved → self.new ≡ self.old }
@@ -90,16 +90,16 @@ impl WatchTable {
         watch_instead(&mut self.watches, instead_of, query)
     }
 
-    /// One watcher fewer of the query at a place; it is dropped with its last. The places of the
+    /// One observer fewer of the query in a slot; it is dropped with its last. The slots of the
     /// others stay.
-    pub fn unwatch(&mut self, place: u32)
-        ensures left { self.new ≡ one_fewer place self.old }
+    pub fn unwatch(&mut self, slot: u32)
+        ensures left { self.new ≡ one_fewer slot self.old }
         ensures stands { (front back : List Observer) (o : Observer)
-            → query_at place self.old ≡ Some o.query
+            → query_at slot self.old ≡ Some o.query
             → WatchesStandFor (front ++ o ∷ back) self.old
             → WatchesStandFor (front ++ back) self.new }
     {
-        leave(&mut self.watches, place);
+        leave(&mut self.watches, slot);
     }
 
     /// Marks exactly the queries to which the old and the new state of a registration give other
@@ -116,22 +116,22 @@ impl WatchTable {
         }
     }
 
-    /// The query that is watched at a place.
-    pub fn query(&self, place: u32) -> &Query
-        requires { IsSome (watched_at place self.now) }
-        ensures { Some result.now ≡ query_at place self.now }
+    /// The query that is watched in a slot.
+    pub fn query(&self, slot: u32) -> &Query
+        requires { IsSome (watched_at slot self.now) }
+        ensures { Some result.now ≡ query_at slot self.now }
     {
-        match self.watches.get(&place) {
+        match self.watches.get(&slot) {
             Some(watch) => watch.query(),
             None => unreachable!(),
         }
     }
 
-    /// Whether the query at a place is marked; false where none is watched.
-    pub fn marked(&self, place: u32) -> bool
-        ensures { result ≡ is_marked_at place self.now }
+    /// Whether the query in a slot is marked; false where none is watched.
+    pub fn marked(&self, slot: u32) -> bool
+        ensures { result ≡ is_marked_at slot self.now }
     {
-        match self.watches.get(&place) {
+        match self.watches.get(&slot) {
             Some(watch) => watch.is_marked(),
             None => false,
         }
@@ -149,24 +149,24 @@ impl WatchTable {
         }
     }
 
-    /// The body that was last set for the query at a place: none where none was set after it gained
-    /// its first watcher and after it was last touched.
-    pub fn body(&self, place: u32) -> Option<&Arc<Bytes>>
-        ensures { option_map (λ body. arc_value body.now) result ≡ body_at place self.now }
+    /// The body that was last set for the query in a slot: none where none was set after it gained
+    /// its first observer and after it was last touched.
+    pub fn body(&self, slot: u32) -> Option<&Arc<Bytes>>
+        ensures { option_map (λ body. arc_value body.now) result ≡ body_at slot self.now }
     {
-        match self.watches.get(&place) {
+        match self.watches.get(&slot) {
             Some(watch) => watch.body(),
             None => None,
         }
     }
 
-    /// Sets the body that was formed for the query at a place.
-    pub fn set_body(&mut self, place: u32, body: Arc<Bytes>)
-        ensures set { self.new ≡ with_body place (arc_value body) self.old }
+    /// Sets the body that was formed for the query in a slot.
+    pub fn set_body(&mut self, slot: u32, body: Arc<Bytes>)
+        ensures set { self.new ≡ with_body slot (arc_value body) self.old }
         ensures stands { (standing : List Observer)
             → WatchesStandFor standing self.old
             → WatchesStandFor standing self.new }
     {
-        set_body(&mut self.watches, place, body);
+        set_body(&mut self.watches, slot, body);
     }
 }

@@ -18,7 +18,7 @@ pub(crate) struct Watch {
     /// The query.
     query: Query,
     /// How many watch it.
-    watchers: u64,
+    observers: u64,
     /// Whether its lines changed since the marks were taken off.
     marked: bool,
     /// The body that was last formed for it, where its lines have not changed since.
@@ -34,20 +34,20 @@ impl Model for Watch {
 
     ghost view = { λ w. record {
       query = w.query;
-      watchers = w.watchers;
+      observers = w.observers;
       marked = w.marked;
       body = option_map arc_value w.body;
     } };
 }
 
 impl Watch {
-    /// A query with its first watcher.
+    /// A query with its first observer.
     pub(crate) fn first(query: Query) -> Watch
         ensures { result ≡ watched_first query }
     {
         Watch {
             query,
-            watchers: 1,
+            observers: 1,
             marked: false,
             body: None,
         }
@@ -67,33 +67,33 @@ impl Watch {
         is_same_query(&self.query, query)
     }
 
-    /// Whether one watcher is left at most.
+    /// Whether one observer is left at most.
     pub(crate) fn is_last(&self) -> bool
-        ensures { result ≡ nat_le self.now.watchers 1 }
+        ensures { result ≡ nat_le self.now.observers 1 }
     {
-        self.watchers <= 1
+        self.observers <= 1
     }
 
-    /// Whether no further watcher can be counted.
+    /// Whether no further observer can be counted.
     pub(crate) fn is_counted_out(&self) -> bool
-        ensures { result ≡ nat_le (2 ^ 64 - 1) self.now.watchers }
+        ensures { result ≡ nat_le (2 ^ 64 - 1) self.now.observers }
     {
-        self.watchers >= u64::MAX
+        self.observers >= u64::MAX
     }
 
-    /// One watcher more.
+    /// One observer more.
     pub(crate) fn count_up(&mut self)
-        ensures { self.old.watchers < 2 ^ 64 - 1
-            → self.new ≡ record self.old { watchers = self.old.watchers + 1 } }
+        ensures { self.old.observers < 2 ^ 64 - 1
+            → self.new ≡ record self.old { observers = self.old.observers + 1 } }
     {
-        self.watchers = self.watchers.saturating_add(1);
+        self.observers = self.observers.saturating_add(1);
     }
 
-    /// One watcher fewer.
+    /// One observer fewer.
     pub(crate) fn count_down(&mut self)
-        ensures { self.new ≡ record self.old { watchers = self.old.watchers - 1 } }
+        ensures { self.new ≡ record self.old { observers = self.old.observers - 1 } }
     {
-        self.watchers = self.watchers.saturating_sub(1);
+        self.observers = self.observers.saturating_sub(1);
     }
 
     /// Whether its lines changed since the marks were taken off.

@@ -150,7 +150,7 @@ registration-at history moment s params body options further = by (body_read bod
   where
     by : (b : BodyRead)
         → IsMadeAt moment (registered_links history moment s params options further b)
-    by (bad_body word) made more h = absurd cc
+    by (bad_body payload) made more h = absurd cc
     by (good_body links) made more h =
         let entry : Entry = entry_of_step moment s (change.Register params links) in
         change_made-at history entry

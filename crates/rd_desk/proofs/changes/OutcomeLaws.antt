@@ -141,7 +141,7 @@ planned_bad : (history : List Entry) (swept moment : ℕ) (s : Step) (params : R
     → IsBadBody b r
     → IsPlanned history swept further (registered_links history moment s params options further b)
     (record { reply = r; entering = None })
-planned_bad history swept moment s params options further (bad_body word) r said = record {
+planned_bad history swept moment s params options further (bad_body payload) r said = record {
   said = said;
   notes = refl;
 }

@@ -53,7 +53,7 @@ use Rattle.coap_answers.specs.Replies.{
 use Rattle.rd_desk.specs.declared.write.replies.ShortReply.{ShortReply}
 use Rattle.rd_desk.specs.parts.Replies.{as_reply}
 
--- an answer without a tag, an Observe value and a body, with a payload of one word
+-- an answer without a tag, an Observe value and a body, with a payload of 13 octets at most
 pub record IsShort (r : Reply) : Type 0 where
   pub tag : r.tag ≡ None
   pub observe : r.observe ≡ None

@@ -352,7 +352,7 @@ registration_enters history moment s params body options further entry more h =
         → (registered_links history moment s params options further read).notes
         ≡ note.Entered entry ∷ more
         → entry.moment.0 ≡ moment
-    by (bad_body word) g = absurd cc
+    by (bad_body payload) g = absurd cc
     by (good_body links) g =
         let it : Entry = entry_of_step moment s (change.Register params links) in
         sym (ap (λ (e : Entry). e.moment.0) (entered_it (change_refusal 0 history it) it entry

@@ -21,11 +21,11 @@ use Rattle.event_model.specs.Observers.{observers}
 use Rattle.journal_model.specs.declared.rows.Row.{Row}
 use Rattle.journal_model.specs.Journal.{events}
 use Rattle.journal_model.specs.Ticks.{octets_sent}
-use Rattle.observers.specs.Watchers as kept
+use Rattle.observers.specs.Standing as kept
 use Rattle.observation.specs.Watching.{Watching, WatchingStandsFor}
 use Rattle.observation.proofs.TickLaws.{kept-StandsFor}
 use Rattle.rd_desk.specs.declared.watchers.Watcher.{Watcher}
-use Rattle.rd_desk.specs.calls.Watchers.{IsShownAs, IsObserverAfter}
+use Rattle.rd_desk.specs.calls.ShownObservers.{IsShownAs, IsObserverAfter}
 
 there_alike : {X Y : Type 0} (f : X → Y) (o : Option X) → is_some (option_map f o) ≡ is_some o
 there_alike f None = refl
@@ -38,7 +38,7 @@ unfolding waiting_notice
 waits octets past o = there_alike (notice_sent octets o.peer) (flight o past)
 
 pub shown-IsObserverAfter : (rows : List Row) (w : Watching) (i : ℕ) (o : Observer)
-    (x : kept.Watcher) (it : Watcher)
+    (x : kept.Standing) (it : Watcher)
     → WatchingStandsFor rows w
     → slice_get (observers (events rows)) i ≡ Some o
     → slice_get w.observers i ≡ Some x

@@ -142,7 +142,7 @@ registering_simply-starts past place s m idle =
     by false true e g h = absurd cc
     by false false e g h = rw (e, g) refl
 
--- else it is refused by the word of the fault
+-- else it is refused with the diagnostic of the fault
 pub registering_simply-fetching : (past : List Event) (place : ℕ) (s : Step) (m : Message)
     (peer : Peer)
     → start_refusal s.peer past ≡ Some (fault.Fetching peer)

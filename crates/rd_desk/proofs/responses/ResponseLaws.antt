@@ -561,7 +561,7 @@ registration-moment history moment s params body options further rest entry is =
         → (registered_links history moment s params options further b).notes
         ≡ note.Entered entry ∷ rest
         → entry.moment.0 ≡ moment
-    by (bad_body word) h = absurd cc
+    by (bad_body payload) h = absurd cc
     by (good_body links) h =
         let what : Entry = entry_of_step moment s (change.Register params links) in
         made what (change_refusal 0 history what)

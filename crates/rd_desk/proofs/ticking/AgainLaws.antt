@@ -70,7 +70,7 @@ use Rattle.exchange_core.specs.declared.resends.Again.{Again}
 use Rattle.exchange_core.specs.declared.resends.Again.TheVariants as again
 use Rattle.exchange_core.specs.Retransmissions.{kept_due}
 use Rattle.rd_desk.proofs.responses.FetchStepLaws.{repeating-octets}
-use Rattle.observers.specs.Watchers.{Watcher, due_of}
+use Rattle.observers.specs.Standing.{Standing, due_of}
 use Rattle.observers.specs.ObserverEvents.{shown}
 use Rattle.observation.specs.Notices.{sending_again}
 use Rattle.observation.specs.Watching.{Watching, IsConfirmable, WatchingStandsFor}
@@ -117,7 +117,7 @@ kept_due-flight moment f =
         ∙ turned (nat_le (sent + wait) moment) (nat_le 4 n)
 
 -- what is done of it
-again_one : (rows : List Row) (moment : ℕ) (o : Observer) (x : Watcher)
+again_one : (rows : List Row) (moment : ℕ) (o : Observer) (x : Standing)
     → o.peer ≡ x.peer
     → o.token ≡ x.token
     → waiting_notice (octets_sent rows) (events rows) o ≡ x.flight
@@ -203,7 +203,7 @@ notices_again-StandsFor rows s starved moment w h =
         map (watching (octets_sent Made) past (transitions Made)) (observers past)
         ≡ map (shown h.queries) w.observers) same h.observers.standing
 
-    one : (o : Observer) (x : Watcher)
+    one : (o : Observer) (x : Standing)
         → watching (octets_sent Made) (events rows) (transitions Made) o ≡ shown h.queries x
         → IsConfirmable x
         → flight_again rows moment o (flight o (events rows)) ≡ again_done moment x
@@ -213,7 +213,7 @@ notices_again-StandsFor rows s starved moment w h =
         (sym (waiting_notice-row rows (row_with s (row_moment rows s) starved nothing) o)
         ∙ ap (λ (y : Shown). y.waits) here) fits
 
-    each : (os : List Observer) (xs : List Watcher)
+    each : (os : List Observer) (xs : List Standing)
         → map (watching (octets_sent Made) (events rows) (transitions Made)) os
         ≡ map (shown h.queries) xs
         → AllByRecursion IsConfirmable xs

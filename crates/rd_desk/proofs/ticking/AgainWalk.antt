@@ -48,7 +48,7 @@ use Rattle.journal_model.proofs.UnfinishedRowLaws.{events-making_nothing}
 use Rattle.journal_model.proofs.observers.SentOctets.{waiting_notice-row}
 use Rattle.exchange_core.specs.declared.resends.Again.{Again}
 use Rattle.exchange_core.specs.declared.resends.Again.TheVariants as again
-use Rattle.observers.specs.Watchers.{Watcher, due_of, changed_at}
+use Rattle.observers.specs.Standing.{Standing, due_of, changed_at}
 use Rattle.observers.specs.ObserverEvents.{shown}
 use Rattle.coap_answers.specs.declared.mids.Mids.{Mids}
 use Rattle.coap_answers.specs.Sendings.{Sends}
@@ -89,31 +89,31 @@ drop-end [] (suc i) h = refl
 drop-end (x ∷ xs) zero h = absurd (omega (arith, h))
 drop-end (x ∷ xs) (suc i) h = drop-end xs i (omega (arith, h))
 
-drop-changed_suc : (change : Watcher → Watcher) (i : ℕ) (xs : List Watcher)
+drop-changed_suc : (change : Standing → Standing) (i : ℕ) (xs : List Standing)
     → drop (suc i) (changed_at change i xs) ≡ drop (suc i) xs
 drop-changed_suc change i [] = refl
 drop-changed_suc change zero (x ∷ xs) = refl
 drop-changed_suc change (suc i) (x ∷ xs) = drop-changed_suc change i xs
 
-pub drop-changed : (change : Watcher → Watcher) (i : ℕ) (xs : List Watcher)
+pub drop-changed : (change : Standing → Standing) (i : ℕ) (xs : List Standing)
     → drop (i + 1) (changed_at change i xs) ≡ drop (i + 1) xs
 drop-changed change i xs =
     subst (λ (n : ℕ). drop n (changed_at change i xs) ≡ drop n xs) (after_one i)
     (drop-changed_suc change i xs)
 
-pub got-changed : (change : Watcher → Watcher) (i : ℕ) (xs : List Watcher) (x : Watcher)
+pub got-changed : (change : Standing → Standing) (i : ℕ) (xs : List Standing) (x : Standing)
     → slice_get xs i ≡ Some x
     → slice_get (changed_at change i xs) i ≡ Some (change x)
 got-changed change i [] x is = absurd cc
 got-changed change zero (y ∷ ys) x is =
-    let same : y ≡ x = cc in ap (λ (z : Watcher). Some (change z)) same
+    let same : y ≡ x = cc in ap (λ (z : Standing). Some (change z)) same
 got-changed change (suc i) (y ∷ ys) x is = got-changed change i ys x is
 
 -- ---- one notice
 
 -- nothing is due
 pub way_waits : (rows : List Row) (s : Step) (starved : Bool) (done : Effects) (d after : Seen)
-    (out : List (Peer × List ℕ)) (mids : Mids) (moment : ℕ) (x : Watcher)
+    (out : List (Peer × List ℕ)) (mids : Mids) (moment : ℕ) (x : Standing)
     → again.Wait ≡ due_of moment x.flight
     → after ≡ d
     → UnderWay rows s starved done d out mids
@@ -127,7 +127,8 @@ way_waits rows s starved done d after out mids moment x due same way =
 
 -- it is sent again
 pub way_sends : (rows : List Row) (s : Step) (starved : Bool) (done : Effects) (b d : Seen)
-    (w : Watching) (out sent_out : List (Peer × List ℕ)) (mids : Mids) (moment : ℕ) (x : Watcher)
+    (w : Watching) (out sent_out : List (Peer × List ℕ)) (mids : Mids) (moment : ℕ)
+    (x : Standing)
     → b ≡ d
     → moment ≡ d.moment
     → again.Send ≡ due_of moment x.flight
@@ -167,7 +168,7 @@ way_sends rows s starved done b d w out sent_out mids moment x seen at due stand
 
 -- its observer is given up
 pub way_gives_up : (rows : List Row) (s : Step) (starved : Bool) (done : Effects) (b d : Seen)
-    (w : Watching) (out : List (Peer × List ℕ)) (mids : Mids) (moment : ℕ) (x : Watcher)
+    (w : Watching) (out : List (Peer × List ℕ)) (mids : Mids) (moment : ℕ) (x : Standing)
     → b ≡ d
     → again.GaveUp ≡ due_of moment x.flight
     → (WatchingStandsFor (making rows s starved done) b.watching
@@ -197,7 +198,7 @@ way_gives_up rows s starved done b d w out mids moment x seen due stands way = b
 -- ---- the walk
 
 -- the octets of the notice in flight are no longer than a datagram may be
-abbrev pub IsShort : Watcher → Type 0
+abbrev pub IsShort : Standing → Type 0
 IsShort x = (sent : Sent) → x.flight ≡ Some sent → length sent.octets ≤ 1_280
 
 -- those before an index are done with
@@ -239,7 +240,7 @@ all_short rows s starved w journal h = each (observers (events rows)) w.observer
         subst (λ (y : Sent). length y.octets ≤ 1_280) (some_same is)
         (short_octets rows journal f.formed.place o.peer f.mid)
 
-    one : (o : Observer) (x : Watcher)
+    one : (o : Observer) (x : Standing)
         → watching (octets_sent Made) (events rows) (transitions Made) o ≡ shown h.queries x
         → IsShort x
     one o x here sent flies =
@@ -247,7 +248,7 @@ all_short rows s starved w journal h = each (observers (events rows)) w.observer
         (sym (waiting_notice-row rows (row_with s (row_moment rows s) starved nothing) o)
         ∙ (ap (λ (y : Shown). y.waits) here ∙ flies))
 
-    each : (os : List Observer) (xs : List Watcher)
+    each : (os : List Observer) (xs : List Standing)
         → map (watching (octets_sent Made) (events rows) (transitions Made)) os
         ≡ map (shown h.queries) xs
         → AllByRecursion IsShort xs
@@ -285,7 +286,7 @@ again_begins rows s starved d out mids way =
     }
 
 -- it sends at most one datagram
-again_size : (moment : ℕ) (x : Watcher) → length (again_done moment x).sent ≤ 1
+again_size : (moment : ℕ) (x : Standing) → length (again_done moment x).sent ≤ 1
 again_size moment x = by (due_of moment x.flight) x.flight
   where
     by : (a : Again) (f : Option Sent) → length (again_as a x f).sent ≤ 1
@@ -301,7 +302,7 @@ length-append (x ∷ xs) ys = let rest = length-append xs ys in omega (arith, re
 
 -- it goes on
 pub again_goes : (rows : List Row) (s : Step) (starved : Bool) (d after : Seen)
-    (out sent : List (Peer × List ℕ)) (mids : Mids) (i next : ℕ) (x : Watcher)
+    (out sent : List (Peer × List ℕ)) (mids : Mids) (i next : ℕ) (x : Standing)
     → slice_get d.watching.observers i ≡ Some x
     → (length out < 1_152
     → ((sent : Sent) → x.flight ≡ Some sent → length sent.octets ≤ 1_280)
@@ -314,10 +315,10 @@ pub again_goes : (rows : List Row) (s : Step) (starved : Bool) (d after : Seen)
 again_goes rows s starved d after out sent mids i next x there goes rest h =
     let moment : d.moment ≡ row_moment rows s = way_moment rows s starved h.done d out mids h.way in
     let left : drop i d.watching.observers ≡ x ∷ drop next after.watching.observers =
-    drop-got d.watching.observers i x there ∙ ap (λ (ws : List Watcher). x ∷ ws) (sym rest) in
+    drop-got d.watching.observers i x there ∙ ap (λ (ws : List Standing). x ∷ ws) (sym rest) in
     let e : Effects = again_done (row_moment rows s) x in
     let few : length h.done.sent + length (x ∷ drop next after.watching.observers) ≤ 1_024 =
-    subst (λ (ws : List Watcher). length h.done.sent + length ws ≤ 1_024) left h.few in
+    subst (λ (ws : List Standing). length h.done.sent + length ws ≤ 1_024) left h.few in
     let room : length out < 1_152 =
     let same = ap (λ (ds : List (Peer × List ℕ)). length ds) h.way.sent in
     omega (arith, same, few) in
@@ -331,7 +332,8 @@ again_goes rows s starved d after out sent mids i next x there goes rest h =
           (λ (m : ℕ). UnderWay rows s starved (joined h.done (again_done m x)) after sent mids)
           moment (goes room short.0 h.done h.way);
       whole = h.whole
-          ∙ (ap (λ (ws : List Watcher). joined h.done (each_of (again_done (row_moment rows s)) ws))
+          ∙ (ap (λ (ws : List Standing).
+          joined h.done (each_of (again_done (row_moment rows s)) ws))
           left
           ∙ sym (joined-assoc h.done e
           (each_of (again_done (row_moment rows s)) (drop next after.watching.observers))));
@@ -348,6 +350,6 @@ pub again_ends : (rows : List Row) (s : Step) (starved : Bool) (d : Seen)
 again_ends rows s starved d out mids i past h =
     subst (λ (e : Effects). UnderWay rows s starved e d out mids)
     (sym (h.whole
-    ∙ (ap (λ (ws : List Watcher). joined h.done (each_of (again_done (row_moment rows s)) ws))
+    ∙ (ap (λ (ws : List Standing). joined h.done (each_of (again_done (row_moment rows s)) ws))
     (drop-end d.watching.observers i past)
     ∙ joined-nothing h.done))) h.way

@@ -608,7 +608,7 @@ registration_starts history moment s params body further notes h = by (body_read
   where
     by : (read : BodyRead)
         → are not_start (registered_links history moment s params further notes read).notes ≡ true
-    by (bad_body word) = refl
+    by (bad_body payload) = refl
     by (good_body links) =
         let entry : Entry = entry_of_step moment s (change.Register params links) in
         change_made-notes not_start (λ entry. refl) history entry

@@ -59,7 +59,7 @@ use Rattle.transfers.specs.Keeping.{NamedAnswer, kept_at, used, kept_each}
 use Rattle.transfers.specs.TransferEvents.{Table, AnswersStandFor, kept_note}
 use Rattle.transfers.proofs.KeptEvents.{AnswersStandFor-kept, AnswersStandFor-kept_each}
 use Rattle.transfers.proofs.TransferLaws.{UploadsStandFor-noted}
-use Rattle.observers.specs.Watchers.{Watcher}
+use Rattle.observers.specs.Standing.{Standing}
 use Rattle.coap_answers.specs.declared.mids.Mids.{Mids}
 use Rattle.coap_answers.specs.Sendings.{Sends}
 use Rattle.coap_answers.proofs.SendingLaws.{sends_notes}
@@ -92,7 +92,7 @@ use Rattle.rd_desk.proofs.parts.PartLaws.{more_watching, more_unformed, more_tra
 
 -- the observer with an index, as the table keeps it
 record Kept (rows : List Row) (w : Watching) (index : ℕ) (o : Observer) : Type 0 where
-  x : Watcher
+  x : Standing
   there : slice_get w.observers index ≡ Some x
   as_kept : IsKeptAs rows o x
 
@@ -131,7 +131,7 @@ pub carries_unchanged : (rows : List Row) (s : Step) (starved : Bool) (current :
     → ((past : List Row)
     → WatchingStandsFor past b.watching
     → Some index ≡ next_noticed from (events past) (transitions past))
-    → ((done : Effects) (x : Watcher)
+    → ((done : Effects) (x : Standing)
     → slice_get b.watching.observers index ≡ Some x
     → WatchingStandsFor (making rows s starved done) b.watching
     → WatchingStandsFor
@@ -249,7 +249,7 @@ pub carries_notice : (rows : List Row) (s : Step) (starved : Bool) (current : Li
     → ((past : List Row)
     → WatchingStandsFor past b.watching
     → Some index ≡ next_noticed from (events past) (transitions past))
-    → ((done : Effects) (x : Watcher)
+    → ((done : Effects) (x : Standing)
     → slice_get b.watching.observers index ≡ Some x
     → list_any (λ q. is_same_peer q.0 x.peer && is_confirmable_with sent.mid q.1) done.sent
     ≡ false
@@ -260,7 +260,7 @@ pub carries_notice : (rows : List Row) (s : Step) (starved : Bool) (current : Li
     → Resends first [] sent.resend)
     → WatchingStandsFor (making rows s starved done) b.watching
     → WatchingStandsFor (making rows s starved (joined done (forming x (arc_value body) sent))) w)
-    → ((x : Watcher)
+    → ((x : Standing)
     → slice_get b.watching.observers index ≡ Some x
     → length out < 1_152
     → length sent.octets ≤ 1_280

@@ -111,8 +111,8 @@ use Rattle.journal_model.proofs.UnfinishedRowLaws.{now-making, events-making_joi
 use Rattle.journal_model.proofs.notes.LookupNotes.{IsAsking}
 use Rattle.exchange_core.specs.Retransmissions.{Resends}
 use Rattle.transfers.specs.Keeping.{NamedAnswer}
-use Rattle.observers.specs.Watchers as watchers
-use Rattle.observers.specs.Watchers.{Watcher, is_awaited, seen, changed_at, is_ready, next_ready}
+use Rattle.observers.specs.Standing as standings
+use Rattle.observers.specs.Standing.{Standing, is_awaited, seen, changed_at, is_ready, next_ready}
 use Rattle.coap_answers.specs.declared.mids.Mids.{Mids}
 use Rattle.coap_answers.specs.Writing.{notice_saying}
 use Rattle.observation.specs.Notices.{forming}
@@ -161,8 +161,8 @@ or_false false = refl
 
 -- it is kept so, asks with a token and a block size that a message may have, and no notice is in
 -- flight to its peer; who comes after it is as before
-record IsFound (rows : List Row) (s : Step) (starved : Bool) (done : Effects) (ws : List Watcher)
-    (w : Watching) (index : ℕ) (x : Watcher) : Type 0 where
+record IsFound (rows : List Row) (s : Step) (starved : Bool) (done : Effects) (ws : List Standing)
+    (w : Watching) (index : ℕ) (x : Standing) : Type 0 where
   o : Observer
   at : slice_get (observers (events (making rows s starved done))) index ≡ Some o
   there : slice_get w.observers index ≡ Some x
@@ -190,8 +190,8 @@ asking_again rows s starved journal =
     other _ h = refl
 
 found_next : (rows : List Row) (s : Step) (starved : Bool) (current : List ℕ)
-    (whole first : Effects) (ws : List Watcher) (given : ℕ) (p : Plan) (from index : ℕ)
-    (x : Watcher)
+    (whole first : Effects) (ws : List Standing) (given : ℕ) (p : Plan) (from index : ℕ)
+    (x : Standing)
     → IsDeskJournal rows
     → next_ready from ws ≡ Some index
     → slice_get ws index ≡ Some x
@@ -233,7 +233,7 @@ found_next rows s starved current whole first ws given p from index x journal is
     there =
         ap (λ (n : ℕ). slice_get h.watching.observers n) at_drop
         ∙ (sym (got-drop h.watching.observers from (index - from))
-        ∙ (ap (λ (xs : List Watcher). slice_get xs (index - from)) h.same ∙ there_drop))
+        ∙ (ap (λ (xs : List Standing). slice_get xs (index - from)) h.same ∙ there_drop))
 
     found :
         (o : Observer)
@@ -255,7 +255,7 @@ found_next rows s starved current whole first ws given p from index x journal is
         let e : suc (from + (index - from)) ≡ index + 1 = omega (arith, l) in
         sym (drop-drop h.watching.observers from (index - from)
         ∙ ap (λ (n : ℕ). drop n h.watching.observers) e)
-        ∙ (ap (λ (xs : List Watcher). drop (suc (index - from)) xs) h.same
+        ∙ (ap (λ (xs : List Standing). drop (suc (index - from)) xs) h.same
         ∙ (drop-drop ws from (index - from) ∙ ap (λ (n : ℕ). drop n ws) e))
 
 -- what the desk tells of its listing
@@ -281,7 +281,7 @@ listed rows s starved first index o body desk begins says at =
 
 -- whether it is unchanged
 unchanged_as : (rows : List Row) (s : Step) (starved : Bool) (done : Effects) (o : Observer)
-    (x : Watcher) (body : List ℕ) (b : Bool)
+    (x : Standing) (body : List ℕ) (b : Bool)
     → IsKeptAs (making rows s starved done) o x
     → body ≡ (listing_for (ticking rows (row_moment rows s) s) o).body
     → bytes_eq x.last body ≡ b
@@ -311,8 +311,8 @@ standing_after rows s starved done e none =
 -- ---- its listing is unchanged
 
 pub planned_unchanged : (rows : List Row) (s : Step) (starved : Bool) (current : List ℕ)
-    (whole first : Effects) (ws : List Watcher) (given : ℕ) (p after : Plan) (from index : ℕ)
-    (x : Watcher) (body : List ℕ) (d : Seen) (out : List (Peer × List ℕ)) (mids : Mids)
+    (whole first : Effects) (ws : List Standing) (given : ℕ) (p after : Plan) (from index : ℕ)
+    (x : Standing) (body : List ℕ) (d : Seen) (out : List (Peer × List ℕ)) (mids : Mids)
     → UnderWay rows s starved first d out mids
     → next_ready from ws ≡ Some index
     → slice_get ws index ≡ Some x
@@ -423,7 +423,7 @@ block_as o szx same low =
     (sym (capped o.szx low) ∙ ap (λ (n : ℕ). cond (nat_lt n 6) n 6) same)
 
 -- nothing confirmable was sent to a peer to which no notice is in flight
-unsent_to : (peer : Peer) (mid : ℕ) (ws : List Watcher) (ds : List (Peer × List ℕ))
+unsent_to : (peer : Peer) (mid : ℕ) (ws : List Standing) (ds : List (Peer × List ℕ))
     → is_awaited peer ws ≡ false
     → AllByRecursion (λ d. is_awaited d.0 ws ≡ true) ds
     → list_any (λ d. is_same_peer d.0 peer && is_confirmable_with mid d.1) ds ≡ false
@@ -446,17 +446,17 @@ unsent_to peer mid ws (d ∷ ds) free h =
     by false e more = more
 
 -- a notice is in flight to its peer then, beside those before
-awaited-noticed : (peer : Peer) (sent : Sent) (body : List ℕ) (i : ℕ) (ws : List Watcher)
-    (x : Watcher)
+awaited-noticed : (peer : Peer) (sent : Sent) (body : List ℕ) (i : ℕ) (ws : List Standing)
+    (x : Standing)
     → slice_get ws i ≡ Some x
-    → is_awaited peer (changed_at (watchers.noticed sent body) i ws)
+    → is_awaited peer (changed_at (standings.noticed sent body) i ws)
     ≡ (is_awaited peer ws || list_any (λ q. is_same_peer q peer) (x.peer ∷ []))
 awaited-noticed peer sent body i [] x got = absurd (let none_is : None ≡ Some x = got in cc)
 awaited-noticed peer sent body zero (w ∷ ws) x got =
     let same : w ≡ x = cc in
-    ap (λ (y : Watcher). (is_same_peer y.peer peer && true) || is_awaited peer ws) same
+    ap (λ (y : Standing). (is_same_peer y.peer peer && true) || is_awaited peer ws) same
     ∙ (by (is_same_peer x.peer peer) (is_some x.flight) (is_awaited peer ws)
-    ∙ ap (λ (y : Watcher).
+    ∙ ap (λ (y : Standing).
     ((is_same_peer y.peer peer && is_some y.flight) || is_awaited peer ws)
     || (is_same_peer x.peer peer || false)) (sym same))
   where
@@ -547,8 +547,8 @@ sent_one o body current sent = by (is_long (first_block o) body)
     by false = refl
 
 pub planned_notice : (rows : List Row) (s : Step) (starved : Bool) (current : List ℕ)
-    (whole first : Effects) (ws : List Watcher) (given : ℕ) (p after : Plan) (from index : ℕ)
-    (x : Watcher) (body : Arc (List ℕ) Global) (mid observe moment word : ℕ) (sent : Sent)
+    (whole first : Effects) (ws : List Standing) (given : ℕ) (p after : Plan) (from index : ℕ)
+    (x : Standing) (body : Arc (List ℕ) Global) (mid observe moment word : ℕ) (sent : Sent)
     (d : Seen)
     (out : List (Peer × List ℕ)) (mids : Mids)
     → UnderWay rows s starved first d out mids
@@ -580,7 +580,7 @@ planned_notice rows s starved current whole first ws given p after from index x 
       kept = adds.kept ∙ ap (λ (ks : List NamedAnswer). p.kept.items ++ ks) keeps;
       stands = stands;
       standing = standing_after rows s starved h.done e more.quiet;
-      same = drop-changed (watchers.noticed sent listed_body) index h.watching.observers;
+      same = drop-changed (standings.noticed sent listed_body) index h.watching.observers;
     })
     (record {
       peers = adds.peers;
@@ -627,7 +627,7 @@ planned_notice rows s starved current whole first ws given p after from index x 
     changed : Watching
     changed = record {
       watches = h.watching.watches;
-      observers = changed_at (watchers.noticed sent listed_body) index h.watching.observers;
+      observers = changed_at (standings.noticed sent listed_body) index h.watching.observers;
     }
 
     is_listing : listed_body ≡ (listing_for (ticking rows (row_moment rows s) s) o).body

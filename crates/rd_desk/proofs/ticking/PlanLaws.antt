@@ -55,7 +55,7 @@ use Rattle.journal_model.proofs.flights.NoticesAgain.{
 }
 use Rattle.journal_model.proofs.flights.WaitedPeers.{waited}
 use Rattle.transfers.specs.Keeping.{NamedAnswer}
-use Rattle.observers.specs.Watchers.{Watcher, is_awaited, is_ready, first_from, next_ready}
+use Rattle.observers.specs.Standing.{Standing, is_awaited, is_ready, first_from, next_ready}
 use Rattle.observers.proofs.MarkLaws.{awaited-StandsFor}
 use Rattle.coap_answers.specs.declared.mids.Mids.{Mids}
 use Rattle.observation.specs.Watching.{Watching, WatchingStandsFor}
@@ -154,7 +154,7 @@ planned_begins rows s starved current d p out mids items peers kept way =
 
 -- what is done when nobody is looked at any more is all
 planned_all : (rows : List Row) (s : Step) (starved : Bool) (current : List ℕ)
-    (whole first : Effects) (ws : List Watcher) (given : ℕ) (p : Plan) (from : ℕ)
+    (whole first : Effects) (ws : List Standing) (given : ℕ) (p : Plan) (from : ℕ)
     → (h : PlannedUpTo rows s starved current whole first ws given p from)
     → h.done ≡ whole → AreDone rows s starved current whole first 0 p.items.items p.kept.items
 planned_all rows s starved current whole first ws given p from h is =
@@ -165,9 +165,9 @@ planned_all rows s starved current whole first ws given p from h is =
     (append-nil p.kept.items) (h.plan [] [] (is, refl)))
 
 -- where one test is stronger than another, none passes it where none passes the other
-first-none : (weak strong : Watcher → Bool)
-    → ((x : Watcher) → weak x ≡ false → strong x ≡ false)
-    → (i : ℕ) (xs : List Watcher)
+first-none : (weak strong : Standing → Bool)
+    → ((x : Standing) → weak x ≡ false → strong x ≡ false)
+    → (i : ℕ) (xs : List Standing)
     → first_from weak i xs ≡ None
     → first_from strong i xs ≡ None
 first-none weak strong stronger i [] h = refl
@@ -185,9 +185,9 @@ first-none weak strong stronger i (x ∷ xs) h =
 
 -- whoever is free with more notices planned is free without them
 pub free_before : (rows : List Row) (s : Step) (starved : Bool) (current : List ℕ)
-    (whole first : Effects) (ws : List Watcher) (given : ℕ) (p : Plan) (from : ℕ)
+    (whole first : Effects) (ws : List Standing) (given : ℕ) (p : Plan) (from : ℕ)
     → (h : PlannedUpTo rows s starved current whole first ws given p from)
-    → (x : Watcher) → is_ready ws x ≡ false → is_ready h.watching.observers x ≡ false
+    → (x : Standing) → is_ready ws x ≡ false → is_ready h.watching.observers x ≡ false
 free_before rows s starved current whole first ws given p from h x fails =
     ap (λ (a : Bool). x.due && not a) (h.awaited x.peer)
     ∙ by x.due (is_awaited x.peer ws) (list_any (λ (q : Peer). is_same_peer q x.peer) p.peers.items)
@@ -200,7 +200,7 @@ free_before rows s starved current whole first ws given p from h x fails =
 
 -- nobody else is due and free
 pub planned_none : (rows : List Row) (s : Step) (starved : Bool) (current : List ℕ)
-    (whole first : Effects) (ws : List Watcher) (given : ℕ) (p : Plan) (from : ℕ)
+    (whole first : Effects) (ws : List Standing) (given : ℕ) (p : Plan) (from : ℕ)
     → is_look s.kind ≡ false
     → length p.peers.items < 64
     → next_ready from ws ≡ None
@@ -217,7 +217,7 @@ planned_none rows s starved current whole first ws given p from desk few last h 
     last in
     let next =
     sym (next-StandsFor (making rows s starved h.done) h.watching from h.stands)
-    ∙ (ap (λ (xs : List Watcher). first_from (is_ready h.watching.observers) from xs) h.same ∙
+    ∙ (ap (λ (xs : List Standing). first_from (is_ready h.watching.observers) from xs) h.same ∙
     none) in
     planned_all rows s starved current whole first ws given p from h
     (sym (h.left ∙ notices-end rows s starved h.done from desk h.silent room next))
@@ -227,7 +227,7 @@ planned_none rows s starved current whole first ws given p from desk few last h 
 
 -- as many notices are planned as may be
 pub planned_full : (rows : List Row) (s : Step) (starved : Bool) (current : List ℕ)
-    (whole first : Effects) (ws : List Watcher) (given : ℕ) (p : Plan) (from : ℕ)
+    (whole first : Effects) (ws : List Standing) (given : ℕ) (p : Plan) (from : ℕ)
     → 64 ≤ length p.peers.items
     → PlannedUpTo rows s starved current whole first ws given p from
     → AreDone rows s starved current whole first 0 p.items.items p.kept.items

@@ -52,7 +52,7 @@ use Rattle.journal_model.specs.Ticks.{ticking, noticed_if, notice_next}
 use Rattle.journal_model.specs.UnfinishedRow.{making}
 use Rattle.journal_model.proofs.EntriesNoted.{entries_in, none-append}
 use Rattle.transfers.specs.Keeping.{NamedAnswer}
-use Rattle.observers.specs.Watchers.{Watcher, is_awaited, seen, changed_at, next_ready}
+use Rattle.observers.specs.Standing.{Standing, is_awaited, seen, changed_at, next_ready}
 use Rattle.observation.specs.Notices.{next_noticed}
 use Rattle.observation.specs.Watching.{Watching, WatchingStandsFor}
 use Rattle.rd_desk.specs.declared.tick.planning.Plan.{Plan}
@@ -69,7 +69,7 @@ use Rattle.rd_desk.proofs.ticking.NoticeWalk.{notices-next}
 use Rattle.rd_desk.proofs.ticking.SkipLaws.{planned_next}
 
 -- an unchanged listing leaves whom notices are in flight to
-pub awaited-seen : (peer : Peer) (i : ℕ) (ws : List Watcher)
+pub awaited-seen : (peer : Peer) (i : ℕ) (ws : List Standing)
     → is_awaited peer (changed_at seen i ws) ≡ is_awaited peer ws
 awaited-seen peer i [] = refl
 awaited-seen peer zero (w ∷ ws) = refl
@@ -110,8 +110,8 @@ more_items rows s starved current whole first xs x more ks own later h =
 
 -- where nobody else of its peer is waited for, it comes next, and its plan is the next of the plan
 pub planned_plan : (rows : List Row) (s : Step) (starved : Bool) (current : List ℕ)
-    (whole first : Effects) (ws : List Watcher) (given : ℕ) (p after : Plan) (from index : ℕ)
-    (x : Watcher) (o : Observer) (item : Planned) (now : Watching)
+    (whole first : Effects) (ws : List Standing) (given : ℕ) (p after : Plan) (from index : ℕ)
+    (x : Standing) (o : Observer) (item : Planned) (now : Watching)
     → next_ready from ws ≡ Some index
     → slice_get ws index ≡ Some x
     → list_any (λ q. is_same_peer q x.peer) p.peers.items ≡ false
@@ -152,8 +152,8 @@ planned_plan rows s starved current whole first ws given p after from index x o 
 
 -- what is left to be looked at is what comes after it
 pub planned_left : (rows : List Row) (s : Step) (starved : Bool) (current : List ℕ)
-    (whole first : Effects) (ws : List Watcher) (given : ℕ) (p after : Plan) (from index : ℕ)
-    (x : Watcher) (o : Observer) (item : Planned) (now : Watching)
+    (whole first : Effects) (ws : List Standing) (given : ℕ) (p after : Plan) (from index : ℕ)
+    (x : Standing) (o : Observer) (item : Planned) (now : Watching)
     → is_look s.kind ≡ false
     → next_ready from ws ≡ Some index
     → slice_get ws index ≡ Some x
@@ -199,8 +199,8 @@ pub record Grows (rows : List Row) (s : Step) (starved : Bool) (p after : Plan) 
 
 -- so it is a plan up to the one after it
 pub planned_adds : (rows : List Row) (s : Step) (starved : Bool) (current : List ℕ)
-    (whole first : Effects) (ws : List Watcher) (given : ℕ) (p after : Plan) (from index : ℕ)
-    (x : Watcher) (o : Observer) (item : Planned) (now : Watching) (added : List Peer)
+    (whole first : Effects) (ws : List Standing) (given : ℕ) (p after : Plan) (from index : ℕ)
+    (x : Standing) (o : Observer) (item : Planned) (now : Watching) (added : List Peer)
     → is_look s.kind ≡ false
     → next_ready from ws ≡ Some index
     → slice_get ws index ≡ Some x

@@ -53,7 +53,7 @@ use Rattle.journal_model.specs.Rows.{row_moment}
 use Rattle.journal_model.specs.Ticks.{ticking, max_notices, notice_next}
 use Rattle.journal_model.specs.UnfinishedRow.{making}
 use Rattle.journal_model.proofs.EntriesNoted.{entries_in}
-use Rattle.observers.specs.Watchers.{Watcher, is_awaited, is_ready, first_from, next_ready}
+use Rattle.observers.specs.Standing.{Standing, is_awaited, is_ready, first_from, next_ready}
 use Rattle.observation.specs.Notices.{first_observer, next_noticed}
 use Rattle.observation.specs.Watching.{Watching, WatchingStandsFor}
 use Rattle.observation.proofs.TickLaws.{next-StandsFor, got_inside}
@@ -66,7 +66,7 @@ use Rattle.rd_desk.proofs.ticking.PlanLaws.{free_before}
 
 -- ---- the first that passes one test, and the first that passes a stronger one
 
-pub first-least : (test : Watcher → Bool) (i j : ℕ) (xs : List Watcher)
+pub first-least : (test : Standing → Bool) (i j : ℕ) (xs : List Standing)
     → first_from test i xs ≡ Some j
     → i ≤ j
 first-least test i j [] h = absurd (let none_is : None ≡ Some j = h in cc)
@@ -80,9 +80,9 @@ first-least test i j (x ∷ xs) h = by (test x) h (λ g. first-least test (i + 1
     by false g more = let later = more g in omega (arith, later)
 
 -- what comes of the first of the weaker test, by the stronger one
-first-either : (weak strong : Watcher → Bool)
-    → ((x : Watcher) → weak x ≡ false → strong x ≡ false)
-    → (i j k : ℕ) (xs : List Watcher) (x : Watcher) (b : Bool)
+first-either : (weak strong : Standing → Bool)
+    → ((x : Standing) → weak x ≡ false → strong x ≡ false)
+    → (i j k : ℕ) (xs : List Standing) (x : Standing) (b : Bool)
     → first_from weak i xs ≡ Some j
     → j ≡ i + k
     → slice_get xs k ≡ Some x
@@ -122,7 +122,7 @@ first-either weak strong stronger i j k (y ∷ ys) x b h at got is =
         ∙ more g n (omega (arith, here)) there
 
 -- the first passes
-pub first-passes : (test : Watcher → Bool) (i j k : ℕ) (xs : List Watcher) (x : Watcher)
+pub first-passes : (test : Standing → Bool) (i j k : ℕ) (xs : List Standing) (x : Standing)
     → first_from test i xs ≡ Some j
     → j ≡ i + k
     → slice_get xs k ≡ Some x
@@ -144,7 +144,7 @@ first-passes test i j k (y ∷ ys) x h at got =
         → test x ≡ true)
         → test x ≡ true
     by true e g zero here there more =
-        let same : y ≡ x = some_same there in subst (λ (z : Watcher). test z ≡ true) same e
+        let same : y ≡ x = some_same there in subst (λ (z : Standing). test z ≡ true) same e
     by true e g (suc n) here there more =
         let index : i ≡ j = some_same g in absurd (omega (arith, index, here))
     by false e g zero here there more =
@@ -156,8 +156,8 @@ first-passes test i j k (y ∷ ys) x h at got =
 -- the next that is free where nothing was planned is the next, unless a notice to its peer is
 -- planned: then the one after it is
 pub planned_next : (rows : List Row) (s : Step) (starved : Bool) (current : List ℕ)
-    (whole first : Effects) (ws : List Watcher) (given : ℕ) (p : Plan) (from index : ℕ)
-    (x : Watcher)
+    (whole first : Effects) (ws : List Standing) (given : ℕ) (p : Plan) (from index : ℕ)
+    (x : Standing)
     → next_ready from ws ≡ Some index
     → slice_get ws index ≡ Some x
     → (h : PlannedUpTo rows s starved current whole first ws given p from)
@@ -169,17 +169,17 @@ pub planned_next : (rows : List Row) (s : Step) (starved : Bool) (current : List
 unfolding next_ready
 planned_next rows s starved current whole first ws given p from index x is got h =
     sym (next-StandsFor (making rows s starved h.done) h.watching from h.stands)
-    ∙ (ap (λ (xs : List Watcher). first_from strong from xs) h.same
+    ∙ (ap (λ (xs : List Standing). first_from strong from xs) h.same
     ∙ (first-either weak strong (free_before rows s starved current whole first ws given p from h)
     from index (index - from) (drop from ws) x (strong x) is at there refl
     ∙ by (list_any (λ (q : Peer). is_same_peer q x.peer) p.peers.items)
     (ap (λ (a : Bool). x.due && not a) (h.awaited x.peer))
     (first-passes weak from index (index - from) (drop from ws) x is at there)))
   where
-    weak : Watcher → Bool
+    weak : Standing → Bool
     weak = is_ready ws
 
-    strong : Watcher → Bool
+    strong : Standing → Bool
     strong = is_ready h.watching.observers
 
     low : from ≤ index
@@ -195,7 +195,7 @@ planned_next rows s starved current whole first ws given p from index x is got h
     rest =
         let l = low in
         let e : suc (from + (index - from)) ≡ index + 1 = omega (arith, l) in
-        ap (λ (xs : List Watcher). drop (suc (index - from)) xs) (sym h.same)
+        ap (λ (xs : List Standing). drop (suc (index - from)) xs) (sym h.same)
         ∙ (drop-drop h.watching.observers from (index - from)
         ∙ ap (λ (n : ℕ). drop n h.watching.observers) e)
 
@@ -204,7 +204,7 @@ planned_next rows s starved current whole first ws given p from index x is got h
         ≡ next_noticed (index + 1) (events (making rows s starved h.done))
         (transitions (making rows s starved h.done))
     later =
-        ap (λ (xs : List Watcher). first_from strong (index + 1) xs) rest
+        ap (λ (xs : List Standing). first_from strong (index + 1) xs) rest
         ∙ next-StandsFor (making rows s starved h.done) h.watching (index + 1) h.stands
 
     by : (planned : Bool)
@@ -339,8 +339,8 @@ later_done rows s starved current whole done from other (p ∷ ps) kept same h =
 
 -- an observer to whose peer a notice is planned is passed over
 pub planned_skips : (rows : List Row) (s : Step) (starved : Bool) (current : List ℕ)
-    (whole first : Effects) (ws : List Watcher) (given : ℕ) (p : Plan) (from index : ℕ)
-    (x : Watcher)
+    (whole first : Effects) (ws : List Standing) (given : ℕ) (p : Plan) (from index : ℕ)
+    (x : Standing)
     → is_look s.kind ≡ false
     → length p.peers.items < 64
     → next_ready from ws ≡ Some index
@@ -402,7 +402,7 @@ planned_skips rows s starved current whole first ws given p from index x desk fe
         let e : suc (from + (index - from)) ≡ index + 1 = omega (arith, l) in
         sym (drop-drop h.watching.observers from (index - from)
         ∙ ap (λ (n : ℕ). drop n h.watching.observers) e)
-        ∙ (ap (λ (xs : List Watcher). drop (suc (index - from)) xs) h.same
+        ∙ (ap (λ (xs : List Standing). drop (suc (index - from)) xs) h.same
         ∙ (drop-drop ws from (index - from) ∙ ap (λ (n : ℕ). drop n ws) e))
 
     within : (i : ℕ)

@@ -6,18 +6,18 @@ use Rattle.event_model.specs.Flights.{Sent}
 use Rattle.exchange_core.specs.declared.resends.Again.{Again}
 use Rattle.exchange_core.specs.declared.resends.Again.TheVariants as again
 use Rattle.journal_model.specs.Effects.{Effects, nothing, noting}
-use Rattle.observers.specs.Watchers.{Watcher, due_of}
+use Rattle.observers.specs.Standing.{Standing, due_of}
 use Rattle.observation.specs.Notices.{sending_again}
 
 -- what a tick does with the notice in flight to an observer, by what is due of it: nothing, or it
 -- is sent again, or the observer is given up (RFC 7641 section 4.5)
-abbrev pub again_as : Again → Watcher → Option Sent → Effects
+abbrev pub again_as : Again → Standing → Option Sent → Effects
 again_as again.Send x (Some sent) = sending_again x sent
 again_as again.GaveUp x (Some sent) = noting (note.Unwatched x.peer x.token ∷ [])
 again_as _ x flight = nothing
 
 -- so at a moment
-abbrev pub again_done : ℕ → Watcher → Effects
+abbrev pub again_done : ℕ → Standing → Effects
 again_done now x = again_as (due_of now x.flight) x x.flight
 
 -- the index of the next, after one that stays or is taken out

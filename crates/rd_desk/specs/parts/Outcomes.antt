@@ -70,5 +70,6 @@ IsRefusedWith (Some why) r = short_said r ≡ (changes.refused_as why).reply
 
 -- a body is refused, and this is said
 abbrev pub IsBadBody : changes.BodyRead → ShortReply → Type 0
-IsBadBody (changes.bad_body word) r = short_said r ≡ diagnostic codes_of.bad_request word
+IsBadBody (changes.bad_body payload) r =
+    short_said r ≡ diagnostic codes_of.bad_request payload
 IsBadBody (changes.good_body links) r = ⊥

@@ -57,7 +57,7 @@ use Rattle.journal_model.specs.Ticks.{
 use Rattle.journal_model.specs.UnfinishedRow.{making}
 use Rattle.exchange_core.specs.Retransmissions.{Resends}
 use Rattle.transfers.specs.Keeping.{NamedAnswer, kept_each}
-use Rattle.observers.specs.Watchers.{Watcher, is_awaited}
+use Rattle.observers.specs.Standing.{Standing, is_awaited}
 use Rattle.coap_answers.specs.declared.mids.Mids.{Mids}
 use Rattle.coap_answers.specs.Writing.{notice_saying}
 use Rattle.observation.specs.Notices.{next_noticed}
@@ -80,20 +80,20 @@ abbrev pub block_named : ℕ → List ℕ → Option Block
 block_named szx body = if is_long (block_of_notice szx) body then block_of_notice szx else None
 
 -- the octets of a notice to an observer, with a body
-abbrev pub notice_spelled : Watcher → List ℕ → ℕ → ℕ → List ℕ → List ℕ
+abbrev pub notice_spelled : Standing → List ℕ → ℕ → ℕ → List ℕ → List ℕ
 notice_spelled x current mid observe body =
     spelling (notice_saying mid x.token
     (body_reply (Some current) (Some observe) (block_named x.szx body) body))
 
 -- the answer that is kept of it: where its body is longer than the block
-abbrev pub kept_by : Watcher → List ℕ → List ℕ → List NamedAnswer
+abbrev pub kept_by : Standing → List ℕ → List ℕ → List NamedAnswer
 kept_by x body current =
     if is_long (block_of_notice x.szx) body
     then record { name = (x.peer, x.key); answer = record { body = body; tag = current } } ∷ []
     else []
 
 -- a notice to an observer is planned beside others
-pub record AddsNotice (x : Watcher) (now word : ℕ) (current body : List ℕ) (mid observe : ℕ)
+pub record AddsNotice (x : Standing) (now word : ℕ) (current body : List ℕ) (mid observe : ℕ)
     (sent : Sent) (before after : Plan) : Type 0 where
   pub mid_is : sent.mid ≡ mid
   pub octets : sent.octets ≡ notice_spelled x current mid observe body
@@ -195,7 +195,8 @@ AreDone rows s starved current whole done from (p ∷ ps) kept =
 -- who stand for the journal with the row so far and are those that they were; the notices are to
 -- these peers, and whoever comes next is as before.
 pub record PlannedUpTo (rows : List Row) (s : Step) (starved : Bool) (current : List ℕ)
-    (whole first : Effects) (ws : List Watcher) (given : ℕ) (p : Plan) (from : ℕ) : Type 0 where
+    (whole first : Effects) (ws : List Standing) (given : ℕ) (p : Plan)
+    (from : ℕ) : Type 0 where
   pub begins : first ≡ notices_again rows (row_moment rows s)
   pub done : Effects
   pub watching : Watching

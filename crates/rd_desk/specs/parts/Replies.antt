@@ -15,7 +15,7 @@ as_reply r = record {
   format = false;
   block2 = None;
   block1 = r.block1;
-  payload = r.word;
+  payload = r.diagnostic;
 }
 
 -- what it says

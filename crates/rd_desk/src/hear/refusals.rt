@@ -10,7 +10,7 @@ ghost use Rattle.coap_answers.specs.Sendings.{IsStepOf, Sends};
 ghost use Rattle.rd_request.specs.Asking.{refused_with, IsRefusedBy, is_passed_over};
 
 use crate::{Mids, Outbox};
-use coap_answers::{Reply, answer, refusal_code, refusal_word};
+use coap_answers::{Reply, answer, refusal_code, refusal_diagnostic};
 use coap_message::{Kind4, View};
 use coap_options::Refusal;
 use rd_base::Peer;
@@ -22,7 +22,10 @@ fn reply_to(refused: Refused) -> Reply<'static>
     ensures reply { IsReply result }
 {
     match refused {
-        Refused::Request(refusal) => Reply::plain(refusal_code(refusal), refusal_word(refusal)),
+        Refused::Request(refusal) => Reply::plain(
+            refusal_code(refusal),
+            refusal_diagnostic(refusal),
+        ),
         Refused::Query => Reply::plain(128, b"query"),
         Refused::Payload => Reply::plain(128, b"payload"),
     }

@@ -37,7 +37,7 @@ use crate::tables::Tables;
 use crate::write::outcomes::{Outcome, registered};
 use crate::write::staging::staged;
 use crate::{Mids, Outbox, Stepped};
-use coap_answers::send_empty;
+use coap_answers::{Datagram, send_empty};
 use coap_message::{Kind4, View};
 use coap_options::{Meaning, meaning};
 use directory_core::Board;
@@ -109,7 +109,10 @@ pub(crate) fn ask_next(mids: &mut Mids, ask: &Ask, out: &mut Outbox)
         → Sends (asking_next ask.now notes) out.old out.new mids.old mids.new }
 {
     let _drawn = mids.next();
-    out.push(ask.peer, ask.bytes.as_slice());
+    let datagram = Datagram {
+        octets: ask.bytes.as_slice(),
+    };
+    out.push(ask.peer, datagram);
 }
 
 impl Tables {

@@ -21,7 +21,7 @@ ghost use Rattle.rd_desk.specs.parts.UnderWay.{UnderWay};
 
 use crate::tables::Tables;
 use crate::{Admitted, Mids, Outbox, WriteJob};
-use coap_answers::{answer_full, answer_starved};
+use coap_answers::{Datagram, answer_full, answer_starved};
 use coap_message::View;
 use exchange_core::Keyed;
 use rd_base::Peer;
@@ -55,7 +55,10 @@ impl Tables {
             Keyed::Fresh => return true,
             Keyed::InFlight => return false,
             Keyed::Kept(reply) => {
-                out.push(peer, reply.as_slice());
+                let datagram = Datagram {
+                    octets: reply.as_slice(),
+                };
+                out.push(peer, datagram);
                 return false;
             }
             Keyed::FullExchanges => {

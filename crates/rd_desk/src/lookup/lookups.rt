@@ -43,7 +43,7 @@ use rd_request::{Request, begins_observation, is_later_block, query_of};
 /// How many Observe values there are: they have 24 bits (RFC 7641 section 3.4).
 const OBSERVE_VALUES: u64 = 16_777_216;
 
-/// All that takes memory for a lookup that asks to observe, but the place of its query.
+/// All that takes memory for a lookup that asks to observe, but the slot of its query.
 #[derive(Drop)]
 struct Observing {
     /// What it asks for.
@@ -175,7 +175,7 @@ impl Tables {
         self.form_first(peer, request, &query)
     }
 
-    /// What takes memory for a lookup that asks to observe, but the place of its query. `Starved`:
+    /// What takes memory for a lookup that asks to observe, but the slot of its query. `Starved`:
     /// out of memory.
     fn form_observed(&self, peer: Peer, request: &Request<'_>) -> Result<Observing, Starved>
         requires seeks { seeks_links (path_in (message_of request.now)) ≡ true }

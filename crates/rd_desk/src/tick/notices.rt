@@ -15,7 +15,7 @@ ghost use Rattle.journal_model.specs.Journal as journal;
 ghost use Rattle.journal_model.specs.Journal.{events, entries, transitions};
 ghost use Rattle.journal_model.specs.Rows.{row_moment};
 ghost use Rattle.journal_model.specs.Ticks as ticks_of;
-ghost use Rattle.observers.specs.Watchers.{Watcher, is_awaited, next_ready};
+ghost use Rattle.observers.specs.Standing.{Standing, is_awaited, next_ready};
 ghost use Rattle.coap_answers.specs.declared.mids.Mids.{Mids as Drawn};
 ghost use Rattle.coap_answers.specs.Outboxes.{most_datagrams};
 ghost use Rattle.observation.specs.Notices.{next_noticed};
@@ -43,7 +43,7 @@ use transfers::Answers;
 
 /// A notice is sent to the observer with an index.
 fn send_to(watching: &Watching, index: usize, sent: &Sent, out: &mut Outbox)
-    ensures { (x : Watcher)
+    ensures { (x : Standing)
         → slice_get watching.now.observers index ≡ Some x
         → length out.old < most_datagrams
         → length sent.now.octets ≤ longest_datagram
@@ -188,7 +188,7 @@ impl Tables {
         out: &mut Outbox,
     )
         requires within { index < length self.old.watching.observers }
-        requires free { (x : Watcher)
+        requires free { (x : Standing)
             → slice_get self.old.watching.observers index ≡ Some x
             → is_awaited x.peer self.old.watching.observers ≡ false }
         ensures { (rows : List Row) (s : Step) (starved : Bool) (current : List ℕ) (whole : Effects)
@@ -210,7 +210,7 @@ impl Tables {
     /// What is planned for the observer with an index is done. Takes no memory.
     fn carry_out_one(&mut self, index: usize, item: Planned, mids: &mut Mids, out: &mut Outbox)
         requires within { index < length self.old.watching.observers }
-        requires free { (x : Watcher)
+        requires free { (x : Standing)
             → slice_get self.old.watching.observers index ≡ Some x
             → is_awaited x.peer self.old.watching.observers ≡ false }
         ensures { (rows : List Row) (s : Step) (starved : Bool) (current : List ℕ) (whole : Effects)

@@ -10,7 +10,7 @@ ghost use Rattle.journal_model.specs.declared.rows.Row.{Row};
 ghost use Rattle.journal_model.specs.Effects.{Effects, nothing, joined};
 ghost use Rattle.journal_model.specs.Rows.{row_moment};
 ghost use Rattle.journal_model.specs.Ticks as ticks_of;
-ghost use Rattle.observers.specs.Watchers.{Watcher};
+ghost use Rattle.observers.specs.Standing.{Standing};
 ghost use Rattle.coap_answers.specs.declared.mids.Mids.{Mids};
 ghost use Rattle.coap_answers.specs.Outboxes.{most_datagrams};
 ghost use Rattle.rd_desk.specs.parts.Noticing.{again_done, index_after};
@@ -23,7 +23,7 @@ use observation::Watching;
 
 /// The notice in flight to the observer with an index is sent.
 fn send_notice(watching: &Watching, index: usize, out: &mut Outbox)
-    ensures { (x : Watcher) (sent : Message)
+    ensures { (x : Standing) (sent : Message)
         → slice_get watching.now.observers index ≡ Some x
         → x.flight ≡ Some sent
         → length out.old < most_datagrams
@@ -45,7 +45,7 @@ impl Tables {
     fn notice_again(&mut self, index: usize, out: &mut Outbox) -> bool
         requires { index < length self.old.watching.observers }
         ensures way { (rows : List Row) (s : Step) (starved : Bool) (done : Effects) (mids : Mids)
-            (x : Watcher)
+            (x : Standing)
             → slice_get self.old.watching.observers index ≡ Some x
             → length out.old < most_datagrams
             → ((sent : Message) → x.flight ≡ Some sent → length sent.octets ≤ longest_datagram)

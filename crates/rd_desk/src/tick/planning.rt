@@ -21,7 +21,7 @@ ghost use Rattle.journal_model.specs.Effects.{Effects, mid_of};
 ghost use Rattle.journal_model.specs.Journal as journal;
 ghost use Rattle.journal_model.specs.Journal.{events, entries};
 ghost use Rattle.journal_model.specs.UnfinishedRow.{making};
-ghost use Rattle.observers.specs.Watchers.{Watcher};
+ghost use Rattle.observers.specs.Standing.{Standing};
 ghost use Rattle.coap_answers.specs.declared.mids.Mids.{Mids as Drawn};
 ghost use Rattle.observation.specs.Watching.{WatchingStandsFor};
 ghost use Rattle.rd_desk.specs.declared.tick.planning.Planned.TheVariants as planned;

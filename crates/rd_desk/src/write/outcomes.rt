@@ -100,7 +100,7 @@ fn created(number: u64, block1: Option<Block>) -> ShortReply
         code: CREATED,
         location: Some(number),
         block1,
-        word: b"",
+        diagnostic: b"",
     }
 }
 

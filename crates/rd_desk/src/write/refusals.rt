@@ -19,18 +19,19 @@ use crate::write::replies::ShortReply;
 use crate::{Mids, Outbox};
 
 impl Tables {
-    /// An admitted write is refused with a code and a word, and settled by that. Takes no memory.
+    /// An admitted write is refused with a code and a diagnostic, and settled by that. Takes no
+    /// memory.
     pub(crate) fn refuse_write(
         &mut self,
         mids: &mut Mids,
         write: &Write<'_>,
         code: u8,
-        word: &'static [u8],
+        diagnostic: &'static [u8],
         out: &mut Outbox,
     )
         requires class { is_reserved code ≡ false }
         requires filled { codes_of.empty < code }
-        requires word { length word.now ≤ 13 }
+        requires brief { length diagnostic.now ≤ 13 }
         requires room { length out.old < most_datagrams }
         ensures way { (rows : List Row) (s : Step) (starved : Bool) (place : ℕ)
             → s.peer ≡ write.now.peer
@@ -38,9 +39,9 @@ impl Tables {
             write.now.admitted.0 (events rows)
             → UnderWay rows s starved nothing self.old out.old mids.old
             → UnderWay rows s starved (settling place s (message_of write.now.request)
-            (refused code word.now)) self.new out.new mids.new }
+            (refused code diagnostic.now)) self.new out.new mids.new }
         ensures version { self.new.version ≡ self.old.version }
     {
-        self.settle(mids, write, &ShortReply::plain(code, word), out);
+        self.settle(mids, write, &ShortReply::plain(code, diagnostic), out);
     }
 }

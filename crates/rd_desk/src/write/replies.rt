@@ -8,7 +8,7 @@ ghost use Rattle.message_model.specs.Codes.{is_reserved};
 use message_model::Block;
 
 /// What a write is answered with. It is short, so that its octets are kept for repeats of the write
-/// (RFC 7252 section 4.5): no body, and a payload of one word.
+/// (RFC 7252 section 4.5): no body, and a diagnostic of 13 octets at most.
 #[derive(Clone, Copy)]
 pub(crate) struct ShortReply {
     /// The code.
@@ -17,31 +17,31 @@ pub(crate) struct ShortReply {
     pub location: Option<u64>,
     /// The block of the request that is answered, in Block1.
     pub block1: Option<Block>,
-    /// The word of a refusal, or nothing.
-    pub word: &'static [u8],
+    /// The diagnostic of a refusal (RFC 7252 section 5.5.2), or nothing.
+    pub diagnostic: &'static [u8],
     pub ghost class: { is_reserved code ≡ false },
     pub ghost filled: { codes_of.empty < code },
     pub ghost number: { ForSome location (λ n. n < 2 ^ 64) },
     pub ghost sound: { ForSome block1 IsBlock },
-    pub ghost short: { length word.now ≤ 13 },
+    pub ghost short: { length diagnostic.now ≤ 13 },
 }
 
 impl ShortReply {
-    ghost use Rattle.journal_model.specs.Effects.{diagnostic};
+    ghost use Rattle.journal_model.specs.Effects as effects;
     ghost use Rattle.rd_desk.specs.parts.Replies.{short_said};
 
-    /// A code with the word of a refusal, or with nothing.
-    pub(crate) fn plain(code: u8, word: &'static [u8]) -> ShortReply
+    /// A code with the diagnostic of a refusal, or with nothing.
+    pub(crate) fn plain(code: u8, diagnostic: &'static [u8]) -> ShortReply
         requires class { is_reserved code ≡ false }
         requires filled { codes_of.empty < code }
-        requires word { length word.now ≤ 13 }
-        ensures { short_said result ≡ diagnostic code word.now }
+        requires brief { length diagnostic.now ≤ 13 }
+        ensures { short_said result ≡ effects.diagnostic code diagnostic.now }
     {
         ShortReply {
             code,
             location: None,
             block1: None,
-            word,
+            diagnostic,
         }
     }
 }

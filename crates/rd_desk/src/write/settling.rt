@@ -22,7 +22,7 @@ use crate::tables::Tables;
 use crate::write::asked::Write;
 use crate::write::replies::ShortReply;
 use crate::{Mids, Outbox};
-use coap_answers::{Reply, answer, begin_answer, internal_server_error};
+use coap_answers::{Datagram, Reply, answer, begin_answer, internal_server_error};
 use coap_message::View;
 use exchange_core::Octets;
 use rd_base::Peer;
@@ -52,13 +52,13 @@ pub(crate) fn answer_short(
         format: false,
         block2: None,
         block1: reply.block1,
-        payload: reply.word,
+        payload: reply.diagnostic,
     };
     let mut writer = begin_answer(mids, view, &said);
-    let Ok(datagram) = writer.finish(reply.word) else {
+    let Ok(datagram) = writer.finish(reply.diagnostic) else {
         unreachable!()
     };
-    out.push(peer, datagram);
+    out.push(peer, Datagram { octets: datagram });
     Octets::of(datagram)
 }
 

@@ -59,7 +59,7 @@ fn continued(block: Block) -> ShortReply
         code: CONTINUE,
         location: None,
         block1: Some(block),
-        word: b"",
+        diagnostic: b"",
     }
 }
 

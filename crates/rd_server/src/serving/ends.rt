@@ -7,6 +7,7 @@ ghost use Rattle.rd_server.specs.serving.Servers.{EndServes, IsUnserved, seated}
 
 use crate::serving::served::{ServeFault, Served};
 use crate::serving::workers::serve_worker;
+use journal_model::limits::MAX_WORKERS;
 use rd_seat::{Gate, Hall, Seat, Seats};
 use std::sync::Wait;
 use std::thread;
@@ -14,7 +15,7 @@ use std::thread::Threads;
 use udp_link::{Clock, Link};
 
 /// The most threads that serve: one for each end.
-const MOST_THREADS: usize = 16;
+const MOST_THREADS: usize = MAX_WORKERS as usize;
 
 /// What one worker of a server has. A server gives it its seat, and leaves that and what came of
 /// the service here.

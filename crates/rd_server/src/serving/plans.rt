@@ -6,8 +6,9 @@ ghost use Rattle.rd_server.specs.declared.serving.plans.ServeOption.TheVariants 
 ghost use Rattle.rd_server.specs.serving.Plans.{IsPlan, IsPlanRead, ReadsPlan, plan_said};
 
 use crate::options::{Asked, words_ask};
-use crate::words::{MAX_WORKERS, WordsFault, count_of};
+use crate::words::{WordsFault, count_of};
 use clap::{Arg, ArgMatches, Command, Error};
+use journal_model::limits::MAX_WORKERS;
 use rd_base::Starved;
 use std::alloc::Global;
 

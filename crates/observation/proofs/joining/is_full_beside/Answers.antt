@@ -1,5 +1,5 @@
 use Rattle.std.proofs.Common.{sym, ◌∙◌}
-use Rattle.observers.specs.Watchers.{is_named}
+use Rattle.observers.specs.Standing.{is_named}
 use Rattle.observation.proofs.WalkLaws.{full-Some, full-None}
 use Rattle.observation.proofs.joining.is_full_beside.Goals as goal
 

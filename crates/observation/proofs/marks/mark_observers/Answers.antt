@@ -13,12 +13,12 @@ observers-preserved c =
     let len = c.observers.invariant.len in
     let inside : c.observers.index < length c.observers.observers =
     omega (arith, end, below, len) in
-    elim c.match-place_to_mark.branch [
+    elim c.match-slot_to_mark.branch [
       | in-Some w ↦
           subst (λ ws. Walked c.args.watches.now c.args.observers.now ws (c.observers.index + 1))
           (sym (w.observers-is ∙ w.mark.ensures))
           (walked-marked c.args.watches.now c.args.observers.now c.observers.observers
-          c.observers.index w.in-Some.place inside w.in-Some.ensures.marked
+          c.observers.index w.in-Some.slot inside w.in-Some.ensures.marked
           w.in-Some.ensures.own c.observers.invariant)
       | in_default w ↦
           subst (λ ws. Walked c.args.watches.now c.args.observers.now ws (c.observers.index + 1))

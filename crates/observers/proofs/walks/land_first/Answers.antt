@@ -1,7 +1,7 @@
 use Rattle.std.proofs.Common.{slice_set, ap, sym, ◌∙◌}
 use Rattle.std.specs.List.{position}
 use Rattle.rd_base.proofs.lemmas.Firsts.{changed_first-at, changed_first-nowhere}
-use Rattle.observers.specs.Watchers.{has_notice, landed}
+use Rattle.observers.specs.Standing.{has_notice, landed}
 use Rattle.observers.proofs.WalkLaws.{any-first, any-nowhere}
 use Rattle.observers.proofs.walks.land_first.Goals as goal
 

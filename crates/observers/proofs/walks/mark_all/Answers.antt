@@ -1,7 +1,7 @@
 use Rattle.std.proofs.Common.{◌<◌, length, slice_set, ap, ◌∙◌, arith}
 use Rattle.std.proofs.lemmas.List.{get_or_default}
 use Rattle.std.proofs.lemmas.List.Edits.{map_over_more}
-use Rattle.observers.specs.Watchers.{marked}
+use Rattle.observers.specs.Standing.{marked}
 use Rattle.observers.proofs.walks.mark_all.Goals as goal
 
 pub items-preserved : goal.items-preserved
@@ -12,5 +12,5 @@ items-preserved c =
     let inside = c.items-test.true in
     let within : i < length ys = omega (arith, same, inside) in
     ap (λ w. slice_set ys i w) c.mark.ensures
-    ∙ map_over_more (marked c.args.place) c.deref_mut-item-items.result.now ys i _ inside
+    ∙ map_over_more (marked c.args.slot) c.deref_mut-item-items.result.now ys i _ inside
     c.items.invariant (get_or_default ys i _ _ within)

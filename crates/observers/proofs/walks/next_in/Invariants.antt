@@ -1,5 +1,5 @@
 use Rattle.std.proofs.Common.{◌≡◌}
-use Rattle.observers.specs.Watchers.{next_ready}
+use Rattle.observers.specs.Standing.{next_ready}
 use Rattle.observers.proofs.walks.next_in.Given as goal
 
 abbrev pub invariant-observers : goal.invariant-observers

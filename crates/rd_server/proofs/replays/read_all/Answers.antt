@@ -8,7 +8,7 @@ pub pieces-init : goal.pieces-init
 pieces-init g c = (
   refl,
   refl,
-  λ workers place at. ([], Consumes-nil _, begins workers place c.args.session.now _ at),
+  λ workers point at. ([], Consumes-nil _, begins workers point c.args.session.now _ at),
 )
 
 pub feed-requires : goal.feed-requires
@@ -17,13 +17,13 @@ feed-requires g c =
     (c.requires.0, before.2.next, before.2.at)
 
 pub returns-in-Failed-clause-read : goal.returns-in-Failed-clause-read
-returns-in-Failed-clause-read g c workers place at =
-    let before = c.pieces.invariant.2 workers place at in
+returns-in-Failed-clause-read g c workers point at =
+    let before = c.pieces.invariant.2 workers point at in
     (before.0, Consumes-kept _ _ _ before.0 before.1 c.in-Failed.ensures.bytes, before.2)
 
 pub returns-then-n-eq0-clause-read : goal.returns-then-n-eq0-clause-read
-returns-then-n-eq0-clause-read g c workers place at =
-    let before = c.pieces.invariant.2 workers place at in
+returns-then-n-eq0-clause-read g c workers point at =
+    let before = c.pieces.invariant.2 workers point at in
     let none : take c.in-Bytes.n c.read.new.into ≡ [] =
     ap (λ n. take n c.read.new.into) c.if-n-eq0.true in (
       before.0,
@@ -32,12 +32,12 @@ returns-then-n-eq0-clause-read g c workers place at =
     )
 
 pub returns-in-Some-clause-read : goal.returns-in-Some-clause-read
-returns-in-Some-clause-read g c workers place at =
-    let before = c.pieces.invariant.2 workers place at in
+returns-in-Some-clause-read g c workers point at =
+    let before = c.pieces.invariant.2 workers point at in
     let piece = take c.in-Bytes.n c.read.new.into in (
       before.0 ++ piece,
       Consumes-trans _ _ _ before.0 piece before.1 c.in-Bytes.ensures.bytes.0,
-      feeds_more workers place before.0 piece (before.0 ++ piece) c.pieces.session c.feed.new.self _
+      feeds_more workers point before.0 piece (before.0 ++ piece) c.pieces.session c.feed.new.self _
           _ _ (Some c.in-Some.stop) before.2
           (c.in-Some.ensures.fed workers before.2.next before.2.at) refl,
     )
@@ -46,12 +46,12 @@ pub pieces-preserved : goal.pieces-preserved
 pieces-preserved g c = (
   c.in-Bytes.ensures.cause ∙ c.pieces.invariant.0,
   c.in_default.ensures.cause ∙ c.pieces.invariant.1,
-  λ workers place at.
-      let before = c.pieces.invariant.2 workers place at in
+  λ workers point at.
+      let before = c.pieces.invariant.2 workers point at in
       let piece = take c.in-Bytes.n c.read.new.into in (
         before.0 ++ piece,
         Consumes-trans _ _ _ before.0 piece before.1 c.in-Bytes.ensures.bytes.0,
-        feeds_more workers place before.0 piece (before.0 ++ piece) c.pieces.session c.feed.new.self
+        feeds_more workers point before.0 piece (before.0 ++ piece) c.pieces.session c.feed.new.self
             _ _ _ None before.2 (c.in_default.ensures.fed workers before.2.next before.2.at) refl,
       ),
 )

@@ -1,6 +1,6 @@
 use Rattle.std.proofs.Common.{◌≡◌, List, ℕ}
 use Rattle.std.specs.Io.KnownBytes.{Consumes}
-use Rattle.rd_server.specs.Sessions.{Place, IsAt, Goes}
+use Rattle.rd_server.specs.Sessions.{Point, IsAt, Goes}
 use Rattle.rd_server.proofs.replays.read_all.Given as goal
 
 -- no call failed, and what was taken from the source led to where the session is
@@ -8,10 +8,10 @@ abbrev pub invariant-pieces : goal.invariant-pieces
 invariant-pieces g l =
     (g.S.Source.faults l.source ≡ g.S.Source.faults l.fn.source)
     × (g.K.Sink.faults l.out ≡ g.K.Sink.faults l.fn.out)
-    × ((workers : ℕ) (place : Place)
-    → IsAt workers place l.fn.session
+    × ((workers : ℕ) (point : Point)
+    → IsAt workers point l.fn.session
     → (taken : List ℕ) × Consumes (g.S.Source.left l.fn.source) (g.S.Source.left l.source) taken
-    × Goes workers place taken l.session (g.K.Sink.holds l.fn.out) (g.K.Sink.holds l.out))
+    × Goes workers point taken l.session (g.K.Sink.holds l.fn.out) (g.K.Sink.holds l.out))
 
 -- each piece lowers the turns of the source
 abbrev pub decreases-pieces : goal.decreases-pieces

@@ -7,15 +7,15 @@ use Rattle.simple_registration.proofs.asks.request_for.Goals as goal
 few : (n : ℕ) (octets : List ℕ) → n ≤ 3 → length (take n octets) ≤ 3
 few n octets short = omega (arith, length-take n octets, short)
 
-pub put_option-requires-clause-short : goal.put_option-requires-clause-short
-put_option-requires-clause-short c =
+pub put_option-requires-clause-fits : goal.put_option-requires-clause-fits
+put_option-requires-clause-fits c =
     rw c.core_request-request.ensures (short_block c.args.mid c.args.token.octets.now
     (take c.block_write-size.result c.block_write-size.new.into) c.args.token.short
     (few c.block_write-size.result c.block_write-size.new.into
     c.block_write-size.ensures.few))
 
-pub datagram_of-requires-clause-short : goal.datagram_of-requires-clause-short
-datagram_of-requires-clause-short c =
+pub datagram_of-requires-clause-fits : goal.datagram_of-requires-clause-fits
+datagram_of-requires-clause-fits c =
     rw (c.put_option.ensures, c.core_request-request.ensures)
     (short_block c.args.mid c.args.token.octets.now
     (take c.block_write-size.result c.block_write-size.new.into) c.args.token.short

@@ -5,7 +5,7 @@ use Rattle.journal_model.specs.Effects.{joined, noting}
 use Rattle.journal_model.specs.EmptyMessages.{waited_for}
 use Rattle.journal_model.specs.Journal.{events}
 use Rattle.journal_model.specs.UnfinishedRow.{making}
-use Rattle.observers.specs.Watchers.{has_notice, landed}
+use Rattle.observers.specs.Standing.{has_notice, landed}
 use Rattle.observation.specs.Watching.{AreWatched, WatchingStandsFor}
 use Rattle.observation.proofs.JoiningLaws.{any_waited-StandsFor}
 use Rattle.observation.proofs.WatchedLaws.{changed_first-AreWatched}

@@ -14,11 +14,11 @@ returns c rows o h at =
     let found = got_inside c.self.inside.observers c.args.index (omega (arith, shown, within)) in
     if_some (λ body. arc_value body.now)
     (λ (text : List ℕ). text ≡ listing o.query (entries rows) (now rows)) c.body.result
-    (body_at c.place_at.result c.self.inside.watches) c.body.ensures
+    (body_at c.slot_at.result c.self.inside.watches) c.body.ensures
     (λ text is.
     body-StandsFor rows
     (record { watches = c.self.inside.watches; observers = c.self.inside.observers })
     c.args.index o found.0 text (subst (WatchingStandsFor rows) (sym c.self.view_is) h) at
     found.1
-    (ap (λ place. body_at place c.self.inside.watches) (sym (c.place_at.ensures found.0 found.1))
+    (ap (λ slot. body_at slot c.self.inside.watches) (sym (c.slot_at.ensures found.0 found.1))
     ∙ is))

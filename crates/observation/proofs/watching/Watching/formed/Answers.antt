@@ -2,7 +2,7 @@ use Rattle.std.proofs.Common.{length, slice_get, refl, sym, ap, subst, ◌∙◌
 use Rattle.std.specs.Arc.{arc_value}
 use Rattle.journal_model.specs.Effects.{joined}
 use Rattle.journal_model.specs.UnfinishedRow.{making}
-use Rattle.observers.specs.Watchers.{is_awaited, noticed}
+use Rattle.observers.specs.Standing.{is_awaited, noticed}
 use Rattle.observation.specs.Notices.{forming}
 use Rattle.observation.specs.Watching.{Watching, AreWatched, WatchingStandsFor}
 use Rattle.observation.proofs.FoundObservers.{length-changed_at}

@@ -8,7 +8,7 @@ use Rattle.observation.proofs.watching.Watching.keep_body.Goals as goal
 pub invariant_of-self : goal.invariant_of-self
 invariant_of-self c =
     subst (λ t. AreWatched t c.self.inside.observers) (sym c.set_body.ensures.set)
-    (kept_body-AreWatched c.place_at-place.result (arc_value c.args.body) c.self.inside.watches
+    (kept_body-AreWatched c.slot_at-slot.result (arc_value c.args.body) c.self.inside.watches
     c.self.inside.observers c.self.invariant)
 
 pub returns-clause-stands : goal.returns-clause-stands
@@ -19,8 +19,8 @@ returns-clause-stands c rows o is at h =
     subst
     (λ t. WatchingStandsFor rows (record { watches = t; observers = c.self.inside.observers }))
     (sym (c.set_body.ensures.set
-    ∙ ap (λ place. with_body place (arc_value c.args.body) c.self.inside.watches)
-    (c.place_at-place.ensures found.0 found.1)))
+    ∙ ap (λ slot. with_body slot (arc_value c.args.body) c.self.inside.watches)
+    (c.slot_at-slot.ensures found.0 found.1)))
     (kept_body-StandsFor rows
     (record { watches = c.self.inside.watches; observers = c.self.inside.observers })
     c.args.index o found.0 (arc_value c.args.body) is at found.1

@@ -4,7 +4,7 @@ use Rattle.journal_model.specs.Journal.{events}
 use Rattle.journal_model.specs.Lookups.{removal}
 use Rattle.journal_model.specs.UnfinishedRow.{making}
 use Rattle.event_model.specs.Observers.{observers}
-use Rattle.observers.specs.Watchers.{is_named}
+use Rattle.observers.specs.Standing.{is_named}
 use Rattle.observation.specs.Watching.{WatchingStandsFor}
 use Rattle.observation.proofs.JoiningLaws.{is_observer-StandsFor}
 use Rattle.observation.proofs.WatchedLaws.{left-AreWatched, both-AreWatched}

@@ -9,8 +9,8 @@ query-requires c =
     let shown = ap (λ (w : Watching). length w.observers) c.self.view_is in
     let within = c.requires in
     let found = got_inside c.self.inside.observers c.args.index (omega (arith, shown, within)) in
-    subst (λ place. IsSome (watched_at place c.self.inside.watches))
-    (sym (c.place_at.ensures found.0 found.1))
+    subst (λ slot. IsSome (watched_at slot c.self.inside.watches))
+    (sym (c.slot_at.ensures found.0 found.1))
     (watched_here c.self.inside.watches c.self.inside.observers c.args.index found.0
     c.self.invariant found.1)
 
@@ -24,4 +24,4 @@ returns c rows o h at =
     c.args.index o found.0 c.query.result.now
     (subst (WatchingStandsFor rows) (sym c.self.view_is) h) at found.1
     (c.query.ensures
-    ∙ ap (λ place. query_at place c.self.inside.watches) (c.place_at.ensures found.0 found.1))
+    ∙ ap (λ slot. query_at slot c.self.inside.watches) (c.slot_at.ensures found.0 found.1))

@@ -5,7 +5,7 @@ use Rattle.journal_model.specs.Effects.{joined, noting}
 use Rattle.journal_model.specs.EmptyMessages.{waited_for}
 use Rattle.journal_model.specs.Journal.{events}
 use Rattle.journal_model.specs.UnfinishedRow.{making}
-use Rattle.observers.specs.Watchers.{has_notice}
+use Rattle.observers.specs.Standing.{has_notice}
 use Rattle.observation.specs.Watching.{WatchingStandsFor}
 use Rattle.observation.proofs.JoiningLaws.{is_waited-StandsFor}
 use Rattle.observation.proofs.WatchedLaws.{left-AreWatched, both-AreWatched}

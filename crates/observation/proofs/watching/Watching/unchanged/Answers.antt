@@ -2,7 +2,7 @@ use Rattle.std.proofs.Common.{[], ◌∷◌, length, slice_get, refl, sym, ap, s
 use Rattle.event_model.specs.declared.notes.Note.TheVariants as note
 use Rattle.journal_model.specs.Effects.{joined, noting}
 use Rattle.journal_model.specs.UnfinishedRow.{making}
-use Rattle.observers.specs.Watchers.{seen}
+use Rattle.observers.specs.Standing.{seen}
 use Rattle.observation.specs.Watching.{Watching, AreWatched, WatchingStandsFor}
 use Rattle.observation.proofs.FoundObservers.{length-changed_at}
 use Rattle.observation.proofs.WatchedLaws.{changed_at-AreWatched}

@@ -4,7 +4,7 @@ use Rattle.observers.proofs.AwaitedLaws.{of-AreAwaited}
 use Rattle.std.proofs.Common.{◌∷◌, sym, ap, subst, ◌∙◌}
 use Rattle.observers.specs.ObserverEvents.{ObserversStandFor}
 use Rattle.rd_base.specs.Firsts.{changed_first}
-use Rattle.observers.specs.Watchers.{has_notice, landed}
+use Rattle.observers.specs.Standing.{has_notice, landed}
 use Rattle.observers.proofs.StandLaws.{landed-StandsFor}
 use Rattle.observers.proofs.table.Observers.acked.Goals as goal
 

@@ -6,7 +6,7 @@ use Rattle.std.proofs.Common.{◌∷◌, sym, ap, subst, ◌∙◌}
 use Rattle.std.specs.List.{position}
 use Rattle.observers.specs.ObserverEvents.{ObserversStandFor}
 use Rattle.rd_base.specs.Firsts.{without_first}
-use Rattle.observers.specs.Watchers.{is_named}
+use Rattle.observers.specs.Standing.{is_named}
 use Rattle.observers.proofs.StandLaws.{dropped-StandsFor}
 use Rattle.observers.proofs.table.Observers.drop_one.Goals as goal
 

@@ -6,7 +6,7 @@ use Rattle.std.proofs.Common.{◌∷◌, [], ◌++◌, sym, ap, subst, remove, �
 use Rattle.std.specs.Arc.{arc_value}
 use Rattle.std.specs.List.{position}
 use Rattle.observers.specs.ObserverEvents.{ObserversStandFor}
-use Rattle.observers.specs.Watchers.{noticed, changed_at}
+use Rattle.observers.specs.Standing.{noticed, changed_at}
 use Rattle.observers.proofs.StandLaws.{formed-StandsFor}
 use Rattle.observers.proofs.table.Observers.formed.Goals as goal
 

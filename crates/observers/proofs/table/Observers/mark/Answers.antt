@@ -1,7 +1,7 @@
 use Rattle.observers.specs.AwaitedPeers.{AreAwaited, awaited_of}
 use Rattle.std.proofs.Common.{sym, subst, arith}
-use Rattle.observers.specs.Watchers.{
-  marked as marked_at_place,
+use Rattle.observers.specs.Standing.{
+  marked as marked_at_slot,
   seen as seen_one,
   timed as timed_one,
 }
@@ -18,6 +18,6 @@ invariant_of-self c =
       omega (arith, room, capacity),
       c.self.invariant.2,
       subst (λ ws. AreAwaited ws c.self.inside.awaited.items) (sym c.mark_all.ensures.marked)
-          (map-AreAwaited (marked_at_place c.args.place) (marked-LeavesFlights c.args.place)
+          (map-AreAwaited (marked_at_slot c.args.slot) (marked-LeavesFlights c.args.slot)
           c.self.inside.items.items c.self.inside.awaited.items c.self.invariant.3),
     )

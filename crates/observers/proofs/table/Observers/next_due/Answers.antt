@@ -1,5 +1,5 @@
 use Rattle.std.proofs.Common.{ap, ◌∙◌}
-use Rattle.observers.specs.Watchers.{next_ready}
+use Rattle.observers.specs.Standing.{next_ready}
 use Rattle.observers.proofs.WalkLaws.{next-within, next-free}
 use Rattle.observers.proofs.table.Observers.next_due.Goals as goal
 

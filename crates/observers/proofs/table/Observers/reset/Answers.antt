@@ -6,7 +6,7 @@ use Rattle.std.proofs.Common.{◌∷◌, sym, ap, subst, ◌∙◌}
 use Rattle.std.specs.List.{position}
 use Rattle.observers.specs.ObserverEvents.{ObserversStandFor}
 use Rattle.rd_base.specs.Firsts.{without_first}
-use Rattle.observers.specs.Watchers.{has_notice}
+use Rattle.observers.specs.Standing.{has_notice}
 use Rattle.observers.proofs.StandLaws.{reset-StandsFor}
 use Rattle.observers.proofs.table.Observers.reset.Goals as goal
 

@@ -1,8 +1,8 @@
 use Rattle.std.proofs.Common.{slice_get}
 use Rattle.observers.specs.AwaitedPeers.{AreAwaited, awaited_of}
 use Rattle.std.proofs.Common.{arith}
-use Rattle.observers.specs.Watchers.{
-  marked as marked_at_place,
+use Rattle.observers.specs.Standing.{
+  marked as marked_at_slot,
   seen as seen_one,
   timed as timed_one,
 }
@@ -11,7 +11,7 @@ use Rattle.std.proofs.Common.{◌∷◌, [], ◌++◌, sym, ap, subst, remove, �
 use Rattle.std.specs.Arc.{arc_value}
 use Rattle.std.specs.List.{position}
 use Rattle.observers.specs.ObserverEvents.{ObserversStandFor}
-use Rattle.observers.specs.Watchers.{timed, changed_at}
+use Rattle.observers.specs.Standing.{timed, changed_at}
 use Rattle.observers.proofs.WalkLaws.{inside-at}
 use Rattle.observers.proofs.StandLaws.{again-StandsFor, due-StandsFor, unsent-same, sends-at}
 use Rattle.observers.proofs.table.Observers.timeout.Goals as goal

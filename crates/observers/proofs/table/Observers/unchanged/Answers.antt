@@ -1,7 +1,7 @@
 use Rattle.observers.specs.AwaitedPeers.{AreAwaited, awaited_of}
 use Rattle.std.proofs.Common.{arith}
-use Rattle.observers.specs.Watchers.{
-  marked as marked_at_place,
+use Rattle.observers.specs.Standing.{
+  marked as marked_at_slot,
   seen as seen_one,
   timed as timed_one,
 }
@@ -10,7 +10,7 @@ use Rattle.std.proofs.Common.{◌∷◌, [], ◌++◌, sym, ap, subst, remove, �
 use Rattle.std.specs.Arc.{arc_value}
 use Rattle.std.specs.List.{position}
 use Rattle.observers.specs.ObserverEvents.{ObserversStandFor}
-use Rattle.observers.specs.Watchers.{seen, changed_at}
+use Rattle.observers.specs.Standing.{seen, changed_at}
 use Rattle.observers.proofs.StandLaws.{unchanged-StandsFor}
 use Rattle.observers.proofs.table.Observers.unchanged.Goals as goal
 

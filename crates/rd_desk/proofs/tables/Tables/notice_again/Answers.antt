@@ -3,7 +3,7 @@ use Rattle.std.specs.Arc.{arc_value}
 use Rattle.journal_model.specs.UnfinishedRow.{making}
 use Rattle.exchange_core.specs.declared.resends.Again.TheVariants as again
 use Rattle.exchange_core.specs.Retransmissions.{kept_due, kept_after}
-use Rattle.observers.specs.Watchers.{Watcher, due_of, kept_of, timed}
+use Rattle.observers.specs.Standing.{Standing, due_of, kept_of, timed}
 use Rattle.observation.specs.Watching.{Watching, WatchingStandsFor}
 use Rattle.rd_desk.specs.calls.Desks.{Seen}
 use Rattle.rd_desk.proofs.ticking.AgainWalk.{
@@ -42,7 +42,7 @@ returns-in-Send-clause-way c rows s starved done mids x there room short way =
     ap (λ (d : Seen). slice_get d.watching.observers c.args.index) c.self.view_is ∙ there in
     let moment = ap (λ (d : Seen). d.moment) c.self.view_is in
     let now =
-    ap (λ (ws : List Watcher). slice_get ws c.args.index) c.timeout.ensures.kept
+    ap (λ (ws : List Standing). slice_get ws c.args.index) c.timeout.ensures.kept
     ∙ got-changed (timed c.self.inside.moment.0) c.args.index c.self.inside.watching.observers x
     before in
     way_sends rows s starved done _ c.args.self.now c.timeout.new.self c.args.out.now
@@ -60,7 +60,7 @@ returns-in-Send-clause-way c rows s starved done mids x there room short way =
 
 pub returns-in-Send-clause-rest : goal.returns-in-Send-clause-rest
 returns-in-Send-clause-rest c =
-    ap (λ (ws : List Watcher). drop (c.args.index + 1) ws) c.timeout.ensures.kept
+    ap (λ (ws : List Standing). drop (c.args.index + 1) ws) c.timeout.ensures.kept
     ∙ (drop-changed (timed c.self.inside.moment.0) c.args.index c.self.inside.watching.observers
     ∙ ap (λ (d : Seen). drop (c.args.index + 1) d.watching.observers) c.self.view_is)
 

@@ -1,5 +1,5 @@
 use Rattle.std.proofs.Common.{◌+◌, sym, ap, subst, ◌∙◌, arith}
-use Rattle.observers.specs.Watchers.{next_ready}
+use Rattle.observers.specs.Standing.{next_ready}
 use Rattle.rd_desk.specs.calls.Desks.{Seen}
 use Rattle.rd_desk.specs.parts.Planning.{PlannedUpTo}
 use Rattle.rd_desk.proofs.ticking.PlanLaws.{planned_none, planned_full}

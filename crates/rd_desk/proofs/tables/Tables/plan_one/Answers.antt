@@ -5,7 +5,7 @@ use Rattle.rd_base.proofs.lemmas.Options.{some_same}
 use Rattle.event_model.specs.Same.{is_same_peer}
 use Rattle.journal_model.specs.Effects.{mid_of}
 use Rattle.journal_model.specs.UnfinishedRow.{making}
-use Rattle.observers.specs.Watchers.{Watcher}
+use Rattle.observers.specs.Standing.{Standing}
 use Rattle.rd_desk.specs.calls.Desks.{Seen}
 use Rattle.rd_desk.proofs.ticking.SkipLaws.{planned_skips}
 use Rattle.rd_desk.proofs.ticking.PlanCases.{planned_unchanged, planned_notice}
@@ -20,7 +20,7 @@ returns-then-waits_for-clause-planned c rows s starved whole first out from word
     planned_skips rows s starved c.args.tag.0 whole first c.args.self.now.watching.observers
     c.args.self.now.observed c.args.plan.now from c.args.index c.in-Some.observer.now
     way.no_look few is got
-    (ap (λ (y : Watcher).
+    (ap (λ (y : Standing).
     list_any (λ (q : Peer). is_same_peer q y.peer) c.args.plan.now.peers.items)
     (sym c.observer.view_is)
     ∙ (sym c.waits_for.ensures ∙ c.if-waits_for.true)) h
@@ -37,7 +37,7 @@ returns-then-is_unchanged-clause-planned c rows s starved whole first out from w
     ∙ (sym c.at-2.ensures ∙ ap (option_map (λ y. y.now)) c.in-Some-at.is) in
     let peer = c.observer.view_is ∙ some_same (sym got ∙ again) in
     let free =
-    ap (λ (y : Watcher).
+    ap (λ (y : Standing).
     list_any (λ (q : Peer). is_same_peer q y.peer) c.args.plan.now.peers.items)
     (sym peer)
     ∙ (sym c.waits_for.ensures ∙ c.if-waits_for.false) in
@@ -63,7 +63,7 @@ returns-clause-planned c rows s starved whole first out from word way tag is few
     ∙ (sym c.at-2.ensures ∙ ap (option_map (λ y. y.now)) c.in-Some-at.is) in
     let peer = c.observer.view_is ∙ some_same (sym got ∙ again) in
     let free =
-    ap (λ (y : Watcher).
+    ap (λ (y : Standing).
     list_any (λ (q : Peer). is_same_peer q y.peer) c.args.plan.now.peers.items)
     (sym peer)
     ∙ (sym c.waits_for.ensures ∙ c.if-waits_for.false) in

@@ -12,7 +12,7 @@ returns-clause-way c =
     λ rows s starved place of opened way.
     let m = message_in c.args.write.now.request.meaning.view in
     settled_refusal rows s starved place m (short_said c.plain.result)
-    (refused c.args.code c.args.word.now) c.settle.new.self c.settle.new.out c.settle.new.mids
+    (refused c.args.code c.args.diagnostic.now) c.settle.new.self c.settle.new.out c.settle.new.mids
     c.plain.ensures refl
     (c.settle.ensures.way rows s starved nothing place of refl
     (open_more rows s starved nothing place c.args.write.now.peer m.mid c.args.write.now.admitted.0

@@ -10,7 +10,7 @@ use Rattle.rd_desk.proofs.write.settling.answer_short.Goals as goal
 pub unreachable-requires : goal.unreachable-requires
 unreachable-requires c =
     let short =
-    with_payload_size c.begin_answer-writer.result c.args.reply.now.word.now
+    with_payload_size c.begin_answer-writer.result c.args.reply.now.diagnostic.now
     c.begin_answer-writer.ensures.open_end in
     absurd (omega (
       arith,

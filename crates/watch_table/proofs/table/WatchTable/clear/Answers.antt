@@ -1,9 +1,9 @@
 use Rattle.std.proofs.Common.{arith, sym, ap, subst, ◌∙◌}
 use Rattle.std.specs.Option.{option_copied}
 use Rattle.watch_table.specs.WatchedQueries.{touched, unmarked, all_touched, all_unmarked}
-use Rattle.watch_table.specs.Watchers.{WatchesStandFor}
-use Rattle.watch_table.specs.Places.{changed_at}
-use Rattle.watch_table.proofs.PlaceLaws.{changed-more, changed-all}
+use Rattle.watch_table.specs.ObserverCounts.{WatchesStandFor}
+use Rattle.watch_table.specs.Slots.{changed_at}
+use Rattle.watch_table.proofs.SlotLaws.{changed-more, changed-all}
 use Rattle.watch_table.proofs.TouchedLaws.{unmarked-StandsFor}
 use Rattle.watch_table.proofs.table.WatchTable.clear.Goals as goal
 

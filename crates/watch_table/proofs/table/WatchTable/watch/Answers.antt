@@ -23,10 +23,10 @@ returns-clause-refused_among c standing h is =
     h is
 
 pub returns-clause-accepted_among : goal.returns-clause-accepted_among
-returns-clause-accepted_among c standing h full place is =
+returns-clause-accepted_among c standing h full slot is =
     accepted_among c.args.query.now c.args.self.now (without c.args.instead_of c.args.self.now)
     c.watch_instead.new.watches.entries standing c.watch_instead.result
     (subst (λ t.
     Watches c.args.query.now t (without c.args.instead_of t) c.watch_instead.result
     c.watch_instead.new.watches.entries) c.self.view_is c.watch_instead.ensures.outcome)
-    h full place is
+    h full slot is

@@ -1,0 +1,174 @@
+-- What a commissioning gives.
+use Rattle.std.specs.Prelude.{
+  ◌≡◌,
+  ◌≢◌,
+  ◌⊎◌,
+  ℕ,
+  ◌≤◌,
+  true,
+  false,
+  List,
+  [],
+  ◌∷◌,
+  ◌++◌,
+  Option,
+  Some,
+  None,
+}
+use Rattle.rd_base.specs.Outside.{Rose}
+use Rattle.rd_base.specs.declared.moments.Moment.{Moment}
+use Rattle.udp_link.specs.Links.{Datagram}
+use Rattle.client_model.specs.declared.asks.Ask.{Ask}
+use Rattle.client_model.specs.declared.outcomes.Outcome.{Outcome}
+use Rattle.registrant.specs.declared.turns.TellFault.{TellFault}
+use Rattle.registrant.specs.declared.turns.TellFault.TheVariants as fault
+use Rattle.registrant.specs.Turns.{Outside, Fails, seen}
+use Rattle.commissioner.specs.declared.commissioning.Commission.{Commission}
+use Rattle.commissioner.specs.declared.commissioning.Commissioned.{Commissioned}
+use Rattle.commissioner.specs.declared.lines.Line.{Line}
+use Rattle.commissioner.specs.declared.polls.Going.{Going}
+use Rattle.commissioner.specs.declared.polls.Polled.{Polled}
+use Rattle.commissioner.specs.declared.polls.Polled.TheVariants as polled
+use Rattle.commissioner.specs.declared.steps.Step.{Step}
+use Rattle.commissioner.specs.Shares.{said_all, first_due}
+use Rattle.commissioner.specs.Lines.{IsLost}
+use Rattle.commissioner.specs.Happening.{HappensAll, Unheard, AreOpen, is_unsaid}
+
+-- how it ended after what happened: each ask was decided; or one was not, and a receive failed, or
+-- memory ran out
+abbrev pub Ends : List Ask → List Step → Option TellFault → Outside → Outside → Type 0
+Ends asks past None before after =
+    (is_unsaid (said_all asks 0 past) ≡ false) × (after ≡ before)
+Ends asks past (Some fault.Link) before after =
+    (is_unsaid (said_all asks 0 past) ≡ true)
+    × (first_due [] asks 0 past ≡ None)
+    × Fails before after
+Ends asks past (Some fault.Starved) before after =
+    (is_unsaid (said_all asks 0 past) ≡ true) × (Unheard before after ⊎ IsLost before after)
+
+-- what a list of asks came to over a link and a clock: these steps happened, so it ended, and what
+-- became of each ask is the verdict of its share
+pub record IsMade
+    (asks : List Ask)
+    (past : List Step)
+    (outcomes : List (Option Outcome))
+    (fault : Option TellFault)
+    (before after : Outside)
+    : Type 0 where
+  pub more : List Step
+  pub last : Outside
+  pub happens : HappensAll asks past more before last
+  pub said : outcomes ≡ said_all asks 0 (more ++ past)
+  pub ends : Ends asks (more ++ past) fault last after
+
+-- the lines stand for those of a list that are not decided, of which there are some
+pub record StandsFor
+    (asks : List Ask)
+    (past : List Step)
+    (lines : List Line)
+    (outcomes : List (Option Outcome))
+    : Type 0 where
+  pub kept : AreOpen past asks 0 lines outcomes
+  pub some : is_unsaid outcomes ≡ true
+
+-- whatever list and past the lines stand for, so it comes
+abbrev pub IsGiven : List Line
+    → List (Option Outcome)
+    → List (Option Outcome)
+    → Option TellFault
+    → Outside
+    → Outside
+    → Type 0
+IsGiven lines kept outcomes fault before after =
+    (asks : List Ask) (past : List Step)
+    → StandsFor asks past lines kept
+    → IsMade asks past outcomes fault before after
+
+-- it ends by the link only where a receive failed and was counted, and otherwise that count stands
+abbrev pub CountsFault : ℕ → ℕ → Option TellFault → Type 0
+CountsFault before now None = now ≡ before
+CountsFault before now (Some fault.Link) = (before ≤ now) × Rose before now
+CountsFault before now (Some fault.Starved) = now ≡ before
+
+-- ---- a poll
+
+-- a poll: it goes on after what happened, or it ends
+abbrev pub IsPolled : List Ask
+    → List Step
+    → Polled
+    → List Line
+    → List (Option Outcome)
+    → Outside
+    → Outside
+    → Type 0
+IsPolled asks past polled.Going lines outcomes before after =
+    (more : List Step)
+    × HappensAll asks past more before after
+    × StandsFor asks (more ++ past) lines outcomes
+IsPolled asks past (polled.Over fault) lines outcomes before after =
+    IsMade asks past outcomes fault before after
+
+abbrev pub CountsPoll : ℕ → ℕ → Polled → Type 0
+CountsPoll before now polled.Going = now ≡ before
+CountsPoll before now (polled.Over fault) = CountsFault before now fault
+
+-- ---- the future
+
+-- a list and a past that lines stand for
+abbrev pub StandForSome : List Line → List (Option Outcome) → Type 0
+StandForSome lines outcomes =
+    (asks : List Ask) × (past : List Step) × StandsFor asks past lines outcomes
+
+abbrev pub CanPollFrom : {L C : Type 0} → Option (Going L C) → Type 0
+CanPollFrom None = ⊥
+CanPollFrom (Some going) = StandForSome going.lines.items going.outcomes
+
+-- its link and its clock are there, and what is kept stands for a list
+abbrev pub CanPoll : {L C : Type 0} → Commission L C → Type 0
+CanPoll c = CanPollFrom c.going
+
+module _
+    {L C : Type 0}
+    (coming : L → Option (List Datagram))
+    (gone : L → Option (List Datagram))
+    (recv_faults : L → ℕ)
+    (send_faults : L → ℕ)
+    (times : C → Option (List Moment))
+    (words : C → Option (List ℕ))
+  where
+    abbrev pub GivesFrom : Option (Going L C) → Commissioned L C → Type 0
+    GivesFrom None told = ⊥
+    GivesFrom (Some going) told =
+        IsGiven
+        going.lines.items
+        going.outcomes
+        told.outcomes
+        told.fault
+        (seen coming gone recv_faults send_faults times words going.link going.clock)
+        (seen coming gone recv_faults send_faults times words told.link told.clock)
+        × CountsFault (recv_faults going.link) (recv_faults told.link) told.fault
+
+module _
+    {L C : Type 0}
+    (coming : L → Option (List Datagram))
+    (gone : L → Option (List Datagram))
+    (recv_faults : L → ℕ)
+    (send_faults : L → ℕ)
+    (times : C → Option (List Moment))
+    (words : C → Option (List ℕ))
+  where
+    -- what it gives, whatever its lines stand for, and what was counted
+    abbrev pub Gives : Commission L C → Commissioned L C → Type 0
+    Gives c told = GivesFrom coming gone recv_faults send_faults times words c.going told
+
+-- a commissioning to which nothing has happened: it has the link and the clock, and stands for the
+-- list
+abbrev pub IsStartedFrom : {L C : Type 0} → L → C → List Ask → Option (Going L C) → Type 0
+IsStartedFrom link clock asks None = ⊥
+IsStartedFrom link clock asks (Some going) =
+    (going.link ≡ link)
+    × (going.clock ≡ clock)
+    × StandsFor asks [] going.lines.items going.outcomes
+
+abbrev pub IsStarted : {L C : Type 0} → L → C → List Ask → Commission L C → Type 0
+IsStarted link clock asks c = IsStartedFrom link clock asks c.going

@@ -1,0 +1,231 @@
+-- What happens while a list of asks is made over a link and a clock.
+use Rattle.std.specs.Prelude.{
+  ◌≡◌,
+  ◌⊎◌,
+  ◌≤◌,
+  ℕ,
+  suc,
+  Bool,
+  true,
+  false,
+  is_none,
+  List,
+  [],
+  ◌∷◌,
+  ◌++◌,
+  Option,
+  Some,
+  None,
+  IsSome,
+  Result,
+  Ok,
+  Err,
+  ⊤,
+}
+use Rattle.std.specs.List.{list_any}
+use Rattle.rd_base.specs.Outside.{Rose}
+use Rattle.rd_base.specs.declared.moments.Moment.{Moment}
+use Rattle.rd_base.specs.declared.peers.Peer.{Peer}
+use Rattle.udp_link.specs.Told.{WhereTold, Stays}
+use Rattle.udp_link.specs.Links.{Datagram}
+use Rattle.client_model.specs.declared.asks.Ask.{Ask}
+use Rattle.client_model.specs.declared.events.Event.{Event}
+use Rattle.client_model.specs.declared.outcomes.Outcome.{Outcome}
+use Rattle.registrant.specs.declared.turns.TellFault.{TellFault}
+use Rattle.registrant.specs.declared.turns.TellFault.TheVariants as fault
+use Rattle.registrant.specs.Turns.{
+  Outside,
+  Sends,
+  IsTimed,
+  IsSpoken,
+  TakesEvent,
+  Fails,
+  moment_at,
+}
+use Rattle.commissioner.specs.declared.lines.Line.{Line}
+use Rattle.commissioner.specs.declared.steps.Step.{Step}
+use Rattle.commissioner.specs.declared.steps.Step.TheVariants as step
+use Rattle.commissioner.specs.Shares.{
+  is_busy,
+  said,
+  said_all,
+  first_due,
+  sent_first,
+  sent_all,
+}
+use Rattle.commissioner.specs.Lines.{IsOpen, IsLine, IsLost, IsDatagram}
+
+-- ---- a step
+
+-- the talk of the first ask that is to begin began: at the next moment of the clock, with its next
+-- word, and its request was sent
+pub record Begins
+    (asks : List Ask)
+    (past : List Step)
+    (n : ℕ)
+    (now : Moment)
+    (word : ℕ)
+    (before after : Outside)
+    : Type 0 where
+  pub due : first_due [] asks 0 past ≡ Some n
+  pub timed : IsTimed now before.times after.times
+  pub spoken : IsSpoken word before.words after.words
+  pub sends :
+      Sends
+      (sent_first asks 0 n)
+      before.gone
+      before.send_faults
+      after.gone
+      after.send_faults
+  pub coming : Stays before.coming after.coming
+  pub receives : after.recv_faults ≡ before.recv_faults
+
+-- an event came, when no ask was to begin: it is made of what is coming, at the next moment of the
+-- clock, and what it makes go was sent
+pub record Comes (asks : List Ask) (past : List Step) (e : Event) (before after : Outside)
+    : Type 0 where
+  pub due : first_due [] asks 0 past ≡ None
+  pub takes : WhereTold (TakesEvent e) before.coming after.coming
+  pub timed : IsTimed (moment_at e) before.times after.times
+  pub sends :
+      Sends
+      (sent_all asks 0 past e)
+      before.gone
+      before.send_faults
+      after.gone
+      after.send_faults
+  pub words : Stays before.words after.words
+  pub receives : after.recv_faults ≡ before.recv_faults
+
+abbrev pub Happens : List Ask → List Step → Step → Outside → Outside → Type 0
+Happens asks past (step.Began n now word) before after =
+    Begins asks past n now word before after
+Happens asks past (step.Happened e) before after = Comes asks past e before after
+
+-- these steps happened, of which the newest stands first, after those before
+abbrev pub HappensAll : List Ask → List Step → List Step → Outside → Outside → Type 0
+HappensAll asks past [] before after = after ≡ before
+HappensAll asks past (s ∷ more) before after =
+    (between : Outside)
+    × HappensAll asks past more before between
+    × Happens asks (more ++ past) s between after
+
+-- a datagram was taken that could not be heard for want of memory
+pub record Unheard (before after : Outside) : Type 0 where
+  pub lost : Datagram
+  pub coming : WhereTold (λ old new. old ≡ lost ∷ new) before.coming after.coming
+  pub now : Moment
+  pub timed : IsTimed now before.times after.times
+  pub sent : List Datagram
+  pub sends : Sends sent before.gone before.send_faults after.gone after.send_faults
+  pub words : Stays before.words after.words
+  pub receives : after.recv_faults ≡ before.recv_faults
+
+-- ---- what is kept of a list of asks
+
+-- The asks from a number on, by what is kept: each that is decided has its outcome, and the others
+-- have a line each, in the order of the list.
+abbrev pub AreKept : (Ask → ℕ → Line → Type 0)
+    → List Step
+    → List Ask
+    → ℕ
+    → List Line
+    → List (Option Outcome)
+    → Type 0
+AreKept Is past [] i lines outcomes = (lines ≡ []) × (outcomes ≡ [])
+AreKept Is past (ask ∷ asks) i lines [] = ⊥
+AreKept Is past (ask ∷ asks) i lines (Some o ∷ outcomes) =
+    (said ask i past ≡ Some o) × AreKept Is past asks (suc i) lines outcomes
+AreKept Is past (ask ∷ asks) i [] (None ∷ outcomes) = ⊥
+AreKept Is past (ask ∷ asks) i (line ∷ lines) (None ∷ outcomes) =
+    Is ask i line × AreKept Is past asks (suc i) lines outcomes
+
+-- the lines stand for the asks that are not decided
+abbrev pub AreOpen : List Step → List Ask → ℕ → List Line → List (Option Outcome)
+    → Type 0
+AreOpen past asks i lines outcomes = AreKept (IsOpen past) past asks i lines outcomes
+
+-- the same, where some of the lines may have been decided since
+abbrev pub AreLines : List Step → List Ask → ℕ → List Line → List (Option Outcome)
+    → Type 0
+AreLines past asks i lines outcomes = AreKept (IsLine past) past asks i lines outcomes
+
+-- each line has begun, or stands behind another to the same directory
+abbrev pub HasBegun : List Peer → Line → Type 0
+HasBegun busy line = (line.ask ≡ None) ⊎ (is_busy busy line.to ≡ true)
+
+abbrev pub AllBegun : List Peer → List Line → Type 0
+AllBegun busy [] = ⊤
+AllBegun busy (line ∷ lines) =
+    HasBegun busy line × AllBegun (busy ++ line.to ∷ []) lines
+
+-- ---- the parts of a poll
+
+-- the talks that are to begin began, one after the other, or memory ran out at one
+abbrev pub AreBegun : {E : Type 0}
+    → List Ask
+    → List Step
+    → List (Option Outcome)
+    → Result Unit E
+    → List Line
+    → Outside
+    → Outside
+    → Type 0
+AreBegun asks past outcomes (Ok x) lines before after =
+    (more : List Step)
+    × HappensAll asks past more before after
+    × AreOpen (more ++ past) asks 0 lines outcomes
+    × AllBegun [] lines
+AreBegun asks past outcomes (Err x) lines before after =
+    (more : List Step)
+    × (last : Outside)
+    × HappensAll asks past more before last
+    × (outcomes ≡ said_all asks 0 (more ++ past))
+    × IsLost last after
+
+-- an event was handed to each talk, and what is to be sent was sent; or a datagram could not be heard
+abbrev pub AreHanded : List Ask
+    → List Step
+    → List (Option Outcome)
+    → Event
+    → Result Unit TellFault
+    → List Line
+    → Option (List Datagram)
+    → ℕ
+    → Option (List Datagram)
+    → ℕ
+    → Type 0
+AreHanded asks past outcomes e (Ok x) lines sent faults sent_after faults_after =
+    AreLines (step.Happened e ∷ past) asks 0 lines outcomes
+    × Sends (sent_all asks 0 past e) sent faults sent_after faults_after
+AreHanded asks past outcomes e (Err fault.Starved) lines sent faults sent_after faults_after =
+    IsDatagram e
+    × (others : List Datagram)
+    × Sends others sent faults sent_after faults_after
+AreHanded asks past outcomes e (Err fault.Link) lines sent faults sent_after faults_after = ⊥
+
+-- a receive failed only where that was counted
+abbrev pub CountsTaken : ℕ → ℕ → Result Unit TellFault → Type 0
+CountsTaken before now (Ok x) = now ≡ before
+CountsTaken before now (Err fault.Starved) = now ≡ before
+CountsTaken before now (Err fault.Link) = (before ≤ now) × Rose before now
+
+-- an event came, or a receive failed, or what came could not be heard
+abbrev pub IsTaken : List Ask
+    → List Step
+    → List (Option Outcome)
+    → Result Unit TellFault
+    → List Line
+    → Outside
+    → Outside
+    → Type 0
+IsTaken asks past outcomes (Ok x) lines before after =
+    (e : Event)
+    × Comes asks past e before after
+    × AreLines (step.Happened e ∷ past) asks 0 lines outcomes
+IsTaken asks past outcomes (Err fault.Link) lines before after = Fails before after
+IsTaken asks past outcomes (Err fault.Starved) lines before after = Unheard before after
+
+-- an ask is not decided
+abbrev pub is_unsaid : List (Option Outcome) → Bool
+is_unsaid outcomes = list_any is_none outcomes

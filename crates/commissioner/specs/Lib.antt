@@ -1,0 +1,4 @@
+pub mod Shares
+pub mod Lines
+pub mod Happening
+pub mod Commissioning

@@ -1,0 +1,137 @@
+//! Many asks over one link, as a future.
+ghost use Rattle.std.specs.Prelude.{◌≡◌, ◌≤◌, [], IfOk, IfErr, length};
+ghost use Rattle.std.specs.List.{All};
+ghost use Rattle.client_model.specs.Requests.{CanBeSent};
+ghost use Rattle.commissioner.specs.declared.commissioning.TheConstants.{MAX_ASKS};
+ghost use Rattle.commissioner.specs.Happening.{AreOpen};
+ghost use Rattle.commissioner.specs.Commissioning.{IsStarted};
+
+use crate::Outcomes;
+use crate::lines::Line;
+use crate::polls::{Going, Polled, poll_once};
+use futures::future::Future;
+use futures::task::{Context, Poll};
+use rd_base::List;
+use registrant::{Ask, TellFault};
+use std::alloc::Global;
+use udp_link::{Clock, Link, MAX_DATAGRAM};
+
+/// Asks in the order in which they are to be made.
+pub type Asks = List<Ask>;
+
+/// The most asks of a list.
+pub const MAX_ASKS: usize = 1024;
+
+/// What became of a list of asks, and the link and the clock that they were made with.
+#[derive(Drop)]
+pub struct Commissioned<L: Link + Drop, C: Clock + Drop> {
+    /// What became of each, in the order of the list.
+    pub outcomes: Outcomes,
+    /// Why not all are decided.
+    pub fault: Option<TellFault>,
+    /// The link.
+    pub link: L,
+    /// The clock.
+    pub clock: C,
+}
+
+/// A list of asks that are made over one link, of which at most one at each directory runs at once:
+/// a future that gives [`Commissioned`].
+///
+/// In each poll the talks begin that are to: those of asks before which no undecided ask to the same
+/// directory stands, in the order of the list. Each poll makes one receive, asks the clock for one
+/// moment after it, and hands a datagram to the talk with its peer; where none came, or one that is
+/// too long, time passes for each talk. It is pending, and yields, exactly where an ask is then
+/// undecided and nothing failed.
+#[derive(Drop)]
+pub struct Commission<L: Link + Drop, C: Clock + Drop> {
+    alloc: Global,
+    /// What is made, until it is handed back.
+    going: Option<Going<L, C>>,
+}
+
+/// A line for each ask, none of which has begun, and no outcome. `Err`: out of memory, and the asks
+/// are handed back.
+fn lines_of(alloc: Global, asks: Asks) -> Result<(Vec<Line>, Outcomes), Asks>
+    requires few { length asks ≤ MAX_ASKS }
+    requires sent { All CanBeSent asks }
+    ensures ok { IfOk result (λ made. AreOpen [] asks 0 made.0.items made.1) }
+    ensures err { IfErr result (λ back. back ≡ asks) }
+{
+    let Ok(mut lines) = Vec::with_capacity(alloc, asks.len()) else {
+        return Err(asks);
+    };
+    let Ok(mut outcomes) = Vec::with_capacity(alloc, asks.len()) else {
+        return Err(asks);
+    };
+    'asks: for ask in asks.into_vec() {
+        lines.push_reserved(Line::of(lines.len() as u16, ask));
+        outcomes.push_reserved(None);
+    }
+    Ok((lines, Outcomes::of(outcomes)))
+}
+
+/// A list of 1 to 1,024 asks over a link and a clock. The Message ID of the ask of number i from 0
+/// is i, and its token is i + 1 in eight octets. `Err`: out of memory, and all is handed back.
+pub fn commission_all<L: Link + Drop, C: Clock + Drop>(
+    alloc: Global,
+    link: L,
+    clock: C,
+    asks: Asks,
+) -> Result<Commission<L, C>, (L, C, Asks)>
+    requires some { 1 ≤ length asks }
+    requires few { length asks ≤ MAX_ASKS }
+    requires sent { All CanBeSent asks }
+    ensures started { IfOk result (IsStarted link clock asks) }
+    ensures handed_back { IfErr result (λ back. back ≡ (link, clock, asks)) }
+{
+    match lines_of(alloc, asks) {
+        Ok((lines, outcomes)) => Ok(Commission {
+            alloc,
+            going: Some(Going {
+                link,
+                clock,
+                lines,
+                outcomes,
+            }),
+        }),
+        Err(asks) => Err((link, clock, asks)),
+    }
+}
+
+impl<L: Link + Drop, C: Clock + Drop> Future for Commission<L, C> {
+    ghost use Rattle.commissioner.specs.Commissioning.{Gives, CanPoll};
+
+    type Output = Commissioned<L, C>;
+
+    ghost can_poll = { CanPoll };
+
+    ghost gives = { Gives L.coming L.gone L.recv_faults L.send_faults C.times C.words };
+
+    fn poll(&mut self, cx: &mut Context<'_>) -> Poll<Commissioned<L, C>> {
+        let Some(mut going) = self.going.take() else {
+            unreachable!()
+        };
+        let mut room = [0u8; MAX_DATAGRAM];
+        match poll_once(self.alloc, &mut going, &mut room) {
+            Polled::Going => {
+                self.going = Some(going);
+                cx.yield_now()
+            }
+            Polled::Over(fault) => {
+                let Going {
+                    link,
+                    clock,
+                    lines: _lines,
+                    outcomes,
+                } = going;
+                Poll::Ready(Commissioned {
+                    outcomes,
+                    fault,
+                    link,
+                    clock,
+                })
+            }
+        }
+    }
+}

@@ -1,0 +1,98 @@
+//! One poll of a list of asks: talks begin, one receive is made, and what is decided is put aside.
+ghost use Rattle.std.specs.Prelude.{◌≡◌, ◌≤◌, List, [], Option, None, length};
+ghost use Rattle.udp_link.specs.declared.links.TheConstants.{MAX_DATAGRAM};
+ghost use Rattle.client_model.specs.declared.asks.Ask.{Ask};
+ghost use Rattle.client_model.specs.declared.outcomes.Outcome.{Outcome};
+ghost use Rattle.registrant.specs.Turns.{seen};
+ghost use Rattle.commissioner.specs.declared.steps.Step.{Step};
+ghost use Rattle.commissioner.specs.Happening.{AreOpen, AreLines};
+ghost use Rattle.commissioner.specs.Commissioning.{StandsFor, StandForSome, IsPolled, CountsPoll};
+
+use crate::Outcomes;
+use crate::beginnings::begin_all;
+use crate::lines::Line;
+use crate::turns::take_event;
+use rd_base::Starved;
+use registrant::TellFault;
+use std::alloc::Global;
+use udp_link::{Clock, Link};
+
+/// What a poll came to.
+#[derive(Clone, Copy, Debug, PartialEq, Eq)]
+pub(crate) enum Polled {
+    /// An ask is not decided yet.
+    Going,
+    /// Each ask is decided, or there is a fault.
+    Over(Option<TellFault>),
+}
+
+/// Puts aside what became of each line that is decided.
+fn put_aside(lines: &mut Vec<Line>, outcomes: &mut Outcomes)
+    requires { (asks : List Ask) × (past : List Step)
+        × AreLines past asks 0 lines.old.items outcomes.old }
+    ensures { (asks : List Ask) (past : List Step)
+        → AreLines past asks 0 lines.old.items outcomes.old
+        → AreOpen past asks 0 lines.new.items outcomes.new }
+{
+    let mut at = 0;
+    'lines: while at < lines.len() {
+        if lines[at].outcome.is_none() {
+            at += 1;
+            continue;
+        }
+        let line = lines.remove(at);
+        outcomes.settle(line.number, line.outcome);
+    }
+}
+
+/// A list of asks that are being made.
+#[derive(Drop)]
+pub(crate) struct Going<L: Link + Drop, C: Clock + Drop> {
+    /// The link.
+    pub(crate) link: L,
+    /// The clock.
+    pub(crate) clock: C,
+    /// Those that are not decided.
+    pub(crate) lines: Vec<Line>,
+    /// What became of each.
+    pub(crate) outcomes: Outcomes,
+}
+
+/// One poll. The room has 4,096 octets.
+pub(crate) fn poll_once<L: Link + Drop, C: Clock + Drop>(
+    alloc: Global,
+    going: &mut Going<L, C>,
+    room: &mut [u8],
+) -> Polled
+    requires room { MAX_DATAGRAM ≤ length room.old }
+    requires stands { StandForSome going.old.lines.items going.old.outcomes }
+    ensures polled { (asks : List Ask) (past : List Step)
+        → StandsFor asks past going.old.lines.items going.old.outcomes
+        → IsPolled asks past result going.new.lines.items going.new.outcomes
+        (seen L.coming L.gone L.recv_faults L.send_faults C.times C.words going.old.link
+        going.old.clock)
+        (seen L.coming L.gone L.recv_faults L.send_faults C.times C.words going.new.link
+        going.new.clock) }
+    ensures counts { CountsPoll (L.recv_faults going.old.link) (L.recv_faults going.new.link)
+        result }
+{
+    let begun = begin_all(alloc, &mut going.link, &mut going.clock, &mut going.lines);
+    if let Err(Starved) = begun {
+        return Polled::Over(Some(TellFault::Starved));
+    }
+    let taken = take_event(
+        alloc,
+        &mut going.link,
+        &mut going.clock,
+        &mut going.lines,
+        room,
+    );
+    if let Err(fault) = taken {
+        return Polled::Over(Some(fault));
+    }
+    put_aside(&mut going.lines, &mut going.outcomes);
+    if going.lines.is_empty() {
+        return Polled::Over(None);
+    }
+    Polled::Going
+}

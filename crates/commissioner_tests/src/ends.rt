@@ -1,0 +1,39 @@
+//! A link and a clock in memory.
+ghost use Rattle.std.specs.Prelude.{◌≤◌, ◌^◌};
+ghost use Rattle.std.specs.List.{All};
+
+use rd_base::{Bytes, Host, Moment, Peer, Starved};
+use std::alloc::Global;
+use udp_link::{Arrivals, MemClock, MemLink, Moments, Words};
+
+/// The directory at an address of 192.0.2.0/24.
+pub(crate) fn directory(last: u8) -> Peer {
+    Peer {
+        host: Host::V4([192, 0, 2, last]),
+        port: 5683,
+    }
+}
+
+/// A link to which these datagrams come, each of the directory of that last octet. The receives
+/// with these numbers fail.
+pub(crate) fn link_of(
+    alloc: Global,
+    coming: &[(u8, &[u8])],
+    fail_recv: &[u8],
+) -> Result<MemLink, Starved> {
+    let mut arrivals = Arrivals::new(alloc);
+    for (last, octets) in coming {
+        arrivals.push(directory(*last), Bytes::copy_of(alloc, octets)?)?;
+    }
+    let fail_recv = Bytes::copy_of(alloc, fail_recv)?;
+    Ok(MemLink::of(alloc, arrivals, fail_recv, Bytes::new(alloc)))
+}
+
+/// A clock whose words are 0 and whose moments are these, in milliseconds.
+pub(crate) fn clock_of(alloc: Global, millis: &[u32]) -> Result<MemClock, Starved> {
+    let mut moments = Vec::new(alloc);
+    for at in millis {
+        moments.push(Moment(u64::from(*at)))?;
+    }
+    Ok(MemClock::of(Moments::of(moments), Words::of(Vec::new(alloc))))
+}

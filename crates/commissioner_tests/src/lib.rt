@@ -1,0 +1,9 @@
+//! Tests of a commissioner: what becomes of a list of asks over a link in memory.
+#![tactic(auto)]
+
+#[cfg(test)]
+mod asks;
+#[cfg(test)]
+mod ends;
+#[cfg(test)]
+mod lists;

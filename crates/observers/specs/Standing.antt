@@ -1,0 +1,107 @@
+-- The observers of a table: which is found, and what changes (RFC 7641 section 4).
+use Rattle.std.specs.Prelude.{
+  ℕ,
+  ◌+◌,
+  zero,
+  suc,
+  Bool,
+  false,
+  not,
+  ◌&&◌,
+  ◌||◌,
+  ◌==◌,
+  List,
+  [],
+  ◌∷◌,
+  drop,
+  Option,
+  Some,
+  None,
+  is_some,
+  if◌then◌else◌,
+}
+use Rattle.std.specs.List.{list_any}
+use Rattle.rd_base.specs.declared.peers.Peer.{Peer}
+use Rattle.event_model.specs.Same.{is_same_peer, is_same_request}
+use Rattle.event_model.specs.Flights.{Sent}
+use Rattle.exchange_core.specs.declared.resends.Again.{Again}
+use Rattle.exchange_core.specs.declared.resends.Again.TheVariants as again
+use Rattle.exchange_core.specs.Retransmissions.{kept_due, kept_after}
+
+-- an observer as the table keeps it: who it is, where its query is watched, whether it is due, the
+-- body that was last formed for it, and its notice in flight
+pub record Standing : Type 0 where
+  pub peer : Peer
+  pub token : List ℕ
+  pub slot : ℕ
+  pub key : List ℕ
+  pub szx : ℕ
+  pub due : Bool
+  pub last : List ℕ
+  pub flight : Option Sent
+
+-- the observer of this peer and token
+abbrev pub is_named : Peer → List ℕ → Standing → Bool
+is_named peer token w = is_same_request (peer, token) (w.peer, w.token)
+
+-- the message has this Message ID
+abbrev pub is_sent_as : ℕ → Option Sent → Bool
+is_sent_as mid None = false
+is_sent_as mid (Some s) = mid == s.mid
+
+-- an observer of this peer, to which a notice with this Message ID is in flight
+abbrev pub has_notice : Peer → ℕ → Standing → Bool
+has_notice peer mid w = is_same_peer peer w.peer && is_sent_as mid w.flight
+
+-- a notice is in flight to one of the observers of a peer
+abbrev pub is_awaited : Peer → List Standing → Bool
+is_awaited peer ws = list_any (λ w. is_same_peer w.peer peer && is_some w.flight) ws
+
+-- the observer is due, and no notice is in flight to its peer (RFC 7252 section 4.7, NSTART)
+abbrev pub is_ready : List Standing → Standing → Bool
+is_ready ws w = w.due && not (is_awaited w.peer ws)
+
+-- the first of them that passes a test, as they are counted from a number on
+abbrev pub first_from : (Standing → Bool) → ℕ → List Standing → Option ℕ
+first_from test i [] = None
+first_from test i (w ∷ ws) = if test w then Some i else first_from test (i + 1) ws
+
+-- the first index from a number on whose observer is due and free
+unfoldable pub next_ready : ℕ → List Standing → Option ℕ
+next_ready from ws = first_from (is_ready ws) from (drop from ws)
+
+-- an observer after a mark of a slot: it is due where its query is watched there
+abbrev pub marked : ℕ → Standing → Standing
+marked slot w = record w { due = w.due || w.slot == slot }
+
+-- an observer after a notice with a body was formed for it
+abbrev pub noticed : Sent → List ℕ → Standing → Standing
+noticed sent body w = record w { due = false; last = body; flight = Some sent }
+
+-- an observer after its listing was found unchanged
+abbrev pub seen : Standing → Standing
+seen w = record w { due = false }
+
+-- an observer after its notice was acknowledged
+abbrev pub landed : Standing → Standing
+landed w = record w { flight = None }
+
+-- what is due of a notice in flight; where there is none, nothing
+abbrev pub due_of : ℕ → Option Sent → Again
+due_of now None = again.Wait
+due_of now (Some s) = kept_due now s.resend
+
+-- the notice after what was due of it
+abbrev pub kept_of : ℕ → Option Sent → Option Sent
+kept_of now None = None
+kept_of now (Some s) = Some (record s { resend = kept_after (kept_due now s.resend) now s.resend })
+
+-- an observer after what was due of its notice
+abbrev pub timed : ℕ → Standing → Standing
+timed now w = record w { flight = kept_of now w.flight }
+
+-- the observer with an index changes
+abbrev pub changed_at : (Standing → Standing) → ℕ → List Standing → List Standing
+changed_at change i [] = []
+changed_at change zero (w ∷ ws) = change w ∷ ws
+changed_at change (suc i) (w ∷ ws) = w ∷ changed_at change i ws
