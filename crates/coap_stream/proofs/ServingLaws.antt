@@ -12,6 +12,7 @@ use Rattle.udp_link.specs.Links.{Datagram}
 use Rattle.udp_link.specs.Told.{WhereTold, Stays}
 use Rattle.rd_seat.specs.Chains.{Chain}
 use Rattle.rd_seat.specs.Callers.{CallerSeen}
+use Rattle.rd_seat.specs.Seats.{SeatSeen}
 use Rattle.rd_seat.proofs.ToldLaws.{told_then, told_as, told_same}
 use Rattle.rd_seat.proofs.CallLaws.{Chain-then}
 use Rattle.coap_stream.specs.declared.talked.TalkFault.{TalkFault}
@@ -327,3 +328,12 @@ all_counted sure count before after (Some streams) (Some left) faults faults_the
           ∙ c.sum
           ∙ ap asked_in_all (sym (ap (take count) c.first ∙ take_at c.taken left count number)),
     )
+
+-- ---- the one seat
+
+pub first_seat : (s t : SeatSeen) (ss ts : List SeatSeen) → s ∷ ss ≡ t ∷ ts → s ≡ t
+first_seat s t ss ts e = ap (λ (l : List SeatSeen). first_of s l) e
+  where
+    first_of : SeatSeen → List SeatSeen → SeatSeen
+    first_of x [] = x
+    first_of x (y ∷ ys) = y

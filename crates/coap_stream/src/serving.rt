@@ -96,7 +96,10 @@ fn serve_all<R: Wait + AllocGlobal, A: Accept, C: Clock, G: Gate>(
     let mut done = 0u64;
     let mut asked = 0u64;
     'connections: while done < count {
-        asked += serve_one(rt, hall, seat, door, clock, gate)?;
+        match serve_one(rt, hall, seat, door, clock, gate) {
+            Ok(more) => asked += more,
+            Err(why) => return Err(why),
+        }
         done += 1;
     }
     Ok(asked)
