@@ -16,7 +16,7 @@ use crate::carried::say;
 use crate::heard::begin_request;
 use crate::purposes::{Meant, meant_by};
 use crate::refusing::{Unasked, why_unasked};
-use coap_answers::{refusal_code, refusal_word};
+use coap_answers::{refusal_code, refusal_diagnostic};
 use coap_message::view;
 use message_model::codes::{BAD_REQUEST, NOT_FOUND};
 use rd_base::Sink;
@@ -43,7 +43,7 @@ fn unasked_word(why: Unasked) -> &'static [u8]
     ensures few { length result.now ≤ 6 }
 {
     match why {
-        Unasked::Refused(refusal) => refusal_word(refusal),
+        Unasked::Refused(refusal) => refusal_diagnostic(refusal),
         Unasked::Simple => b"path",
         Unasked::Baseless => b"query",
     }
