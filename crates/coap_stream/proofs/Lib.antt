@@ -1,0 +1,13 @@
+pub mod SpokenLaws
+pub mod HeardLaws
+pub mod RefusingLaws
+pub mod CallLaws
+pub mod VoiceLaws
+pub mod ShownLaws
+pub mod ReaderLaws
+pub mod AnsweredLaws
+pub mod TalkLaws
+pub mod PieceLaws
+pub mod AskedLaws
+pub mod ServingLaws
+mod Examples

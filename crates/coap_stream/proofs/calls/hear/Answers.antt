@@ -1,0 +1,51 @@
+use Rattle.std.proofs.Common.{Bool, Option, refl, sym, ap, subst}
+use Rattle.std.specs.Prelude.{option_map, IfSome}
+use Rattle.journal_model.specs.Machine.{is_look_datagram}
+use Rattle.rd_desk.specs.declared.jobs.Job.{Job}
+use Rattle.rd_seat.specs.Heard.{IsOpenWrite}
+use Rattle.rd_seat.specs.Jobs.{last_place}
+use Rattle.rd_seat.specs.Calls.{job_at}
+use Rattle.rd_seat.specs.Callers.{caller_seen, clock_seen}
+use Rattle.rd_seat.proofs.CallLaws.{hear_call, hear-made, hear-IsHearing, open-held}
+use Rattle.coap_stream.specs.Calls.{Call, as_they_came}
+use Rattle.coap_stream.proofs.calls.hear.Goals as goal
+
+pub returns-clause-made : goal.returns-clause-made
+returns-clause-made g c =
+    let seat = c.args.seat.now in
+    let seen = c.hear-heard.new.self.seen in
+    let result = c.hear-heard.result in
+    let out = c.hear-heard.new.out in
+    let peer = c.args.post.now.peer in
+    let look : Bool = is_look_datagram c.args.datagram.now in
+    let made : Call = hear_call look seat seen c.now-now.result c.word-word.result peer
+    c.args.datagram.now result out in (
+      made,
+      hear-IsHearing look seat seen c.now-now.result c.word-word.result peer
+          c.args.datagram.now result out refl,
+      ap (λ (o : Option Job). option_map (job_at (last_place seen)) o) (sym c.job_in.ensures),
+      hear-made as_they_came look (caller_seen g.C.Clock seat c.args.clock.now)
+          (caller_seen g.C.Clock c.hear-heard.new.self c.word-word.new.self)
+          (clock_seen g.C.Clock c.now-now.new.self) c.now-now.result
+          c.word-word.result peer c.args.datagram.now result out refl
+          (record {
+            grows = c.hear-heard.ensures.met;
+            makes = c.hear-heard.ensures.made;
+            leaves = c.hear-heard.ensures.left;
+            looks = c.hear-heard.ensures.looks;
+            keeps = c.hear-heard.ensures.keeps;
+          })
+          (record {
+            moment = c.now-now.ensures.gives;
+            words_stay = c.now-now.ensures.words_stay;
+            word_of = c.word-word.ensures.gives;
+            times_stay = c.word-word.ensures.times_stay;
+          }),
+      c.carry_all-tally.ensures,
+    )
+
+pub returns-clause-open : goal.returns-clause-open
+returns-clause-open g c =
+    let seat = c.hear-heard.new.self in
+    subst (λ (o : Option Job). IfSome o (λ j. IsOpenWrite (last_place seat.seen) seat j))
+    (sym c.job_in.ensures) (open-held c.hear-heard.result seat c.hear-heard.ensures.open)

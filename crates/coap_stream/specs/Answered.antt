@@ -1,0 +1,36 @@
+-- What was done with one message of a connection.
+use Rattle.std.specs.Prelude.{◌≡◌, ◌+◌, ◌≤◌, ℕ, Option}
+use Rattle.rd_base.specs.declared.peers.Peer.{Peer}
+use Rattle.coap_answers.specs.Outboxes.{most_datagrams}
+use Rattle.stream_reader.specs.Shown.{Shown}
+use Rattle.coap_stream.specs.declared.refusing.Unasked.{Unasked}
+use Rattle.rd_seat.specs.Callers.{CallerSeen}
+use Rattle.coap_stream.specs.Made.{VoiceSeen, CallsMade, Speaks}
+use Rattle.coap_stream.specs.Talks.{Exchange, AnswersRequest, Answers}
+
+-- Its calls were made, its octets were written, and its ticks sent so many datagrams, which are
+-- counted.
+pub record IsDone (e : Exchange) (before after : CallerSeen) (voice spoken : VoiceSeen)
+    (dropped dropped_then : ℕ) : Type 0 where
+  pub made : CallsMade e.calls before after
+  pub written : Speaks voice e.written spoken
+  pub drops : dropped_then ≡ dropped + e.dropped
+  pub few : e.dropped ≤ most_datagrams
+
+-- A request was answered, by why it is answered without a seat, where so many were handed to it
+-- before.
+pub record RequestDone (peer : Peer) (asked : ℕ) (message : Shown) (why : Option Unasked)
+    (before after : CallerSeen) (voice spoken : VoiceSeen) (dropped dropped_then : ℕ)
+    : Type 0 where
+  pub exchange : Exchange
+  pub same : exchange.message ≡ message
+  pub answers : AnswersRequest peer asked why exchange
+  pub done : IsDone exchange before after voice spoken dropped dropped_then
+
+-- So was a message.
+pub record MessageDone (peer : Peer) (asked : ℕ) (message : Shown) (before after : CallerSeen)
+    (voice spoken : VoiceSeen) (dropped dropped_then : ℕ) : Type 0 where
+  pub exchange : Exchange
+  pub same : exchange.message ≡ message
+  pub answers : Answers peer asked exchange
+  pub done : IsDone exchange before after voice spoken dropped dropped_then

@@ -1,0 +1,157 @@
+-- How a conversation ends, and what it did until then (RFC 8323 sections 3.3 and 5).
+use Rattle.std.specs.Prelude.{◌≡◌, ℕ, ◌<◌, ◌≤◌, List, [], ◌∷◌, ◌++◌, length, reverse, take}
+use Rattle.std.specs.Prelude.{Option, Some, None, Result, Ok, Err, ⊤}
+use Rattle.std.specs.Io.KnownBytes.{Appends, Consumes, IsAtEnd}
+use Rattle.rd_base.specs.declared.peers.Peer.{Peer}
+use Rattle.rd_base.specs.Outside.{Rose}
+use Rattle.rd_base.specs.declared.outside.Source as sources
+use Rattle.rd_base.specs.declared.outside.Sink as sinks
+use Rattle.udp_link.specs.declared.clocks.Clock as clocks
+use Rattle.stream_model.specs.declared.messages.StreamBad.{StreamBad}
+use Rattle.stream_model.specs.Streams.{Stream, stream_of}
+use Rattle.stream_reader.specs.Shown.{shown_in}
+use Rattle.rd_seat.specs.Seats.{SeatSeen}
+use Rattle.rd_seat.specs.Callers.{CallerSeen, caller_seen}
+use Rattle.coap_stream.specs.declared.talked.TalkEnd.{TalkEnd}
+use Rattle.coap_stream.specs.declared.talked.TalkEnd.TheVariants as end_as
+use Rattle.coap_stream.specs.declared.talked.TalkFault.{TalkFault}
+use Rattle.coap_stream.specs.declared.talked.TalkFault.TheVariants as fault
+use Rattle.coap_stream.specs.declared.talked.Talked.{Talked}
+use Rattle.coap_stream.specs.Made.{CallsMade}
+use Rattle.coap_stream.specs.Talks.{
+  Exchange,
+  AreAnswered,
+  asked_of,
+  dropped_of,
+  calls_of,
+  written_of,
+  ended_by,
+  opening,
+  farewell,
+}
+
+-- ---- what is seen of it
+
+-- What a source shows.
+pub record SourceSeen : Type 0 where
+  pub left : Option (List ℕ)
+  pub faults : ℕ
+
+abbrev pub source_seen : {S : Type 0} → sources.Ghosts S → S → SourceSeen
+source_seen g source = record { left = g.left source; faults = g.faults source }
+
+-- What a conversation has: its seat and its clock, what it reads from, and what it writes to.
+pub record TalkSeen : Type 0 where
+  pub caller : CallerSeen
+  pub source : SourceSeen
+  pub holds : Option (List ℕ)
+  pub write_faults : ℕ
+
+abbrev pub talk_seen : {K C : Type 0} → sinks.Ghosts K → clocks.Ghosts C → SourceSeen
+    → SeatSeen → K → C → TalkSeen
+talk_seen k c source seat out clock = record {
+  caller = caller_seen c seat clock;
+  source = source;
+  holds = k.holds out;
+  write_faults = k.faults out;
+}
+
+-- ---- how it ends
+
+-- These octets, the last first, are those of the messages.
+abbrev pub AreShown : List (List ℕ) → List Exchange → Type 0
+AreShown [] [] = ⊤
+AreShown (octets ∷ earlier) (e ∷ es) = (shown_in octets ≡ Some e.message) × AreShown earlier es
+AreShown [] (e ∷ es) = ⊥
+AreShown (octets ∷ earlier) [] = ⊥
+
+-- These messages, the last first, are the first of the stream.
+pub record AreFirst (messages : List (List ℕ)) (s : Stream) : Type 0 where
+  pub more : List (List ℕ)
+  pub all : s.messages ≡ reverse messages ++ more
+
+-- These messages are all of the stream, and what follows them is this.
+pub record AreAll (messages : List (List ℕ)) (why : Option StreamBad) (s : Stream) : Type 0 where
+  pub all : s.messages ≡ reverse messages
+  pub follows : s.fault ≡ why
+
+-- How it ended, by the octets that were read, the messages in them that were answered, and what is
+-- left to be read: between two messages or within one at the end of the source, at a bad one,
+-- whatever follows it, or with what its last message says.
+abbrev pub EndsSo : TalkEnd → List ℕ → List (List ℕ) → List Exchange → Option (List ℕ) → Type 0
+EndsSo end_as.Closed taken messages es left =
+    AreAll messages None (stream_of taken)
+    × ((stream_of taken).rest ≡ [])
+    × IsAtEnd left
+    × (ended_by es ≡ None)
+EndsSo end_as.Cut taken messages es left =
+    AreAll messages None (stream_of taken)
+    × (0 < length (stream_of taken).rest)
+    × IsAtEnd left
+    × (ended_by es ≡ None)
+EndsSo (end_as.Refused why) taken messages es left =
+    ((further : List ℕ) → AreAll messages (Some why) (stream_of (taken ++ further)))
+    × (ended_by es ≡ None)
+EndsSo end taken messages es left = ended_by es ≡ Some end
+
+-- A front of these octets was written.
+abbrev pub WritesFront : Option (List ℕ) → List ℕ → Option (List ℕ) → Type 0
+WritesFront before octets now =
+    (n : ℕ) × (n ≤ length octets) × Appends before now (take n octets)
+
+-- What was to be written when a writing failed: what is answered to the messages, and, where the
+-- conversation had ended, what it says then.
+abbrev pub WasSaying : Option TalkEnd → List ℕ → List (List ℕ) → List Exchange
+    → Option (List ℕ) → List ℕ → Type 0
+WasSaying None taken messages es left octets = octets ≡ opening ++ written_of es
+WasSaying (Some end) taken messages es left octets =
+    EndsSo end taken messages es left
+    × (octets ≡ opening ++ (written_of es ++ farewell end))
+
+-- What it answers, by the octets that were read and the messages in them that were answered.
+abbrev pub Concludes : List ℕ → List (List ℕ) → List Exchange → TalkSeen → TalkSeen
+    → Result Talked TalkFault → Type 0
+Concludes taken messages es before after (Ok talked) =
+    EndsSo talked.end taken messages es after.source.left
+    × (talked.asked ≡ asked_of es)
+    × (talked.dropped ≡ dropped_of es)
+    × Appends before.holds after.holds (opening ++ (written_of es ++ farewell talked.end))
+    × (after.write_faults ≡ before.write_faults)
+    × (after.source.faults ≡ before.source.faults)
+Concludes taken messages es before after (Err fault.Read) =
+    Appends before.holds after.holds (opening ++ written_of es)
+    × (ended_by es ≡ None)
+    × (before.source.faults ≤ after.source.faults)
+    × Rose before.source.faults after.source.faults
+    × (after.write_faults ≡ before.write_faults)
+Concludes taken messages es before after (Err fault.Write) =
+    ((end : Option TalkEnd)
+    × (octets : List ℕ)
+    × WasSaying end taken messages es after.source.left octets
+    × WritesFront before.holds octets after.holds)
+    × (before.write_faults ≤ after.write_faults)
+    × Rose before.write_faults after.write_faults
+    × (after.source.faults ≡ before.source.faults)
+Concludes taken messages es before after (Err fault.Starved) =
+    (es ≡ [])
+    × Appends before.holds after.holds []
+    × (after.source ≡ before.source)
+    × (after.write_faults ≡ before.write_faults)
+
+-- A conversation.
+pub record Talks (peer : Peer) (before after : TalkSeen) (result : Result Talked TalkFault)
+    : Type 0 where
+  -- The octets that were read.
+  pub taken : List ℕ
+  pub read : Consumes before.source.left after.source.left taken
+  -- Their first messages are answered, in order, whatever follows what was read.
+  pub messages : List (List ℕ)
+  pub exchanges : List Exchange
+  pub shown : AreShown messages exchanges
+  pub first : (further : List ℕ) → AreFirst messages (stream_of (taken ++ further))
+  pub answered : AreAnswered peer exchanges
+  -- Each call led the seat from where the one before it had led it, with the moments and words
+  -- that the clock gave, in order.
+  pub made : CallsMade (calls_of exchanges) before.caller after.caller
+  -- And it ended so.
+  pub concludes : Concludes taken messages exchanges before after result

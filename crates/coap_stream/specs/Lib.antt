@@ -1,0 +1,10 @@
+pub mod Requests
+pub mod Spoken
+pub mod Calls
+pub mod Talks
+pub mod Made
+pub mod Answered
+pub mod Endings
+pub mod Talking
+pub mod Asked
+pub mod Serving

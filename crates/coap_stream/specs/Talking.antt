@@ -1,0 +1,135 @@
+-- A conversation as far as it came: what its loops carry.
+use Rattle.std.specs.Prelude.{◌≡◌, ◌+◌, ◌<◌, ◌==◌, ◌++◌, ℕ, Bool, true, false, List, []}
+use Rattle.std.specs.Prelude.{length, reverse, Option, Some, None, Result, Ok, Err}
+use Rattle.std.specs.Io.KnownBytes.{Consumes}
+use Rattle.rd_base.specs.declared.peers.Peer.{Peer}
+use Rattle.stream_model.specs.Streams.{Stream, stream_of, partial}
+use Rattle.stream_reader.specs.Reading.{Held, stream_after}
+use Rattle.stream_reader.specs.Shown.{Shown}
+use Rattle.rd_seat.specs.Callers.{CallerSeen}
+use Rattle.coap_stream.specs.declared.talked.TalkEnd.{TalkEnd}
+use Rattle.coap_stream.specs.declared.talked.TalkEnd.TheVariants as end_as
+use Rattle.coap_stream.specs.declared.talked.TalkFault.{TalkFault}
+use Rattle.coap_stream.specs.declared.talked.TalkFault.TheVariants as fault
+use Rattle.coap_stream.specs.declared.talked.Talked.{Talked}
+use Rattle.coap_stream.specs.declared.talks.Heard.{Heard}
+use Rattle.coap_stream.specs.declared.talks.Heard.TheVariants as heard
+use Rattle.coap_stream.specs.Requests.{meant_by}
+use Rattle.coap_stream.specs.Made.{VoiceSeen, CallsMade, Speaks}
+use Rattle.coap_stream.specs.Answered.{MessageDone}
+use Rattle.coap_stream.specs.Talks.{
+  Exchange,
+  AreAnswered,
+  asked_by,
+  asked_of,
+  dropped_of,
+  calls_of,
+  written_of,
+  ends_by,
+  end_by,
+  ended_by,
+  most_asked,
+  opening,
+}
+use Rattle.coap_stream.specs.Endings.{TalkSeen, AreShown, AreFirst, EndsSo}
+
+-- ---- one message
+
+-- What is counted.
+pub record Counts : Type 0 where
+  pub asked : ℕ
+  pub dropped : ℕ
+
+-- A message that is whole was answered, and the conversation ends with it so, if it does.
+pub record WasHeard (peer : Peer) (message : Option Shown) (end : Option TalkEnd)
+    (before after : CallerSeen) (voice spoken : VoiceSeen) (counts counted : Counts)
+    : Type 0 where
+  pub shown : Shown
+  pub is : message ≡ Some shown
+  pub done : MessageDone peer counts.asked shown before after voice spoken
+      counts.dropped counted.dropped
+  pub asked : counted.asked ≡ counts.asked + asked_by counts.asked shown
+  pub ends : end ≡ end_by (ends_by (meant_by shown.code)) (counted.asked == most_asked)
+
+-- ---- all of them so far
+
+-- These messages, the last first, before those of a stream.
+abbrev pub with_messages : List (List ℕ) → Stream → Stream
+with_messages messages s = record s { messages = reverse messages ++ s.messages }
+
+abbrev pub voice_of : Bool → TalkSeen → VoiceSeen
+voice_of still t = record { holds = t.holds; faults = t.write_faults; open_still = still }
+
+-- Messages of what was read were answered.
+pub record Answering (peer : Peer) (before now : TalkSeen) (still : Bool) (counts : Counts)
+    (taken : List ℕ) (messages : List (List ℕ)) (exchanges : List Exchange) : Type 0 where
+  pub read : Consumes before.source.left now.source.left taken
+  pub read_faults : now.source.faults ≡ before.source.faults
+  pub shown : AreShown messages exchanges
+  pub answered : AreAnswered peer exchanges
+  pub made : CallsMade (calls_of exchanges) before.caller now.caller
+  pub written : Speaks (voice_of true before) (opening ++ written_of exchanges)
+      (voice_of still now)
+  pub asked : counts.asked ≡ asked_of exchanges
+  pub dropped : counts.dropped ≡ dropped_of exchanges
+
+-- What was read so far is these messages, all of which are answered, and then what the reader
+-- finds in the octets that are left of the last piece and in any that follow. It goes on.
+pub record TalksSo (peer : Peer) (before now : TalkSeen) (counts : Counts) (held : Held)
+    (rest : List ℕ) : Type 0 where
+  pub taken : List ℕ
+  pub messages : List (List ℕ)
+  pub exchanges : List Exchange
+  pub answering : Answering peer before now true counts taken messages exchanges
+  pub stream : (further : List ℕ)
+      → stream_of (taken ++ further)
+      ≡ with_messages messages (stream_after held (rest ++ further))
+  pub goes_on : ended_by exchanges ≡ None
+
+-- It ends so.
+pub record TalksTo (peer : Peer) (before now : TalkSeen) (counts : Counts) (end : TalkEnd)
+    : Type 0 where
+  pub taken : List ℕ
+  pub messages : List (List ℕ)
+  pub exchanges : List Exchange
+  pub answering : Answering peer before now true counts taken messages exchanges
+  pub first : (further : List ℕ) → AreFirst messages (stream_of (taken ++ further))
+  pub ends : EndsSo end taken messages exchanges now.source.left
+
+-- A writing failed.
+pub record TalksUntil (peer : Peer) (before now : TalkSeen) (counts : Counts) : Type 0 where
+  pub taken : List ℕ
+  pub messages : List (List ℕ)
+  pub exchanges : List Exchange
+  pub answering : Answering peer before now false counts taken messages exchanges
+  pub first : (further : List ℕ) → AreFirst messages (stream_of (taken ++ further))
+
+-- ---- after a piece
+
+-- How the conversation ends, if nothing more comes: the last message is whole, or it is not.
+abbrev pub WouldEnd : TalkEnd → Stream → Type 0
+WouldEnd end_as.Closed s = s ≡ partial []
+WouldEnd end_as.Cut s = (rest : List ℕ) × (0 < length rest) × (s ≡ partial rest)
+WouldEnd _ s = ⊥
+
+-- What came of a piece.
+abbrev pub IsHeard : Heard → Peer → TalkSeen → TalkSeen → Counts → Held → Type 0
+IsHeard (heard.Open end) peer before now counts held =
+    TalksSo peer before now counts held [] × WouldEnd end (stream_after held [])
+IsHeard (heard.Ended end) peer before now counts held = TalksTo peer before now counts end
+IsHeard heard.Failed peer before now counts held = TalksUntil peer before now counts
+
+-- The conversation goes on.
+abbrev pub is_open : Heard → Bool
+is_open (heard.Open end) = true
+is_open _ = false
+
+-- No writing failed.
+abbrev pub is_still : Heard → Bool
+is_still heard.Failed = false
+is_still _ = true
+
+-- What is answered where no writing failed, and where one did.
+abbrev pub told_if : Bool → Talked → Result Talked TalkFault
+told_if true talked = Ok talked
+told_if false talked = Err fault.Write

@@ -1,0 +1,182 @@
+-- What a conversation answers: each message of a connection with the calls that it led to and the
+-- octets that were written for it (RFC 8323 sections 3.3, 3.4 and 5).
+use Rattle.std.specs.Prelude.{◌≡◌, ℕ, ◌+◌, ◌%◌, ◌==◌, Bool, true, false, List, [], ◌∷◌, ◌++◌}
+use Rattle.std.specs.Prelude.{length, Option, Some, None, Result, Ok, Err, nat_lt}
+use Rattle.std.specs.Prelude.{if◌then◌else◌, ⊤}
+use Rattle.rd_base.specs.declared.peers.Peer.{Peer}
+use Rattle.udp_link.specs.Links.{Datagram}
+use Rattle.message_model.specs.Spelling.{spelling, payload_spelling, options_spelling}
+use Rattle.message_model.specs.Reading.{reading}
+use Rattle.message_model.specs.Message.{Message}
+use Rattle.message_model.specs.declared.messages.Unread.{Unread}
+use Rattle.coap_message.specs.PartialMessages.{longest_datagram}
+use Rattle.event_model.specs.Same.{is_same_peer}
+use Rattle.stream_model.specs.declared.signals.TheConstants as signals
+use Rattle.stream_model.specs.Messages.{stream_spelling}
+use Rattle.stream_reader.specs.Shown.{Shown}
+use Rattle.rd_seat.specs.Callers.{Hears, TicksWhere}
+use Rattle.coap_stream.specs.declared.purposes.Meant.{Meant}
+use Rattle.coap_stream.specs.declared.purposes.Meant.TheVariants as meant
+use Rattle.coap_stream.specs.declared.refusing.Unasked.{Unasked}
+use Rattle.coap_stream.specs.declared.talked.TalkEnd.{TalkEnd}
+use Rattle.coap_stream.specs.declared.talked.TalkEnd.TheVariants as end_as
+use Rattle.coap_stream.specs.Requests.{
+  meant_by,
+  heard_as,
+  number_asked,
+  unasked_of,
+  unasked_code,
+  unasked_word,
+}
+use Rattle.coap_stream.specs.Calls.{Call, calls_sent}
+
+-- ---- what is written
+
+-- The octets of a message with this code, token and payload, and without options.
+abbrev pub saying : ℕ → List ℕ → List ℕ → List ℕ
+saying code token payload =
+    stream_spelling (record { code = code; token = token; tail = payload_spelling payload })
+
+-- With a CSM each connection is opened (RFC 8323 section 5.3).
+abbrev pub opening : List ℕ
+opening = saying signals.CSM [] []
+
+-- A bad message ends it with an Abort (RFC 8323 section 5.6), and so many requests with a Release
+-- (RFC 8323 section 5.5). Else nothing more is said.
+abbrev pub farewell : TalkEnd → List ℕ
+farewell (end_as.Refused why) = saying signals.ABORT [] []
+farewell end_as.Spent = saying signals.RELEASE [] []
+farewell _ = []
+
+-- The message in a datagram without its type and Message ID (RFC 8323 section 3.2).
+abbrev pub carried : Message → List ℕ
+carried m = stream_spelling (record {
+  code = m.code;
+  token = m.token;
+  tail = options_spelling 0 m.options ++ payload_spelling m.payload;
+})
+
+abbrev pub carried_in : Result Message Unread → List ℕ
+carried_in (Ok m) = carried m
+carried_in (Err why) = []
+
+-- No datagram that is sent is longer than a datagram may be.
+abbrev pub carried_of : List ℕ → List ℕ
+carried_of datagram =
+    if nat_lt longest_datagram (length datagram) then [] else carried_in (reading datagram)
+
+-- A datagram, where it is for this peer.
+abbrev pub reply_of : Peer → Datagram → List ℕ
+reply_of peer d = if is_same_peer d.0 peer then carried_of d.1 else []
+
+-- The replies: the datagrams for this peer, in order.
+abbrev pub replies_to : Peer → List Datagram → List ℕ
+replies_to peer [] = []
+replies_to peer (d ∷ ds) = reply_of peer d ++ replies_to peer ds
+
+-- ---- one message
+
+-- A message, the calls of the seat that it led to, what was written for it, and how many datagrams
+-- of ticks came out, which go nowhere.
+pub record Exchange : Type 0 where
+  pub message : Shown
+  pub calls : List Call
+  pub written : List ℕ
+  pub dropped : ℕ
+
+-- Answered at once with these octets.
+pub record Says (octets : List ℕ) (e : Exchange) : Type 0 where
+  pub calls : e.calls ≡ []
+  pub written : e.written ≡ octets
+  pub dropped : e.dropped ≡ 0
+
+-- The seat hears this datagram, its job is done at once, and the replies are written; after each
+-- 64th request time passes.
+pub record Asks (peer : Peer) (number : ℕ) (datagram : List ℕ) (e : Exchange) : Type 0 where
+  pub heard : List Call
+  pub ticks : List Call
+  pub whole : e.calls ≡ ticks ++ heard
+  pub hears : Hears peer datagram heard
+  pub due : TicksWhere (number % 64 == 0) ticks
+  pub written : e.written ≡ replies_to peer (calls_sent heard)
+  pub dropped : e.dropped ≡ length (calls_sent ticks)
+
+-- A request, by why it is answered without a seat; so many were handed to it before.
+abbrev pub AnswersRequest : Peer → ℕ → Option Unasked → Exchange → Type 0
+AnswersRequest peer before (Some why) e =
+    Says (saying (unasked_code why) e.message.token (unasked_word why)) e
+AnswersRequest peer before None e =
+    Asks peer (before + 1) (spelling (heard_as before e.message)) e
+
+-- A message, by what it is for.
+abbrev pub AnswersAs : Peer → ℕ → Meant → Exchange → Type 0
+AnswersAs peer before meant.Passed e = Says [] e
+AnswersAs peer before meant.Ping e = Says (saying signals.PONG e.message.token []) e
+AnswersAs peer before meant.Release e = Says [] e
+AnswersAs peer before meant.Abort e = Says [] e
+AnswersAs peer before meant.Request e =
+    AnswersRequest peer before (unasked_of (heard_as before e.message)) e
+
+abbrev pub Answers : Peer → ℕ → Exchange → Type 0
+Answers peer before e = AnswersAs peer before (meant_by e.message.code) e
+
+-- ---- all of them, the last first
+
+-- How many requests a message hands to the seat.
+abbrev pub asked_as : Meant → Option Unasked → ℕ
+asked_as meant.Passed why = 0
+asked_as meant.Ping why = 0
+asked_as meant.Release why = 0
+asked_as meant.Abort why = 0
+asked_as meant.Request why = number_asked why
+
+abbrev pub asked_by : ℕ → Shown → ℕ
+asked_by before message =
+    asked_as (meant_by message.code) (unasked_of (heard_as before message))
+
+-- How many requests all of them hand to the seat.
+abbrev pub asked_of : List Exchange → ℕ
+asked_of [] = 0
+asked_of (e ∷ earlier) = asked_of earlier + asked_by (asked_of earlier) e.message
+
+abbrev pub dropped_of : List Exchange → ℕ
+dropped_of [] = 0
+dropped_of (e ∷ earlier) = dropped_of earlier + e.dropped
+
+abbrev pub calls_of : List Exchange → List Call
+calls_of [] = []
+calls_of (e ∷ earlier) = e.calls ++ calls_of earlier
+
+abbrev pub written_of : List Exchange → List ℕ
+written_of [] = []
+written_of (e ∷ earlier) = written_of earlier ++ e.written
+
+-- The most requests of one conversation.
+abbrev pub most_asked : ℕ
+most_asked = 65_536
+
+-- The message ends the connection (RFC 8323 sections 5.5 and 5.6).
+abbrev pub ends_by : Meant → Option TalkEnd
+ends_by meant.Release = Some end_as.Released
+ends_by meant.Abort = Some end_as.Aborted
+ends_by _ = None
+
+-- By what the message is, and by whether so many requests were handed to the seat.
+abbrev pub end_by : Option TalkEnd → Bool → Option TalkEnd
+end_by (Some end) spent = Some end
+end_by None true = Some end_as.Spent
+end_by None false = None
+
+-- How the last of these messages ends the conversation, if it does.
+abbrev pub ended_by : List Exchange → Option TalkEnd
+ended_by [] = None
+ended_by (e ∷ earlier) =
+    end_by (ends_by (meant_by e.message.code)) (asked_of (e ∷ earlier) == most_asked)
+
+-- Each message is answered, and none before it ended the conversation.
+abbrev pub AreAnswered : Peer → List Exchange → Type 0
+AreAnswered peer [] = ⊤
+AreAnswered peer (e ∷ earlier) =
+    AreAnswered peer earlier
+    × (ended_by earlier ≡ None)
+    × Answers peer (asked_of earlier) e

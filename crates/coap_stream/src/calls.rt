@@ -1,0 +1,201 @@
+//! Calls of the seat of a conversation: the clock is asked, the seat is called, and the replies
+//! are written.
+ghost use Rattle.std.specs.Prelude.{◌≡◌, ◌+◌, ◌≤◌, ◌<◌, ◌^◌, ℕ, List, ◌∷◌, [], IfSome, length};
+ghost use Rattle.std.specs.Prelude.{option_map};
+ghost use Rattle.journal_model.specs.declared.steps.StepKind.TheVariants as step;
+ghost use Rattle.coap_answers.specs.Outboxes.{most_datagrams};
+ghost use Rattle.rd_seat.specs.Heard.{IsOpenWrite};
+ghost use Rattle.rd_seat.specs.Jobs.{last_place};
+ghost use Rattle.rd_seat.specs.Calls.{IsHearing, IsOfJob, job_at, job_held};
+ghost use Rattle.rd_seat.specs.Callers.{Hears, caller_seen};
+ghost use Rattle.coap_stream.specs.Calls.{Call, calls_sent};
+ghost use Rattle.coap_stream.specs.Made.{CallsMade, IsAsked, Speaks, voice_seen};
+ghost use Rattle.coap_stream.specs.Talks.{replies_to};
+
+use crate::carried::carry_all;
+use rd_base::{Peer, Sink};
+use rd_desk::{Job, Outbox};
+use rd_seat::{Gate, Hall, Seat, SeatHeard};
+use std::sync::Wait;
+use udp_link::Clock;
+
+/// After so many requests time passes.
+const ASKED_BEFORE_TICK: u64 = 64;
+
+/// Where a conversation is held: the runtime, the hall of its seat, the gate that it passes, and
+/// the peer.
+#[derive_where(Clone, Copy)]
+pub(crate) struct Post<'a, R, G> {
+    pub(crate) rt: &'a R,
+    pub(crate) hall: &'a Hall,
+    pub(crate) gate: &'a G,
+    pub(crate) peer: Peer,
+}
+
+/// What a conversation has at hand: an outbox, which is empty between two calls of its seat, its
+/// counts, and whether no writing failed.
+#[derive(Drop)]
+pub(crate) struct Tally {
+    pub(crate) out: Outbox,
+    pub(crate) asked: u64,
+    pub(crate) dropped: u64,
+    pub(crate) still: bool,
+    ghost empty: { out ≡ [] },
+}
+
+/// Time passes at the seat, and what comes out goes nowhere.
+fn tick<R: Wait, C: Clock, G: Gate>(
+    post: &Post<R, G>,
+    seat: &mut Seat,
+    clock: &mut C,
+    tally: &mut Tally,
+)
+    requires hall { seat.old.hall ≡ post.now.hall.now }
+    requires room { tally.old.dropped ≤ 10 ^ 17 }
+    ensures hall { seat.new.hall ≡ seat.old.hall }
+    ensures made { (c : Call) × (c.step.kind ≡ step.Tick)
+        × CallsMade (c ∷ []) (caller_seen C.Clock.own seat.old clock.old)
+        (caller_seen C.Clock.own seat.new clock.new)
+        × (tally.new.dropped ≡ tally.old.dropped + length c.sent)
+        × (length c.sent ≤ most_datagrams) }
+    ensures asked { tally.new.asked ≡ tally.old.asked }
+    ensures still { tally.new.still ≡ tally.old.still }
+{
+    let now = clock.now();
+    let word = clock.word();
+    let stepped = seat.tick(post.rt, post.hall, post.gate, now, word, &mut tally.out);
+    let _ = stepped;
+    tally.dropped += tally.out.len() as u64;
+    tally.out.clear();
+}
+
+/// The job that is left.
+fn job_in(heard: SeatHeard) -> Option<Job>
+    ensures { result ≡ job_held heard }
+{
+    match heard {
+        SeatHeard::Held(job) => Some(job),
+        SeatHeard::Done | SeatHeard::Starved => None,
+    }
+}
+
+/// The seat hears a datagram, and leaves a job or none; its replies are written.
+fn hear<R: Wait, K: Sink, C: Clock, G: Gate>(
+    post: &Post<R, G>,
+    seat: &mut Seat,
+    out: &mut K,
+    clock: &mut C,
+    tally: &mut Tally,
+    datagram: &[u8],
+) -> Option<Job>
+    requires hall { seat.old.hall ≡ post.now.hall.now }
+    ensures hall { seat.new.hall ≡ seat.old.hall }
+    ensures made { (c : Call) × IsHearing post.now.peer datagram.now c
+        × (c.left ≡ option_map (job_at (last_place seat.new.seen)) result)
+        × CallsMade (c ∷ []) (caller_seen C.Clock.own seat.old clock.old)
+        (caller_seen C.Clock.own seat.new clock.new)
+        × Speaks (voice_seen K.Sink.own out.old tally.old.still) (replies_to post.now.peer c.sent)
+        (voice_seen K.Sink.own out.new tally.new.still) }
+    ensures open { IfSome result (λ job. IsOpenWrite (last_place seat.new.seen) seat.new job) }
+    ensures asked { tally.new.asked ≡ tally.old.asked }
+    ensures dropped { tally.new.dropped ≡ tally.old.dropped }
+{
+    let (rt, hall, gate) = (post.rt, post.hall, post.gate);
+    let now = clock.now();
+    let word = clock.word();
+    let heard = seat.hear(
+        rt,
+        hall,
+        gate,
+        now,
+        word,
+        post.peer,
+        datagram,
+        &mut tally.out,
+    );
+    tally.still = carry_all(out, tally.still, &post.peer, &tally.out);
+    tally.out.clear();
+    job_in(heard)
+}
+
+/// The seat does the job that the datagram before left; its replies are written.
+fn go<R: Wait, K: Sink, C: Clock, G: Gate>(
+    post: &Post<R, G>,
+    seat: &mut Seat,
+    out: &mut K,
+    clock: &mut C,
+    tally: &mut Tally,
+    job: Job,
+)
+    requires hall { seat.old.hall ≡ post.now.hall.now }
+    requires open { IsOpenWrite (last_place seat.old.seen) seat.old job }
+    ensures hall { seat.new.hall ≡ seat.old.hall }
+    ensures made { (c : Call) × IsOfJob (job_at (last_place seat.old.seen) job) c.step
+        × CallsMade (c ∷ []) (caller_seen C.Clock.own seat.old clock.old)
+        (caller_seen C.Clock.own seat.new clock.new)
+        × Speaks (voice_seen K.Sink.own out.old tally.old.still) (replies_to post.now.peer c.sent)
+        (voice_seen K.Sink.own out.new tally.new.still) }
+    ensures asked { tally.new.asked ≡ tally.old.asked }
+    ensures dropped { tally.new.dropped ≡ tally.old.dropped }
+{
+    let now = clock.now();
+    let stepped = seat.go(post.rt, post.hall, post.gate, now, job, &mut tally.out);
+    let _ = stepped;
+    tally.still = carry_all(out, tally.still, &post.peer, &tally.out);
+    tally.out.clear();
+}
+
+/// The seat hears a request, and its job is done at once; the replies are written.
+fn hear_request<R: Wait, K: Sink, C: Clock, G: Gate>(
+    post: &Post<R, G>,
+    seat: &mut Seat,
+    out: &mut K,
+    clock: &mut C,
+    tally: &mut Tally,
+    datagram: &[u8],
+)
+    requires hall { seat.old.hall ≡ post.now.hall.now }
+    ensures hall { seat.new.hall ≡ seat.old.hall }
+    ensures made { (calls : List Call) × Hears post.now.peer datagram.now calls
+        × CallsMade calls (caller_seen C.Clock.own seat.old clock.old)
+        (caller_seen C.Clock.own seat.new clock.new)
+        × Speaks (voice_seen K.Sink.own out.old tally.old.still)
+        (replies_to post.now.peer (calls_sent calls))
+        (voice_seen K.Sink.own out.new tally.new.still) }
+    ensures asked { tally.new.asked ≡ tally.old.asked }
+    ensures dropped { tally.new.dropped ≡ tally.old.dropped }
+{
+    let job = hear(post, seat, out, clock, tally, datagram);
+    if let Some(job) = job {
+        go(post, seat, out, clock, tally, job);
+    }
+}
+
+/// A request is handed to the seat, its job is done at once, and its replies are written; after
+/// each 64th time passes.
+pub(crate) fn ask<R: Wait, K: Sink, C: Clock, G: Gate>(
+    post: &Post<R, G>,
+    seat: &mut Seat,
+    out: &mut K,
+    clock: &mut C,
+    tally: &mut Tally,
+    datagram: &[u8],
+)
+    requires hall { seat.old.hall ≡ post.now.hall.now }
+    requires few { tally.old.asked < 65_536 }
+    requires room { tally.old.dropped ≤ 10 ^ 17 }
+    ensures hall { seat.new.hall ≡ seat.old.hall }
+    ensures made { (dropped : ℕ)
+        × IsAsked post.now.peer (tally.old.asked + 1) datagram.now dropped
+        (caller_seen C.Clock.own seat.old clock.old) (caller_seen C.Clock.own seat.new clock.new)
+        (voice_seen K.Sink.own out.old tally.old.still)
+        (voice_seen K.Sink.own out.new tally.new.still)
+        × (tally.new.dropped ≡ tally.old.dropped + dropped) × (dropped ≤ most_datagrams) }
+    ensures asked { tally.new.asked ≡ tally.old.asked + 1 }
+{
+    hear_request(post, seat, out, clock, tally, datagram);
+    tally.asked += 1;
+    if tally.asked % ASKED_BEFORE_TICK == 0 {
+        tick(post, seat, clock, tally);
+    }
+}

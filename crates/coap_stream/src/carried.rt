@@ -1,0 +1,132 @@
+//! Datagrams of a seat, as they are written to a connection.
+ghost use Rattle.std.specs.Prelude.{◌≡◌, ◌+◌, ◌-◌, ◌*◌, ◌≤◌, ◌∷◌, ◌++◌, drop, length, take};
+ghost use Rattle.message_model.specs.Spelling.{spelling};
+ghost use Rattle.coap_message.specs.Views.{message_in};
+ghost use Rattle.stream_model.specs.Messages as messages;
+ghost use Rattle.event_model.specs.Same.{is_same_peer};
+ghost use Rattle.coap_stream.specs.Made.{Speaks, voice_seen};
+ghost use Rattle.coap_stream.specs.Spoken.{FitsRoom, IsPut, frame_spelling};
+ghost use Rattle.coap_stream.specs.Talks as spec;
+
+use crate::spoken::{MAX_SPOKEN, put_lengths, put_octets, write_all, write_frame};
+use coap_message::{View, view};
+use message_model::MAX_MESSAGE_SIZE;
+use rd_base::{Peer, Sink};
+use rd_desk::Outbox;
+use stream_reader::Frame;
+
+/// Writes a message, where no writing failed before; whether none did then.
+pub(crate) fn say<K: Sink>(out: &mut K, still: bool, frame: &Frame<'_>) -> bool
+    requires { FitsRoom frame.now }
+    ensures { Speaks (voice_seen K.Sink.own out.old still) (frame_spelling frame.now)
+        (voice_seen K.Sink.own out.new result) }
+{
+    if !still {
+        return false;
+    }
+    write_frame(out, frame)
+}
+
+/// Puts a message with this code, whose token of so many octets and whose tail are these.
+fn put_body(octets: &mut [u8; MAX_SPOKEN], code: u8, token: usize, body: &[u8]) -> usize
+    requires token { token ≤ 8 }
+    requires within { token ≤ length body.now }
+    requires short { length body.now ≤ 1276 }
+    ensures few { result ≤ 1284 }
+    ensures put { take result octets.new
+        ≡ ((messages.nibble_of (length body.now - token) * 16 + token)
+        ∷ messages.extension_of (length body.now - token)) ++ (code ∷ body.now) }
+{
+    let lengths = put_lengths(octets, token, body.len() - token);
+    let behind = put_octets(octets, lengths, &[code]);
+    put_octets(octets, behind, body)
+}
+
+/// What stands behind the header of a datagram (RFC 7252 section 3).
+fn behind_header(datagram: &[u8]) -> &[u8]
+    requires { 4 ≤ length datagram.now }
+    ensures { result.now ≡ drop 4 datagram.now }
+{
+    &datagram[4..]
+}
+
+/// Puts the message of a datagram without its type and Message ID (RFC 8323 section 3.2).
+fn put_view(octets: &mut [u8; MAX_SPOKEN], view: &View<'_>, datagram: &[u8]) -> usize
+    requires spelled { spelling (message_in view.now) ≡ datagram.now }
+    requires short { length datagram.now ≤ 1280 }
+    ensures few { result ≤ 1284 }
+    ensures put { take result octets.new ≡ spec.carried (message_in view.now) }
+{
+    put_body(
+        octets,
+        view.code,
+        view.token.octets.len(),
+        behind_header(datagram),
+    )
+}
+
+/// Writes a datagram without its type and Message ID (RFC 8323 section 3.2). False: the output
+/// failed.
+fn write_datagram<K: Sink>(out: &mut K, datagram: &[u8]) -> bool
+    ensures { IsPut (K.holds out.old) (K.holds out.new) (K.faults out.old) (K.faults out.new)
+        (spec.carried_of datagram.now) result }
+{
+    if datagram.len() > MAX_MESSAGE_SIZE {
+        return true;
+    }
+    let Ok(view) = view(datagram) else {
+        return true;
+    };
+    let mut octets = [0u8; MAX_SPOKEN];
+    let end = put_view(&mut octets, &view, datagram);
+    write_all(out, &octets[..end])
+}
+
+/// Writes a datagram so, where no writing failed before; whether none did then.
+fn carry<K: Sink>(out: &mut K, still: bool, datagram: &[u8]) -> bool
+    ensures { Speaks (voice_seen K.Sink.own out.old still) (spec.carried_of datagram.now)
+        (voice_seen K.Sink.own out.new result) }
+{
+    if !still {
+        return false;
+    }
+    write_datagram(out, datagram)
+}
+
+/// Whether it is the same peer.
+fn is_peer(one: &Peer, other: &Peer) -> bool
+    ensures { result ≡ is_same_peer one.now other.now }
+{
+    *one == *other
+}
+
+/// Writes a datagram, where it is for the peer and no writing failed before; whether none did
+/// then.
+fn carry_for<K: Sink>(out: &mut K, still: bool, peer: &Peer, to: &Peer, datagram: &[u8]) -> bool
+    ensures { Speaks (voice_seen K.Sink.own out.old still)
+        (spec.reply_of peer.now (to.now, datagram.now))
+        (voice_seen K.Sink.own out.new result) }
+{
+    if !is_peer(to, peer) {
+        return still;
+    }
+    carry(out, still, datagram)
+}
+
+/// Writes the datagrams for the peer, in order, where no writing failed before; whether none did
+/// then.
+pub(crate) fn carry_all<K: Sink>(out: &mut K, still: bool, peer: &Peer, outbox: &Outbox) -> bool
+    ensures { Speaks (voice_seen K.Sink.own out.old still) (spec.replies_to peer.now outbox.now)
+        (voice_seen K.Sink.own out.new result) }
+{
+    let mut holds = still;
+    let mut index = 0;
+    'datagrams: while index < outbox.len() {
+        let Some((to, datagram)) = outbox.at(index) else {
+            unreachable!()
+        };
+        holds = carry_for(out, holds, peer, &to, datagram);
+        index += 1;
+    }
+    holds
+}

@@ -1,0 +1,71 @@
+//! Requests of a connection, as a seat hears them.
+ghost use Rattle.std.specs.Prelude.{◌≡◌, ◌+◌, ◌<◌, ◌≤◌, ◌∷◌, [], filter, length};
+ghost use Rattle.message_model.specs.Codes as codes_of;
+ghost use Rattle.message_model.specs.Message.{AreOptionsAfter, end_number};
+ghost use Rattle.message_model.specs.Spelling.{options_spelling, spelling};
+ghost use Rattle.coap_message.specs.OptionsLeft.{option_in, options_left};
+ghost use Rattle.coap_message.specs.PartialMessages.{longest_datagram, with_payload};
+ghost use Rattle.stream_reader.specs.Shown.{frame_shown};
+ghost use Rattle.coap_stream.specs.Requests as spec;
+ghost use Rattle.coap_stream.specs.Requests.{IsRequest, is_not_observe};
+
+use coap_message::{Kind4, Opt, OptionsIter, TokenRef, Writer, options_in};
+use message_model::options::OBSERVE;
+use stream_reader::Frame;
+
+/// An option, unless it is Observe.
+fn put_option(writer: &mut Writer, option: &Opt<'_>)
+    requires filled { codes_of.empty < writer.old.code }
+    requires open { writer.old.payload ≡ [] }
+    requires order { AreOptionsAfter (end_number 0 writer.old.options)
+        (filter is_not_observe (option_in option.now ∷ [])) }
+    requires room { length (spelling writer.old)
+        + length (options_spelling (end_number 0 writer.old.options)
+        (filter is_not_observe (option_in option.now ∷ []))) ≤ longest_datagram }
+    ensures { writer.new
+        ≡ spec.with_options writer.old (filter is_not_observe (option_in option.now ∷ [])) }
+{
+    if option.number == OBSERVE {
+        return;
+    }
+    let Ok(()) = writer.option(option.number, option.value) else {
+        unreachable!()
+    };
+}
+
+/// The options, but Observe.
+fn put_options(writer: &mut Writer, options: OptionsIter<'_>)
+    requires filled { codes_of.empty < writer.old.code }
+    requires open { writer.old.payload ≡ [] }
+    requires order { AreOptionsAfter (end_number 0 writer.old.options)
+        (filter is_not_observe (options_left options)) }
+    requires room { length (spelling writer.old)
+        + length (options_spelling (end_number 0 writer.old.options)
+        (filter is_not_observe (options_left options))) ≤ longest_datagram }
+    ensures { writer.new
+        ≡ spec.with_options writer.old (filter is_not_observe (options_left options.entry)) }
+{
+    let mut left = options;
+    'options: while let Some(option) = left.next() {
+        put_option(writer, &option);
+    }
+}
+
+/// A request of a connection as it is heard, all but its payload: a confirmable one with this
+/// Message ID and without Observe, so that it is answered as a plain request (RFC 7641 section 2).
+pub fn begin_request(frame: &Frame<'_>, mid: u16) -> Writer
+    requires { IsRequest (frame_shown frame.now) }
+    ensures begun { with_payload result frame.now.payload.now
+        ≡ spec.heard_as mid (frame_shown frame.now) }
+    ensures open { result.payload ≡ [] }
+    ensures filled { codes_of.empty < result.code }
+    ensures fits { length (spelling (spec.heard_as mid (frame_shown frame.now)))
+        ≤ longest_datagram }
+{
+    let token = TokenRef {
+        octets: frame.token,
+    };
+    let mut writer = Writer::start(Kind4::Con, frame.code, mid, token);
+    put_options(&mut writer, options_in(frame.options));
+    writer
+}

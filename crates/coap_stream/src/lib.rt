@@ -1,0 +1,28 @@
+//! CoAP over connections (RFC 8323): the messages of a stream, and what a directory does with them.
+#![tactic(auto)]
+
+mod answering;
+mod calls;
+mod carried;
+mod doors;
+mod heard;
+mod memory_door;
+mod purposes;
+mod refusing;
+mod serving;
+mod spoken;
+mod talked;
+mod talks;
+mod tcp_door;
+
+pub use doors::{Accept, Opened};
+pub use heard::begin_request;
+pub use memory_door::MemAccept;
+pub use purposes::{Meant, meant_by};
+pub use refusing::{Unasked, why_unasked};
+pub use serving::{StreamsStatus, serve_streams};
+pub use spoken::write_frame;
+pub use stream_reader::{Fed, Frame, StreamBad, StreamReader};
+pub use talked::{TalkEnd, TalkFault, Talked};
+pub use talks::converse;
+pub use tcp_door::TcpAccept;

@@ -1,0 +1,267 @@
+//! Conversations: the messages of a connection, answered one after the other.
+ghost use Rattle.std.specs.Prelude.{◌≡◌, ◌≤◌, ◌<◌, ◌*◌, ◌==◌, true, None, [], length};
+ghost use Rattle.std.specs.Prelude.{IfOk, IfSome};
+ghost use Rattle.stream_model.specs.Streams.{IsGood};
+ghost use Rattle.stream_reader.specs.Shown.{message_of};
+ghost use Rattle.rd_seat.specs.Callers.{caller_seen};
+ghost use Rattle.coap_stream.specs.Made.{Speaks, voice_seen};
+ghost use Rattle.coap_stream.specs.Requests as requests;
+ghost use Rattle.coap_stream.specs.Talks as spec;
+ghost use Rattle.coap_stream.specs.Asked.{asked_in};
+ghost use Rattle.coap_stream.specs.Endings.{SourceSeen, TalkSeen, Talks, source_seen, talk_seen};
+ghost use Rattle.coap_stream.specs.Talking.{IsHeard, TalksSo, WasHeard, is_open, is_still, told_if};
+
+use crate::answering::{answer, say_plain};
+use crate::calls::{Post, Tally};
+use crate::purposes::{Meant, meant_by};
+use crate::talked::{TalkEnd, TalkFault, Talked};
+use rd_base::{Got, Peer, Sink, Source};
+use rd_desk::Outbox;
+use rd_seat::{Gate, Hall, Seat};
+use std::sync::Wait;
+use stream_model::MAX_STREAM_MESSAGE;
+use stream_model::signals::{ABORT, CSM, RELEASE};
+use stream_reader::{Fed, StreamReader};
+use udp_link::Clock;
+
+/// The most requests that one conversation hands to its seat: as many as there are Message IDs.
+const MOST_ASKED: u64 = 65_536;
+
+/// Whether so many requests were handed to the seat that there is no number for one more.
+fn spent_by(asked: u64) -> Option<TalkEnd>
+    ensures { result ≡ spec.end_by None (asked == spec.most_asked) }
+{
+    if asked == MOST_ASKED {
+        return Some(TalkEnd::Spent);
+    }
+    None
+}
+
+/// How a message with this code ends the conversation, if it does, where so many requests were
+/// handed to the seat by then.
+fn end_by(code: u8, asked: u64) -> Option<TalkEnd>
+    ensures { result
+        ≡ spec.end_by (spec.ends_by (requests.meant_by code)) (asked == spec.most_asked) }
+{
+    match meant_by(code) {
+        Meant::Release => Some(TalkEnd::Released),
+        Meant::Abort => Some(TalkEnd::Aborted),
+        Meant::Passed => spent_by(asked),
+        Meant::Ping => spent_by(asked),
+        Meant::Request => spent_by(asked),
+    }
+}
+
+/// What came of a piece.
+#[derive(Clone, Copy)]
+pub(crate) enum Heard {
+    /// All of it was taken, and if nothing more comes, the conversation ends so.
+    Open(TalkEnd),
+    /// The conversation ends so.
+    Ended(TalkEnd),
+    /// A writing failed.
+    Failed,
+}
+
+/// The message that is whole is answered; how the conversation ends by it, if it does.
+fn hear_message<R: Wait, K: Sink, C: Clock, G: Gate>(
+    post: &Post<R, G>,
+    seat: &mut Seat,
+    out: &mut K,
+    clock: &mut C,
+    tally: &mut Tally,
+    reader: &StreamReader,
+) -> Option<TalkEnd>
+    requires hall { seat.old.hall ≡ post.now.hall.now }
+    requires few { tally.old.asked < 65_536 }
+    requires room { tally.old.dropped ≤ 1_152 * tally.old.asked }
+    requires good { IsGood reader.now.is_first reader.now.pending }
+    ensures hall { seat.new.hall ≡ seat.old.hall }
+    ensures heard { WasHeard post.now.peer (message_of reader.now) result
+        (caller_seen C.Clock.own seat.old clock.old) (caller_seen C.Clock.own seat.new clock.new)
+        (voice_seen K.Sink.own out.old tally.old.still)
+        (voice_seen K.Sink.own out.new tally.new.still)
+        (record { asked = tally.old.asked; dropped = tally.old.dropped })
+        (record { asked = tally.new.asked; dropped = tally.new.dropped }) }
+    ensures few { result ≡ None → tally.new.asked < 65_536 }
+    ensures room { tally.new.dropped ≤ 1_152 * tally.new.asked }
+{
+    let Some(frame) = reader.message() else {
+        unreachable!()
+    };
+    answer(post, seat, out, clock, tally, &frame);
+    end_by(frame.code, tally.asked)
+}
+
+/// The messages of a piece are answered, up to where the conversation ends.
+fn hear_piece<R: Wait, K: Sink, C: Clock, G: Gate>(
+    post: &Post<R, G>,
+    seat: &mut Seat,
+    out: &mut K,
+    clock: &mut C,
+    tally: &mut Tally,
+    reader: &mut StreamReader,
+    piece: &[u8],
+) -> Heard
+    requires hall { seat.old.hall ≡ post.now.hall.now }
+    requires still { tally.old.still ≡ true }
+    requires few { tally.old.asked < 65_536 }
+    requires room { tally.old.dropped ≤ 1_152 * tally.old.asked }
+    requires some { 0 < length piece.now }
+    ensures hall { seat.new.hall ≡ seat.old.hall }
+    ensures still { tally.new.still ≡ is_still result }
+    ensures few { is_open result ≡ true → tally.new.asked < 65_536 }
+    ensures room { tally.new.dropped ≤ 1_152 * tally.new.asked }
+    ensures heard { (before : TalkSeen) (source : SourceSeen)
+        → TalksSo post.now.peer before
+        (talk_seen K.Sink.own C.Clock.own source seat.old out.old clock.old)
+        (record { asked = tally.old.asked; dropped = tally.old.dropped }) reader.old piece.now
+        → IsHeard result post.now.peer before
+        (talk_seen K.Sink.own C.Clock.own source seat.new out.new clock.new)
+        (record { asked = tally.new.asked; dropped = tally.new.dropped }) reader.new }
+{
+    let mut rest = piece;
+    'messages: while !rest.is_empty() {
+        match reader.feed(rest) {
+            Fed::More => return Heard::Open(TalkEnd::Cut),
+            Fed::Bad(_, why) => return Heard::Ended(TalkEnd::Refused(why)),
+            Fed::Whole(count) => {
+                let end = hear_message(post, seat, out, clock, tally, reader);
+                if !tally.still {
+                    return Heard::Failed;
+                }
+                if let Some(end) = end {
+                    return Heard::Ended(end);
+                }
+                rest = &rest[count..];
+            }
+        }
+    }
+    Heard::Open(TalkEnd::Closed)
+}
+
+/// The conversation ends so: a bad message is answered by an Abort, and so many requests by a
+/// Release (RFC 8323 sections 5.5 and 5.6).
+fn farewell<K: Sink>(out: &mut K, tally: &mut Tally, end: TalkEnd) -> Result<Talked, TalkFault>
+    ensures speaks { Speaks (voice_seen K.Sink.own out.old tally.old.still) (spec.farewell end)
+        (voice_seen K.Sink.own out.new tally.new.still) }
+    ensures told { result ≡ told_if tally.new.still (record {
+      end = end;
+      asked = tally.old.asked;
+      dropped = tally.old.dropped;
+    }) }
+{
+    match end {
+        TalkEnd::Refused(_) => tally.still = say_plain(out, tally.still, ABORT, b"", b""),
+        TalkEnd::Spent => tally.still = say_plain(out, tally.still, RELEASE, b"", b""),
+        TalkEnd::Closed => {}
+        TalkEnd::Cut => {}
+        TalkEnd::Released => {}
+        TalkEnd::Aborted => {}
+    }
+    if !tally.still {
+        return Err(TalkFault::Write);
+    }
+    Ok(Talked {
+        end,
+        asked: tally.asked,
+        dropped: tally.dropped,
+    })
+}
+
+/// A CSM is written, and then piece after piece is answered, to the end.
+fn talk<R: Wait, S: Source, K: Sink, C: Clock, G: Gate>(
+    post: &Post<R, G>,
+    seat: &mut Seat,
+    source: &mut S,
+    out: &mut K,
+    clock: &mut C,
+    tally: &mut Tally,
+) -> Result<Talked, TalkFault>
+    requires hall { seat.old.hall ≡ post.now.hall.now }
+    requires still { tally.old.still ≡ true }
+    requires asked { tally.old.asked ≡ 0 }
+    requires dropped { tally.old.dropped ≡ 0 }
+    ensures hall { seat.new.hall ≡ seat.old.hall }
+    ensures talks { Talks post.now.peer
+        (talk_seen K.Sink.own C.Clock.own (source_seen S.Source.own source.old)
+        seat.old out.old clock.old)
+        (talk_seen K.Sink.own C.Clock.own (source_seen S.Source.own source.new)
+        seat.new out.new clock.new) result }
+{
+    let mut reader = StreamReader::new();
+    let mut room = [0u8; MAX_STREAM_MESSAGE];
+    let mut last = TalkEnd::Closed;
+    tally.still = say_plain(out, tally.still, CSM, b"", b"");
+    if !tally.still {
+        return Err(TalkFault::Write);
+    }
+    'pieces: loop {
+        let count = match source.read(&mut room) {
+            Got::Bytes(count) => count,
+            Got::Failed => return Err(TalkFault::Read),
+        };
+        if count == 0 {
+            return farewell(out, tally, last);
+        }
+        match hear_piece(post, seat, out, clock, tally, &mut reader, &room[..count]) {
+            Heard::Open(end) => last = end,
+            Heard::Ended(end) => return farewell(out, tally, end),
+            Heard::Failed => return Err(TalkFault::Write),
+        }
+    }
+}
+
+/// Answers the messages of a connection by a seat of the hall, up to its end (RFC 8323): a CSM is
+/// written before the first reading; a Ping is answered by a Pong; a request that is for no seat
+/// ([`why_unasked`](crate::why_unasked)) is answered at once, and every other one is heard by the
+/// seat under the number of requests that were heard before, its job is done at once, and its
+/// replies are written; a bad message is answered by an Abort. After each 64th request time passes
+/// at the seat, and what comes out of that goes nowhere. Before each call of the seat the clock is
+/// asked for a moment, and before those that hear or in which time passes for a word. It waits for
+/// turns at the hall.
+///
+/// No request of it is taken for a repeat, where the peer has no admission in the 247 seconds
+/// before and no other caller uses it (RFC 7252 section 4.8.2).
+///
+/// `Read`: a reading failed. `Write`: a writing failed. `Starved`: out of memory, before the first
+/// reading.
+pub fn converse<R: Wait + AllocGlobal, S: Source, K: Sink, C: Clock, G: Gate>(
+    rt: &R,
+    hall: &Hall,
+    seat: &mut Seat,
+    peer: Peer,
+    source: &mut S,
+    out: &mut K,
+    clock: &mut C,
+    gate: &G,
+) -> Result<Talked, TalkFault>
+    requires hall { seat.old.hall ≡ hall.now }
+    ensures hall { seat.new.hall ≡ seat.old.hall }
+    ensures talks { Talks peer
+        (talk_seen K.Sink.own C.Clock.own (source_seen S.Source.own source.old)
+        seat.old out.old clock.old)
+        (talk_seen K.Sink.own C.Clock.own (source_seen S.Source.own source.new)
+        seat.new out.new clock.new) result }
+    // Where the source tells its octets, what was handed to the seat is what they say.
+    ensures counts { IfOk result (λ talked. IfSome (S.left source.old)
+        (λ octets. talked.asked ≡ asked_in octets)) }
+    ensures few { IfOk result (λ talked. talked.asked ≤ spec.most_asked) }
+{
+    let Ok(outbox) = Outbox::make(rt.alloc()) else {
+        return Err(TalkFault::Starved);
+    };
+    let post = Post {
+        rt,
+        hall,
+        gate,
+        peer,
+    };
+    let mut tally = Tally {
+        out: outbox,
+        asked: 0,
+        dropped: 0,
+        still: true,
+    };
+    talk(&post, seat, source, out, clock, &mut tally)
+}
