@@ -4,6 +4,8 @@
 #[cfg(test)]
 mod ends;
 #[cfg(test)]
+mod hosts;
+#[cfg(test)]
 mod loopback;
 #[cfg(test)]
 mod requests;

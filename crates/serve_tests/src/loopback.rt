@@ -13,7 +13,11 @@ use udp_link::{UdpClock, UdpLink};
 const LISTED: &[u8] = b"\x61\x45\x00\x02\xb2\x48\0\0\0\0\0\x01\0\0\x81\x28\xff<coap://127.0.0.1:";
 
 /// Sends a request, and waits for its answer: whether that begins so.
-fn is_answered(client: &UdpSocket, request: &[u8], beginning: &[u8]) -> io::Result<bool> {
+pub(crate) fn is_answered(
+    client: &UdpSocket,
+    request: &[u8],
+    beginning: &[u8],
+) -> io::Result<bool> {
     let mut room = [0u8; 1280];
     client.send(request)?;
     let n = client.recv(&mut room)?;

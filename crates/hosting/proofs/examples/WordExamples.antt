@@ -1,0 +1,104 @@
+-- What words of `rd_host` want, computed.
+use Rattle.std.proofs.Common.{◌≡◌, ℕ, [], ◌∷◌, codes, replicate, Some, None, refl}
+use Rattle.std.specs.Prelude.{⊤, Option}
+use Rattle.std.specs.Fmt.{digits}
+use Rattle.rd_base.specs.declared.peers.Host.TheVariants as host
+use Rattle.rd_base.specs.declared.peers.Peer.{Peer}
+use Rattle.line_model.proofs.OnLiterals.{trace_on_literals}
+use Rattle.line_model.specs.Numbers.{number_of}
+use Rattle.hosting.specs.declared.plans.HostPlan.{HostPlan}
+use Rattle.hosting.specs.declared.wanted.Wanted.TheVariants as wanted
+use Rattle.hosting.specs.Words.{asked_from, options_of, plan_of, wanted_of}
+
+unfoldable on_literals : ⊤
+unfolding options_of asked_from number_of digits trace_on_literals
+on_literals = tt
+
+abbrev inner : Peer
+inner = record { host = host.V4 (192 ∷ 0 ∷ 2 ∷ 1 ∷ []); port = 5683 }
+
+abbrev outer : Peer
+outer = record {
+  host = host.V6 (0x2001 ∷ 0xdb8 ∷ 0 ∷ 0 ∷ 0 ∷ 0 ∷ 0 ∷ 1 ∷ []);
+  port = 61616;
+}
+
+-- one address, with what is said by default
+one : wanted_of (codes "--listen" ∷ codes "192.0.2.1:5683" ∷ [])
+    ≡ Some (wanted.Serve (record {
+      listen = inner ∷ [];
+      workers = 4;
+      turns = 1_000_000_000_000;
+    }))
+unfolding on_literals
+one = refl
+
+-- two, both spellings, and as many workers as they may have
+two : wanted_of (codes "--workers=8" ∷ codes "--listen=[2001:db8::1]:61616" ∷ codes "--turns"
+    ∷ codes "1" ∷ codes "--listen" ∷ codes "192.0.2.1:5683" ∷ [])
+    ≡ Some (wanted.Serve (record { listen = outer ∷ inner ∷ []; workers = 8; turns = 1 }))
+unfolding on_literals
+two = refl
+
+-- one worker more than they may have
+many : wanted_of (codes "--workers=9" ∷ codes "--listen=[2001:db8::1]:61616"
+    ∷ codes "--listen" ∷ codes "192.0.2.1:5683" ∷ []) ≡ None
+unfolding on_literals
+many = refl
+
+-- no address
+nowhere : wanted_of (codes "--workers=1" ∷ []) ≡ None
+unfolding on_literals
+nowhere = refl
+
+-- no words
+nothing : wanted_of [] ≡ None
+unfolding on_literals
+nothing = refl
+
+-- no port, and no number from 1 on
+no_port : wanted_of (codes "--listen=192.0.2.1" ∷ []) ≡ None
+unfolding on_literals
+no_port = refl
+
+no_turns : wanted_of (codes "--listen=192.0.2.1:5683" ∷ codes "--turns=0" ∷ []) ≡ None
+unfolding on_literals
+no_turns = refl
+
+-- a number that comes again, and a name where its value is to stand
+again : wanted_of (codes "--turns=1" ∷ codes "--listen=192.0.2.1:5683"
+    ∷ codes "--turns=1" ∷ []) ≡ None
+unfolding on_literals
+again = refl
+
+name_for_value : wanted_of (codes "--listen" ∷ codes "--listen=192.0.2.1:5683" ∷ []) ≡ None
+unfolding on_literals
+name_for_value = refl
+
+-- questions stand alone
+help : wanted_of (codes "--help" ∷ []) ≡ Some wanted.Help
+unfolding on_literals
+help = refl
+
+version : wanted_of (codes "-V" ∷ []) ≡ Some wanted.Version
+unfolding on_literals
+version = refl
+
+beside : wanted_of (codes "--listen=192.0.2.1:5683" ∷ codes "--help" ∷ []) ≡ None
+unfolding on_literals
+beside = refl
+
+-- sixteen addresses have a worker each, five three, and seventeen are too many
+abbrev plan_at : ℕ → Option HostPlan
+plan_at addresses =
+    plan_of (record { listen = replicate addresses inner; workers = None; turns = Some 7 })
+
+sixteen : plan_at 16
+    ≡ Some (record { listen = replicate 16 inner; workers = 1; turns = 7 })
+sixteen = refl
+
+five : plan_at 5 ≡ Some (record { listen = replicate 5 inner; workers = 3; turns = 7 })
+five = refl
+
+seventeen : plan_at 17 ≡ None
+seventeen = refl

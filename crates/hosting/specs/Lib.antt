@@ -1,0 +1,3 @@
+pub mod Words
+pub mod Mapped
+pub mod Routes

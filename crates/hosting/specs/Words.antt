@@ -1,0 +1,204 @@
+-- The words of `rd_host`: the addresses at which it listens, how many workers each has, and how
+-- many turns each of them.
+use Rattle.std.specs.Prelude.{◌≡◌, ◌≤◌, ℕ, ◌+◌, ◌/◌, List, [], ◌∷◌}
+use Rattle.std.specs.Prelude.{◌++◌, length, codes}
+use Rattle.std.specs.Prelude.{Option, Some, None, Result, Ok, Err, option_and_then, option_map}
+use Rattle.std.specs.Prelude.{IfSome, bytes_eq, drop, is_some, min, nat_le, position, take}
+use Rattle.std.specs.Prelude.{unwrap_or}
+use Rattle.std.specs.Prelude.{◌&&◌, ◌||◌, ◌==◌, ⊤, if◌then◌else◌}
+use Rattle.rd_base.specs.Peers.{peer_of}
+use Rattle.line_model.specs.Numbers.{number_of}
+use Rattle.hosting.specs.declared.options.OptionName.{OptionName}
+use Rattle.hosting.specs.declared.options.OptionName.TheVariants as option_name
+use Rattle.hosting.specs.declared.options.HostOption.{HostOption}
+use Rattle.hosting.specs.declared.options.HostOption.TheVariants as host_option
+use Rattle.hosting.specs.declared.plans.HostAsked.{HostAsked}
+use Rattle.hosting.specs.declared.plans.HostPlan.{HostPlan}
+use Rattle.hosting.specs.declared.wanted.Wanted.{Wanted}
+use Rattle.hosting.specs.declared.wanted.Wanted.TheVariants as wanted
+use Rattle.hosting.specs.declared.wanted.HostFault.{HostFault}
+use Rattle.hosting.specs.declared.wanted.HostFault.TheVariants as fault
+
+-- the most ends of a server, over all its addresses
+abbrev pub max_ends : ℕ
+max_ends = 16
+
+-- the most turns of a worker
+abbrev pub max_turns : ℕ
+max_turns = 1_000_000_000_000
+
+-- ---- options
+
+-- the number is from 1 on
+abbrev pub from_one : ℕ → Option ℕ
+from_one n = if nat_le 1 n then Some n else None
+
+-- the number from 1 to a limit that a text prints in decimal, without a leading zero
+abbrev pub count_of : ℕ → List ℕ → Option ℕ
+count_of limit text = option_and_then from_one (number_of limit text)
+
+-- the option that a word names
+abbrev pub name_of : List ℕ → Option OptionName
+name_of word =
+    if bytes_eq word (codes "--listen") then Some option_name.Listen
+    else (if bytes_eq word (codes "--workers") then Some option_name.Workers
+    else (if bytes_eq word (codes "--turns") then Some option_name.Turns else None))
+
+-- An option with its value: an address as it is printed (RFC 5952), with a port from 1 on, or a
+-- number from 1 to its limit.
+abbrev pub option_of : OptionName → List ℕ → Option HostOption
+option_of option_name.Listen value = option_map (λ p. host_option.Listen p) (peer_of value)
+option_of option_name.Workers value =
+    option_map (λ n. host_option.Workers n) (count_of max_ends value)
+option_of option_name.Turns value =
+    option_map (λ n. host_option.Turns n) (count_of max_turns value)
+
+-- what stands before the first `=`, and what stands after it
+abbrev pub cut : List ℕ → Option (List ℕ × List ℕ)
+cut text = option_map (λ at. (take at text, drop (at + 1) text))
+    (position (λ octet. octet == 61) text)
+
+abbrev pub named : Option OptionName → List ℕ → Option HostOption
+named None value = None
+named (Some name) value = option_of name value
+
+-- an option in one word, in which its name and its value are joined
+abbrev pub of_parts : Option (List ℕ × List ℕ) → Option HostOption
+of_parts None = None
+of_parts (Some parts) = named (name_of parts.0) parts.1
+
+abbrev pub joined : List ℕ → Option HostOption
+joined word = of_parts (cut word)
+
+-- an option before others, where each is one
+abbrev pub before : Option HostOption → Option (List HostOption) → Option (List HostOption)
+before None options = None
+before (Some option) options = option_map (λ behind. option ∷ behind) options
+
+-- The options that words give, in order: each is a name with the word after it, or both joined.
+unfoldable pub options_of : List (List ℕ) → Option (List HostOption)
+options_of [] = Some []
+options_of (word ∷ []) = before (if is_some (name_of word) then None else joined word) (Some [])
+options_of (word ∷ value ∷ words) =
+    if is_some (name_of word) then before (named (name_of word) value) (options_of words)
+    else before (joined word) (options_of (value ∷ words))
+
+-- what words begin with, and what is left of them
+abbrev pub Begins : List (List ℕ) → Option (HostOption × List (List ℕ)) → Type 0
+Begins words None = options_of words ≡ None
+Begins words (Some next) = options_of words ≡ before (Some next.0) (options_of next.1)
+
+-- ---- what they ask for
+
+-- nothing is asked for
+abbrev pub nothing_asked : HostAsked
+nothing_asked = record { listen = []; workers = None; turns = None }
+
+-- a number that is said once at most
+abbrev pub once : Option ℕ → ℕ → Option ℕ
+once None n = Some n
+once (Some earlier) n = None
+
+-- an option more: any number of addresses, each number once
+abbrev pub asked_with : HostAsked → HostOption → Option HostAsked
+asked_with asked (host_option.Listen address) = Some (record {
+  listen = asked.listen ++ address ∷ [];
+  workers = asked.workers;
+  turns = asked.turns;
+})
+asked_with asked (host_option.Workers n) = option_map
+    (λ said. record { listen = asked.listen; workers = Some said; turns = asked.turns })
+    (once asked.workers n)
+asked_with asked (host_option.Turns n) = option_map
+    (λ said. record { listen = asked.listen; workers = asked.workers; turns = Some said })
+    (once asked.turns n)
+
+-- all options, in order
+unfoldable pub asked_from : Option HostAsked → List HostOption → Option HostAsked
+asked_from None options = None
+asked_from (Some asked) [] = Some asked
+asked_from (Some asked) (option ∷ options) = asked_from (asked_with asked option) options
+
+-- the same, where words give options
+abbrev pub asked_by : HostAsked → List (List ℕ) → Option HostAsked
+asked_by asked words = option_and_then (asked_from (Some asked)) (options_of words)
+
+-- the most workers that each of so many addresses may have, and how many it has where that is not
+-- said: four, or as many as it may
+abbrev pub most_each : ℕ → ℕ
+most_each addresses = max_ends / addresses
+
+abbrev pub default_each : ℕ → ℕ
+default_each addresses = min 4 (most_each addresses)
+
+-- the plan of so many workers for each address, where there is an address, and are not too many
+-- ends
+abbrev pub plan_with : HostAsked → ℕ → Option HostPlan
+plan_with asked workers =
+    if nat_le 1 (length asked.listen)
+    && (nat_le 1 workers && nat_le workers (most_each (length asked.listen)))
+    then Some (record {
+      listen = asked.listen;
+      workers = workers;
+      turns = unwrap_or asked.turns max_turns;
+    }) else None
+
+abbrev pub plan_of : HostAsked → Option HostPlan
+plan_of asked = plan_with asked (unwrap_or asked.workers (default_each (length asked.listen)))
+
+-- what words ask to be served, where they are those of the program
+abbrev pub plan_said : List (List ℕ) → Option HostPlan
+plan_said words = option_and_then plan_of (asked_by nothing_asked words)
+
+-- a question about the program is one word that stands alone
+abbrev pub question_in : List ℕ → Option Wanted
+question_in word =
+    if bytes_eq word (codes "--help") || bytes_eq word (codes "-h") then Some wanted.Help
+    else (if bytes_eq word (codes "--version") || bytes_eq word (codes "-V")
+    then Some wanted.Version else None)
+
+abbrev pub question_of : List (List ℕ) → Option Wanted
+question_of [] = None
+question_of (word ∷ []) = question_in word
+question_of (word ∷ value ∷ words) = None
+
+abbrev pub unless_asked : Option Wanted → Option HostPlan → Option Wanted
+unless_asked (Some question) plan = Some question
+unless_asked None plan = option_map (λ p. wanted.Serve p) plan
+
+-- what words want, where they are those of the program
+abbrev pub wanted_of : List (List ℕ) → Option Wanted
+wanted_of words = unless_asked (question_of words) (plan_said words)
+
+-- what the words were read as, where memory did not run out
+abbrev pub IsRead : {A : Type 0} → Option A → Result A HostFault → Type 0
+IsRead said (Ok read) = said ≡ Some read
+IsRead said (Err fault.Usage) = said ≡ None
+IsRead said (Err fault.Starved) = ⊤
+
+-- ---- within their limits
+
+abbrev pub IsCount : ℕ → ℕ → Type 0
+IsCount limit n = (1 ≤ n) × (n ≤ limit)
+
+abbrev pub IsOption : HostOption → Type 0
+IsOption (host_option.Listen address) = ⊤
+IsOption (host_option.Workers n) = IsCount max_ends n
+IsOption (host_option.Turns n) = IsCount max_turns n
+
+pub record IsAsked (asked : HostAsked) : Type 0 where
+  pub workers : IfSome asked.workers (IsCount max_ends)
+  pub turns : IfSome asked.turns (IsCount max_turns)
+
+-- the numbers of a plan
+pub record IsPlan (plan : HostPlan) : Type 0 where
+  pub some_addresses : 1 ≤ length plan.listen
+  pub some_workers : 1 ≤ plan.workers
+  pub most_workers : plan.workers ≤ most_each (length plan.listen)
+  pub some_turns : 1 ≤ plan.turns
+  pub most_turns : plan.turns ≤ max_turns
+
+abbrev pub IsWanted : Wanted → Type 0
+IsWanted wanted.Help = ⊤
+IsWanted wanted.Version = ⊤
+IsWanted (wanted.Serve plan) = IsPlan plan

@@ -1,0 +1,30 @@
+//! What is said about the program.
+use crate::wanted::Wanted;
+
+/// What is said where help is asked for.
+const HELP: &str = "\
+Serves a CoRE Resource Directory over UDP at addresses of this machine, without DTLS
+
+Usage: rd_host --listen ADDRESS:PORT [--listen ADDRESS:PORT]... [--workers N] [--turns T]
+
+Options:
+      --listen <ADDRESS:PORT>  An address to listen at, as 192.0.2.1:5683 or [2001:db8::1]:5683
+      --workers <N>            How many workers each address has, 16 in all [default: 4 or fewer]
+      --turns <T>              How many receives each worker makes [default: 10^12]
+  -h, --help                   Print help
+  -V, --version                Print version
+";
+
+/// What is said where the version is asked for.
+const VERSION: &str = "rd_host 0.1.0\n";
+
+impl Wanted {
+    /// What is to be said about the program; nothing where it is to serve.
+    pub fn text(&self) -> &'static str {
+        match self {
+            Wanted::Help => HELP,
+            Wanted::Version => VERSION,
+            Wanted::Serve(_) => "",
+        }
+    }
+}

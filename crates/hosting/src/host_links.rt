@@ -1,0 +1,190 @@
+//! A link of a server that listens at several addresses.
+ghost use Rattle.std.specs.Prelude.{◌≡◌, ◌≤◌, ◌<◌, None, Some, IfOk, IfSome};
+ghost use Rattle.std.specs.Prelude.{length, position, unwrap_or};
+ghost use Rattle.rd_base.specs.Outside.{Rose};
+ghost use Rattle.udp_link.specs.Links.{IsWithinLimit};
+ghost use Rattle.udp_link.specs.declared.links.TheConstants.{MAX_DATAGRAM};
+ghost use Rattle.hosting.specs.Routes as spec;
+
+use crate::listeners::Listener;
+use crate::mapped::{mapped, plain};
+use crate::routes::Routes;
+use rd_base::{Host, Peer, Starved};
+use std::alloc::Global;
+use std::sync::{Arc, Mutex, Wait};
+use udp_link::{Came, Link, UdpLink, Went};
+
+/// An address of a server, with a link over its socket.
+#[derive(Drop)]
+struct Way {
+    address: Peer,
+    link: UdpLink,
+}
+
+/// A link of a server that listens at several addresses: it receives at one of them, and sends by
+/// the one at which the peer was heard last, by whichever link of that server. It tells no
+/// datagrams.
+#[derive(Drop)]
+pub struct HostLink<'a, R> {
+    rt: &'a R,
+    routes: &'a Mutex<Routes>,
+    ways: Vec<Way>,
+    own: usize,
+    /// The peer of the datagram that the last receive gave.
+    heard: Option<Peer>,
+    recv_faults: u64,
+    send_faults: u64,
+    ghost own_is_one: { own < length ways.items },
+}
+
+/// Whether two addresses are of one family.
+fn are_alike(a: Host, b: Host) -> bool
+    ensures { result ≡ spec.are_alike a b }
+{
+    match (a, b) {
+        (Host::V4(_), Host::V4(_)) => true,
+        (Host::V6(_), Host::V6(_)) => true,
+        _ => false,
+    }
+}
+
+/// The place of the first address of the peer's family.
+fn first_alike(ways: &[Way], peer: Peer) -> Option<usize>
+    ensures value { result
+        ≡ position (λ way. spec.are_alike way.address.host peer.host) ways.now }
+    ensures within { IfSome result (λ place. place < length ways.now) }
+{
+    ways.iter()
+        .position(|way| are_alike(way.address.host, peer.host))
+}
+
+/// The place of the first address of the peer's family, or else of the first address.
+fn place_alike(ways: &[Way], peer: Peer) -> usize
+    requires { 1 ≤ length ways.now }
+    ensures within { result < length ways.now }
+    ensures alike { result ≡ unwrap_or
+        (position (λ way. spec.are_alike way.address.host peer.host) ways.now) 0 }
+{
+    first_alike(ways, peer).unwrap_or(0)
+}
+
+impl Way {
+    /// Sends by this address, an IPv4 address as an IPv6 socket takes it where this is one.
+    fn send(&mut self, peer: Peer, piece: &[u8]) -> Went {
+        let host = match self.address.host {
+            Host::V4(_) => peer.host,
+            Host::V6(_) => mapped(peer.host),
+        };
+        let port = peer.port;
+        self.link.send(Peer { host, port }, piece)
+    }
+}
+
+/// A link over each listener.
+fn ways_over(alloc: Global, listeners: &[Listener]) -> Result<Vec<Way>, Starved>
+    ensures { IfOk result (λ ways. length ways.items ≡ length listeners.now) }
+{
+    let mut ways = Vec::with_capacity(alloc, listeners.len())?;
+    'ways: for listener in listeners {
+        ways.push_reserved(Way {
+            address: listener.address,
+            link: UdpLink::of(Arc::try_clone(&listener.socket)?),
+        });
+    }
+    Ok(ways)
+}
+
+impl<'a, R> HostLink<'a, R> {
+    /// A link that receives at the address of `listeners[own]`. `Starved`: out of memory.
+    pub fn over(
+        rt: &'a R,
+        alloc: Global,
+        routes: &'a Mutex<Routes>,
+        listeners: &[Listener],
+        own: usize,
+    ) -> Result<HostLink<'a, R>, Starved>
+        requires { own < length listeners.now }
+    {
+        let ways = ways_over(alloc, listeners)?;
+        Ok(HostLink {
+            rt,
+            routes,
+            ways,
+            own,
+            heard: None,
+            recv_faults: 0,
+            send_faults: 0,
+        })
+    }
+}
+
+impl<R: Wait> HostLink<'_, R> {
+    /// Notes that this link heard a peer, where there are more addresses than one. Where memory
+    /// lacks it is not remembered.
+    fn hear(&mut self, peer: Peer)
+        ensures received { self.new.recv_faults ≡ self.old.recv_faults }
+        ensures sent { self.new.send_faults ≡ self.old.send_faults }
+    {
+        self.heard = Some(peer);
+        if self.ways.len() > 1 {
+            let _ = self.routes.lock(self.rt).hear(peer, self.own);
+        }
+    }
+
+    /// The place of the address by which a peer is sent to: that of this link where its last
+    /// receive heard the peer, else the one at which the peer was heard last, or the first of its
+    /// family.
+    fn place_to(&self, peer: Peer) -> usize
+        ensures within { result < length self.now.ways.items }
+        ensures own { self.now.heard ≡ Some peer → result ≡ self.now.own }
+    {
+        if self.ways.len() == 1 || self.heard == Some(peer) {
+            return self.own;
+        }
+        let place = self.routes.lock(self.rt).place_of(peer);
+        match place {
+            Some(place) if place < self.ways.len() => place,
+            _ => place_alike(self.ways.as_slice(), peer),
+        }
+    }
+}
+
+impl<R: Wait> Link for HostLink<'_, R> {
+    ghost coming = { λ _. None };
+
+    ghost gone = { λ _. None };
+
+    ghost recv_faults = { λ l. l.recv_faults };
+
+    ghost send_faults = { λ l. l.send_faults };
+
+    fn recv(&mut self, into: &mut [u8]) -> Came {
+        self.heard = None;
+        match self.ways[self.own].link.recv(into) {
+            Came::Datagram(peer, length) => {
+                let peer = Peer {
+                    host: plain(peer.host),
+                    port: peer.port,
+                };
+                self.hear(peer);
+                Came::Datagram(peer, length)
+            }
+            Came::Failed => {
+                self.recv_faults = self.recv_faults.saturating_add(1);
+                Came::Failed
+            }
+            came => came,
+        }
+    }
+
+    fn send(&mut self, peer: Peer, piece: &[u8]) -> Went {
+        let place = self.place_to(peer);
+        match self.ways[place].send(peer, piece) {
+            Went::Sent => Went::Sent,
+            Went::Failed => {
+                self.send_faults = self.send_faults.saturating_add(1);
+                Went::Failed
+            }
+        }
+    }
+}

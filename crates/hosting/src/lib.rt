@@ -1,0 +1,20 @@
+//! What a program that serves on a network of its operator needs beside the server: its words, and
+//! links over several sockets, by which each peer is answered from the address that it asked.
+#![tactic(auto)]
+
+mod about;
+mod host_links;
+mod listeners;
+mod mapped;
+mod options;
+mod plans;
+mod routes;
+#[cfg(test)]
+mod tests;
+mod wanted;
+
+pub use host_links::HostLink;
+pub use listeners::Listener;
+pub use plans::{HostPlan, host_words};
+pub use routes::Routes;
+pub use wanted::{HostFault, Wanted};

@@ -1,0 +1,203 @@
+//! The words of the command line of `rd_host`, and what they ask to be served.
+ghost use Rattle.std.specs.Prelude.{◌≡◌, ◌≤◌, ◌*◌, IfOk, IfSome, length, map};
+ghost use Rattle.std.specs.String.{string_bytes};
+ghost use Rattle.hosting.specs.Words as spec;
+ghost use Rattle.hosting.specs.Words.{IsAsked, IsOption, IsPlan, IsRead, IsWanted};
+
+use crate::options::{HostOption, MAX_ENDS, MAX_TURNS, first_option};
+use crate::wanted::{HostFault, Wanted};
+use rd_base::{List, Peer};
+use std::alloc::Global;
+
+/// What the words of `rd_host` ask to be served.
+#[derive(Debug, Drop)]
+pub struct HostPlan {
+    /// The addresses to listen at, in the order in which they are said; one at least.
+    pub listen: List<Peer>,
+    /// How many workers each address has: one at least, and 16 at most of all addresses.
+    pub workers: u8,
+    /// How many receives each worker makes, from 1 to 10^12: so many where nothing is said.
+    pub turns: u64,
+}
+
+impl HostPlan {
+    /// How many ends a server of it has: each address as many as it has workers.
+    #[tactic(auto, using(crate::proofs::EndLaws::few_ends, crate::proofs::EndLaws::some_ends))]
+    pub fn ends(&self) -> usize
+        requires { IsPlan self.now }
+        ensures value { result ≡ self.now.workers * length self.now.listen }
+        ensures some { 1 ≤ result }
+        ensures most { result ≤ 16 }
+    {
+        usize::from(self.workers) * self.listen.len()
+    }
+}
+
+/// What words ask for, as far as they were read.
+#[derive(Debug, Drop)]
+pub(crate) struct HostAsked {
+    /// The addresses that are said.
+    pub(crate) listen: List<Peer>,
+    /// How many workers each address has, where it is said.
+    pub(crate) workers: Option<u8>,
+    /// How many turns each worker has, where it is said.
+    pub(crate) turns: Option<u64>,
+}
+
+impl HostAsked {
+    /// With an address more.
+    fn with_address(self, address: Peer) -> Result<HostAsked, HostFault>
+        requires { IsAsked self }
+        ensures read { IsRead (spec.asked_with self (HostOption.Listen address)) result }
+        ensures within { IfOk result IsAsked }
+    {
+        let HostAsked {
+            mut listen,
+            workers,
+            turns,
+        } = self;
+        if listen.push(address).is_err() {
+            return Err(HostFault::Starved);
+        }
+        Ok(HostAsked {
+            listen,
+            workers,
+            turns,
+        })
+    }
+
+    /// With the number of workers, where it was not said.
+    fn with_workers(self, workers: u8) -> Result<HostAsked, HostFault>
+        requires asked { IsAsked self }
+        requires option { IsOption (HostOption.Workers workers) }
+        ensures read { IsRead (spec.asked_with self (HostOption.Workers workers)) result }
+        ensures within { IfOk result IsAsked }
+    {
+        if self.workers.is_some() {
+            return Err(HostFault::Usage);
+        }
+        Ok(HostAsked {
+            workers: Some(workers),
+            ..self
+        })
+    }
+
+    /// With the number of turns, where it was not said.
+    fn with_turns(self, turns: u64) -> Result<HostAsked, HostFault>
+        requires asked { IsAsked self }
+        requires option { IsOption (HostOption.Turns turns) }
+        ensures read { IsRead (spec.asked_with self (HostOption.Turns turns)) result }
+        ensures within { IfOk result IsAsked }
+    {
+        if self.turns.is_some() {
+            return Err(HostFault::Usage);
+        }
+        Ok(HostAsked {
+            turns: Some(turns),
+            ..self
+        })
+    }
+
+    /// With an option more.
+    fn with(self, option: HostOption) -> Result<HostAsked, HostFault>
+        requires asked { IsAsked self }
+        requires option { IsOption option }
+        ensures read { IsRead (spec.asked_with self option) result }
+        ensures within { IfOk result IsAsked }
+    {
+        match option {
+            HostOption::Listen(address) => self.with_address(address),
+            HostOption::Workers(workers) => self.with_workers(workers),
+            HostOption::Turns(turns) => self.with_turns(turns),
+        }
+    }
+
+    /// The plan, with what is said by default; none where there is no address, or are too many
+    /// ends.
+    fn plan(self) -> Option<HostPlan>
+        requires { IsAsked self }
+        ensures value { result ≡ spec.plan_of self }
+        ensures within { IfSome result IsPlan }
+    {
+        let addresses = self.listen.len() as u64;
+        if addresses == 0 {
+            return None;
+        }
+        let most = (MAX_ENDS / addresses) as u8;
+        let workers = self.workers.unwrap_or(most.min(4));
+        if workers == 0 || most < workers {
+            return None;
+        }
+        Some(HostPlan {
+            listen: self.listen,
+            workers,
+            turns: self.turns.unwrap_or(MAX_TURNS),
+        })
+    }
+}
+
+/// What words ask for.
+fn words_ask(alloc: Global, words: &[String]) -> Result<HostAsked, HostFault>
+    ensures read { IsRead (spec.asked_by spec.nothing_asked (map string_bytes words.now)) result }
+    ensures within { IfOk result IsAsked }
+{
+    let mut asked = HostAsked {
+        listen: List::new(alloc),
+        workers: None,
+        turns: None,
+    };
+    let mut left = words;
+    'words: while let Some((word, rest)) = left.split_first() {
+        let Some((option, behind)) = first_option(word.as_bytes(), rest) else {
+            return Err(HostFault::Usage);
+        };
+        asked = match asked.with(option) {
+            Ok(more) => more,
+            Err(fault) => return Err(fault),
+        };
+        left = behind;
+    }
+    Ok(asked)
+}
+
+/// The question about the program that words ask: one of `--help`, `-h`, `--version` and `-V`,
+/// alone.
+fn question_of(words: &[String]) -> Option<Wanted>
+    ensures { result ≡ spec.question_of (map string_bytes words.now) }
+{
+    let (word, rest) = words.split_first()?;
+    if !rest.is_empty() {
+        return None;
+    }
+    let word = word.as_bytes();
+    if word == b"--help".as_slice() || word == b"-h".as_slice() {
+        return Some(Wanted::Help);
+    }
+    if word == b"--version".as_slice() || word == b"-V".as_slice() {
+        return Some(Wanted::Version);
+    }
+    None
+}
+
+/// What the words of `rd_host` want: `--listen` with an address and its port, once at least,
+/// `--workers` with a number from 1 on, by which there are 16 ends at most, and `--turns` with one
+/// from 1 to 10^12, these two once at most, in any order, as two words or joined by `=`; or a
+/// question about the program alone.
+///
+/// `Usage`: they are others. `Starved`: out of memory.
+pub fn host_words(alloc: Global, words: &[String]) -> Result<Wanted, HostFault>
+    ensures read { IsRead (spec.wanted_of (map string_bytes words.now)) result }
+    ensures within { IfOk result IsWanted }
+{
+    if let Some(question) = question_of(words) {
+        return Ok(question);
+    }
+    let asked = match words_ask(alloc, words) {
+        Ok(asked) => asked,
+        Err(fault) => return Err(fault),
+    };
+    match asked.plan() {
+        Some(plan) => Ok(Wanted::Serve(plan)),
+        None => Err(HostFault::Usage),
+    }
+}

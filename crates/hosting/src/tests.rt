@@ -1,0 +1,4 @@
+//! Tests of the words, and of links over loopback.
+
+mod links;
+mod words;

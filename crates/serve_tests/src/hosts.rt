@@ -1,0 +1,84 @@
+//! A server at two addresses, one of IPv4 and one of IPv6, in one process.
+use crate::loopback::is_answered;
+use crate::requests::{CREATED, REGISTRATION, sink_of};
+use hosting::{HostLink, Listener, Routes};
+use rd_base::{Host, Peer};
+use rd_seat::OpenGate;
+use rd_server::{End, ServeStatus, serve};
+use std::hash::RandomState;
+use std::net::UdpSocket;
+use std::sync::Mutex;
+use std::test::Fail;
+use std::time::Duration;
+use std::{io, thread};
+use udp_link::UdpClock;
+
+/// The address 127.0.0.1, where the system chooses the port.
+const LOOPBACK_V4: Peer = Peer {
+    host: Host::V4([127, 0, 0, 1]),
+    port: 0,
+};
+
+/// The address ::1, where the system chooses the port.
+const LOOPBACK_V6: Peer = Peer {
+    host: Host::V6([0, 0, 0, 0, 0, 0, 0, 1]),
+    port: 0,
+};
+
+/// An observed lookup of what is registered then (RFC 7641 section 2).
+const OBSERVATION: &[u8] = b"\x41\x01\x00\x03\xb3\x60\x59rd-lookup\x03res\x4crt=light-lux";
+
+/// The beginning of its answer.
+const OBSERVED: &[u8] = b"\x61\x45\x00\x03\xb3";
+
+/// A client of a listener, which hears nothing from another address.
+fn client_of(rt: &HostRuntime, at: &str, listener: &Listener) -> Result<UdpSocket, Fail> {
+    let client = UdpSocket::bind(rt, at)?;
+    client.connect(listener.local_addr()?)?;
+    client.set_read_timeout(Some(Duration::from_secs(10)))?;
+    Ok(client)
+}
+
+/// Whether what comes next is a notice under the token of the observation.
+fn is_told(observer: &UdpSocket) -> io::Result<bool> {
+    let mut room = [0u8; 1280];
+    let n = observer.recv(&mut room)?;
+    Ok(5 <= n && room.starts_with(b"\x41\x45") && room[4] == 0xb3)
+}
+
+/// One observes, the other registers what is observed, and the first is told: whether all that
+/// comes.
+fn observes(observer: &UdpSocket, device: &UdpSocket) -> io::Result<bool> {
+    Ok(
+        is_answered(observer, OBSERVATION, OBSERVED)?
+            && is_answered(device, REGISTRATION, CREATED)?
+            && is_told(observer)?,
+    )
+}
+
+#[test]
+fn who_asked_one_address_is_told_from_there(rt: HostRuntime) -> Result<(), Fail> {
+    let listeners = [
+        Listener::bind(&rt, rt.alloc(), LOOPBACK_V4)?,
+        Listener::bind(&rt, rt.alloc(), LOOPBACK_V6)?,
+    ];
+    let observer = client_of(&rt, "127.0.0.1:0", &listeners[0])?;
+    let device = client_of(&rt, "[::1]:0", &listeners[1])?;
+    let routes = Mutex::new(Routes::new(rt.alloc(), RandomState::new(&rt)?)?);
+    let first = HostLink::over(&rt, rt.alloc(), &routes, &listeners, 0)?;
+    let second = HostLink::over(&rt, rt.alloc(), &routes, &listeners, 1)?;
+    let mut ends = [
+        End::of(first, UdpClock::new(&rt)),
+        End::of(second, UdpClock::new(&rt)),
+    ];
+    let mut out = sink_of(rt.alloc(), b"")?;
+    let (status, observed) = thread::join(
+        &rt,
+        || serve(&rt, &mut ends, &OpenGate, 20, &mut out),
+        || observes(&observer, &device),
+    );
+    assert_eq!(rt; status, ServeStatus::Done);
+    assert!(rt; observed?);
+    assert_eq!(rt; out.as_slice(), b"served 2 3 0\n".as_slice());
+    Ok(())
+}
