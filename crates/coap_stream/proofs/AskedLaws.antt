@@ -1,5 +1,16 @@
 -- What a conversation hands to the seat is what the octets of its connection say.
-use Rattle.std.proofs.Common.{◌≡◌, ℕ, ◌+◌, ◌<◌, ◌≤◌, ◌==◌, List, [], ◌∷◌, ◌++◌}
+use Rattle.std.proofs.Common.{
+  ◌≡◌,
+  ℕ,
+  ◌+◌,
+  ◌<◌,
+  ◌≤◌,
+  ◌==◌,
+  List,
+  [],
+  ◌∷◌,
+  ◌++◌,
+}
 use Rattle.std.proofs.Common.{Option, Some, None, Result, Ok, Err}
 use Rattle.std.proofs.Common.{refl, sym, ap, subst, ◌∙◌, append_assoc, append-nil, arith}
 use Rattle.std.specs.Prelude.{reverse, IfOk, IfSome}
@@ -28,7 +39,8 @@ use Rattle.coap_stream.proofs.TalkLaws.{asks_few, not_spent}
 
 -- ---- no more than there are numbers
 
-below_most : (es : List Exchange) → asked_of es ≤ 65536 → ended_by es ≡ None → asked_of es < 65536
+below_most : (es : List Exchange) → asked_of es ≤ 65536 → ended_by es ≡ None
+    → asked_of es < 65536
 below_most [] few open_still = omega arith
 below_most (e ∷ es) few open_still =
     let other : asked_of (e ∷ es) ≡ 65536 → ⊥ =
@@ -38,7 +50,8 @@ below_most (e ∷ es) few open_still =
     less : (n : ℕ) → n ≤ 65536 → (n ≡ 65536 → ⊥) → n < 65536
     less n few other = omega (arith, few, other)
 
-pub asked_most : (peer : Peer) (es : List Exchange) → AreAnswered peer es → asked_of es ≤ 65536
+pub asked_most : (peer : Peer) (es : List Exchange) → AreAnswered peer es
+    → asked_of es ≤ 65536
 asked_most peer [] answered = omega arith
 asked_most peer (e ∷ es) answered =
     let before = below_most es (asked_most peer es answered.0) answered.1 in
@@ -137,7 +150,8 @@ talk_counts peer before after t octets talks told =
     es : List Exchange
     es = talks.exchanges
 
-    whole : (rest : List ℕ) × (after.source.left ≡ Some rest) × (octets ≡ talks.taken ++ rest)
+    whole : (rest : List ℕ) × (after.source.left ≡ Some rest)
+        × (octets ≡ talks.taken ++ rest)
     whole = whole_octets after.source.left talks.taken octets
         (subst (λ (o : Option (List ℕ)). Consumes o after.source.left talks.taken) told
         talks.read)

@@ -1,5 +1,18 @@
 -- Calls of a conversation, one after the other.
-use Rattle.std.proofs.Common.{◌≡◌, ℕ, ◌%◌, ◌==◌, Bool, List, [], refl, sym, ap, ◌∙◌, subst}
+use Rattle.std.proofs.Common.{
+  ◌≡◌,
+  ℕ,
+  ◌%◌,
+  ◌==◌,
+  Bool,
+  List,
+  [],
+  refl,
+  sym,
+  ap,
+  ◌∙◌,
+  subst,
+}
 use Rattle.std.proofs.lemmas.Bool.{ne_eqb}
 use Rattle.rd_seat.specs.Callers.{Ticks, TicksWhere}
 use Rattle.udp_link.specs.Links.{Datagram}

@@ -1,5 +1,16 @@
 -- What is answered to messages of a few octets, computed (RFC 8323 sections 3.2, 5.3 to 5.6).
-use Rattle.std.specs.Prelude.{◌≡◌, ℕ, List, [], ◌∷◌, ◌++◌, Some, None, codes, refl}
+use Rattle.std.specs.Prelude.{
+  ◌≡◌,
+  ℕ,
+  List,
+  [],
+  ◌∷◌,
+  ◌++◌,
+  Some,
+  None,
+  codes,
+  refl,
+}
 use Rattle.message_model.specs.declared.messages.Kind4.TheVariants.{Con, Ack}
 use Rattle.message_model.specs.declared.requests.Refusal.TheVariants as refusal
 use Rattle.message_model.specs.Codes as code_named

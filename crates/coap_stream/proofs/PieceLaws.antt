@@ -1,5 +1,17 @@
 -- A conversation, piece by piece, to its end.
-use Rattle.std.proofs.Common.{◌≡◌, ℕ, zero, suc, ◌<◌, ◌≤◌, Bool, true, false, List, []}
+use Rattle.std.proofs.Common.{
+  ◌≡◌,
+  ℕ,
+  zero,
+  suc,
+  ◌<◌,
+  ◌≤◌,
+  Bool,
+  true,
+  false,
+  List,
+  [],
+}
 use Rattle.std.proofs.Common.{◌++◌, length, take, Option, Some, None, Result, Ok, Err}
 use Rattle.std.proofs.Common.{refl, sym, ap, subst, ◌∙◌, append_assoc, append-nil, arith}
 use Rattle.std.specs.Prelude.{reverse}
@@ -60,7 +72,8 @@ begins_answering peer before spoken speaks = record {
   shown = tt;
   answered = tt;
   made = CallsMade-none as_they_came before.caller;
-  written = subst (λ (l : List ℕ). Speaks (voice_of true before) l spoken) (sym (append-nil opening)) speaks;
+  written = subst (λ (l : List ℕ). Speaks (voice_of true before) l spoken)
+      (sym (append-nil opening)) speaks;
   asked = refl;
   dropped = refl;
 }
@@ -324,7 +337,8 @@ talk_unread peer before now source counts held r keeps least rose = record {
 }
 
 -- Memory ran out before anything was done.
-pub talk_starves : (peer : Peer) (before : TalkSeen) → Talks peer before before (Err fault.Starved)
+pub talk_starves : (peer : Peer) (before : TalkSeen)
+    → Talks peer before before (Err fault.Starved)
 talk_starves peer before = record {
   taken = [];
   read = Consumes-nil before.source.left;
@@ -370,7 +384,8 @@ unbegun_as peer before spoken still speaks is fails =
     (talk_unbegun peer before spoken
     (subst (λ (b : Bool). Speaks (voice_of b before) opening spoken) is speaks) fails)
 
-pub beginning_empty : (held : Held) → held ≡ at_beginning → stream_after held [] ≡ partial []
+pub beginning_empty : (held : Held) → held ≡ at_beginning
+    → stream_after held [] ≡ partial []
 unfolding judge stream_from
 beginning_empty held new =
     subst (λ (h : Held). stream_after h [] ≡ partial []) (sym new) refl

@@ -90,7 +90,8 @@ name_ends query i ends so_far =
     let all : take i query ≡ query = take_all i query (omega (arith, ends)) in
     let none : option_name (drop i query) ≡ [] =
     ap option_name (ap (λ (n : ℕ). drop n query) ends ∙ drop-length query) in
-    sym (so_far ∙ ap (λ (l : List ℕ). take i query ++ l) none ∙ append-nil (take i query) ∙ all)
+    sym (so_far ∙ ap (λ (l : List ℕ). take i query ++ l) none ∙ append-nil (take i query)
+    ∙ all)
 
 -- ---- refusals
 

@@ -80,7 +80,8 @@ unfolding message_fault
 message_none is_first c tail e = by _ (is_other_code c) e
   where
     by : (p q : Bool)
-        → cond p (Some bad.First) (cond q (Some bad.Code) (tail_fault c (tail_at 0 tail))) ≡ None
+        → cond p (Some bad.First) (cond q (Some bad.Code) (tail_fault c (tail_at 0 tail)))
+        ≡ None
         → (t : Tail) × (tail_at 0 tail ≡ Some t)
     by true q e = absurd cc
     by false true e = absurd cc
@@ -117,7 +118,8 @@ good_fits is_first octets s good shown =
       fits = omega (arith, lengths.1, size, whole);
     })
 
-pub good_request : (s : Shown) → FitsDatagram s → is_request_code s.code ≡ true → IsRequest s
+pub good_request : (s : Shown) → FitsDatagram s → is_request_code s.code ≡ true
+    → IsRequest s
 good_request s f is =
     record { code = is; token = f.token; options = f.options; fits = f.fits }
 

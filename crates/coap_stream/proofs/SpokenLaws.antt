@@ -60,5 +60,6 @@ frame_put f tail a b c d e size fa fb fc fd fe =
     length-append f.options.now payload ∙ sym size in
     fe
     ∙ ap (λ (l : List ℕ). l ++ payload) (fd ∙ ap (λ (l : List ℕ). l ++ f.options.now)
-    (fc ∙ ap (λ (l : List ℕ). l ++ f.token.now) (fb ∙ ap (λ (l : List ℕ). l ++ f.code ∷ []) fa)))
+    (fc ∙ ap (λ (l : List ℕ). l ++ f.token.now)
+    (fb ∙ ap (λ (l : List ℕ). l ++ f.code ∷ []) fa)))
     ∙ rw whole (simp append_assoc)

@@ -1,5 +1,16 @@
 -- A conversation, message by message.
-use Rattle.std.proofs.Common.{◌≡◌, ℕ, ◌+◌, ◌*◌, ◌<◌, ◌≤◌, ◌==◌, Bool, true, false}
+use Rattle.std.proofs.Common.{
+  ◌≡◌,
+  ℕ,
+  ◌+◌,
+  ◌*◌,
+  ◌<◌,
+  ◌≤◌,
+  ◌==◌,
+  Bool,
+  true,
+  false,
+}
 use Rattle.std.proofs.Common.{List, [], ◌∷◌, ◌++◌, length, drop, Option, Some, None}
 use Rattle.std.proofs.Common.{refl, sym, ap, subst, ◌∙◌, append_assoc, append-nil, arith}
 use Rattle.std.specs.Prelude.{reverse}
@@ -168,7 +179,8 @@ answered_more peer before now after spoken counts counted end taken messages es 
             ∙ ap (λ (n : ℕ). n + e.dropped) r.dropped;
       };
       ended =
-          ap (λ (s : Shown). end_by (ends_by (meant_by s.code)) (asked_of (e ∷ es) == most_asked))
+          ap (λ (s : Shown).
+          end_by (ends_by (meant_by s.code)) (asked_of (e ∷ es) == most_asked))
           was.done.same
           ∙ ap (λ (n : ℕ). end_by (ends_by (meant_by was.shown.code)) (n == most_asked))
           (sym asked)
@@ -200,7 +212,8 @@ stream_more taken messages held next rest n stream goes further =
     ∙ messages_more messages next.pending (stream_after next (drop n rest ++ further))
 
 are_first : (taken : List ℕ) (messages : List (List ℕ)) (s : List ℕ → Stream)
-    → ((further : List ℕ) → stream_of (taken ++ further) ≡ with_messages messages (s further))
+    → ((further : List ℕ)
+    → stream_of (taken ++ further) ≡ with_messages messages (s further))
     → (further : List ℕ) → AreFirst messages (stream_of (taken ++ further))
 are_first taken messages s stream further = record {
   more = (s further).messages;

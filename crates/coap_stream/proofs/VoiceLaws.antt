@@ -167,7 +167,8 @@ behind_header : (m : Message) (d : List ℕ) → spelling m ≡ d → drop 4 d �
 unfolding spelling header_spelling
 behind_header m d spelled = ap (drop 4) (sym spelled)
 
-header_size : (m : Message) (d : List ℕ) → spelling m ≡ d → length d ≡ 4 + length (body_of m)
+header_size : (m : Message) (d : List ℕ) → spelling m ≡ d
+    → length d ≡ 4 + length (body_of m)
 unfolding spelling header_spelling
 header_size m d spelled = ap (λ (l : List ℕ). length l) (sym spelled) ∙ omega arith
 
@@ -186,7 +187,8 @@ carried_put m d body octets spelled is put =
     (let whole = ap (λ (l : List ℕ). length l) behind ∙ length-append m.token tail in
     omega (arith, whole)) in
     put
-    ∙ ap (λ (n : ℕ). ((nibble_of n * 16 + length m.token) ∷ extension_of n) ++ (m.code ∷ body))
+    ∙ ap (λ (n : ℕ). ((nibble_of n * 16 + length m.token) ∷ extension_of n)
+    ++ (m.code ∷ body))
     size
     ∙ ap (λ (l : List ℕ). ((nibble_of (length tail) * 16 + length m.token)
     ∷ extension_of (length tail)) ++ (m.code ∷ l)) behind

@@ -1,4 +1,5 @@
--- The calls that a conversation makes on its seat, and what came out of each. The last stands first.
+-- The calls that a conversation makes on its seat, and what came out of each. The last stands
+-- first.
 use Rattle.std.specs.Prelude.{List, [], ◌∷◌, ◌++◌}
 use Rattle.udp_link.specs.Links.{Datagram}
 use Rattle.rd_seat.specs.Seats.{SeatSeen}

@@ -1,5 +1,17 @@
 -- How a conversation ends, and what it did until then (RFC 8323 sections 3.3 and 5).
-use Rattle.std.specs.Prelude.{◌≡◌, ℕ, ◌<◌, ◌≤◌, List, [], ◌∷◌, ◌++◌, length, reverse, take}
+use Rattle.std.specs.Prelude.{
+  ◌≡◌,
+  ℕ,
+  ◌<◌,
+  ◌≤◌,
+  List,
+  [],
+  ◌∷◌,
+  ◌++◌,
+  length,
+  reverse,
+  take,
+}
 use Rattle.std.specs.Prelude.{Option, Some, None, Result, Ok, Err, ⊤}
 use Rattle.std.specs.Io.KnownBytes.{Appends, Consumes, IsAtEnd}
 use Rattle.rd_base.specs.declared.peers.Peer.{Peer}
@@ -61,7 +73,8 @@ talk_seen k c source seat out clock = record {
 -- These octets, the last first, are those of the messages.
 abbrev pub AreShown : List (List ℕ) → List Exchange → Type 0
 AreShown [] [] = ⊤
-AreShown (octets ∷ earlier) (e ∷ es) = (shown_in octets ≡ Some e.message) × AreShown earlier es
+AreShown (octets ∷ earlier) (e ∷ es) = (shown_in octets ≡ Some e.message)
+    × AreShown earlier es
 AreShown [] (e ∷ es) = ⊥
 AreShown (octets ∷ earlier) [] = ⊥
 
@@ -78,7 +91,8 @@ pub record AreAll (messages : List (List ℕ)) (why : Option StreamBad) (s : Str
 -- How it ended, by the octets that were read, the messages in them that were answered, and what is
 -- left to be read: between two messages or within one at the end of the source, at a bad one,
 -- whatever follows it, or with what its last message says.
-abbrev pub EndsSo : TalkEnd → List ℕ → List (List ℕ) → List Exchange → Option (List ℕ) → Type 0
+abbrev pub EndsSo : TalkEnd → List ℕ → List (List ℕ) → List Exchange → Option (List ℕ)
+    → Type 0
 EndsSo end_as.Closed taken messages es left =
     AreAll messages None (stream_of taken)
     × ((stream_of taken).rest ≡ [])

@@ -1,5 +1,17 @@
 -- What the calls of a conversation do: to its seat, with what its clock gives, and to its output.
-use Rattle.std.specs.Prelude.{◌≡◌, ◌%◌, ◌==◌, ◌≤◌, ℕ, Bool, true, false, List, ◌++◌, length}
+use Rattle.std.specs.Prelude.{
+  ◌≡◌,
+  ◌%◌,
+  ◌==◌,
+  ◌≤◌,
+  ℕ,
+  Bool,
+  true,
+  false,
+  List,
+  ◌++◌,
+  length,
+}
 use Rattle.std.specs.Prelude.{take, Option}
 use Rattle.std.specs.Io.KnownBytes.{Appends}
 use Rattle.rd_base.specs.Outside.{Rose}

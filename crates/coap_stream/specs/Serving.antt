@@ -34,7 +34,8 @@ use Rattle.coap_stream.specs.Endings.{TalkSeen, Talks}
 abbrev pub Opens : {S K : Type 0} → (S → Option (List ℕ)) → Option (List Datagram)
     → Option (List Datagram) → Opened S K → Type 0
 Opens left before now (opened.One peer source sink) = WhereTold
-    (λ old new. (octets : List ℕ) × (old ≡ (peer, octets) ∷ new) × (left source ≡ Some octets))
+    (λ old new. (octets : List ℕ) × (old ≡ (peer, octets) ∷ new)
+    × (left source ≡ Some octets))
     before now
 Opens left before now opened.Failed = Stays before now
 
@@ -182,7 +183,8 @@ talked_line count asked =
 
 -- What is answered, by what it came to: the line is written, or a front of it where the count of
 -- the output's faults rose.
-abbrev pub Concludes : ℕ → Result ℕ StreamsFault → Option (List ℕ) → Option (List ℕ) → ℕ → ℕ
+abbrev pub Concludes : ℕ → Result ℕ StreamsFault → Option (List ℕ) → Option (List ℕ)
+    → ℕ → ℕ
     → StreamsStatus → Type 0
 Concludes count (Ok asked) old new faults faults_then status.Done =
     IsPut old new faults faults_then (talked_line count asked) true
@@ -232,8 +234,10 @@ pub record ServesBySeat (sure : Type 0) (count : ℕ) (before after : ClockSeen)
       result
 
 -- That, or memory ran out before the first was opened.
-abbrev pub ServesStreams : Type 0 → ℕ → ClockSeen → ClockSeen → DoorSeen → DoorSeen → OutSeen
+abbrev pub ServesStreams : Type 0 → ℕ → ClockSeen → ClockSeen → DoorSeen → DoorSeen
+    → OutSeen
     → OutSeen → StreamsStatus → Type 0
 ServesStreams sure count before after door door_then out out_then result =
     ServesBySeat sure count before after door door_then out out_then result
-    ⊎ (result ≡ status.Memory) × (after ≡ before) × (door_then ≡ door) × (out_then ≡ out)
+    ⊎ (result ≡ status.Memory) × (after ≡ before) × (door_then ≡ door)
+    × (out_then ≡ out)

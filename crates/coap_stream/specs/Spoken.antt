@@ -36,7 +36,8 @@ pub record FitsRoom (f : Frame) : Type 0 where
   pub tail : length f.token.now + length f.options.now + length f.payload.now ≤ 1276
 
 -- All octets were written, or a front of them where the count of the output's faults rose.
-abbrev pub IsPut : Option (List ℕ) → Option (List ℕ) → ℕ → ℕ → List ℕ → Bool → Type 0
+abbrev pub IsPut : Option (List ℕ) → Option (List ℕ) → ℕ → ℕ → List ℕ → Bool
+    → Type 0
 IsPut before now faults faults_then octets true =
     Appends before now octets × (faults_then ≡ faults)
 IsPut before now faults faults_then octets false =

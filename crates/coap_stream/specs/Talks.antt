@@ -1,6 +1,19 @@
 -- What a conversation answers: each message of a connection with the calls that it led to and the
 -- octets that were written for it (RFC 8323 sections 3.3, 3.4 and 5).
-use Rattle.std.specs.Prelude.{◌≡◌, ℕ, ◌+◌, ◌%◌, ◌==◌, Bool, true, false, List, [], ◌∷◌, ◌++◌}
+use Rattle.std.specs.Prelude.{
+  ◌≡◌,
+  ℕ,
+  ◌+◌,
+  ◌%◌,
+  ◌==◌,
+  Bool,
+  true,
+  false,
+  List,
+  [],
+  ◌∷◌,
+  ◌++◌,
+}
 use Rattle.std.specs.Prelude.{length, Option, Some, None, Result, Ok, Err, nat_lt}
 use Rattle.std.specs.Prelude.{if◌then◌else◌, ⊤}
 use Rattle.rd_base.specs.declared.peers.Peer.{Peer}

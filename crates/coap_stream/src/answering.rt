@@ -85,7 +85,8 @@ fn answer_heard<R: Wait, K: Sink, C: Clock, G: Gate>(
     requires few { tally.old.asked < 65_536 }
     requires room { tally.old.dropped ≤ 10 ^ 17 }
     requires token { length frame.now.token.now ≤ 8 }
-    requires spelled { datagram.now ≡ spelling (heard_as tally.old.asked (frame_shown frame.now)) }
+    requires spelled { datagram.now
+        ≡ spelling (heard_as tally.old.asked (frame_shown frame.now)) }
     requires read { reading datagram.now
         ≡ Ok (heard_as tally.old.asked (frame_shown frame.now)) }
     ensures hall { seat.new.hall ≡ seat.old.hall }

@@ -1,6 +1,7 @@
 //! Calls of the seat of a conversation: the clock is asked, the seat is called, and the replies
 //! are written.
-ghost use Rattle.std.specs.Prelude.{◌≡◌, ◌+◌, ◌≤◌, ◌<◌, ◌^◌, ℕ, List, ◌∷◌, [], IfSome, length};
+ghost use Rattle.std.specs.Prelude.{◌≡◌, ◌+◌, ◌≤◌, ◌<◌, ◌^◌, ℕ};
+ghost use Rattle.std.specs.Prelude.{List, ◌∷◌, [], IfSome, length};
 ghost use Rattle.std.specs.Prelude.{option_map};
 ghost use Rattle.journal_model.specs.declared.steps.StepKind.TheVariants as step;
 ghost use Rattle.coap_answers.specs.Outboxes.{most_datagrams};

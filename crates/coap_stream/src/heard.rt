@@ -1,5 +1,6 @@
 //! Requests of a connection, as a seat hears them.
-ghost use Rattle.std.specs.Prelude.{◌≡◌, ◌+◌, ◌<◌, ◌≤◌, ◌∷◌, [], filter, length};
+ghost use Rattle.std.specs.Prelude.{◌≡◌, ◌+◌, ◌<◌, ◌≤◌};
+ghost use Rattle.std.specs.Prelude.{◌∷◌, [], filter, length};
 ghost use Rattle.message_model.specs.Codes as codes_of;
 ghost use Rattle.message_model.specs.Message.{AreOptionsAfter, end_number};
 ghost use Rattle.message_model.specs.Spelling.{options_spelling, spelling};

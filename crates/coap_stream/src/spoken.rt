@@ -1,5 +1,6 @@
 //! Messages that are written to a connection.
-ghost use Rattle.std.specs.Prelude.{◌≡◌, ◌+◌, ◌*◌, ◌<◌, ◌≤◌, ◌∷◌, ◌++◌, length, take};
+ghost use Rattle.std.specs.Prelude.{◌≡◌, ◌+◌, ◌*◌, ◌<◌, ◌≤◌};
+ghost use Rattle.std.specs.Prelude.{◌∷◌, ◌++◌, length, take};
 ghost use Rattle.message_model.specs.Spelling.{payload_spelling};
 ghost use Rattle.stream_model.specs.Messages as messages;
 ghost use Rattle.coap_stream.specs.Spoken.{FitsRoom, IsPut, frame_spelling};

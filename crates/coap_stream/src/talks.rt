@@ -1,5 +1,6 @@
 //! Conversations: the messages of a connection, answered one after the other.
-ghost use Rattle.std.specs.Prelude.{◌≡◌, ◌≤◌, ◌<◌, ◌*◌, ◌==◌, true, None, [], length};
+ghost use Rattle.std.specs.Prelude.{◌≡◌, ◌≤◌, ◌<◌, ◌*◌, ◌==◌};
+ghost use Rattle.std.specs.Prelude.{true, None, [], length};
 ghost use Rattle.std.specs.Prelude.{IfOk, IfSome};
 ghost use Rattle.stream_model.specs.Streams.{IsGood};
 ghost use Rattle.stream_reader.specs.Shown.{message_of};

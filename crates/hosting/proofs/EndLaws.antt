@@ -6,5 +6,6 @@ pub few_ends : (addresses workers : ℕ) → 1 ≤ addresses → workers ≤ 16 
     → workers * addresses ≤ 16
 few_ends addresses workers some most = (le-div_iff_mul-le some).0 most
 
-pub some_ends : (addresses workers : ℕ) → 1 ≤ addresses → 1 ≤ workers → 1 ≤ workers * addresses
+pub some_ends : (addresses workers : ℕ) → 1 ≤ addresses → 1 ≤ workers
+    → 1 ≤ workers * addresses
 some_ends addresses workers some more = mul-pos more some

@@ -1,4 +1,5 @@
-//! `rd_talks`: shows what a directory answers to stored connections, cut in every way, line by line.
+//! `rd_talks`: shows what a directory answers to stored connections, cut in every way, line by
+//! line.
 //! A line is the name of a call and the octets of connections; headings begin with `#`.
 #![tactic(auto)]
 

@@ -1,4 +1,16 @@
-use Rattle.std.proofs.Common.{◌≡◌, ◌∷◌, [], List, ℕ, Option, refl, sym, ap, subst, ◌∙◌}
+use Rattle.std.proofs.Common.{
+  ◌≡◌,
+  ◌∷◌,
+  [],
+  List,
+  ℕ,
+  Option,
+  refl,
+  sym,
+  ap,
+  subst,
+  ◌∙◌,
+}
 use Rattle.std.specs.Prelude.{option_map}
 use Rattle.rd_desk.specs.declared.jobs.Job.{Job}
 use Rattle.journal_model.specs.Machine as machine

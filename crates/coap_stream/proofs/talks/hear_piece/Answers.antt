@@ -1,4 +1,16 @@
-use Rattle.std.proofs.Common.{◌≡◌, ◌<◌, ◌-◌, Bool, List, ℕ, Option, None, Some, true, false}
+use Rattle.std.proofs.Common.{
+  ◌≡◌,
+  ◌<◌,
+  ◌-◌,
+  Bool,
+  List,
+  ℕ,
+  Option,
+  None,
+  Some,
+  true,
+  false,
+}
 use Rattle.std.proofs.Common.{length, take, drop, sym, subst, ◌∙◌, arith}
 use Rattle.std.proofs.lemmas.List.{take_rest}
 use Rattle.stream_model.specs.Streams.{IsGood}

@@ -1,4 +1,16 @@
-use Rattle.std.proofs.Common.{◌≡◌, ◌<◌, ℕ, List, [], length, take, refl, subst, ◌∙◌, arith}
+use Rattle.std.proofs.Common.{
+  ◌≡◌,
+  ◌<◌,
+  ℕ,
+  List,
+  [],
+  length,
+  take,
+  refl,
+  subst,
+  ◌∙◌,
+  arith,
+}
 use Rattle.std.specs.Io.KnownBytes.{Consumes}
 use Rattle.coap_stream.specs.Made.{VoiceSeen, voice_seen}
 use Rattle.coap_stream.specs.Endings.{SourceSeen, TalkSeen, source_seen, talk_seen}
