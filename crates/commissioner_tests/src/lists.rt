@@ -74,7 +74,10 @@ fn outcomes_stand_in_the_order_of_the_list(rt: HostRuntime) -> Result<(), Fail> 
     };
     let told = told(&rt, APART, outside)?;
     match told.outcomes.as_slice() {
-        [Some(Outcome::Refused(code)), Some(Outcome::Located(location))] => {
+        [
+            Some(Outcome::Refused(code)),
+            Some(Outcome::Located(location)),
+        ] => {
             assert_eq!(rt; *code, 0x80);
             assert_eq!(rt; location.path.as_slice()[1].as_str(), "7");
         }
@@ -97,10 +100,12 @@ fn one_at_a_time_at_one_directory(rt: HostRuntime) -> Result<(), Fail> {
         ],
     };
     let told = told(&rt, TOGETHER, outside)?;
-    assert!(rt; matches!(
-        told.outcomes.as_slice(),
-        [Some(Outcome::GaveUp), Some(Outcome::GaveUp)]
-    ));
+    assert!(rt;
+        matches!(
+            told.outcomes.as_slice(),
+            [Some(Outcome::GaveUp), Some(Outcome::GaveUp)]
+        )
+    );
     assert_eq!(rt; told.link.gone().as_slice().len(), 10);
     assert_eq!(rt; sent(&told.link, 4), Some((true, 0)));
     assert_eq!(rt; sent(&told.link, 5), Some((true, 1)));
@@ -116,10 +121,7 @@ fn a_link_that_fails(rt: HostRuntime) -> Result<(), Fail> {
     };
     let told = told(&rt, TOGETHER, outside)?;
     assert_eq!(rt; told.fault, Some(TellFault::Link));
-    assert!(rt; matches!(
-        told.outcomes.as_slice(),
-        [Some(Outcome::Reset), None]
-    ));
+    assert!(rt; matches!(told.outcomes.as_slice(), [Some(Outcome::Reset), None]));
     assert_eq!(rt; told.link.gone().as_slice().len(), 2);
     Ok(())
 }
