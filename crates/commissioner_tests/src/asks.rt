@@ -1,5 +1,5 @@
 //! The asks of a list.
-ghost use Rattle.std.specs.Prelude.{◌≤◌, IfOk, length};
+ghost use Rattle.std.specs.Prelude.{◌≡◌, IfOk, length};
 ghost use Rattle.std.specs.List.{All};
 ghost use Rattle.client_model.specs.Requests.{CanBeSent};
 

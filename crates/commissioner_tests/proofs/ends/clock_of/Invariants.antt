@@ -1,0 +1,7 @@
+-- The moments so far may be handed in.
+use Rattle.std.specs.List.{All}
+use Rattle.udp_link.specs.Clocks.{IsHandedIn}
+use Rattle.commissioner_tests.proofs.ends.clock_of.Given as goal
+
+abbrev pub invariant-loop-at : goal.invariant-loop-at
+invariant-loop-at l = All IsHandedIn l.moments.items
