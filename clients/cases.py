@@ -12,7 +12,7 @@ from pathlib import Path
 
 from messages import (ACK, BLOCK2, CHANGED, CON, CONTENT, CONTENT_FORMAT, CREATED, EMPTY, GET,
                       LINK_FORMAT, LOCATION_PATH, POST, RST, blocks, content, created, octets,
-                      path, query, received, refused, tags, text_of, uploaded)
+                      path, query, received, refused, replaced, tags, text_of, uploaded)
 
 DISCOVERED_RD = '</rd>;rt="core.rd";ct=40'
 DISCOVERED_LOOKUPS = ('</rd-lookup/ep>;rt="core.rd-lookup-ep";ct=40;obs,'
@@ -255,6 +255,35 @@ def block_wise(run):
     run.ask("that device is not listed", [], "/rd-lookup/ep?ep=long", [content()])
 
 
+def reading_and_replacing(run):
+    run.group("Reading and replacing links (RFC 9176 section 5.3.3)")
+    short, new = ",".join(sensors(12)), '</x>;rt="new",</y>;anchor="/x"'
+    few, listed = "/rd/7", "/rd-lookup/res?ep=few"
+    base = run.base("few")
+    put = ["-m", "put", "-t", "40"]
+    run.ask("what a device registered is read as it was sent", [], few, [content(short)])
+    run.ask("it is read in blocks of 64", ["-b", "64"], few, blocks(short, 64))
+    run.ask("a tool replaces the links", [*put, "-e", new], few, [CHANGED_BARE])
+    came = run.ask("they are read as they were sent", [], few, [content(new)])
+    tag = (tags(came) or ["0x00"])[0]
+    run.ask("asked with their tag, they are valid still", ["-O", f"4,{tag}"], few,
+            [text_of("ACK", "2.03", [f"ETag:{tag}"])])
+    run.ask("they are listed at the device's address", [], listed,
+            [content(f'<{base}/x>;rt="new",<{base}/y>;anchor="{base}/x"')])
+    run.ask("the tool replaces them in blocks of 64",
+            ["-b", "64", "-m", "put", "-t", "40", "-f", "few.links"], few,
+            replaced(len(short), 64))
+    run.ask("those are listed", [], listed, [content(at(base, sensors(12)))])
+    run.ask("what is no list of links replaces nothing", [*put, "-e", "temp"], few,
+            [refused("4.00", "links")])
+    run.ask("links in JSON replace nothing", ["-m", "put", "-t", "50", "-e", "[]"], few,
+            [refused("4.15", "format")])
+    run.ask("those of nobody are not replaced", [*put, "-e", new], "/rd/99",
+            [refused("4.04", "registration")])
+    run.ask("those of nobody are not read", [], "/rd/99", [refused("4.04", "registration")])
+    run.ask("the device has those that were sent last", [], few, [content(short)])
+
+
 def too_long(octet_count: int, size: int) -> list[str]:
     """2.31 for each block that is taken, and 4.13 for the one that is too many."""
     return [*uploaded(octet_count, size, 0)[:-1], refused("4.13", "size")]
@@ -421,8 +450,9 @@ def refusals(run):
         ("a path that is not there", [], "/nothing", "4.04", "path"),
         ("no path", [], "/", "4.04", "path"),
         ("a number with a zero before it", ["-m", "post"], "/rd/01", "4.04", "path"),
-        ("a registration is not read", [], "/rd/1", "4.05", "method"),
-        ("a registration is not put", ["-m", "put", "-e", "</x>"], "/rd/1", "4.05", "method"),
+        ("a registration has no FETCH", ["-m", "fetch", "-e", "x"], "/rd/1", "4.05", "method"),
+        ("the registration resource is not put", ["-m", "put", "-e", "</x>"], "/rd", "4.05",
+         "method"),
         ("the registration resource is not read", [], "/rd", "4.05", "method"),
         ("a lookup is not posted", ["-m", "post"], lookup, "4.05", "method"),
         ("a lookup is not removed", ["-m", "delete"], "/rd-lookup/ep", "4.05", "method"),
@@ -505,6 +535,6 @@ def ends(run):
 def run(run_of_cases):
     """Runs all cases in order."""
     for group in (discovery, registration, resource_lookup, endpoint_lookup, update, removal,
-                  block_wise, observing, validation, simple_registration, non_confirmable,
-                  refusals, messages_as_octets, ends):
+                  block_wise, reading_and_replacing, observing, validation, simple_registration,
+                  non_confirmable, refusals, messages_as_octets, ends):
         group(run_of_cases)

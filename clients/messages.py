@@ -82,12 +82,23 @@ def blocks(body: str, size: int) -> list[str]:
     ]
 
 
+def collected(octets: int, size: int) -> tuple[list[str], str]:
+    """2.31 for each block of an upload but the last, and the option of that (RFC 7959)."""
+    count = (octets + size - 1) // size
+    *asked, last = [block_option(1, block, count, size) for block in range(count)]
+    return [text_of("ACK", "2.31", [block]) for block in asked], last
+
+
 def uploaded(octets: int, size: int, number: int) -> list[str]:
     """2.31 for each block of an upload and 2.01 for the last one (RFC 7959)."""
-    count = (octets + size - 1) // size
-    asked = [block_option(1, block, count, size) for block in range(count)]
-    more = [text_of("ACK", "2.31", [block]) for block in asked[:-1]]
-    return [*more, created(number, asked[-1])]
+    more, last = collected(octets, size)
+    return [*more, created(number, last)]
+
+
+def replaced(octets: int, size: int) -> list[str]:
+    """2.31 for each block of an upload and 2.04 for the last one (RFC 7959)."""
+    more, last = collected(octets, size)
+    return [*more, text_of("ACK", "2.04", [last])]
 
 
 def block_option(option: int, number: int, count: int, size: int) -> str:

@@ -2,7 +2,7 @@
 //! 9176 sections 5 and 6).
 ghost use Rattle.std.specs.Prelude.{◌≡◌};
 ghost use Rattle.message_model.specs.Refusals as refusals_of;
-ghost use Rattle.message_model.specs.Refusals.{refusal_code, refusal_word};
+ghost use Rattle.message_model.specs.Refusals.{refusal_code, diagnostic_of};
 
 use message_model::Refusal;
 
@@ -23,7 +23,7 @@ pub fn refusal_code(refusal: Refusal) -> u8
 
 /// Its diagnostic payload (RFC 7252 section 5.5.2).
 pub fn refusal_diagnostic(refusal: Refusal) -> &'static [u8]
-    ensures { result.now ≡ refusal_word refusal }
+    ensures { result.now ≡ diagnostic_of refusal }
 {
     match refusal {
         Refusal::BadOption(_) => b"option",

@@ -45,7 +45,7 @@ use Rattle.message_model.specs.Refusals.{
 }
 use Rattle.coap_options.specs.declared.meanings.Meaning.{Meaning}
 use Rattle.coap_options.specs.Meanings.{IsMeaning, HasReadableBlocks}
-use Rattle.coap_options.specs.PartRefusals.{registers, has_bad_block, refusal_of_parts}
+use Rattle.coap_options.specs.PartRefusals.{brings_links, has_bad_block, refusal_of_parts}
 
 parts_of_message : (m : Message)
     → refusal_of_parts m.code (path_in m) (has_proxy m) (block1_in m) (block2_in m) (accept_in m)
@@ -148,7 +148,7 @@ readable_blocks meaning later e none =
     let good =
     block_good meaning.proxy (is_nowhere meaning.path)
     (not (allowed meaning.path meaning.view.code))
-    (has_bad_block (registers meaning.view.code meaning.path)
+    (has_bad_block (brings_links meaning.view.code meaning.path)
     (option_map (λ v. v.now) meaning.block1) (option_map (λ v. v.now) meaning.block2)
     (length meaning.view.payload.now)) _ (sym e ∙ none) in
     let both =

@@ -20,20 +20,23 @@ use Rattle.message_model.specs.Request.{allowed}
 use Rattle.message_model.specs.Refusals.{
   is_nowhere,
   is_rd,
+  is_of_registration,
   says_no_block,
   is_misfit_of,
   is_other_format,
 }
 
--- A registration is a POST to `/rd` (RFC 9176 section 5).
-abbrev pub registers : ℕ → Path → Bool
-registers code path = code == code_named.post && is_rd path
+-- A POST to `/rd` registers, and a PUT on the location of a registration replaces its links: both
+-- bring links, as a document (RFC 9176 sections 5 and 5.3.3).
+abbrev pub brings_links : ℕ → Path → Bool
+brings_links code path =
+    (code == code_named.post && is_rd path) || (code == code_named.put && is_of_registration path)
 
--- A Block option says no block, or the payload of a registration does not fit its Block1 (RFC 7959
--- sections 2.2 and 2.5).
+-- A Block option says no block, or the payload of a request that brings links does not fit its
+-- Block1 (RFC 7959 sections 2.2 and 2.5).
 abbrev pub has_bad_block : Bool → Option (List ℕ) → Option (List ℕ) → ℕ → Bool
-has_bad_block registration block1 block2 size =
-    says_no_block block1 || says_no_block block2 || (registration && is_misfit_of block1 size)
+has_bad_block with_links block1 block2 size =
+    says_no_block block1 || says_no_block block2 || (with_links && is_misfit_of block1 size)
 
 -- Of a method, path, proxy, both blocks, accepted format, format and length of a payload, the first
 -- refusal after that of an unrecognized critical option.
@@ -50,7 +53,7 @@ refusal_of_parts code path proxy block1 block2 accept format size =
     if proxy then Some refusal.Proxy
     else if is_nowhere path then Some refusal.Path
     else if not (allowed path code) then Some refusal.Method
-    else if has_bad_block (registers code path) block1 block2 size then Some refusal.Block
+    else if has_bad_block (brings_links code path) block1 block2 size then Some refusal.Block
     else if code == code_named.get && is_other_format accept then Some refusal.Accept
-    else if registers code path && is_other_format format then Some refusal.Format
+    else if brings_links code path && is_other_format format then Some refusal.Format
     else None

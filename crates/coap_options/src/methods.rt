@@ -4,10 +4,10 @@ ghost use Rattle.std.specs.Prelude.{◌≡◌};
 ghost use Rattle.message_model.specs.Request as request;
 
 use message_model::Path;
-use message_model::codes::{DELETE, GET, POST};
+use message_model::codes::{DELETE, GET, POST, PUT};
 
 /// Whether a resource has the method with this code (RFC 9176 sections 4.3, 5, 5.1, 5.3 and 6): GET
-/// at the discovery and the lookups, POST at both registrations, POST and DELETE at a
+/// at the discovery and the lookups, POST at both registrations, GET, POST, PUT and DELETE at a
 /// registration's location; a path that names no resource has none.
 pub fn allowed(path: &Path, code: u8) -> bool
     ensures { result ≡ request.allowed path.now code }
@@ -15,7 +15,7 @@ pub fn allowed(path: &Path, code: u8) -> bool
     match *path {
         Path::Core | Path::Res | Path::Ep => code == GET,
         Path::SimpleRd | Path::Rd => code == POST,
-        Path::Location(_) => code == POST || code == DELETE,
+        Path::Location(_) => code == GET || code == POST || code == PUT || code == DELETE,
         Path::Other => false,
     }
 }

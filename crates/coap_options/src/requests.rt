@@ -7,7 +7,8 @@ ghost use Rattle.message_model.specs.Refusals as refusals;
 ghost use Rattle.message_model.specs.Refusals.{refusal_of};
 ghost use Rattle.coap_message.specs.Views.{message_in};
 ghost use Rattle.coap_options.specs.Meanings.{HasReadableBlocks, HasShortBlocks, IsMeaning};
-ghost use Rattle.coap_options.specs.PartRefusals.{registers, has_bad_block, refusal_of_parts};
+ghost use Rattle.coap_options.specs.PartRefusals.{brings_links, has_bad_block};
+ghost use Rattle.coap_options.specs.PartRefusals.{refusal_of_parts};
 
 use crate::findings::BadOption;
 use crate::meanings::Meaning;
@@ -15,7 +16,7 @@ use crate::methods::allowed;
 use crate::option_walks::meaning;
 use block_wise::{Block, block_read, block_size};
 use coap_message::View;
-use message_model::codes::{GET, POST};
+use message_model::codes::{GET, POST, PUT};
 use message_model::formats::LINK_FORMAT;
 use message_model::{Path, Refusal};
 
@@ -29,13 +30,15 @@ fn is_nowhere(path: &Path) -> bool
     }
 }
 
-/// A registration is a POST to `/rd` (RFC 9176 section 5).
-fn registers(code: u8, path: &Path) -> bool
-    ensures { result ≡ registers code path.now }
+/// A POST to `/rd` registers, and a PUT on the location of a registration replaces its links: both
+/// bring links, as a document (RFC 9176 sections 5 and 5.3.3).
+fn brings_links(code: u8, path: &Path) -> bool
+    ensures { result ≡ brings_links code path.now }
 {
     match *path {
         Path::Rd => code == POST,
-        _ => false,
+        Path::Location(_) => code == PUT,
+        Path::Core | Path::SimpleRd | Path::Res | Path::Ep | Path::Other => false,
     }
 }
 
@@ -77,10 +80,10 @@ fn is_misfit_of(value: Option<&[u8]>, size: usize) -> bool
     is_misfit(&block, size)
 }
 
-/// A Block option says no block, or the payload of a registration does not fit its Block1 (RFC 7959
-/// sections 2.2 and 2.5).
+/// A Block option says no block, or the payload of a request that brings links does not fit its
+/// Block1 (RFC 7959 sections 2.2 and 2.5).
 fn has_bad_block(
-    registration: bool,
+    with_links: bool,
     block1: Option<&[u8]>,
     block2: Option<&[u8]>,
     size: usize,
@@ -88,7 +91,7 @@ fn has_bad_block(
     requires block1 { ForSome block1 (λ v. length v.now ≤ 3) }
     requires block2 { ForSome block2 (λ v. length v.now ≤ 3) }
     ensures { result
-        ≡ has_bad_block registration (option_map (λ v. v.now) block1.entry)
+        ≡ has_bad_block with_links (option_map (λ v. v.now) block1.entry)
         (option_map (λ v. v.now) block2.entry) size }
 {
     if says_no_block(block1) {
@@ -97,7 +100,7 @@ fn has_bad_block(
     if says_no_block(block2) {
         return true;
     }
-    registration && is_misfit_of(block1, size)
+    with_links && is_misfit_of(block1, size)
 }
 
 /// A format is named, and it is not that of link documents.
@@ -127,15 +130,15 @@ fn refusal_after_options(meaning: &Meaning<'_>) -> Option<Refusal>
     if !allowed(&meaning.path, code) {
         return Some(Refusal::Method);
     }
-    let registration = registers(code, &meaning.path);
+    let with_links = brings_links(code, &meaning.path);
     let size = meaning.view.payload.len();
-    if has_bad_block(registration, meaning.block1, meaning.block2, size) {
+    if has_bad_block(with_links, meaning.block1, meaning.block2, size) {
         return Some(Refusal::Block);
     }
     if code == GET && is_other_format(meaning.accept) {
         return Some(Refusal::Accept);
     }
-    if registration && is_other_format(meaning.format) {
+    if with_links && is_other_format(meaning.format) {
         return Some(Refusal::Format);
     }
     None
@@ -148,11 +151,9 @@ fn refusal_after_options(meaning: &Meaning<'_>) -> Option<Refusal>
 /// `Proxy`: Proxy-Uri or
 /// Proxy-Scheme stands in it. `Path`: its path names no resource. `Method`: the resource does not
 /// have its method.
-/// `Block`: Block1 or Block2 has the exponent 7, or it is a registration whose payload does not fit
-/// its Block1. `Accept`:
-/// it is a GET that accepts another format than that of link documents. `Format`: it is a
-/// registration whose body has
-/// another format.
+/// `Block`: Block1 or Block2 has the exponent 7, or it brings links, as a registration or a
+/// replacement, and its payload does not fit its Block1. `Accept`: it is a GET that accepts another
+/// format than that of link documents. `Format`: it brings links, and its body has another format.
 pub fn request<'a>(view: &View<'a>) -> Result<Meaning<'a>, Refusal>
     ensures meaning { IfOk result (λ meaning. IsMeaning (message_in view.now) meaning) }
     ensures short { IfOk result HasShortBlocks }

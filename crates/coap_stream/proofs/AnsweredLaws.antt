@@ -28,7 +28,7 @@ use Rattle.coap_stream.specs.Requests.{
   meant_by,
   unasked_of,
   unasked_code,
-  unasked_word,
+  unasked_diagnostic,
 }
 use Rattle.rd_seat.specs.Callers.{CallerSeen, Hears}
 use Rattle.rd_seat.proofs.CallLaws.{CallsMade-none}
@@ -63,11 +63,11 @@ says_done message octets a v w dropped dropped_then speaks same = record {
 -- A request that is answered without a seat.
 pub said_done : (peer : Peer) (asked : ℕ) (message : Shown) (why : Unasked) (a : CallerSeen)
     (v w : VoiceSeen) (dropped dropped_then : ℕ)
-    → Speaks v (saying (unasked_code why) message.token (unasked_word why)) w
+    → Speaks v (saying (unasked_code why) message.token (unasked_diagnostic why)) w
     → dropped_then ≡ dropped
     → RequestDone peer asked message (Some why) a a v w dropped dropped_then
 said_done peer asked message why a v w dropped dropped_then speaks same =
-    let octets = saying (unasked_code why) message.token (unasked_word why) in
+    let octets = saying (unasked_code why) message.token (unasked_diagnostic why) in
     record {
       exchange = says_exchange message octets;
       same = refl;

@@ -31,7 +31,7 @@ use Rattle.message_model.specs.Message.{Message, Opt, AreOptionsAfter, longest_t
 use Rattle.message_model.specs.Spelling.{options_spelling, payload_spelling}
 use Rattle.message_model.specs.OptionTable.{observe}
 use Rattle.message_model.specs.Request.{path_in, queries_in}
-use Rattle.message_model.specs.Refusals.{refusal_of, refusal_code, refusal_word, is_registration}
+use Rattle.message_model.specs.Refusals.{refusal_of, refusal_code, diagnostic_of, is_registration}
 use Rattle.record_model.specs.Options.{has_named}
 use Rattle.record_model.specs.Parameters.{base}
 use Rattle.stream_model.specs.declared.signals.TheConstants as signals
@@ -140,7 +140,7 @@ unasked_code unasked_for.Simple = code_named.not_found
 unasked_code unasked_for.Baseless = code_named.bad_request
 
 -- Its diagnostic payload (RFC 7252 section 5.5.2).
-abbrev pub unasked_word : Unasked → List ℕ
-unasked_word (unasked_for.Refused why) = refusal_word why
-unasked_word unasked_for.Simple = codes "path"
-unasked_word unasked_for.Baseless = codes "query"
+abbrev pub unasked_diagnostic : Unasked → List ℕ
+unasked_diagnostic (unasked_for.Refused why) = diagnostic_of why
+unasked_diagnostic unasked_for.Simple = codes "path"
+unasked_diagnostic unasked_for.Baseless = codes "query"

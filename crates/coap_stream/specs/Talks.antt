@@ -39,7 +39,7 @@ use Rattle.coap_stream.specs.Requests.{
   number_asked,
   unasked_of,
   unasked_code,
-  unasked_word,
+  unasked_diagnostic,
 }
 use Rattle.coap_stream.specs.Calls.{Call, calls_sent}
 
@@ -117,7 +117,7 @@ pub record Asks (peer : Peer) (number : ℕ) (datagram : List ℕ) (e : Exchange
 -- A request, by why it is answered without a seat; so many were handed to it before.
 abbrev pub AnswersRequest : Peer → ℕ → Option Unasked → Exchange → Type 0
 AnswersRequest peer before (Some why) e =
-    Says (saying (unasked_code why) e.message.token (unasked_word why)) e
+    Says (saying (unasked_code why) e.message.token (unasked_diagnostic why)) e
 AnswersRequest peer before None e =
     Asks peer (before + 1) (spelling (heard_as before e.message)) e
 

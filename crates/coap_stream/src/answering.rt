@@ -38,8 +38,8 @@ fn unasked_code(why: Unasked) -> u8
 }
 
 /// The diagnostic payload of that answer (RFC 7252 section 5.5.2).
-fn unasked_word(why: Unasked) -> &'static [u8]
-    ensures word { result.now ≡ requests.unasked_word why }
+fn unasked_diagnostic(why: Unasked) -> &'static [u8]
+    ensures word { result.now ≡ requests.unasked_diagnostic why }
     ensures few { length result.now ≤ 6 }
 {
     match why {
@@ -104,7 +104,7 @@ fn answer_heard<R: Wait, K: Sink, C: Clock, G: Gate>(
     };
     match why_unasked(&request) {
         Some(why) => {
-            let word = unasked_word(why);
+            let word = unasked_diagnostic(why);
             tally.still = say_plain(out, tally.still, unasked_code(why), frame.token, word);
         }
         None => ask(post, seat, out, clock, tally, datagram),

@@ -26,7 +26,8 @@ unfolding rebased item_of
 made_again base link = refl
 
 -- links that were submitted, against their base
-against_made : (base : List ℕ) (links : List SubmittedLink) → AreAgainst base (items_of base links)
+pub against_made : (base : List ℕ) (links : List SubmittedLink)
+    → AreAgainst base (items_of base links)
 against_made base [] = refl
 against_made base (link ∷ links) =
     ap₂ (λ (x : Item) (xs : List Item). x ∷ xs) (made_again base link) (against_made base links)

@@ -35,6 +35,7 @@ use Rattle.rd_base.specs.declared.parameters.UpdateParams.{UpdateParams}
 use Rattle.rd_base.specs.declared.peers.Peer.{Peer}
 use Rattle.rd_base.specs.declared.records.Name.{Name}
 use Rattle.rd_base.specs.declared.records.Record.{Record}
+use Rattle.rd_base.specs.declared.submitted_links.SubmittedLink.{SubmittedLink}
 use Rattle.record_model.specs.AllowedParameters.{IsAllowedChange}
 use Rattle.record_model.specs.Records.{updated}
 use Rattle.registration.specs.declared.drafts.Draft.{Draft}
@@ -47,7 +48,7 @@ use Rattle.history_model.specs.Refusals.{
   is_full_of_records,
   change_refusal,
 }
-use Rattle.history_model.specs.Replay.{is_live_named, number_for, numbered, replay}
+use Rattle.history_model.specs.Replay.{is_live_named, number_for, numbered, replaced, replay}
 use Rattle.history_model.specs.Versions.{Version, VersionStandsFor}
 use Rattle.history_model.proofs.VersionLaws.{number_for-VersionStandsFor}
 use Rattle.lease_queue.specs.declared.leases.Lease.{Lease}
@@ -56,7 +57,12 @@ use Rattle.directory_core.specs.declared.refusals.Refusal.{Refusal}
 use Rattle.directory_core.specs.declared.refusals.Refusal.TheVariants as answer
 use Rattle.directory_core.specs.AfterEntries.{renewed, without, after_entry, IsMadeWithRoom}
 use Rattle.directory_core.specs.Answers.{IsRefusalOf}
-use Rattle.directory_core.specs.Changes.{IsRegistrationOf, IsUpdateOf, IsRemovalOf}
+use Rattle.directory_core.specs.Changes.{
+  IsRegistrationOf,
+  IsUpdateOf,
+  IsReplacementOf,
+  IsRemovalOf,
+}
 use Rattle.directory_core.specs.EntryAnswers.{AnswersEntry, with_number}
 use Rattle.directory_core.specs.Shown.{IsKept}
 use Rattle.directory_core.proofs.EntryLaws.{answers_entry, answers_gone, answers_full}
@@ -65,11 +71,14 @@ use Rattle.directory_core.proofs.FitLaws.{
   fits_again,
   fits_new,
   fits_update,
+  fits_replacement,
   fits_removal,
   new_room,
   register_there,
   gone_update,
   about_update,
+  gone_replacement,
+  about_replacement,
   gone_removal,
   about_removal,
   number_found,
@@ -152,6 +161,44 @@ update_answers first history v names leases count sum now number given peer draf
     (after_entry v now.0 (renewed (recorded old.number now draft) v.records) v.last_number) k
     (at_moment v.at now entry h.moment after_at) (at_moment v.swept now entry h.moment order) stands
     (fits_update v now number given peer draft old entry k.rising allowed found live same h)
+    refl made is
+
+-- ---- other links
+
+pub replacement_gone : (first : ℕ) (history : List Entry) (v : Version) (now : Moment) (number : ℕ)
+    (links : List SubmittedLink) (entry : Entry)
+    → v.swept ≤ now.0
+    → VersionStandsFor first history v
+    → numbered number (live_among now.0 v.records) ≡ None
+    → IsReplacementOf now number links entry
+    → AnswersEntry first history entry v.swept (Err (answer.Gone number))
+replacement_gone first history v now number links entry order stands none h =
+    answers_gone first history v entry number (at_moment v.swept now entry h.moment order) stands
+    (gone_replacement v now number links entry none h)
+    (about_replacement (replay history) now number links entry h)
+
+pub replacement_answers : (first : ℕ) (history : List Entry) (v : Version) (names : List NameSlot)
+    (leases : List Lease) (count sum : ℕ) (now granted : Moment) (number : ℕ)
+    (links : List SubmittedLink) (draft : Draft) (old : Record) (entry : Entry)
+    → IsKept v names leases count sum
+    → v.at ≤ now.0
+    → v.swept ≤ now.0
+    → VersionStandsFor first history v
+    → numbered number v.records ≡ Some old
+    → is_live_at now.0 old ≡ true
+    → recorded old.number granted draft ≡ replaced links old
+    → IsReplacementOf now number links entry → (made : Result Version Refusal)
+    → IsMadeWithRoom
+    (text_of (renewed (recorded old.number granted draft) (live_among now.0 v.records))) v.entries
+    (after_entry v now.0 (renewed (recorded old.number granted draft) v.records) v.last_number) made
+    → AnswersEntry first history entry v.swept made
+replacement_answers first history v names leases count sum now granted number links draft old entry
+    k after_at order stands found live same h made is =
+    answers_entry first history v names leases count sum entry
+    (text_of (renewed (recorded old.number granted draft) (live_among now.0 v.records)))
+    (after_entry v now.0 (renewed (recorded old.number granted draft) v.records) v.last_number) k
+    (at_moment v.at now entry h.moment after_at) (at_moment v.swept now entry h.moment order) stands
+    (fits_replacement v now granted number links draft old entry k.rising found live same h)
     refl made is
 
 -- ---- registrations

@@ -1,4 +1,4 @@
--- What a registration, an update and a removal weigh and make of a version.
+-- What a registration, an update, a replacement of links and a removal weigh and make of a version.
 use Rattle.std.proofs.Common.{
   ◌≡◌,
   ℕ,
@@ -76,6 +76,7 @@ use Rattle.history_model.specs.Replay.{
   number_about,
   numbered,
   with_changed,
+  replaced,
   registered_under,
   apply,
 }
@@ -84,7 +85,12 @@ use Rattle.history_model.proofs.Acceptance.{is_same_name-Decides}
 use Rattle.history_model.proofs.NumberLaws.{IsBelow}
 use Rattle.history_model.proofs.SweepLaws.{number_named-live}
 use Rattle.directory_core.specs.AfterEntries.{renewed, without, after_entry, IsSound}
-use Rattle.directory_core.specs.Changes.{IsRegistrationOf, IsUpdateOf, IsRemovalOf}
+use Rattle.directory_core.specs.Changes.{
+  IsRegistrationOf,
+  IsUpdateOf,
+  IsReplacementOf,
+  IsRemovalOf,
+}
 use Rattle.directory_core.proofs.AgainstLaws.{draft_against}
 use Rattle.directory_core.proofs.ChangeLaws.{only_one, its_number, changed_known, numbered-filter}
 use Rattle.directory_core.proofs.EntryLaws.{Fits}
@@ -215,6 +221,11 @@ update_weighs : (text : ℕ) (c : Change) (number : ℕ) (given : UpdateParams)
     → c ≡ change.Update number given
     → is_full_of_text text c ≡ nat_lt max_text text
 update_weighs text c number given e = rw e refl
+
+replacement_weighs : (text : ℕ) (c : Change) (number : ℕ) (links : List SubmittedLink)
+    → c ≡ change.Replace number links
+    → is_full_of_text text c ≡ nat_lt max_text text
+replacement_weighs text c number links e = rw e refl
 
 removal_weighs : (text : ℕ) (c : Change) (number : ℕ)
     → c ≡ change.Remove number
@@ -442,7 +453,7 @@ fits_new v now draft entry up sound none few h =
       lasting = rw h.change lasts;
     }
 
--- ---- updates and removals
+-- ---- updates, replacements of links and removals
 
 applied_update : (now : Moment) (worker : ℕ) (peer : Peer) (number : ℕ) (given : UpdateParams)
     (state : State) (old new : Record)
@@ -522,6 +533,76 @@ fits_update v now number given peer draft old entry up allowed found live made h
     stated : List Record → ℕ → State
     stated records last_number = record { records = records; last_number = last_number }
 
+applied_replacement : (now : Moment) (worker : ℕ) (peer : Peer) (number : ℕ)
+    (links : List SubmittedLink) (state : State) (old new : Record)
+    → AllByRecursion (λ x. x.number ≡ number → x ≡ old) state.records
+    → new ≡ replaced links old
+    → apply state (made_entry now worker peer (change.Replace number links)) ≡ record state {
+      records = with_changed number (λ _. new) state.records;
+    }
+unfolding apply made_entry
+applied_replacement now worker peer number links state old new only made =
+    ap (λ rs. with_records state rs)
+    (changed_known number (replaced links) old state.records only
+    ∙ ap (λ r. with_changed number (λ _. r) state.records) (sym made))
+  where
+    with_records : State → List Record → State
+    with_records s records = record s { records = records }
+
+pub fits_replacement : (v : Version) (now granted : Moment) (number : ℕ)
+    (links : List SubmittedLink) (draft : Draft) (old : Record) (entry : Entry)
+    → PairsByRecursion IsBelow v.records
+    → numbered number v.records ≡ Some old
+    → is_live_at now.0 old ≡ true
+    → recorded old.number granted draft ≡ replaced links old
+    → IsReplacementOf now number links entry
+    → Fits v entry
+    (text_of (renewed (recorded old.number granted draft) (live_among now.0 v.records)))
+    (after_entry v now.0 (renewed (recorded old.number granted draft) v.records) v.last_number)
+fits_replacement v now granted number links draft old entry up found live made h =
+    let new = recorded old.number granted draft in
+    let its = its_number number old v.records found in
+    let same : entry ≡ made_entry now entry.worker entry.peer (change.Replace number links) =
+    entry_is entry now (change.Replace number links) h.moment h.change in
+    let only = only_one number old v.records up found in
+    let live_only =
+    only_one number old (live_among now.0 v.records)
+    (pairs_filter IsBelow (is_live_at now.0) v.records up)
+    (numbered-filter (is_live_at now.0) number old v.records found live) in
+    let whole : apply (state_of v) entry ≡ stated (renewed new v.records) v.last_number
+    = ap (apply (state_of v)) same
+    ∙ applied_replacement now entry.worker entry.peer number links (state_of v) old new only made
+    ∙ ap (λ n. stated (with_changed n (λ _. new) v.records) v.last_number) (sym its)
+    ∙ ap (λ rs. stated rs v.last_number) (number_renewed old.number granted draft v.records) in
+    let left :
+    apply (only_live now.0 (state_of v)) entry
+    ≡ stated (renewed new (live_among now.0 v.records)) v.last_number
+    = ap (apply (only_live now.0 (state_of v))) same
+    ∙ applied_replacement now entry.worker entry.peer number links (only_live now.0 (state_of v))
+    old new live_only made
+    ∙ ap (λ n. stated (with_changed n (λ _. new) (live_among now.0 v.records)) v.last_number)
+    (sym its)
+    ∙ ap (λ rs. stated rs v.last_number)
+    (number_renewed old.number granted draft (live_among now.0 v.records)) in
+    let at : entry.moment.0 ≡ now.0 = ap (λ (m : Moment). m.0) h.moment in
+    let text : text_after (state_of v) entry ≡ text_of (renewed new (live_among now.0 v.records)) =
+    ap (λ m. text_of (apply (only_live m (state_of v)) entry).records) at
+    ∙ ap (λ (s : State). text_of s.records) left in
+    record {
+      there = rw (at, h.change) (ap not (numbered_live now.0 number old v.records found live));
+      room = rw h.change refl;
+      weighs =
+          replacement_weighs (text_after (state_of v) entry) entry.change number links h.change
+          ∙ ap (nat_lt max_text) text;
+      text_is = λ _. sym text;
+      makes =
+          ap (λ m. with_state v m (apply (state_of v) entry)) at ∙ ap (with_state v now.0) whole;
+      lasting = rw h.change tt;
+    }
+  where
+    stated : List Record → ℕ → State
+    stated records last_number = record { records = records; last_number = last_number }
+
 applied_removal : (now : Moment) (worker : ℕ) (peer : Peer) (number : ℕ) (state : State)
     → apply state (made_entry now worker peer (change.Remove number)) ≡ record state {
       records = without number state.records;
@@ -579,6 +660,21 @@ pub about_update : (state : State) (now : Moment) (number : ℕ) (given : Update
     → IsUpdateOf now number given peer entry
     → number ≡ number_about state entry.moment.0 entry.change
 about_update state now number given peer entry h = rw h.change refl
+
+pub gone_replacement : (v : Version) (now : Moment) (number : ℕ) (links : List SubmittedLink)
+    (entry : Entry)
+    → numbered number (live_among now.0 v.records) ≡ None
+    → IsReplacementOf now number links entry
+    → is_gone (live_among entry.moment.0 v.records) entry.change ≡ true
+gone_replacement v now number links entry none h =
+    let at : entry.moment.0 ≡ now.0 = ap (λ (m : Moment). m.0) h.moment in
+    rw (at, h.change) (ap not (number_gone now.0 number v.records none))
+
+pub about_replacement : (state : State) (now : Moment) (number : ℕ) (links : List SubmittedLink)
+    (entry : Entry)
+    → IsReplacementOf now number links entry
+    → number ≡ number_about state entry.moment.0 entry.change
+about_replacement state now number links entry h = rw h.change refl
 
 pub gone_removal : (v : Version) (now : Moment) (number : ℕ) (entry : Entry)
     → numbered number (live_among now.0 v.records) ≡ None

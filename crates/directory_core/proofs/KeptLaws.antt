@@ -142,7 +142,8 @@ stored_on v w r a b c s =
 
 -- what is known of a record that an entry makes
 pub record IsMade (now : ℕ) (r : Record) : Type 0 where
-  pub granted : r.granted.0 ≡ now
+  pub granted : r.granted.0 ≤ now
+  pub unlapsed : now < lapse r
   pub lasting : (0 < r.lt) × (r.lt < 2 ^ 32)
   pub references : list_all has_references r.items ≡ true
   pub against : AreAgainst r.base r.items
@@ -153,9 +154,8 @@ pub made_live : (now moment : ℕ) (r : Record)
     → moment ≤ now
     → is_live_at moment r ≡ true
 made_live now moment r m order =
-    let granted = m.granted in
-    let lasts = m.lasting.0 in
-    lt-ltb moment (r.granted.0 + 1000 * r.lt) (omega (arith, granted, lasts))
+    let lapses : now < r.granted.0 + 1000 * r.lt = m.unlapsed in
+    lt-ltb moment (r.granted.0 + 1000 * r.lt) (omega (arith, lapses))
 
 made_stored : (w : Version) (r : Record)
     → IsMade w.at r
@@ -164,12 +164,11 @@ made_stored : (w : Version) (r : Record)
     → r.number ≤ w.last_number
     → IsStored w r
 made_stored w r m order low high =
-    let granted = m.granted in
-    let lasts = m.lasting.0 in
+    let lapses = m.unlapsed in
     record {
       numbered = (low, high);
-      granted = omega (arith, granted);
-      unswept = omega (arith, granted, lasts);
+      granted = m.granted;
+      unswept = omega (arith, lapses);
       lasting = m.lasting;
       references = m.references;
       against = m.against;

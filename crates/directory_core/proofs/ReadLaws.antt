@@ -26,6 +26,7 @@ use Rattle.std.proofs.Common.{
 }
 use Rattle.std.specs.Prelude.{IfSome}
 use Rattle.std.proofs.lemmas.Bool.{true≢false}
+use Rattle.rd_base.specs.LinkLines.{submitted}
 use Rattle.rd_base.specs.declared.records.Name.{Name}
 use Rattle.rd_base.specs.declared.records.Record.{Record}
 use Rattle.rd_base.proofs.lemmas.Each.{each_weaker}
@@ -34,6 +35,7 @@ use Rattle.history_model.specs.declared.entries.Entry.{Entry}
 use Rattle.history_model.specs.Leases.{lapse, live_among, lapsed_between}
 use Rattle.history_model.specs.Live.{live}
 use Rattle.history_model.specs.Replay.{is_numbered, numbered, number_named, replay}
+use Rattle.history_model.specs.Sources.{source}
 use Rattle.history_model.specs.Versions.{Version, VersionStandsFor}
 use Rattle.history_model.proofs.NumberLaws.{IsBelow}
 use Rattle.history_model.proofs.SweepLaws.{number_named-live}
@@ -113,3 +115,20 @@ tag-counted v names leases count sum now live k a b is =
 pub none_so : {X : Type 0} (o : Option X) (P : X → Type 0) → o ≡ None → IfSome o P
 none_so None P e = tt
 none_so (Some x) P e = absurd cc
+
+-- ---- sources
+
+-- nothing of a number that is not live
+pub source_none : (number : ℕ) (history : List Entry) (now : ℕ)
+    → numbered number (live history now) ≡ None
+    → None ≡ source number history now
+unfolding source
+source_none number history now none = rw none refl
+
+-- and else what the links of its record are as they were submitted
+pub source_found : (number : ℕ) (history : List Entry) (now : ℕ) (r : Record) (octets : List ℕ)
+    → numbered number (live history now) ≡ Some r
+    → octets ≡ submitted r.items
+    → Some octets ≡ source number history now
+unfolding source
+source_found number history now r octets found is = rw (found, is) refl

@@ -5,6 +5,7 @@ use Rattle.std.proofs.Common.{
   ℕ,
   ◌+◌,
   ◌-◌,
+  ◌*◌,
   ◌^◌,
   ◌<◌,
   ◌≤◌,
@@ -25,6 +26,7 @@ use Rattle.std.proofs.Common.{
   subst,
   arith,
 }
+use Rattle.std.proofs.lemmas.Bool.{ltb-true}
 use Rattle.std.proofs.lemmas.List.Sums.{sum_by_push}
 use Rattle.rd_base.specs.declared.moments.Moment.{Moment}
 use Rattle.rd_base.specs.declared.records.Record.{Record}
@@ -68,17 +70,47 @@ use Rattle.directory_core.proofs.ChangeLaws.{
 
 -- ---- drafts as records
 
-pub record_made : (number : ℕ) (now : Moment) (draft : Draft)
+-- where the lease of a draft began no later than a moment, and has not lapsed then
+pub record_made : (number : ℕ) (now granted : Moment) (draft : Draft)
+    → granted.0 ≤ now.0
+    → now.0 < granted.0 + 1000 * draft.lt
     → IsSound draft
-    → IsMade now.0 (recorded number now draft)
+    → IsMade now.0 (recorded number granted draft)
 unfolding recorded
-record_made number now draft sound = record {
-  granted = refl;
+record_made number now granted draft began lapses sound = record {
+  granted = began;
+  unlapsed = lapses;
   lasting = sound.lasting;
   references = sound.references;
   against = sound.against;
   base = sound.base;
 }
+
+-- a lease that begins at a moment has not lapsed then
+pub begins : (now : Moment) (draft : Draft) → IsSound draft → now.0 < now.0 + 1000 * draft.lt
+begins now draft sound = let lasts = sound.lasting.0 in omega (arith, lasts)
+
+-- the lease of a record that is stored began by then
+pub began : (v : Version) (now : Moment) (shown old : Record)
+    → shown ≡ old
+    → IsStored v old
+    → v.at ≤ now.0
+    → shown.granted.0 ≤ now.0
+began v now shown old same stored after_at =
+    let granted : shown.granted.0 ≤ v.at =
+    subst (λ (r : Record). r.granted.0 ≤ v.at) (sym same) stored.granted in
+    omega (arith, granted, after_at)
+
+-- the lease of a live record has not lapsed, with its lifetime
+pub stays : (now : Moment) (shown old : Record) (lt : ℕ)
+    → shown ≡ old
+    → lt ≡ shown.lt
+    → is_live_at now.0 old ≡ true
+    → now.0 < shown.granted.0 + 1000 * lt
+stays now shown old lt same lasts live =
+    let above : now.0 < shown.granted.0 + 1000 * shown.lt =
+    subst (λ (r : Record). now.0 < r.granted.0 + 1000 * r.lt) (sym same) (ltb-true _ _ live) in
+    subst (λ (n : ℕ). now.0 < shown.granted.0 + 1000 * n) (sym lasts) above
 
 pub record_number : (number : ℕ) (now : Moment) (draft : Draft)
     → (recorded number now draft).number ≡ number
@@ -149,30 +181,33 @@ appended_text now r rs = sum_by_push weight rs r
 -- ---- one record made anew
 
 -- the record with what it weighs, and what is left of the text
-pub record Renewal (v : Version) (now : Moment) (taken : Counts) (old : Record) (draft : Draft) :
-    Type 0 where
+pub record Renewal (v : Version) (now : Moment) (taken : Counts) (old : Record) (began : Moment)
+    (draft : Draft) : Type 0 where
   pub after_at : v.at ≤ now.0
   pub after_sweep : v.swept ≤ now.0
   pub moment : now.0 ≤ 10 ^ 15
   pub counts : taken ≡ counts_of (live_among now.0 v.records)
   pub stored : numbered old.number v.records ≡ Some old
   pub live : is_live_at now.0 old ≡ true
+  pub granted : began.0 ≤ now.0
+  pub unlapsed : now.0 < began.0 + 1000 * draft.lt
   pub named : draft.name ≡ old.name
   pub sound : IsSound draft
 
-module _ (v : Version) (now : Moment) (counted : Counts) (old : Record) (draft : Draft)
-    (a : Renewal v now counted old draft) (up : PairsByRecursion IsBelow v.records) where
+module _ (v : Version) (now : Moment) (counted : Counts) (old : Record) (began : Moment)
+    (draft : Draft) (a : Renewal v now counted old began draft)
+    (up : PairsByRecursion IsBelow v.records) where
   pub text_is : (lost : ℕ)
       → lost ≡ weight old
-      → (counted.text - lost) + weight (recorded old.number now draft)
-      ≡ text_of (renewed (recorded old.number now draft) (live_among now.0 v.records))
+      → (counted.text - lost) + weight (recorded old.number began draft)
+      ≡ text_of (renewed (recorded old.number began draft) (live_among now.0 v.records))
   text_is lost loses =
       let before : counted.text ≡ text_of (live_among now.0 v.records) =
       ap (λ (x : Counts). x.text) a.counts in
-      let found : numbered (recorded old.number now draft).number v.records ≡ Some old =
-      ap (λ n. numbered n v.records) (record_number old.number now draft) ∙ a.stored in
-      let all = renewed_text v now.0 (recorded old.number now draft) old up found a.live in
-      ap₂ (λ t l. (t - l) + weight (recorded old.number now draft)) before loses ∙ all
+      let found : numbered (recorded old.number began draft).number v.records ≡ Some old =
+      ap (λ n. numbered n v.records) (record_number old.number began draft) ∙ a.stored in
+      let all = renewed_text v now.0 (recorded old.number began draft) old up found a.live in
+      ap₂ (λ t l. (t - l) + weight (recorded old.number began draft)) before loses ∙ all
 
   pub lost_below : (lost : ℕ) → lost ≡ weight old → lost ≤ counted.text
   lost_below lost loses =
@@ -183,31 +218,31 @@ module _ (v : Version) (now : Moment) (counted : Counts) (old : Record) (draft :
 
 -- what each call says of a renewal, and what is kept of it
 pub renewal_kept : (v : Version) (names : List NameSlot) (leases : List Lease) (count sum : ℕ)
-    (now : Moment) (counted : Counts) (old : Record) (draft : Draft)
+    (now : Moment) (counted : Counts) (old : Record) (began : Moment) (draft : Draft)
     → IsKept v names leases count sum
-    → Renewal v now counted old draft
+    → Renewal v now counted old began draft
     → v.entries < max_entries
     → (text : ℕ)
-    → text ≡ text_of (renewed (recorded old.number now draft) (live_among now.0 v.records))
+    → text ≡ text_of (renewed (recorded old.number began draft) (live_among now.0 v.records))
     → text ≤ max_text
     → (records : List Record)
-    → records ≡ with_record (recorded old.number now draft) v.records
+    → records ≡ with_record (recorded old.number began draft) v.records
     → PairsByRecursion IsBelow records
     → (queue : List Lease)
     → queue
     ≡ with_lease (without_lease leases (lease_of old))
-    (lease_of (recorded old.number now draft))
+    (lease_of (recorded old.number began draft))
     → IsKept (after_entry v now.0 records v.last_number) names queue counted.live text
-renewal_kept v names leases count sum now counted old draft k a room text weighs light records put
-    up queue leased =
-    let r = recorded old.number now draft in
-    let number = record_number old.number now draft in
+renewal_kept v names leases count sum now counted old began draft k a room text weighs light
+    records put up queue leased =
+    let r = recorded old.number began draft in
+    let number = record_number old.number began draft in
     let found : numbered r.number v.records ≡ Some old =
     ap (λ n. numbered n v.records) number ∙ a.stored in
     let same : records ≡ renewed r v.records =
     put ∙ with_record-renewed r old v.records k.rising found in
-    let made = record_made old.number now draft a.sound in
-    let name : r.name ≡ old.name = record_name old.number now draft ∙ a.named in
+    let made = record_made old.number now began draft a.granted a.unlapsed a.sound in
+    let name : r.name ≡ old.name = record_name old.number began draft ∙ a.named in
     let whole =
     kept_renewed v names leases count sum now.0 k a.after_at a.after_sweep a.moment room r old
     text made found a.live name weighs light (subst (PairsByRecursion IsBelow) same up) in
@@ -221,17 +256,18 @@ renewal_kept v names leases count sum now counted old draft k a room text weighs
     (with_lease (without_lease leases (lease_of old)) (lease_of r))
     (length (live_among now.0 v.records)) text) (sym same) whole))
 
-pub renewal_records : (v : Version) (now : Moment) (counted : Counts) (old : Record) (draft : Draft)
+pub renewal_records : (v : Version) (now : Moment) (counted : Counts) (old : Record)
+    (began : Moment) (draft : Draft)
     → PairsByRecursion IsBelow v.records
-    → Renewal v now counted old draft
+    → Renewal v now counted old began draft
     → (records : List Record)
-    → records ≡ with_record (recorded old.number now draft) v.records
+    → records ≡ with_record (recorded old.number began draft) v.records
     → after_entry v now.0 records v.last_number
-    ≡ after_entry v now.0 (renewed (recorded old.number now draft) v.records) v.last_number
-renewal_records v now counted old draft up a records put =
-    let r = recorded old.number now draft in
+    ≡ after_entry v now.0 (renewed (recorded old.number began draft) v.records) v.last_number
+renewal_records v now counted old began draft up a records put =
+    let r = recorded old.number began draft in
     let found : numbered r.number v.records ≡ Some old =
-    ap (λ n. numbered n v.records) (record_number old.number now draft) ∙ a.stored in
+    ap (λ n. numbered n v.records) (record_number old.number began draft) ∙ a.stored in
     ap (λ rs. after_entry v now.0 rs v.last_number)
     (put ∙ with_record-renewed r old v.records up found)
 
@@ -277,7 +313,7 @@ addition_kept v names leases count sum now counted draft k a room text weighs li
     let same = put ∙ addition_put v names leases count sum now draft k in
     let whole =
     kept_appended v names leases count sum now.0 k a.after_at a.after_sweep a.moment room r text
-    (record_made (v.last_number + 1) now draft a.sound)
+    (record_made (v.last_number + 1) now now draft (omega arith) (begins now draft a.sound) a.sound)
     (record_number (v.last_number + 1) now draft) a.few weighs light in
     subst (λ c. IsKept (after_entry v now.0 records (v.last_number + 1)) slots queue (c + 1) text)
     (sym (ap (λ (x : Counts). x.live) a.counts))

@@ -1,5 +1,5 @@
--- Which entry of a history a change of a version is (RFC 9176 sections 5, 5.3.1 and 5.3.2). The
--- worker is any.
+-- Which entry of a history a change of a version is (RFC 9176 sections 5, 5.3, 5.3.1 and 5.3.2).
+-- The worker is any.
 use Rattle.std.specs.Prelude.{◌≡◌, ℕ, List}
 use Rattle.rd_base.specs.declared.moments.Moment.{Moment}
 use Rattle.rd_base.specs.declared.parameters.RegParams.{RegParams}
@@ -27,6 +27,12 @@ pub record IsUpdateOf (now : Moment) (number : ℕ) (given : UpdateParams) (peer
   pub moment : entry.moment ≡ now
   pub source : entry.peer ≡ peer
   pub change : entry.change ≡ kind.Update number given
+
+-- the entry gives the registration of this number these links at this moment, from any peer
+pub record IsReplacementOf (now : Moment) (number : ℕ) (links : List SubmittedLink) (entry : Entry) :
+    Type 0 where
+  pub moment : entry.moment ≡ now
+  pub change : entry.change ≡ kind.Replace number links
 
 -- the entry removes the registration of this number at this moment
 pub record IsRemovalOf (now : Moment) (number : ℕ) (entry : Entry) : Type 0 where

@@ -81,7 +81,7 @@ impl Directory {
         ensures at { IfOk result (λ version. version.at ≡ now.0) }
     {
         let _ = &self.alloc;
-        self.renewed(now, counts, old, draft, LinksAfter::Replaced)
+        self.renewed(now, counts, old, now, draft, LinksAfter::Replaced)
     }
 
     /// The version with this registration, and its number: that of the live registration of the

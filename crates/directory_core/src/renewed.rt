@@ -1,5 +1,7 @@
 //! A version with one record made anew, one more, or one less.
-ghost use Rattle.std.specs.Prelude.{◌≡◌, ◌+◌, ◌<◌, ◌≤◌, ◌^◌, ◌++◌, ◌∷◌, [], true, Some, length};
+ghost use Rattle.std.specs.Prelude.{◌≡◌, ◌+◌, ◌*◌, ◌<◌, ◌≤◌, ◌^◌};
+ghost use Rattle.std.specs.Prelude.{◌++◌, ◌∷◌, [], true, Some};
+ghost use Rattle.std.specs.Prelude.{length};
 ghost use Rattle.history_model.specs.Leases.{is_live_at, live_among};
 ghost use Rattle.history_model.specs.Refusals.{max_registrations, text_of};
 ghost use Rattle.history_model.specs.Replay.{numbered};
@@ -20,12 +22,14 @@ use registration::{Draft, weight};
 
 impl Directory {
     /// The version in which a live record is made anew by a draft, under its number and its name,
-    /// where there is room. What became of the links of the record is handed in too.
+    /// where there is room, with a lease that began at `granted` and has not lapsed. What became of
+    /// the links of the record is handed in too.
     pub(crate) fn renewed(
         &self,
         now: Moment,
         counts: Counts,
         old: &Kept,
+        granted: Moment,
         draft: Draft,
         links: LinksAfter,
     ) -> Result<Directory, Refusal>
@@ -35,12 +39,14 @@ impl Directory {
         requires counts { counts ≡ counts_of (live_among now.0 self.now.records) }
         requires stored { numbered old.now.number self.now.records ≡ Some old.now }
         requires live { is_live_at now.0 old.now ≡ true }
+        requires granted { granted.0 ≤ now.0 }
+        requires unlapsed { now.0 < granted.0 + 1000 * draft.lt }
         requires named { draft.name ≡ old.now.name }
         requires sound { IsSound draft }
         requires links { AreAfter links old.now.items draft.items }
-        ensures { IsMadeWithRoom (text_of (renewed (recorded old.now.number now draft)
+        ensures { IsMadeWithRoom (text_of (renewed (recorded old.now.number granted draft)
             (live_among now.0 self.now.records))) self.now.entries
-            (after_entry self.now now.0 (renewed (recorded old.now.number now draft)
+            (after_entry self.now now.0 (renewed (recorded old.now.number granted draft)
             self.now.records) self.now.last_number) result }
     {
         let entries = self.entries;
@@ -50,7 +56,7 @@ impl Directory {
             Ok(text) => text,
             Err(refusal) => return Err(refusal),
         };
-        let kept = Kept::of(self.alloc, record_from(number, now, draft), octets)?;
+        let kept = Kept::of(self.alloc, record_from(number, granted, draft), octets)?;
         let leases = self.leases.take(old.lapse(), number)?;
         let leases = leases.with(kept.lapse(), number)?;
         let names = self.names.share()?;

@@ -55,6 +55,6 @@ impl Directory {
             return Err(Refusal::Gone(number));
         };
         let (draft, links) = updated_draft(self.alloc, old.as_record(), change, peer)?;
-        self.renewed(now, self.counts_at(now), old, draft, links)
+        self.renewed(now, self.counts_at(now), old, now, draft, links)
     }
 }

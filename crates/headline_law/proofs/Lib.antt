@@ -17,28 +17,29 @@
 --   is recognized, Failures that what failed ended in 5.00, which was sent; HoldsEachOnce, the
 -- sentence.
 --
--- TagsDecideStates: equal tags mean one state, and blocks of one listing.
+-- TagsDecideStates: equal tags mean one state, and blocks of one listing or of one source.
 --   entries: TagStates (the tags of rows of steps). rows: TaggedAnswers (the tags that are read in
 -- answers), and the sentence; of a desk it holds of answers that were formed in rows.
 --
 -- ObserversKnow: an observer that is not due knows the listing; of journals of the machine, and of
 -- those of desks. It stands below whole, in observers.
 --
--- AnswersAsFormed: each lookup answers the listing of the row that formed it.
+-- AnswersAsFormed: each lookup answers the listing of the row that formed it, and each read of a
+-- registration its source.
 --   Below, in sends: BodyAnswers (an answer bears the block of its body that is wanted), PlainSteps
 -- (what refusals, writes and changes send is neither 2.05 nor 2.03),
 --   TickSends (what is sent again), ValidSends (2.03); in flights: WaitedPeers and NoticesAgain
 -- (the first part of a tick).
---   sends: LookupSends (looks, lookups, keeps), PlainCommits (commits and responses), StepOutcomes
--- (one table of what each step but a tick sends);
+--   sends: LookupSends (looks, lookups, reads of a registration, keeps), PlainCommits (commits and
+-- responses), StepOutcomes (one table of what each step but a tick sends);
 --   RowSends and ValidLaw have that 2.03 is sent exactly where a look names the tag.
 --   flights: TickNotices, FreshNotices and TickFolds (one record of what a tick did so far, and
 -- each notice more), KnownFlights and TickFlights (the row that formed
 --   each notice in flight), FirstBodies (other rows form no notice), CarriedListings (what it is to
--- carry the listing of the row that formed it).
+-- carry the listing or the source of the row that formed it).
 --   notes: TickNotes (what a tick keeps is as it was asked).
 --   rows: each row carries what was formed as the headline says: RowCarries (looks and plain rows),
--- LookupRows, KeepRows, TickRows; Validations has what
+-- LookupRows (lookups and reads of a registration), KeepRows, TickRows; Validations has what
 --   2.03 carries; and AnswersAsFormed, the sentence.
 --
 -- SendsToWhoAsked: each datagram can be read, fits, and goes to who asked or observes; and what is
@@ -49,7 +50,8 @@
 -- that each datagram can be read and fits, and that what is formed is sent).
 --   datagrams: DatagramLaws, the sentence.
 --
--- WrongRows and WrongDatagrams: rows with wrong answers, none of which has the headline.
+-- WrongRows, WrongDatagrams and WrongSources: rows with wrong answers, none of which has the
+-- headline.
 --
 -- desks: TraceJournals (a journal of a trace is one of a desk).
 pub mod notes
@@ -64,3 +66,4 @@ pub mod WrongRows
 pub mod WrongEntries
 pub mod WrongBodies
 pub mod WrongDatagrams
+pub mod WrongSources

@@ -13,7 +13,6 @@ use Rattle.message_model.specs.Reading.{reading}
 use Rattle.message_model.specs.RequestKey.{key_in}
 use Rattle.message_model.specs.Spelling.{spelling}
 use Rattle.message_model.proofs.OnLiterals.{messages_on_literals}
-use Rattle.rd_base.specs.declared.queries.Query.{Query}
 use Rattle.history_model.specs.declared.entries.Change.TheVariants as change
 use Rattle.history_model.specs.Listing.{listing, tag}
 use Rattle.history_model.proofs.HistoryLiterals.{history_on_literals}
@@ -24,6 +23,8 @@ use Rattle.journal_model.specs.declared.rows.Row.{Row}
 use Rattle.journal_model.specs.Journal.{entries}
 use Rattle.journal_model.specs.Requests.{query_of, asked_block}
 use Rattle.journal_model.specs.PlacedRows.{Within, Placed}
+use Rattle.journal_model.specs.Sought.{Sought, listing_of}
+use Rattle.journal_model.specs.Sought as seeking
 use Rattle.journal_model.specs.BlocksOfOne.{AreBlocksOfOne}
 use Rattle.journal_model.specs.TagsDecideStates.{TagsDecideStates}
 use Rattle.journal_model.specs.SentDatagrams.{IsAnswer, IsForRequest, AreForRequests}
@@ -150,8 +151,8 @@ two_states_fall h =
       read = refl;
     }
 
-    both : AreBlocksOfOne two_states (query_of lookup) first_part second_part
-    both = h.answers one other (query_of lookup) refl refl refl refl refl
+    both : AreBlocksOfOne two_states (listing_of (query_of lookup)) first_part second_part
+    both = h.answers one other (listing_of (query_of lookup)) refl refl refl refl refl
 
     -- nothing is listed at any of the rows, so what is listed has no such block
     empty_block : ◌≡◌ {A = Option (List ℕ × Bool)} (Some ([], false))
@@ -168,7 +169,11 @@ two_states_fall h =
     at : (r : Row) (before : List Row) → r ≡ both.row → before ≡ both.before → Shows r before
     at r before same_row same_before =
         subst (λ (x : Row). Shows x before) (sym same_row)
-        (subst (λ (rows : List Row). Shows both.row rows) (sym same_before) both.first)
+        (subst (λ (rows : List Row). Shows both.row rows) (sym same_before)
+        (subst (λ (body : List ℕ). IsBlockOf (asked_block first_part) body first_part.payload)
+        (sym (same_Some
+        (listing (query_of lookup) (entries (both.row ∷ both.before)) both.row.moment.0) both.whole
+        both.found)) both.first))
 
     by : ((second_sent ≡ both.row) × (changed ∷ first_sent ∷ [] ≡ both.before))
         ⊎ Within (changed ∷ first_sent ∷ []) both.before both.row → ⊥
@@ -220,19 +225,28 @@ observed_strangely_falls h = empty_body carried
     former = same_Some here f.former f.formed
 
     asked : Asked
-    asked = record { query = query_of observing; number = 0; szx = 6 }
+    asked = record { sought = listing_of (query_of observing); number = 0; szx = 6 }
 
-    query : query_of observing ≡ f.asked.query
-    query = ap (λ (a : Asked). a.query) (same_Some asked f.asked f.asks)
+    sought : listing_of (query_of observing) ≡ f.asked.sought
+    sought = ap (λ (a : Asked). a.sought) (same_Some asked f.asked f.asks)
+
+    whole_is :
+        listing (query_of observing) (entries (observed_strangely ∷ [])) 0 ≡ f.carries.whole
+    whole_is =
+        same_Some (listing (query_of observing) (entries (observed_strangely ∷ [])) 0)
+        f.carries.whole
+        (subst (λ (p : Placed).
+        seeking.body (listing_of (query_of observing)) (entries (p.row ∷ p.before)) p.row.moment.0
+        ≡ Some f.carries.whole) (sym former)
+        (subst (λ (x : Sought).
+        seeking.body x (entries (f.former.row ∷ f.former.before)) f.former.row.moment.0
+        ≡ Some f.carries.whole) (sym sought) f.carries.found))
 
     carried : IsBlockOf (asked_block strange_body)
         (listing (query_of observing) (entries (observed_strangely ∷ [])) 0) strange_body.payload
     carried =
-        subst (λ (q : Query). IsBlockOf (asked_block strange_body)
-        (listing q (entries (observed_strangely ∷ [])) 0) strange_body.payload) (sym query)
-        (subst (λ (p : Placed). IsBlockOf (asked_block strange_body)
-        (listing f.asked.query (entries (p.row ∷ p.before)) p.row.moment.0)
-        strange_body.payload) (sym former) f.carries.block.block)
+        subst (λ (body : List ℕ). IsBlockOf (asked_block strange_body) body strange_body.payload)
+        (sym whole_is) f.carries.block.block
 
     empty_body : ◌≡◌ {A = List ℕ} (codes "a") [] → ⊥
     empty_body same = absurd cc

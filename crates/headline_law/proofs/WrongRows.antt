@@ -45,7 +45,6 @@ use Rattle.journal_model.specs.CarriedBlocks.{IsBlockOf, Sent, FormedAs, Validat
 use Rattle.journal_model.proofs.OnLiterals.{machine_on_literals}
 use Rattle.std.proofs.lemmas.Option.{same_Some}
 use Rattle.std.proofs.lemmas.Bool.{false≢true}
-use Rattle.rd_base.specs.declared.queries.Query.{Query}
 use Rattle.journal_model.specs.Effects.{empty_message}
 use Rattle.event_model.specs.declared.notes.Note.{Note}
 use Rattle.event_model.specs.declared.notes.Note.TheVariants as note
@@ -56,6 +55,8 @@ use Rattle.journal_model.specs.declared.rows.Row.{Row}
 use Rattle.journal_model.specs.Journal.{entries}
 use Rattle.journal_model.specs.Requests.{query_of, asked_block}
 use Rattle.journal_model.specs.PlacedRows.{Placed}
+use Rattle.journal_model.specs.Sought.{Sought, listing_of}
+use Rattle.journal_model.specs.Sought as seeking
 use Rattle.journal_model.specs.BlocksOfOne.{AreBlocksOfOne}
 use Rattle.journal_model.specs.Headline.{Headline}
 use Rattle.headline_law.proofs.entries.FailedLaws.{within_cases, nothing_within}
@@ -215,13 +216,8 @@ carried_nothing : (m : Message)
     → CarriesNothing m
 unfolding messages_on_literals
 carried_nothing m read content token h =
-    subst (λ (q : Query).
-    IsBlockOf (asked_block m) (listing q (entries (look_with (peer 1) m ∷ [])) 0) m.payload)
-    (sym query)
-    (subst (λ (p : Placed).
-    IsBlockOf (asked_block m)
-    (listing f.asked.query (entries (p.row ∷ p.before)) p.row.moment.0) m.payload)
-    (sym former) f.carries.block.block)
+    subst (λ (body : List ℕ). IsBlockOf (asked_block m) body m.payload) (sym whole_is)
+    f.carries.block.block
   where
     here : Placed
     here = record { row = look_with (peer 1) m; before = [] }
@@ -235,12 +231,23 @@ carried_nothing m read content token h =
     former = same_Some here f.former f.formed
 
     asked : Asked
-    asked = record { query = query_of lookup; number = 0; szx = 0 }
+    asked = record { sought = listing_of (query_of lookup); number = 0; szx = 0 }
 
-    query : query_of lookup ≡ f.asked.query
-    query =
-        ap (λ (a : Asked). a.query) (same_Some asked f.asked
+    sought : listing_of (query_of lookup) ≡ f.asked.sought
+    sought =
+        ap (λ (a : Asked). a.sought) (same_Some asked f.asked
         (subst (λ t. asked_at step.Look (peer 1, t) here ≡ Some f.asked) token f.asks))
+
+    whole_is : listing (query_of lookup) (entries (look_with (peer 1) m ∷ [])) 0 ≡ f.carries.whole
+    whole_is =
+        same_Some (listing (query_of lookup) (entries (look_with (peer 1) m ∷ [])) 0)
+        f.carries.whole
+        (subst (λ (p : Placed).
+        seeking.body (listing_of (query_of lookup)) (entries (p.row ∷ p.before)) p.row.moment.0
+        ≡ Some f.carries.whole) (sym former)
+        (subst (λ (x : Sought).
+        seeking.body x (entries (f.former.row ∷ f.former.before)) f.former.row.moment.0
+        ≡ Some f.carries.whole) (sym sought) f.carries.found))
 
 -- more is said to follow where nothing does: ACK 2.05 t=c1 [4 0000000000000000][23 0/1/16]
 abbrev more_claimed : Message
@@ -334,12 +341,11 @@ two_bodies_fall h =
       message = body_of 98;
       read = refl;
     } in
-    let both : AreBlocksOfOne (two_bodies ∷ []) (query_of lookup) (body_of 97) (body_of 98) =
-    h.tags.answers one other (query_of lookup) refl refl refl refl refl in
-    let first : 97 ∷ [] ≡ listing (query_of lookup)
-    (entries (both.row ∷ both.before)) both.row.moment.0 = both.first in
-    let second : 98 ∷ [] ≡ listing (query_of lookup)
-    (entries (both.row ∷ both.before)) both.row.moment.0 = both.second in
+    let both :
+    AreBlocksOfOne (two_bodies ∷ []) (listing_of (query_of lookup)) (body_of 97) (body_of 98) =
+    h.tags.answers one other (listing_of (query_of lookup)) refl refl refl refl refl in
+    let first : 97 ∷ [] ≡ both.whole = both.first in
+    let second : 98 ∷ [] ≡ both.whole = both.second in
     different (ap head (first ∙ sym second))
   where
     head : List ℕ → ℕ

@@ -53,6 +53,7 @@ use Rattle.history_model.specs.Replay.{
   is_live_named,
   number_named,
   with_changed,
+  replaced,
   registered_under,
   changed,
   apply,
@@ -288,13 +289,11 @@ not_named name moment (r ∷ rs) e =
 
 -- ---- what an accepted entry does
 
--- what is made anew of a live record: it keeps its number and its name, and is granted at the
--- moment
+-- what is made anew of a live record: it keeps its number and its name
 pub record Renews (moment : ℕ) (new : Record → Record) (r : Record) : Type 0 where
   pub live : is_live_at moment r ≡ true
   pub number : (new r).number ≡ r.number
   pub name : (new r).name ≡ r.name
-  pub granted : (new r).granted.0 ≡ moment
 
 -- the record of the number is made anew
 abbrev pub RenewsNumbered : ℕ → ℕ → (Record → Record) → List Record → Type 0
@@ -321,7 +320,7 @@ registered_again number entry params links records known =
     (λ r. registered number entry.moment entry.peer params links) r)
     (λ r fits same.
     record
-    { live = (fits same).0; number = sym same; name = sym ((fits same).1); granted = refl })
+    { live = (fits same).0; number = sym same; name = sym ((fits same).1) })
     records known
 
 updated_again : (number : ℕ) (entry : Entry) (given : UpdateParams) (records : List Record)
@@ -331,8 +330,15 @@ unfolding updated
 updated_again number entry given records known =
     each_weaker _
     (λ r. r.number ≡ number → Renews entry.moment.0 (updated entry.moment entry.peer given) r)
-    (λ r live same. record { live = live same; number = refl; name = refl; granted = refl }) records
-    known
+    (λ r live same. record { live = live same; number = refl; name = refl }) records known
+
+replaced_again : (number moment : ℕ) (links : List SubmittedLink) (records : List Record)
+    → AllByRecursion (λ r. r.number ≡ number → is_live_at moment r ≡ true) records
+    → RenewsNumbered moment number (replaced links) records
+unfolding replaced
+replaced_again number moment links records known =
+    each_weaker _ (λ r. r.number ≡ number → Renews moment (replaced links) r)
+    (λ r live same. record { live = live same; number = refl; name = refl }) records known
 
 -- what holds after each kind of accepted change, holds after an accepted entry
 pub by_accepted : (P : State → Type 0) (state : State) (entries : ℕ) (entry : Entry)
@@ -373,6 +379,11 @@ by_accepted P state entries entry numbered accepts replaces appends removes =
     of_change (change.Update number given) there =
         replaces number (updated entry.moment entry.peer given)
         (updated_again number entry given state.records
+        (live_numbered entry.moment.0 number state.records numbered.ascending
+        (not-false _ there)))
+    of_change (change.Replace number links) there =
+        replaces number (replaced links)
+        (replaced_again number entry.moment.0 links state.records
         (live_numbered entry.moment.0 number state.records numbered.ascending
         (not-false _ there)))
     of_change (change.Remove number) there = removes number

@@ -58,6 +58,7 @@ use Rattle.history_model.specs.Replay.{
   is_numbered,
   number_named,
   with_changed,
+  replaced,
   registered_under,
   changed,
   apply,
@@ -72,6 +73,7 @@ use Rattle.history_model.proofs.ReplayLaws.{
   KeepsNumber,
   registered-KeepsNumber,
   updated-KeepsNumber,
+  replaced-KeepsNumber,
 }
 use Rattle.history_model.proofs.NumberLaws.{
   IsBelow,
@@ -388,6 +390,9 @@ entry_apart moment other state entry away = of_change entry.change away
     of_change (change.Update number given) away =
         replaced_apart moment entry.moment.0 other number (updated entry.moment entry.peer given)
         (updated-KeepsNumber number entry.moment entry.peer given) away state.records
+    of_change (change.Replace number links) away =
+        replaced_apart moment entry.moment.0 other number (replaced links)
+        (replaced-KeepsNumber number entry.moment.0 links) away state.records
     of_change (change.Remove number) away = removed_apart moment other number away state.records
 
 -- where the record that it is about has the same part, the lines are the same

@@ -45,6 +45,7 @@ use Rattle.history_model.specs.Replay.{
   State,
   is_numbered,
   number_named,
+  replaced,
   registered_under,
   changed,
   apply,
@@ -153,6 +154,12 @@ changed-IsBounded entry state live bounded (change.Update number given) room tex
     let same :
     length (map (after_change number (updated entry.moment entry.peer given)) state.records)
     ≡ length state.records =
+    length-map _ _ in
+    let count = bounded.count in
+    record { count = omega (arith, same); text = ltb-false _ _ text }
+changed-IsBounded entry state live bounded (change.Replace number links) room text =
+    let same :
+    length (map (after_change number (replaced links)) state.records) ≡ length state.records =
     length-map _ _ in
     let count = bounded.count in
     record { count = omega (arith, same); text = ltb-false _ _ text }

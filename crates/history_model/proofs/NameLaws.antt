@@ -153,7 +153,7 @@ live-HaveDistinctNames first history moment legal order =
 abbrev pub IsGrantedBy : ℕ → Record → Type 0
 IsGrantedBy moment r = r.granted.0 ≤ moment
 
--- an entry grants at its own moment
+-- an entry grants nothing after its own moment
 pub apply-IsGrantedBy : (state : State) (entry : Entry)
     → AllByRecursion (IsGrantedBy entry.moment.0) state.records
     → AllByRecursion (IsGrantedBy entry.moment.0) (apply state entry).records
@@ -175,7 +175,7 @@ apply-IsGrantedBy state entry before =
     granted_by moment number new keeps r by_then = by (is_numbered number r)
       where
         by : (b : Bool) → (cond b (new r) r).granted.0 ≤ moment
-        by true = let granted = keeps.granted r in omega arith
+        by true = keeps.granted r by_then
         by false = by_then
 
 -- no record of a legal history was granted after its last entry

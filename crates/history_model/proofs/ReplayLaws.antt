@@ -19,6 +19,8 @@ use Rattle.std.proofs.Common.{
   refl,
   sym,
   eqb-true,
+  ◌≤◌,
+  arith,
 }
 use Rattle.std.proofs.lemmas.List.Sums.{fold_push}
 use Rattle.rd_base.specs.declared.moments.Moment.{Moment}
@@ -37,6 +39,7 @@ use Rattle.history_model.specs.Replay.{
   is_numbered,
   number_named,
   with_changed,
+  replaced,
   registered_under,
   changed,
   apply,
@@ -92,6 +95,18 @@ unfolding apply
 apply-Update state now worker peer number given = refl
 
 -- An end theorem: nothing here cites it.
+pub apply-Replace : (state : State) (now : Moment) (worker : ℕ) (peer : Peer) (number : ℕ)
+    (links : List SubmittedLink)
+    → apply state (record
+    { moment = now; worker = worker; peer = peer; change = change.Replace number links })
+    ≡ record {
+      records = with_changed number (replaced links) state.records;
+      last_number = state.last_number;
+    }
+unfolding apply
+apply-Replace state now worker peer number links = refl
+
+-- An end theorem: nothing here cites it.
 pub apply-Remove : (state : State) (now : Moment) (worker : ℕ) (peer : Peer) (number : ℕ)
     → apply state
     (record { moment = now; worker = worker; peer = peer; change = change.Remove number })
@@ -102,10 +117,10 @@ pub apply-Remove : (state : State) (now : Moment) (worker : ℕ) (peer : Peer) (
 unfolding apply
 apply-Remove state now worker peer number = refl
 
--- where each record of the number keeps it, and is granted at the moment
+-- where each record of the number keeps it, and none is granted after the moment
 pub record KeepsNumber (moment number : ℕ) (new : Record → Record) : Type 0 where
   pub keeps : (r : Record) → r.number ≡ number → (new r).number ≡ r.number
-  pub granted : (r : Record) → (new r).granted.0 ≡ moment
+  pub granted : (r : Record) → r.granted.0 ≤ moment → (new r).granted.0 ≤ moment
 
 pub registered-KeepsNumber : (number : ℕ) (now : Moment) (peer : Peer) (params : RegParams)
     (links : List SubmittedLink)
@@ -113,13 +128,24 @@ pub registered-KeepsNumber : (number : ℕ) (now : Moment) (peer : Peer) (params
 unfolding registered
 registered-KeepsNumber number now peer params links = record {
   keeps = λ r e. sym e;
-  granted = λ r. refl;
+  granted = λ r by_then. omega arith;
 }
 
 pub updated-KeepsNumber : (number : ℕ) (now : Moment) (peer : Peer) (given : UpdateParams)
     → KeepsNumber now.0 number (updated now peer given)
 unfolding updated
-updated-KeepsNumber number now peer given = record { keeps = λ r e. refl; granted = λ r. refl }
+updated-KeepsNumber number now peer given = record {
+  keeps = λ r e. refl;
+  granted = λ r by_then. omega arith;
+}
+
+pub replaced-KeepsNumber : (number moment : ℕ) (links : List SubmittedLink)
+    → KeepsNumber moment number (replaced links)
+unfolding replaced
+replaced-KeepsNumber number moment links = record {
+  keeps = λ r e. refl;
+  granted = λ r by_then. by_then;
+}
 
 -- what holds after each kind of change, holds after an entry
 pub by_change : (P : State → Type 0) (state : State) (entry : Entry)
@@ -150,6 +176,9 @@ by_change P state entry replaces appends removes = of_change entry.change
     of_change (change.Update number given) =
         replaces number (updated entry.moment entry.peer given)
         (updated-KeepsNumber number entry.moment entry.peer given)
+    of_change (change.Replace number links) =
+        replaces number (replaced links)
+        (replaced-KeepsNumber number entry.moment.0 links)
     of_change (change.Remove number) = removes number
 
 -- a record that a change may be about keeps its number

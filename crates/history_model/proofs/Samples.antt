@@ -37,6 +37,15 @@ updates ms peer number queries = record {
   change = change.Update number (update_values queries);
 }
 
+-- a peer gives the registration of a number other links at a moment, those of this body
+abbrev pub replaces : ℕ → Peer → ℕ → List ℕ → Entry
+replaces ms peer number body = record {
+  moment = record { 0 = ms };
+  worker = 0;
+  peer = peer;
+  change = change.Replace number (unwrap_or (linked_references body) []);
+}
+
 -- the device removes the registration of a number at a moment
 abbrev pub removes : ℕ → ℕ → Entry
 removes ms number = record {

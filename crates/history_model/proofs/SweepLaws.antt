@@ -43,6 +43,7 @@ use Rattle.history_model.specs.Replay.{
   is_live_named,
   number_named,
   with_changed,
+  replaced,
   registered_under,
   changed,
   apply,
@@ -171,6 +172,10 @@ only_live-apply swept state entries entry numbered accepts order =
     of_change (change.Update number given) there = ap (with_records state.last_number)
         (changed_live swept entry.moment.0 number (updated entry.moment entry.peer given)
         state.records order
+        (live_numbered entry.moment.0 number state.records numbered.ascending
+        (not-false _ there)))
+    of_change (change.Replace number links) there = ap (with_records state.last_number)
+        (changed_live swept entry.moment.0 number (replaced links) state.records order
         (live_numbered entry.moment.0 number state.records numbered.ascending
         (not-false _ there)))
     of_change (change.Remove number) there =

@@ -1,5 +1,5 @@
 -- A tag determines the front and the live records of one history: so equal tags mean equal
--- listings.
+-- listings, and equal sources.
 use Rattle.std.proofs.Common.{
   ◌≡◌,
   ℕ,
@@ -12,6 +12,7 @@ use Rattle.std.proofs.Common.{
   map,
   filter,
   length,
+  option_map,
   take,
   nat_lt,
   nat_le,
@@ -34,7 +35,8 @@ use Rattle.rd_base.specs.declared.records.Record.{Record}
 use Rattle.record_model.specs.ListingLines.{shown}
 use Rattle.history_model.specs.declared.entries.Entry.{Entry}
 use Rattle.history_model.specs.Leases.{lapse, is_live_at, live_among}
-use Rattle.history_model.specs.Replay.{replay}
+use Rattle.history_model.specs.Replay.{numbered, replay}
+use Rattle.history_model.specs.Sources.{record_source, source}
 use Rattle.history_model.specs.Live.{IsFront, live, last_moment}
 use Rattle.history_model.specs.Listing.{lines_of, all_lines, listing, lapsed_since, tag_from}
 use Rattle.history_model.specs.Legal.{IsLegalFrom}
@@ -192,5 +194,29 @@ pub listing-tag_from : (first : ℕ) (history front other : List Entry) (moment 
     → listing query front moment ≡ listing query other later
 listing-tag_from first history front other moment later query counted legal begins also low high e =
     listing-live query front other moment later
+    (tag_from_tells first history front other moment later counted legal begins also low high
+    e).1
+
+-- so do they the same source of each number
+pub source-live : (number : ℕ) (front other : List Entry) (moment later : ℕ)
+    → live front moment ≡ live other later
+    → source number front moment ≡ source number other later
+unfolding source
+source-live number front other moment later same =
+    ap (λ records. option_map record_source (numbered number records)) same
+
+-- equal tags of fronts of one legal history mean equal sources of an equal number
+-- An end theorem: nothing here cites it.
+pub source-tag_from : (first : ℕ) (history front other : List Entry) (moment later number : ℕ)
+    → first ≤ max_entries
+    → IsLegalFrom first history
+    → IsFront front history
+    → IsFront other history
+    → last_moment front ≤ moment
+    → last_moment other ≤ later
+    → tag_from first front moment ≡ tag_from first other later
+    → source number front moment ≡ source number other later
+source-tag_from first history front other moment later number counted legal begins also low high e =
+    source-live number front other moment later
     (tag_from_tells first history front other moment later counted legal begins also low high
     e).1

@@ -54,6 +54,7 @@ use Rattle.history_model.specs.Replay.{
   is_numbered,
   number_named,
   number_for,
+  replaced,
   registered_under,
   changed,
   apply,
@@ -122,6 +123,13 @@ updated_live swept entry given r order lasts granted live =
     by (Some lt) lasts = omega arith
     by None lasts = let above : entry.moment.0 < lapse r = ltb-true _ _ live in omega arith
 
+-- so is a live record with other links: its lease is as it was
+replaced_live : (swept : ℕ) (links : List SubmittedLink) (r : Record)
+    → is_live_at swept r ≡ true
+    → is_live_at swept (replaced links r) ≡ true
+unfolding replaced
+replaced_live swept links r live = live
+
 -- what an accepted entry makes of records that are live at a moment not above its own is live then
 apply-live : (swept : ℕ) (state : State) (entries : ℕ) (entry : Entry)
     → HasRisingNumbers state
@@ -185,6 +193,14 @@ apply-live swept state entries entry numbered accepts lasts order granted live =
         (λ r. is_live_at swept r ≡ true)
         (λ r. is_live_at swept (after_change number new r) ≡ true) (kept number new)
         state.records known live)
+    of_change (change.Replace number links) there lasts =
+        each_map (λ r. is_live_at swept r ≡ true) (after_change number (replaced links))
+        state.records
+        (each_weaker (λ r. is_live_at swept r ≡ true)
+        (λ r. is_live_at swept (after_change number (replaced links) r) ≡ true)
+        (λ r old.
+        kept number (replaced links) r (λ _. replaced_live swept links r old) old)
+        state.records live)
     of_change (change.Remove number) there lasts =
         each_filter (λ r. is_live_at swept r ≡ true) (λ r. not (is_numbered number r)) state.records
         live

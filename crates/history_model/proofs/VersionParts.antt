@@ -45,5 +45,8 @@ number_about-VersionStandsFor first history version moment (change.Register para
 number_about-VersionStandsFor first history version moment (change.Update number given) stands
     order =
     refl
+number_about-VersionStandsFor first history version moment (change.Replace number links) stands
+    order =
+    refl
 number_about-VersionStandsFor first history version moment (change.Remove number) stands order =
     refl

@@ -1,4 +1,6 @@
 mod LeaseExamples
 mod ListingExamples
+mod ReplaceExamples
+mod SourceExamples
 mod LimitExamples
 mod TextExamples

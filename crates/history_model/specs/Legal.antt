@@ -1,6 +1,7 @@
 -- Legal histories: moments do not fall, no body is refused, and no entry is refused after those
 -- before it.
 use Rattle.std.specs.Prelude.{◌≡◌, ℕ, false, ◌<◌, ◌≤◌, List, ◌∷◌, ◌++◌, Some, None, IfSome, ⊤}
+use Rattle.rd_base.specs.declared.submitted_links.SubmittedLink.{SubmittedLink}
 use Rattle.record_model.specs.Bodies.{linked_references}
 use Rattle.record_model.specs.Refusals.{is_refused_as_limited}
 use Rattle.history_model.specs.declared.entries.Change.{Change}
@@ -9,12 +10,16 @@ use Rattle.history_model.specs.declared.entries.Entry.{Entry}
 use Rattle.history_model.specs.Live.{last_moment}
 use Rattle.history_model.specs.Refusals.{change_refusal}
 
--- the links of a registration are those of a body that is not refused (RFC 6690 section 2, RFC 9176
--- appendix C)
-abbrev pub HasGoodBody : Change → Type 0
-HasGoodBody (change.Register params links) =
+-- the links are those of a body that is not refused (RFC 6690 section 2, RFC 9176 appendix C)
+abbrev pub AreOfGoodBody : List SubmittedLink → Type 0
+AreOfGoodBody links =
     (body : List ℕ) × (linked_references body ≡ Some links) × (is_refused_as_limited body ≡ false)
+
+-- the links that a change brings are those of a body that is not refused
+abbrev pub HasGoodBody : Change → Type 0
+HasGoodBody (change.Register params links) = AreOfGoodBody links
 HasGoodBody (change.Update number given) = ⊤
+HasGoodBody (change.Replace number links) = AreOfGoodBody links
 HasGoodBody (change.Remove number) = ⊤
 
 -- an entry may come after a history: its moment is not below the last one, its body is not refused,
@@ -40,4 +45,5 @@ IsLegal history = IsLegalFrom 0 history
 abbrev pub IsLasting : Change → Type 0
 IsLasting (change.Register params links) = 0 < params.lt
 IsLasting (change.Update number given) = IfSome given.lt (λ lt. 0 < lt)
+IsLasting (change.Replace number links) = ⊤
 IsLasting (change.Remove number) = ⊤

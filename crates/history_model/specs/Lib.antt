@@ -6,4 +6,5 @@ pub mod Listing
 pub mod Refusals
 pub mod Legal
 pub mod Versions
+pub mod Sources
 pub mod ChangedParts

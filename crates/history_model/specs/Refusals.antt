@@ -58,10 +58,12 @@ has_name name records = list_any (λ r. is_same_name r.name name) records
 abbrev pub text_of : List Record → ℕ
 text_of records = sum_by weight records
 
--- an update or a removal names a number that none of the live records has (RFC 9176 section 5.3)
+-- an update, a replacement of links or a removal names a number that none of the live records has
+-- (RFC 9176 section 5.3)
 abbrev pub is_gone : List Record → Change → Bool
 is_gone live (change.Register params links) = false
 is_gone live (change.Update number given) = not (has_number number live)
+is_gone live (change.Replace number links) = not (has_number number live)
 is_gone live (change.Remove number) = not (has_number number live)
 
 -- a registration comes with a new name while as many records are live as may be
@@ -69,6 +71,7 @@ abbrev pub is_full_of_records : List Record → Change → Bool
 is_full_of_records live (change.Register params links) =
     nat_le max_registrations (length live) && not (has_name params.name live)
 is_full_of_records live (change.Update number given) = false
+is_full_of_records live (change.Replace number links) = false
 is_full_of_records live (change.Remove number) = false
 
 -- the state with those of its records alone that are live at a moment
@@ -80,10 +83,12 @@ only_live moment state = record state { records = live_among moment state.record
 abbrev pub text_after : State → Entry → ℕ
 text_after state entry = text_of (apply (only_live entry.moment.0 state) entry).records
 
--- a registration or an update would have the live records weigh more than they may
+-- a registration, an update or a replacement of links would have the live records weigh more than
+-- they may
 abbrev pub is_full_of_text : ℕ → Change → Bool
 is_full_of_text text (change.Register params links) = nat_lt max_text text
 is_full_of_text text (change.Update number given) = nat_lt max_text text
+is_full_of_text text (change.Replace number links) = nat_lt max_text text
 is_full_of_text text (change.Remove number) = false
 
 -- the first refusal of an entry in a state, where so many entries were counted before

@@ -1,4 +1,4 @@
--- What the entries of a history make of the directory (RFC 9176 sections 5, 5.3.1 and 5.3.2).
+-- What the entries of a history make of the directory (RFC 9176 sections 5, 5.3, 5.3.1 and 5.3.2).
 use Rattle.std.specs.Prelude.{
   ℕ,
   ◌+◌,
@@ -27,7 +27,7 @@ use Rattle.rd_base.specs.declared.peers.Peer.{Peer}
 use Rattle.rd_base.specs.declared.records.Name.{Name}
 use Rattle.rd_base.specs.declared.records.Record.{Record}
 use Rattle.rd_base.specs.declared.submitted_links.SubmittedLink.{SubmittedLink}
-use Rattle.record_model.specs.Records.{registered, updated}
+use Rattle.record_model.specs.Records.{items_of, registered, updated}
 use Rattle.history_model.specs.declared.entries.Change.{Change}
 use Rattle.history_model.specs.declared.entries.Change.TheVariants as change
 use Rattle.history_model.specs.declared.entries.Entry.{Entry}
@@ -71,11 +71,17 @@ numbered number records = find (is_numbered number) records
 abbrev pub number_about : State → ℕ → Change → ℕ
 number_about state moment (change.Register params links) = number_for params.name moment state
 number_about state moment (change.Update number given) = number
+number_about state moment (change.Replace number links) = number
 number_about state moment (change.Remove number) = number
 
 -- the records, with something else for that of this number
 abbrev pub with_changed : ℕ → (Record → Record) → List Record → List Record
 with_changed number new records = map (λ r. if is_numbered number r then new r else r) records
+
+-- the record with other links (RFC 9176 section 5.3): these, resolved against its base; its lease
+-- and all else of it stay
+unfoldable pub replaced : List SubmittedLink → Record → Record
+replaced links r = record r { items = items_of r.base links }
 
 -- after a registration: where its name has a number, the record keeps the number and all else is
 -- replaced, and else a record of the next number is appended
@@ -101,6 +107,9 @@ changed state now peer (change.Register params links) =
     registered_under (number_named params.name now.0 state.records) state now peer params links
 changed state now peer (change.Update number given) = record state {
   records = with_changed number (updated now peer given) state.records;
+}
+changed state now peer (change.Replace number links) = record state {
+  records = with_changed number (replaced links) state.records;
 }
 changed state now peer (change.Remove number) = record state {
   records = filter (λ r. not (is_numbered number r)) state.records;

@@ -8,6 +8,8 @@ pub enum Change {
     Register(RegParams, LinkedList<SubmittedLink>),
     /// An update of the registration of this number: what it gives.
     Update(u64, UpdateParams),
+    /// Other links for the registration of this number: those of the body.
+    Replace(u64, LinkedList<SubmittedLink>),
     /// The removal of the registration of this number.
     Remove(u64),
 }

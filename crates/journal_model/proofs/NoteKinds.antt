@@ -1,7 +1,7 @@
 -- Which kinds of notes a step may note.
 use Rattle.std.proofs.Common.{◌≡◌, Bool, true, false, List, [], ◌∷◌, ◌++◌, None, refl}
 use Rattle.std.specs.List.{list_any, list_all}
-use Rattle.std.proofs.lemmas.Bool.{and_parts, and_from}
+use Rattle.std.proofs.lemmas.Bool.{and_parts, and_from, false≢true}
 use Rattle.event_model.specs.declared.notes.Note.{Note}
 use Rattle.event_model.specs.declared.notes.Note.TheVariants as note
 use Rattle.journal_model.specs.Journal.{entry_noted}
@@ -28,6 +28,12 @@ of_empty (note.Unwatched peer token) = true
 of_empty (note.Waiting peer) = true
 of_empty (note.Ceased peer) = true
 of_empty _ = false
+
+-- of reads of a registration, and of further blocks of lookups
+abbrev pub of_read : Note → Bool
+of_read (note.Kept peer key body tag) = true
+of_read (note.Used peer key) = true
+of_read _ = false
 
 -- of notices, and of requests of fetches, that are sent again
 abbrev pub of_again : Note → Bool
@@ -93,6 +99,15 @@ are-weaker kind other wider [] h = refl
 are-weaker kind other wider (n ∷ notes) h =
     let both = and_parts (kind n) (are kind notes) h in
     and_from (other n) (are other notes) (wider n both.0) (are-weaker kind other wider notes both.1)
+
+-- what reads note lookups may note
+pub read_lookup : (notes : List Note) → are of_read notes ≡ true → are of_lookup notes ≡ true
+read_lookup notes h = are-weaker of_read of_lookup wider notes h
+  where
+    wider : (n : Note) → of_read n ≡ true → of_lookup n ≡ true
+    wider (note.Kept peer key body tag) e = refl
+    wider (note.Used peer key) e = refl
+    wider _ e = absurd (false≢true e)
 
 -- what is sent again is of a tick
 pub again_tick : (notes : List Note) → are of_again notes ≡ true → are of_tick notes ≡ true

@@ -62,6 +62,7 @@ use Rattle.journal_model.specs.Lookups.{
   addition,
   observer_of,
   block_now,
+  block_of_found,
   block_of_kept,
   later_block,
   removal,
@@ -73,6 +74,8 @@ use Rattle.journal_model.specs.Lookups.{
   first_block_effects,
   block_effects,
   lookup_effects,
+  read_block_effects,
+  read_effects,
   observing_by,
 }
 use Rattle.journal_model.specs.Writes.{again_answered, admitted_unless, write_unless, write_effects}
@@ -103,6 +106,8 @@ use Rattle.journal_model.specs.Ticks.{
 use Rattle.std.proofs.lemmas.Bool.{and_from}
 use Rattle.journal_model.proofs.NoteKinds.{
   of_lookup,
+  of_read,
+  read_lookup,
   of_write,
   of_empty,
   of_again,
@@ -132,20 +137,28 @@ unfolding keep_effects answering
 keep_effects-notes s m body current = refl
 
 -- a further block
+pub later_block-kept : (rows : List Row) (moment : ℕ) (s : Step) (m : Message)
+    → are of_read (later_block rows moment s m).notes ≡ true
+unfolding later_block answering
+later_block-kept rows moment s m = by _ _
+  where
+    part_of : (answer : Answer) (part : Option (List ℕ × Bool))
+        → are of_read (block_now s m answer part).notes ≡ true
+    part_of answer None = refl
+    part_of answer (Some part) = refl
+
+    fresh : (found : Option Answer) → are of_read (block_of_found s m found).notes ≡ true
+    fresh None = refl
+    fresh (Some answer) = part_of answer _
+
+    by : (found kept : Option Answer) → are of_read (block_of_kept s m found kept).notes ≡ true
+    by found (Some kept) = refl
+    by found None = fresh found
+
 pub later_block-notes : (rows : List Row) (moment : ℕ) (s : Step) (m : Message)
     → are of_lookup (later_block rows moment s m).notes ≡ true
-unfolding later_block answering
-later_block-notes rows moment s m = by _ _
-  where
-    fresh : (answer : Answer) (part : Option (List ℕ × Bool))
-        → are of_lookup (block_now s m answer part).notes ≡ true
-    fresh answer None = refl
-    fresh answer (Some part) = refl
-
-    by : (answer : Answer) (kept : Option Answer)
-        → are of_lookup (block_of_kept s m answer kept).notes ≡ true
-    by answer (Some kept) = refl
-    by answer None = fresh answer _
+later_block-notes rows moment s m =
+    read_lookup (later_block rows moment s m).notes (later_block-kept rows moment s m)
 
 -- one note or none
 lookup_one : (b : Bool) (n : Note) → of_lookup n ≡ true → are of_lookup (cond b (n ∷ []) []) ≡ true
@@ -201,6 +214,21 @@ lookup_effects-notes rows moment s m = by _
     by : (b : Bool) → are of_lookup (block_effects b rows moment s m).notes ≡ true
     by true = later_block-notes rows moment s m
     by false = observe (observe_in m)
+
+-- a read of a registration
+pub read_effects-kept : (rows : List Row) (moment : ℕ) (s : Step) (m : Message)
+    → are of_read (read_effects rows moment s m).notes ≡ true
+unfolding read_effects
+read_effects-kept rows moment s m = by _
+  where
+    by : (b : Bool) → are of_read (read_block_effects b rows moment s m).notes ≡ true
+    by true = later_block-kept rows moment s m
+    by false = rw (look_effects-notes (entries rows) moment s m) refl
+
+pub read_effects-notes : (rows : List Row) (moment : ℕ) (s : Step) (m : Message)
+    → are of_lookup (read_effects rows moment s m).notes ≡ true
+read_effects-notes rows moment s m =
+    read_lookup (read_effects rows moment s m).notes (read_effects-kept rows moment s m)
 
 -- a write as it is heard: a repeat, one too many, or one that is admitted
 pub write_effects-notes : (events : List Event) (moment : ℕ) (s : Step) (m : Message)

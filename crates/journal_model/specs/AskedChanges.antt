@@ -1,5 +1,5 @@
 -- The change that a step asks for, and the entry that is made of it (RFC 9176 sections 5 and 5.3).
-use Rattle.std.specs.Prelude.{◌≡◌, ℕ, ◌+◌, Bool, false, ◌&&◌, ◌||◌, ◌==◌, List, [], ◌++◌, Option}
+use Rattle.std.specs.Prelude.{◌≡◌, ℕ, Bool, false, ◌&&◌, ◌||◌, ◌==◌, List, [], ◌++◌, Option}
 use Rattle.std.specs.Prelude.{Some, None, Result, Ok, Err}
 use Rattle.rd_base.specs.declared.submitted_links.SubmittedLink.{SubmittedLink}
 use Rattle.message_model.specs.declared.blocks.Block.{Block}
@@ -34,7 +34,7 @@ abbrev pub names_location : Result Message Unread → Bool
 names_location (Err fault) = false
 names_location (Ok m) = is_location (path_in m)
 
--- the code says that a change was made: 2.01, 2.02, or 2.04 of an update
+-- the code says that a change was made: 2.01, 2.02, or 2.04 of an update or a replacement
 abbrev pub is_code_of_change : ℕ → Bool → Bool
 is_code_of_change code of_location =
     code
@@ -51,25 +51,44 @@ IsCollected None rows moment s m collected = collected ≡ []
 IsCollected (Some b) rows moment s m collected =
     collected_before b (live_upload moment (s.peer, key_in m) (events rows)) ≡ Some collected
 
--- the links are those of the body of a registration, which is whole: its payload, after what is
+-- the links are those of the body of a request, which is whole: its payload, after what is
 -- collected before it, and no more follows
-pub record RegistersLinks (rows : List Row) (moment : ℕ) (s : Step) (m : Message)
+pub record BringsLinks (rows : List Row) (moment : ℕ) (s : Step) (m : Message)
     (links : List SubmittedLink) : Type 0 where
   pub last : more_follow (sent_block m) ≡ false
   pub collected : List ℕ
   pub before : IsCollected (sent_block m) rows moment s m collected
   pub read : body_read (collected ++ m.payload) ≡ good_body links
 
--- the change is the one that a request asks for: a registration of its links, or an update or a
--- removal of the registration that its location names
-abbrev pub AsksChange : Path → List Row → ℕ → Step → Message → Change → Type 0
-AsksChange path.Rd rows moment s m (change.Register params links) =
-    (params ≡ registration_values (queries_in m)) × RegistersLinks rows moment s m links
-AsksChange (path.Location number) rows moment s m (change.Update n params) =
+-- a request to `/rd` asks for the registration of its links
+abbrev pub AsksRegistration : List Row → ℕ → Step → Message → Change → Type 0
+AsksRegistration rows moment s m (change.Register params links) =
+    (params ≡ registration_values (queries_in m)) × BringsLinks rows moment s m links
+AsksRegistration rows moment s m (change.Update n given) = ⊥
+AsksRegistration rows moment s m (change.Replace n links) = ⊥
+AsksRegistration rows moment s m (change.Remove n) = ⊥
+
+-- a request on the registration of a number asks to update it by POST, to replace its links by PUT,
+-- and to remove it by DELETE
+abbrev pub AsksOfLocation : ℕ → List Row → ℕ → Step → Message → Change → Type 0
+AsksOfLocation number rows moment s m (change.Register params links) = ⊥
+AsksOfLocation number rows moment s m (change.Update n params) =
     (m.code ≡ codes_of.post) × (n ≡ number) × (params ≡ update_values (queries_in m))
-AsksChange (path.Location number) rows moment s m (change.Remove n) =
-    ((m.code == codes_of.post) ≡ false) × (n ≡ number)
-AsksChange _ rows moment s m _ = ⊥
+AsksOfLocation number rows moment s m (change.Replace n links) =
+    (m.code ≡ codes_of.put) × (n ≡ number) × BringsLinks rows moment s m links
+AsksOfLocation number rows moment s m (change.Remove n) =
+    (m.code ≡ codes_of.delete) × (n ≡ number)
+
+-- the change is the one that a request asks for: a registration of its links, or an update, a
+-- replacement of the links, or a removal of the registration that its location names
+abbrev pub AsksChange : Path → List Row → ℕ → Step → Message → Change → Type 0
+AsksChange path.Core rows moment s m what = ⊥
+AsksChange path.SimpleRd rows moment s m what = ⊥
+AsksChange path.Rd rows moment s m what = AsksRegistration rows moment s m what
+AsksChange (path.Location number) rows moment s m what = AsksOfLocation number rows moment s m what
+AsksChange path.Res rows moment s m what = ⊥
+AsksChange path.Ep rows moment s m what = ⊥
+AsksChange path.Other rows moment s m what = ⊥
 
 -- the change is the one that a fetch was made for: a registration of what it collected, with the
 -- parameters of its first request
@@ -77,7 +96,9 @@ abbrev pub FetchesChange : List Row → Step → Message → Request → Change 
 FetchesChange rows s m request (change.Register params links) =
     (params ≡ request.params)
     × (body_read (collected s.peer (events rows) ++ m.payload) ≡ good_body links)
-FetchesChange rows s m request _ = ⊥
+FetchesChange rows s m request (change.Update n given) = ⊥
+FetchesChange rows s m request (change.Replace n links) = ⊥
+FetchesChange rows s m request (change.Remove n) = ⊥
 
 -- a step that commits a write asks for the change
 pub record CommitAsks (rows : List Row) (moment : ℕ) (s : Step) (what : Change) : Type 0 where
@@ -96,7 +117,9 @@ pub record CompletionMakes (rows : List Row) (s : Step) (what : Change) : Type 0
 abbrev pub IsAskedBy : StepKind → List Row → ℕ → Step → Change → Type 0
 IsAskedBy (step.Commit place) rows moment s what = CommitAsks rows moment s what
 IsAskedBy step.Admit rows moment s what = CompletionMakes rows s what
-IsAskedBy _ rows moment s what = ⊥
+IsAskedBy step.Look rows moment s what = ⊥
+IsAskedBy (step.Keep body tag) rows moment s what = ⊥
+IsAskedBy step.Tick rows moment s what = ⊥
 
 -- an entry has the moment, the worker and the peer of its row, and is the change that was asked for
 pub record IsEntryOf (rows : List Row) (moment : ℕ) (s : Step) (entry : Entry) : Type 0 where

@@ -1,5 +1,5 @@
--- Messages that carry a block of a listing under its tag, and those that say that a tag is valid
--- (RFC 7959 section 2.4, RFC 7252 section 5.9.1.3).
+-- Messages that carry a block of a listing or of a source under its tag, and those that say that a
+-- tag is valid (RFC 7959 section 2.4, RFC 7252 section 5.9.1.3).
 use Rattle.std.specs.Prelude.{◌≡◌, ℕ, ◌≤◌, Bool, true, false, ◌&&◌, ◌||◌, ◌==◌, List, [], ◌∷◌}
 use Rattle.std.specs.Prelude.{length, Option, Some, None, Result, Ok, Err}
 use Rattle.std.specs.List.{list_any, IsAmong}
@@ -11,17 +11,18 @@ use Rattle.message_model.specs.Codes as codes_of
 use Rattle.message_model.specs.OptionTable as table
 use Rattle.message_model.specs.Blocks.{block_size, block_of}
 use Rattle.message_model.specs.Reading.{reading}
-use Rattle.message_model.specs.Request.{path_in, etags_in}
+use Rattle.message_model.specs.Request.{etags_in}
 use Rattle.history_model.specs.declared.entries.Entry.{Entry}
 use Rattle.history_model.specs.Live.{IsFront}
-use Rattle.history_model.specs.Listing.{listing, tag}
+use Rattle.history_model.specs.Listing.{tag}
 use Rattle.journal_model.specs.declared.rows.Row.{Row}
 use Rattle.journal_model.specs.Journal.{is_look, entries}
-use Rattle.journal_model.specs.Requests.{is_lookup, is_look_request, asked_block}
+use Rattle.journal_model.specs.Requests.{is_look_request, asked_block}
+use Rattle.journal_model.specs.Sought.{sought_in, body, has_tag, is_found}
 use Rattle.journal_model.specs.Looks.{names_tag}
 use Rattle.journal_model.specs.PlacedRows.{Within, Placed}
 use Rattle.journal_model.specs.BodyFormers.{repeats_body, former_at, asker_at}
-use Rattle.journal_model.specs.AskedListings.{Asked, asked_at, answers_lookup}
+use Rattle.journal_model.specs.AskedListings.{Asked, asked_at, answers_with_links}
 
 -- 2.05
 abbrev pub is_content : Message → Bool
@@ -57,15 +58,17 @@ pub record CarriesBlock (m : Message) (number szx : ℕ) (body : List ℕ) : Typ
   pub asked : IsAsked number szx (asked_block m) body
   pub fits : length m.payload ≤ longest_payload
 
--- the message carries a block of the listing of what is asked for, from a history at a moment,
--- under its tag
+-- the message carries a block of what is asked for, as it is found in a history at a moment, under
+-- the tag of that history
 pub record Carries (m : Message) (asked : Asked) (history : List Entry) (moment : ℕ) : Type 0 where
-  pub block : CarriesBlock m asked.number asked.szx (listing asked.query history moment)
+  pub whole : List ℕ
+  pub found : body asked.sought history moment ≡ Some whole
+  pub block : CarriesBlock m asked.number asked.szx whole
   pub tag : etags_in m ≡ tag history moment ∷ []
 
--- the message was formed by a row, and carries the block that is asked for of the listing from the
--- history up to that row, at the moment of that row; and unless it repeats a body of an earlier
--- row, this history holds all that the worker had seen when it was asked
+-- the message was formed by a row, and carries the block that is asked for of the listing or the
+-- source from the history up to that row, at the moment of that row; and unless it repeats a body
+-- of an earlier row, this history holds all that the worker had seen when it was asked
 pub record FormedAs (here : Placed) (peer : Peer) (m : Message) : Type 0 where
   pub former : Placed
   pub formed : former_at here.row.step.kind peer m.mid here ≡ Some former
@@ -76,10 +79,15 @@ pub record FormedAs (here : Placed) (peer : Peer) (m : Message) : Type 0 where
       → (asker : Placed) → asker_at here.row.step.kind here ≡ Some asker
       → IsFront (seen asker) (entries (former.row ∷ former.before))
 
--- the request is a look that names the tag
-abbrev pub looks_with_tag : List ℕ → Result Message Unread → Bool
-looks_with_tag current (Err fault) = false
-looks_with_tag current (Ok m) = is_look_request m && is_lookup (path_in m) && names_tag current m
+-- the request is a look for a listing, or for the source of a registration that is live, and it
+-- names the tag of a history at a moment
+abbrev pub looks_with_tag : List Entry → ℕ → Result Message Unread → Bool
+looks_with_tag history moment (Err fault) = false
+looks_with_tag history moment (Ok m) =
+    is_look_request m
+    && has_tag (sought_in m)
+    && is_found (sought_in m) history moment
+    && names_tag (tag history moment) m
 
 -- a message that a row of a journal sends
 pub record Sent (rows : List Row) : Type 0 where
@@ -91,11 +99,11 @@ pub record Sent (rows : List Row) : Type 0 where
   pub message : Message
   pub read : reading octets ≡ Ok message
 
--- it is a 2.05: to a lookup, as a notice, or with an entity tag
-abbrev pub is_listing : {rows : List Row} → Sent rows → Bool
-is_listing it =
+-- it is a 2.05: to a request that seeks a listing or a source, as a notice, or with an entity tag
+abbrev pub shows_links : {rows : List Row} → Sent rows → Bool
+shows_links it =
     is_content it.message
-    && (answers_lookup it.here.row.step.kind (reading it.here.row.step.datagram)
+    && (answers_with_links it.here.row.step.kind (reading it.here.row.step.datagram)
     || is_tagged it.message)
 
 -- 2.03 as a look sends it: where it names the tag at its own row, to the peer and the token of the
@@ -103,7 +111,7 @@ is_listing it =
 pub record Validates (here : Placed) (peer : Peer) (m : Message) : Type 0 where
   pub looks : is_look here.row.step.kind ≡ true
   pub named :
-      looks_with_tag (tag (entries here.before) here.row.moment.0) (reading here.row.step.datagram)
+      looks_with_tag (entries here.before) here.row.moment.0 (reading here.row.step.datagram)
       ≡ true
   pub asked : Asked
   pub asks : asked_at here.row.step.kind (peer, m.token) here ≡ Some asked

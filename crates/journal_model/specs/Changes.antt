@@ -1,5 +1,5 @@
 -- Changes of the directory: the entry that a request makes, or why it is refused (RFC 9176 sections
--- 5, 5.3.1 and 5.3.2).
+-- 5, 5.3.1, 5.3.2 and 5.3.3).
 use Rattle.std.specs.Prelude.{
   ℕ,
   Bool,
@@ -90,7 +90,8 @@ abbrev pub links_or_bad : Option (List SubmittedLink) → BodyRead
 links_or_bad None = bad_body (codes "links")
 links_or_bad (Some links) = limited_links (is_some (first_unlimited links)) links
 
--- what is read of the body of a registration (RFC 6690 section 2, RFC 9176 appendix C)
+-- what is read of the body of a registration or of a replacement (RFC 6690 section 2, RFC 9176
+-- appendix C)
 unfoldable pub body_read : List ℕ → BodyRead
 body_read body = links_or_bad (linked_references body)
 
@@ -147,3 +148,56 @@ unfoldable pub registration : List Entry
     → Outcome
 registration history moment s params body further notes =
     registered_links history moment s params further notes (body_read body)
+
+-- 2.04, with further options
+abbrev pub changed_with : List Opt → Reply
+changed_with further = record { code = codes_of.changed; options = further; payload = [] }
+
+-- the replacement of the links of a registration by what was read of a body, answered with further
+-- options; where it is accepted, this is noted beside its entry
+abbrev pub replaced_links : List Entry
+    → ℕ
+    → Step
+    → ℕ
+    → List Opt
+    → List Note
+    → BodyRead
+    → Outcome
+replaced_links history moment s number further notes (bad_body word) =
+    refused codes_of.bad_request word
+replaced_links history moment s number further notes (good_body links) =
+    change_made history (entry_of_step moment s (change.Replace number links))
+    (record { reply = changed_with further; notes = notes })
+
+-- the replacement of the links of a registration by those of a whole body: refused for its links,
+-- refused as a change, or entered (RFC 9176 section 5.3.3)
+unfoldable pub replacement : List Entry
+    → ℕ
+    → Step
+    → ℕ
+    → List ℕ
+    → List Opt
+    → List Note
+    → Outcome
+replacement history moment s number body further notes =
+    replaced_links history moment s number further notes (body_read body)
+
+-- what the links of a body are for: a registration with these parameters, or other links for the
+-- registration of this number
+pub data Purpose : Type 0 where
+  to_register : RegParams → Purpose
+  to_replace : ℕ → Purpose
+
+-- what comes of a whole body, by what its links are for
+abbrev pub body_used : Purpose
+    → List Entry
+    → ℕ
+    → Step
+    → List ℕ
+    → List Opt
+    → List Note
+    → Outcome
+body_used (to_register params) history moment s body further notes =
+    registration history moment s params body further notes
+body_used (to_replace number) history moment s body further notes =
+    replacement history moment s number body further notes

@@ -22,7 +22,6 @@ use Rattle.message_model.specs.declared.requests.Path.{Path}
 use Rattle.message_model.specs.declared.requests.Path.TheVariants as path
 use Rattle.message_model.specs.Message.{Message}
 use Rattle.message_model.specs.Codes as codes_of
-use Rattle.message_model.specs.OptionTable as table
 use Rattle.message_model.specs.Request.{path_in, queries_in}
 use Rattle.message_model.specs.Spelling.{spelling}
 use Rattle.message_model.specs.FetchRequests.{fetch_request}
@@ -46,7 +45,7 @@ use Rattle.journal_model.specs.Effects.{
 }
 use Rattle.journal_model.specs.Requests.{Method, get, post, put, delete, other_method, method_of}
 use Rattle.journal_model.specs.Changes.{Outcome, refused, entry_of_step, change_made}
-use Rattle.journal_model.specs.Registrations.{registering}
+use Rattle.journal_model.specs.Registrations.{registering, replacing}
 
 -- the answer is sent and settled, and what came of the write is noted
 abbrev pub settling : ℕ → Step → Message → Outcome → Effects
@@ -106,21 +105,24 @@ registering_simply events place s m =
     (fetch_room (is_fetching s.peer events) (nat_le max_fetches (length (fetches events)))) events
     place s m
 
--- a write on a registration, by its method: POST updates it, and DELETE removes it; any other is
--- refused before it is admitted, and would remove it too
-abbrev pub on_location : Method → List Row → ℕ → ℕ → Step → Message → ℕ → Effects
-on_location get rows moment place s m number = settling place s m (removing rows moment s number)
-on_location post rows moment place s m number = settling place s m (updating rows moment s m number)
-on_location put rows moment place s m number = settling place s m (removing rows moment s number)
-on_location delete rows moment place s m number = settling place s m (removing rows moment s number)
-on_location other_method rows moment place s m number =
-    settling place s m (removing rows moment s number)
+-- 4.05: the method does nothing that is committed
+abbrev pub no_write : Outcome
+no_write = refused codes_of.method_not_allowed (codes "method")
+
+-- what comes of a write on a registration, by its method: POST updates it, PUT replaces its links,
+-- and DELETE removes it; GET is no write, and any other method is refused before it is admitted
+abbrev pub location_outcome : Method → List Row → ℕ → Step → Message → ℕ → Outcome
+location_outcome get rows moment s m number = no_write
+location_outcome post rows moment s m number = updating rows moment s m number
+location_outcome put rows moment s m number = replacing rows moment s m number
+location_outcome delete rows moment s m number = removing rows moment s number
+location_outcome other_method rows moment s m number = no_write
 
 -- what a write does, by its path
 abbrev pub write_done : Path → List Row → ℕ → ℕ → Step → Message → Effects
 write_done path.Rd rows moment place s m = settling place s m (registering rows moment s m)
 write_done (path.Location number) rows moment place s m =
-    on_location (method_of m.code) rows moment place s m number
+    settling place s m (location_outcome (method_of m.code) rows moment s m number)
 write_done path.SimpleRd rows moment place s m = registering_simply (events rows) place s m
 write_done path.Core rows moment place s m = nothing
 write_done path.Res rows moment place s m = nothing

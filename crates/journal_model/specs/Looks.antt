@@ -1,5 +1,5 @@
--- Lookups and discovery that are answered from the registrations alone (RFC 9176 sections 4.1 and
--- 6, RFC 7252 section 5.10.6.2).
+-- Lookups, reads of a registration, and discovery that are answered from the registrations alone
+-- (RFC 9176 sections 4.1, 5.3.3 and 6, RFC 7252 section 5.10.6.2).
 use Rattle.std.specs.Prelude.{
   ℕ,
   Bool,
@@ -16,6 +16,7 @@ use Rattle.std.specs.Prelude.{
   Err,
   option_map,
   bytes_eq,
+  codes,
 }
 use Rattle.std.specs.List.{list_any}
 use Rattle.message_model.specs.declared.messages.Unread.{Unread}
@@ -27,7 +28,14 @@ use Rattle.history_model.specs.declared.entries.Entry.{Entry}
 use Rattle.event_model.specs.declared.notes.Note.TheVariants as note
 use Rattle.event_model.specs.KeptAnswers.{Answer}
 use Rattle.journal_model.specs.declared.steps.Step.{Step}
-use Rattle.journal_model.specs.Effects.{Effects, Reply, nothing, answering, without_memory}
+use Rattle.journal_model.specs.Effects.{
+  Effects,
+  Reply,
+  nothing,
+  diagnostic,
+  answering,
+  without_memory,
+}
 use Rattle.journal_model.specs.Requests.{asked_block}
 use Rattle.journal_model.specs.Bodies.{tag_option, body_reply, is_long}
 use Rattle.journal_model.specs.Sought.{Sought, sought_in, body, body_tag}
@@ -42,7 +50,7 @@ pub data Look : Type 0 where
 abbrev pub names_tag : List ℕ → Message → Bool
 names_tag current m = list_any (bytes_eq current) (etags_in m)
 
--- 2.03: what the client has is still the listing
+-- 2.03: what the client has is still what is found
 abbrev pub still_valid : List ℕ → Reply
 still_valid current = record {
   code = codes_of.valid;
@@ -66,10 +74,19 @@ found_under None m what = answered (body_reply None None (asked_block m) what)
 found_under (Some current) m what =
     unless_valid (names_tag current m) m (record { body = what; tag = current })
 
+-- 4.04: the registration is not live, and it has no source
+abbrev pub not_live : Reply
+not_live = diagnostic codes_of.not_found (codes "registration")
+
+-- what is found under a tag, or under none; 4.04 where nothing is found
+abbrev pub found_or_not : Option (List ℕ) → Message → Option (List ℕ) → Look
+found_or_not current m None = answered not_live
+found_or_not current m (Some what) = found_under current m what
+
 -- what a look for this gives, from a history at a moment
 abbrev pub look_for : List Entry → ℕ → Message → Sought → Look
 look_for history moment m sought =
-    found_under (body_tag sought history moment) m (body sought history moment)
+    found_or_not (body_tag sought history moment) m (body sought history moment)
 
 -- what a look gives from a front at a moment: nothing where nothing is sought
 unfoldable pub look : List Entry → ℕ → Message → Option Look

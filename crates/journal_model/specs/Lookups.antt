@@ -1,5 +1,5 @@
--- Lookups that the journal takes part in: further blocks of a body, and observation (RFC 7959
--- section 2.4, RFC 7641 sections 3 and 4.1).
+-- Lookups and reads of a registration that the journal takes part in: further blocks of a body, and
+-- observation (RFC 7959 section 2.4, RFC 7641 sections 3 and 4.1).
 use Rattle.std.specs.Prelude.{
   ℕ,
   Bool,
@@ -15,13 +15,14 @@ use Rattle.std.specs.Prelude.{
   Option,
   Some,
   None,
+  option_and_then,
   if◌then◌else◌,
 }
 use Rattle.message_model.specs.Message.{Message}
 use Rattle.message_model.specs.Request.{observe_in}
 use Rattle.message_model.specs.RequestKey.{key_in}
 use Rattle.message_model.specs.Blocks.{block_of}
-use Rattle.history_model.specs.Listing.{tag}
+use Rattle.history_model.specs.Listing.{listing, tag}
 use Rattle.event_model.specs.declared.notes.Note.{Note}
 use Rattle.event_model.specs.declared.notes.Note.TheVariants as note
 use Rattle.event_model.specs.declared.notes.Observer.{Observer}
@@ -48,17 +49,22 @@ use Rattle.journal_model.specs.Requests.{
   deregister,
 }
 use Rattle.journal_model.specs.Bodies.{body_reply, part_reply, is_long}
-use Rattle.journal_model.specs.Sought.{listing_of, body}
-use Rattle.journal_model.specs.Looks.{look_effects}
+use Rattle.journal_model.specs.Sought.{sought_in, answer_for}
+use Rattle.journal_model.specs.Looks.{not_live, look_effects}
 
 -- the listing of a lookup now, and its tag
 abbrev pub listing_now : List Row → ℕ → Message → Answer
 listing_now rows moment m = record {
-  body = body (listing_of (query_of m)) (entries rows) moment;
+  body = listing (query_of m) (entries rows) moment;
   tag = tag (entries rows) moment;
 }
 
--- a block of the listing now, which is kept where it has that block
+-- what is found now of what a request seeks, and its tag; none where a registration is not live
+abbrev pub found_now : List Row → ℕ → Message → Option Answer
+found_now rows moment m =
+    option_and_then (λ sought. answer_for sought (entries rows) moment) (sought_in m)
+
+-- a block of what is found now, which is kept where it has that block
 abbrev pub block_now : Step → Message → Answer → Option (List ℕ × Bool) → Effects
 block_now s m answer None =
     answering s m (part_reply (Some answer.tag) None (asked_block m) None) []
@@ -66,19 +72,24 @@ block_now s m answer (Some part) =
     answering s m (part_reply (Some answer.tag) None (asked_block m) (Some part))
     (note.Kept s.peer (key_in m) answer.body answer.tag ∷ [])
 
--- a further block: of the kept answer, which is a use of it also after its end, and else of the
--- listing now
-abbrev pub block_of_kept : Step → Message → Answer → Option Answer → Effects
+-- a further block of what is found now; 4.04 where nothing is
+abbrev pub block_of_found : Step → Message → Option Answer → Effects
+block_of_found s m None = answering s m not_live []
+block_of_found s m (Some fresh) =
+    block_now s m fresh (block_of fresh.body (number_of (asked_block m)) (szx_of (asked_block m)))
+
+-- a further block: of the kept answer, which is a use of it also after its end, and else of what is
+-- found now
+abbrev pub block_of_kept : Step → Message → Option Answer → Option Answer → Effects
 block_of_kept s m fresh (Some answer) =
     answering s m (body_reply (Some answer.tag) None (asked_block m) answer.body)
     (note.Used s.peer (key_in m) ∷ [])
-block_of_kept s m fresh None =
-    block_now s m fresh (block_of fresh.body (number_of (asked_block m)) (szx_of (asked_block m)))
+block_of_kept s m fresh None = block_of_found s m fresh
 
--- a lookup of a further block
+-- a further block of what a request seeks
 unfoldable pub later_block : List Row → ℕ → Step → Message → Effects
 later_block rows moment s m =
-    block_of_kept s m (listing_now rows moment m)
+    block_of_kept s m (found_now rows moment m)
     (kept_answer moment (s.peer, key_in m) (events rows))
 
 -- an observer of the same peer and token is removed
@@ -165,3 +176,12 @@ block_effects false rows moment s m = first_block_effects (observe_in m) rows mo
 -- what a lookup does that the journal takes part in
 unfoldable pub lookup_effects : List Row → ℕ → Step → Message → Effects
 lookup_effects rows moment s m = block_effects (is_later_block m) rows moment s m
+
+-- a read of a registration, of a further block or of a first one
+abbrev pub read_block_effects : Bool → List Row → ℕ → Step → Message → Effects
+read_block_effects true rows moment s m = later_block rows moment s m
+read_block_effects false rows moment s m = look_effects (entries rows) moment s m
+
+-- what a read of a registration does: Observe in it is ignored
+unfoldable pub read_effects : List Row → ℕ → Step → Message → Effects
+read_effects rows moment s m = read_block_effects (is_later_block m) rows moment s m

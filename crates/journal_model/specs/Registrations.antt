@@ -1,4 +1,5 @@
--- What comes of a registration: its body comes whole, or in blocks (RFC 7959 sections 2.5 and 2.9).
+-- What comes of a registration, and of a replacement of links: the body comes whole, or in blocks
+-- (RFC 7959 sections 2.5 and 2.9).
 use Rattle.std.specs.Prelude.{
   ℕ,
   ◌+◌,
@@ -31,20 +32,36 @@ use Rattle.journal_model.specs.declared.steps.Step.{Step}
 use Rattle.journal_model.specs.declared.rows.Row.{Row}
 use Rattle.journal_model.specs.Journal.{events, entries}
 use Rattle.journal_model.specs.Requests.{sent_block}
-use Rattle.journal_model.specs.Changes.{Outcome, refused, registration}
+use Rattle.journal_model.specs.Changes.{
+  Outcome,
+  refused,
+  Purpose,
+  to_register,
+  to_replace,
+  body_used,
+}
 
 -- Block1 in the answer to a block (RFC 7959 section 2.3)
 abbrev pub block1_option : Block → List Opt
 block1_option b = (table.block1, block_value b) ∷ []
 
--- 2.31 where more follows; the last block is the end of the whole body
-abbrev pub block_taken : Bool → List Row → ℕ → Step → Message → Block → List ℕ → Outcome
-block_taken true rows moment s m b body = record {
+-- 2.31 where more follows; the last block is the end of the whole body, and its upload is gone once
+-- what it is for is done
+abbrev pub block_taken : Bool
+    → Purpose
+    → List Row
+    → ℕ
+    → Step
+    → Message
+    → Block
+    → List ℕ
+    → Outcome
+block_taken true purpose rows moment s m b body = record {
   reply = record { code = codes_of.continue; options = block1_option b; payload = [] };
   notes = note.Piece s.peer (key_in m) b.num m.payload ∷ [];
 }
-block_taken false rows moment s m b body =
-    registration (entries rows) moment s (registration_values (queries_in m)) body (block1_option b)
+block_taken false purpose rows moment s m b body =
+    body_used purpose (entries rows) moment s body (block1_option b)
     (note.Finished s.peer (key_in m) ∷ [])
 
 -- whether there is room for a block that goes on with what is collected
@@ -60,47 +77,69 @@ block_room false true = lives_with_too_many
 block_room false false = fits_in
 
 -- a block that goes on with what is collected, by the room for it
-abbrev pub block_unless : BlockRoom → List Row → ℕ → Step → Message → Block → List ℕ
+abbrev pub block_unless : BlockRoom
+    → Purpose
+    → List Row
+    → ℕ
+    → Step
+    → Message
+    → Block
+    → List ℕ
     → Outcome
-block_unless collects_too_much rows moment s m b body =
+block_unless collects_too_much purpose rows moment s m b body =
     refused codes_of.request_entity_too_large (codes "size")
-block_unless lives_with_too_many rows moment s m b body =
+block_unless lives_with_too_many purpose rows moment s m b body =
     refused codes_of.service_unavailable (codes "uploads")
-block_unless fits_in rows moment s m b body = block_taken b.more rows moment s m b body
+block_unless fits_in purpose rows moment s m b body =
+    block_taken b.more purpose rows moment s m b body
 
 -- a block, by what is collected before it: refused where that does not end where the block begins
 abbrev pub block_after : Option (List ℕ)
     → Option (List ℕ)
+    → Purpose
     → List Row
     → ℕ
     → Step
     → Message
     → Block
     → Outcome
-block_after None upload rows moment s m b =
+block_after None upload purpose rows moment s m b =
     refused codes_of.request_entity_incomplete (codes "order")
-block_after (Some collected) upload rows moment s m b =
+block_after (Some collected) upload purpose rows moment s m b =
     block_unless
     (block_room (nat_lt max_body (length collected + length m.payload))
     (is_one_too_many b upload (live_uploads moment (events rows))))
-    rows moment s m b (collected ++ m.payload)
+    purpose rows moment s m b (collected ++ m.payload)
 
--- a block of a registration, by the live upload of its name
-abbrev pub block_with : Option (List ℕ) → List Row → ℕ → Step → Message → Block → Outcome
-block_with upload rows moment s m b =
-    block_after (collected_before b upload) upload rows moment s m b
+-- a block of links, by the live upload of its name
+abbrev pub block_with : Option (List ℕ)
+    → Purpose
+    → List Row
+    → ℕ
+    → Step
+    → Message
+    → Block
+    → Outcome
+block_with upload purpose rows moment s m b =
+    block_after (collected_before b upload) upload purpose rows moment s m b
 
--- a block of a registration
-unfoldable pub block_uploaded : List Row → ℕ → Step → Message → Block → Outcome
-block_uploaded rows moment s m b =
-    block_with (live_upload moment (s.peer, key_in m) (events rows)) rows moment s m b
+-- a block of links
+unfoldable pub block_uploaded : Purpose → List Row → ℕ → Step → Message → Block → Outcome
+block_uploaded purpose rows moment s m b =
+    block_with (live_upload moment (s.peer, key_in m) (events rows)) purpose rows moment s m b
 
--- a registration: whole, or a block of one
-abbrev pub registration_outcome : Option Block → List Row → ℕ → Step → Message → Outcome
-registration_outcome None rows moment s m =
-    registration (entries rows) moment s (registration_values (queries_in m)) m.payload [] []
-registration_outcome (Some b) rows moment s m = block_uploaded rows moment s m b
+-- links that come whole, or a block of them
+abbrev pub links_outcome : Option Block → Purpose → List Row → ℕ → Step → Message → Outcome
+links_outcome None purpose rows moment s m =
+    body_used purpose (entries rows) moment s m.payload [] []
+links_outcome (Some b) purpose rows moment s m = block_uploaded purpose rows moment s m b
 
 -- what comes of a registration
 unfoldable pub registering : List Row → ℕ → Step → Message → Outcome
-registering rows moment s m = registration_outcome (sent_block m) rows moment s m
+registering rows moment s m =
+    links_outcome (sent_block m) (to_register (registration_values (queries_in m))) rows moment s m
+
+-- what comes of a replacement of the links of a registration
+unfoldable pub replacing : List Row → ℕ → Step → Message → ℕ → Outcome
+replacing rows moment s m number =
+    links_outcome (sent_block m) (to_replace number) rows moment s m

@@ -32,7 +32,7 @@ use Rattle.message_model.specs.Message.{Message}
 use Rattle.message_model.specs.Codes as codes_of
 use Rattle.message_model.specs.Blocks.{block_read}
 use Rattle.message_model.specs.Request.{path_in, queries_in, observe_in, block1_in, block2_in}
-use Rattle.message_model.specs.Refusals.{refusal_of, refusal_code, refusal_word}
+use Rattle.message_model.specs.Refusals.{refusal_of, refusal_code, diagnostic_of}
 use Rattle.record_model.specs.declared.readings.Reading.{Reading}
 use Rattle.record_model.specs.declared.readings.Reading.TheVariants as reading
 use Rattle.link_model.specs.Characters.{is_empty}
@@ -68,7 +68,7 @@ pub record Resource : Type 0 where
   pub takes_no_payload : Method → Bool
 
 -- as what the query options of a request on a registration are read: those of an update alone are
--- read
+-- read, and those of GET, PUT and DELETE are passed over
 abbrev pub reading_on_location : Method → Option Reading
 reading_on_location get = None
 reading_on_location post = Some reading.Update
@@ -151,7 +151,7 @@ refusal_of_query_or_payload m =
 
 -- a refusal as an answer, or else the refusal of query or payload
 abbrev pub refusal_or_next : Option Refusal → Message → Option Reply
-refusal_or_next (Some refusal) m = Some (diagnostic (refusal_code refusal) (refusal_word refusal))
+refusal_or_next (Some refusal) m = Some (diagnostic (refusal_code refusal) (diagnostic_of refusal))
 refusal_or_next None m = refusal_of_query_or_payload m
 
 -- the first refusal that a request alone decides: option, proxy, path, method, block, accept,
@@ -233,12 +233,44 @@ abbrev pub is_heeded : Option ℕ → Bool
 is_heeded None = false
 is_heeded (Some value) = value == register || value == deregister
 
--- a lookup of a first block that neither begins nor ends an observation, or a discovery: it is
--- answered from the registrations alone
+-- the method reads
+abbrev pub is_get : Method → Bool
+is_get get = true
+is_get post = false
+is_get put = false
+is_get delete = false
+is_get other_method = false
+
+-- the links of a registration are read: a GET on its location (RFC 9176 section 5.3.3)
+abbrev pub reads_registration : Message → Bool
+reads_registration m = is_location (path_in m) && is_get (method_of m.code)
+
+-- the method changes a registration: POST updates it, PUT replaces its links, DELETE removes it
+abbrev pub is_changing : Method → Bool
+is_changing get = false
+is_changing post = true
+is_changing put = true
+is_changing delete = true
+is_changing other_method = false
+
+-- a write, by its path and method: a registration, a simple registration, or a change of a
+-- registration (RFC 9176 sections 5, 5.1 and 5.3)
+abbrev pub is_write : Path → Method → Bool
+is_write path.Core method = false
+is_write path.SimpleRd method = true
+is_write path.Rd method = true
+is_write (path.Location number) method = is_changing method
+is_write path.Res method = false
+is_write path.Ep method = false
+is_write path.Other method = false
+
+-- a discovery; or of a first block a lookup that neither begins nor ends an observation, or a read
+-- of a registration, beside which Observe is ignored: it is answered from the registrations alone
 abbrev pub only_looks : Message → Bool
 only_looks m =
     is_discovery (path_in m)
     || (is_lookup (path_in m) && not (is_later_block m) && not (is_heeded (observe_in m)))
+    || (reads_registration m && not (is_later_block m))
 
 -- such a request that meets no refusal
 unfoldable pub is_look_request : Message → Bool

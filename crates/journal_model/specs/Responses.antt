@@ -23,7 +23,6 @@ use Rattle.message_model.specs.declared.blocks.Block.{Block}
 use Rattle.message_model.specs.declared.messages.Kind4.{Kind4}
 use Rattle.message_model.specs.declared.messages.Kind4.TheVariants.{Con}
 use Rattle.message_model.specs.Message.{Message}
-use Rattle.message_model.specs.Codes as codes_of
 use Rattle.message_model.specs.OptionTable.{first_bad_option}
 use Rattle.message_model.specs.Responses.{has_mid_of, block_in, is_elsewhere, tag_in, ends_by}
 use Rattle.event_model.specs.declared.notes.Note.TheVariants as note

@@ -43,14 +43,32 @@ use Rattle.journal_model.specs.Effects.{
   without_memory,
   resetting,
 }
-use Rattle.journal_model.specs.Requests.{refusal_of_request}
+use Rattle.journal_model.specs.Requests.{
+  Method,
+  get,
+  post,
+  put,
+  delete,
+  other_method,
+  method_of,
+  refusal_of_request,
+}
 use Rattle.journal_model.specs.Looks.{look_effects, looked, keep_effects}
-use Rattle.journal_model.specs.Lookups.{lookup_effects}
+use Rattle.journal_model.specs.Lookups.{lookup_effects, read_effects}
 use Rattle.journal_model.specs.Writes.{write_effects}
 use Rattle.journal_model.specs.Commits.{commit_effects}
 use Rattle.journal_model.specs.EmptyMessages.{acknowledged, reset}
 use Rattle.journal_model.specs.Responses.{response_effects}
 use Rattle.journal_model.specs.Ticks.{tick_effects}
+
+-- a request on a registration, by its method: GET reads its links, POST, PUT and DELETE are writes,
+-- and any other method is refused before
+abbrev pub served_on_location : Method → List Row → ℕ → Step → Message → Effects
+served_on_location get rows moment s m = read_effects rows moment s m
+served_on_location post rows moment s m = write_effects (events rows) moment s m
+served_on_location put rows moment s m = write_effects (events rows) moment s m
+served_on_location delete rows moment s m = write_effects (events rows) moment s m
+served_on_location other_method rows moment s m = nothing
 
 -- a request that meets none of the refusals that it alone decides, by its path
 unfoldable pub served : Path → List Row → ℕ → Step → Message → Effects
@@ -59,7 +77,8 @@ served path.Res rows moment s m = lookup_effects rows moment s m
 served path.Ep rows moment s m = lookup_effects rows moment s m
 served path.SimpleRd rows moment s m = write_effects (events rows) moment s m
 served path.Rd rows moment s m = write_effects (events rows) moment s m
-served (path.Location number) rows moment s m = write_effects (events rows) moment s m
+served (path.Location number) rows moment s m =
+    served_on_location (method_of m.code) rows moment s m
 served path.Other rows moment s m = nothing
 
 -- a refusal is answered; an unrecognized critical option in a message that is not confirmable is

@@ -7,7 +7,7 @@ use std::collections::LinkedList;
 pub enum StepKind {
     /// A datagram that is no look is heard.
     Admit,
-    /// A lookup or a discovery is answered from the registrations alone.
+    /// A lookup, a read of a registration or a discovery is answered from the registrations alone.
     Look,
     /// The write that was admitted at this place is done.
     Commit(u64),

@@ -14,6 +14,7 @@ use Rattle.std.proofs.Common.{
   not,
   leb,
   eqb,
+  cond,
   List,
   [],
   ◌∷◌,
@@ -28,7 +29,7 @@ use Rattle.std.proofs.Common.{
   inl,
   inr,
 }
-use Rattle.std.specs.Prelude.{fold}
+use Rattle.std.specs.Prelude.{fold, codes, bytes_eq}
 use Rattle.std.specs.Fmt.{decimal, digits}
 use Rattle.std.specs.List.{list_all}
 use Rattle.std.specs.Char.{is_ascii_digit}
@@ -51,8 +52,18 @@ use Rattle.std.proofs.lemmas.Fmt.{
   first_decimal,
 }
 use Rattle.std.proofs.lemmas.Str.Parse.{IsNumeralModel, numerals_by_fold, digits_value_short}
+use Rattle.message_model.specs.declared.requests.Path.{Path}
 use Rattle.message_model.specs.declared.requests.Path.TheVariants as path
-use Rattle.message_model.specs.Request.{has_leading_zero, is_location, decimal_value, location_of}
+use Rattle.message_model.specs.Request.{
+  has_leading_zero,
+  is_location,
+  decimal_value,
+  location_of,
+  well_known_of,
+  lookup_of,
+  path_of,
+}
+use Rattle.message_model.proofs.KeyLaws.{FitsKey}
 use Rattle.rd_base.proofs.lemmas.Booleans.{and_four}
 use Rattle.rd_base.proofs.lemmas.Choices.{either_of}
 
@@ -149,3 +160,50 @@ location_again n small =
     let digits : are_digits (decimal n) ≡ true = digits_decimal own n short in
     let value : decimal_value (decimal n) ≡ n = digits_value-decimal own n short in
     rw (some, few, digits, plain_decimal n small, value) refl
+
+-- a path fits a key where its number does, if it is a location
+numbered_fits : (p : Path) → ((n : ℕ) → p ≡ path.Location n → n < 2 ^ 64) → FitsKey p
+numbered_fits path.Core low = tt
+numbered_fits path.SimpleRd low = tt
+numbered_fits path.Rd low = tt
+numbered_fits (path.Location n) low = low n refl
+numbered_fits path.Res low = tt
+numbered_fits path.Ep low = tt
+numbered_fits path.Other low = tt
+
+location_fits : (text : List ℕ) → FitsKey (location_of text)
+location_fits text =
+    numbered_fits (location_of text)
+    (λ n e. let small = (location_found text n e).1 in omega (arith, small))
+
+-- The path that segments name fits a key: a location has at most 15 digits.
+pub path_fits : (segments : List (List ℕ)) → FitsKey (path_of segments)
+unfolding path_of
+path_fits [] = tt
+path_fits (first ∷ []) = by (bytes_eq first (codes "rd"))
+  where
+    by : (b : Bool) → FitsKey (cond b path.Rd path.Other)
+    by true = tt
+    by false = tt
+path_fits (first ∷ second ∷ []) =
+    by (bytes_eq first (codes ".well-known")) (bytes_eq first (codes "rd"))
+    (bytes_eq first (codes "rd-lookup"))
+  where
+    known : (a b : Bool) → FitsKey (cond a path.Core (cond b path.SimpleRd path.Other))
+    known true b = tt
+    known false true = tt
+    known false false = tt
+
+    looked : (a b : Bool) → FitsKey (cond a path.Res (cond b path.Ep path.Other))
+    looked true b = tt
+    looked false true = tt
+    looked false false = tt
+
+    by : (a b c : Bool)
+        → FitsKey (cond a (well_known_of second)
+        (cond b (location_of second) (cond c (lookup_of second) path.Other)))
+    by true b c = known (bytes_eq second (codes "core")) (bytes_eq second (codes "rd"))
+    by false true c = location_fits second
+    by false false true = looked (bytes_eq second (codes "res")) (bytes_eq second (codes "ep"))
+    by false false false = tt
+path_fits (first ∷ second ∷ third ∷ others) = tt

@@ -61,9 +61,27 @@ is_rd path.Res = false
 is_rd path.Ep = false
 is_rd path.Other = false
 
+-- The path of one registration, its location.
+abbrev pub is_of_registration : Path → Bool
+is_of_registration path.Rd = false
+is_of_registration path.Core = false
+is_of_registration path.SimpleRd = false
+is_of_registration (path.Location n) = true
+is_of_registration path.Res = false
+is_of_registration path.Ep = false
+is_of_registration path.Other = false
+
 -- A registration is a POST to `/rd` (RFC 9176 section 5).
 abbrev pub is_registration : Message → Bool
 is_registration m = m.code == code_named.post && is_rd (path_in m)
+
+-- A replacement of the links of a registration is a PUT on its location (RFC 9176 section 5.3.3).
+abbrev pub is_replacement : Message → Bool
+is_replacement m = m.code == code_named.put && is_of_registration (path_in m)
+
+-- A registration and a replacement bring links, as a document, whole or in blocks.
+abbrev pub brings_links : Message → Bool
+brings_links m = is_registration m || is_replacement m
 
 -- A Block option with the reserved exponent (RFC 7959 section 2.2).
 abbrev pub says_no_block : Option (List ℕ) → Bool
@@ -81,12 +99,12 @@ abbrev pub is_misfit_of : Option (List ℕ) → ℕ → Bool
 is_misfit_of None size = false
 is_misfit_of (Some value) size = does_not_fit (block_read value) size
 
--- A Block option says no block, or the payload of a registration does not fit its Block1 (RFC 7959
--- sections 2.2 and 2.5).
+-- A Block option says no block, or the payload of a request that brings links does not fit its
+-- Block1 (RFC 7959 sections 2.2 and 2.5).
 abbrev pub has_bad_block : Message → Bool
 has_bad_block m =
     says_no_block (block1_in m) || says_no_block (block2_in m)
-    || (is_registration m && is_misfit_of (block1_in m) (length m.payload))
+    || (brings_links m && is_misfit_of (block1_in m) (length m.payload))
 
 -- A format is named, and it is not that of link documents.
 abbrev pub is_other_format : Option ℕ → Bool
@@ -102,7 +120,7 @@ refusal_after_options m =
     else if not (allowed (path_in m) m.code) then Some refusal.Method
     else if has_bad_block m then Some refusal.Block
     else if m.code == code_named.get && is_other_format (accept_in m) then Some refusal.Accept
-    else if is_registration m && is_other_format (format_in m) then Some refusal.Format
+    else if brings_links m && is_other_format (format_in m) then Some refusal.Format
     else None
 
 -- The refusal of a first unrecognized critical option, where there is one, and else the next (RFC
@@ -126,11 +144,11 @@ refusal_code refusal.Accept = code_named.not_acceptable
 refusal_code refusal.Format = code_named.unsupported_content_format
 
 -- The diagnostic payload of a refusal (RFC 7252 section 5.5.2).
-abbrev pub refusal_word : Refusal → List ℕ
-refusal_word (refusal.BadOption number) = codes "option"
-refusal_word refusal.Proxy = codes "proxy"
-refusal_word refusal.Path = codes "path"
-refusal_word refusal.Method = codes "method"
-refusal_word refusal.Block = codes "block"
-refusal_word refusal.Accept = codes "accept"
-refusal_word refusal.Format = codes "format"
+abbrev pub diagnostic_of : Refusal → List ℕ
+diagnostic_of (refusal.BadOption number) = codes "option"
+diagnostic_of refusal.Proxy = codes "proxy"
+diagnostic_of refusal.Path = codes "path"
+diagnostic_of refusal.Method = codes "method"
+diagnostic_of refusal.Block = codes "block"
+diagnostic_of refusal.Accept = codes "accept"
+diagnostic_of refusal.Format = codes "format"

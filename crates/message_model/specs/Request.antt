@@ -29,7 +29,7 @@ use Rattle.message_model.specs.declared.requests.Path.{Path}
 use Rattle.message_model.specs.declared.requests.Path.TheVariants as path
 use Rattle.message_model.specs.Numbers.{uint_of}
 use Rattle.message_model.specs.Message.{Message}
-use Rattle.message_model.specs.Codes.{get, post, delete}
+use Rattle.message_model.specs.Codes.{get, post, put, delete}
 use Rattle.message_model.specs.OptionTable as table
 use Rattle.message_model.specs.OptionTable.{values, first_of, stands_in, recognized_options}
 
@@ -138,12 +138,14 @@ has_proxy m =
     stands_in table.proxy_uri (recognized_options m.options)
     || stands_in table.proxy_scheme (recognized_options m.options)
 
--- The methods of a resource (RFC 9176 sections 4.3, 5, 5.1, 5.3 and 6).
+-- The methods of a resource (RFC 9176 sections 4.3, 5, 5.1, 5.3 and 6). Of a registration GET reads
+-- its links, and PUT replaces them: further operations (RFC 9176 section 5.3.3) of this project's
+-- profile.
 abbrev pub allowed : Path → ℕ → Bool
 allowed path.Core code = code == get
 allowed path.SimpleRd code = code == post
 allowed path.Rd code = code == post
-allowed (path.Location n) code = code == post || code == delete
+allowed (path.Location n) code = code == get || code == post || code == put || code == delete
 allowed path.Res code = code == get
 allowed path.Ep code = code == get
 allowed path.Other code = false

@@ -2,7 +2,7 @@
 
 use super::codes::{kind_name, method_name, response_name};
 use super::faults::format_fault;
-use super::octets::{Place, write_hexadecimal, write_text};
+use super::octets::{Field, write_hexadecimal, write_text};
 use super::options::{holds, write_joined, write_options};
 use super::table::LOCATION_QUERY;
 use coap_message::{View, view};
@@ -65,7 +65,7 @@ fn write_payload(page: &mut String, indent: &str, payload: &[u8]) -> Result<(), 
     }
     if let Ok(text) = str::from_utf8(payload) {
         write!(page, "\n{indent}| ")?;
-        return write_text(page, Place::Payload, text);
+        return write_text(page, Field::Payload, text);
     }
     write!(page, "\n{indent}octets ")?;
     write_hexadecimal(page, payload)

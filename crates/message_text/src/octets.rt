@@ -6,7 +6,7 @@ use unicode::properties::{GeneralCategory, is_default_ignorable_code_point};
 /// Where text of a message stands. That decides which characters the line uses itself, and which
 /// are therefore percent-encoded (RFC 3986 section 2.1).
 #[derive(Clone, Copy, Debug, PartialEq, Eq)]
-pub(crate) enum Place {
+pub(crate) enum Field {
     /// A segment of a path or an argument of a query, among others on the line of the message.
     Part,
     /// The value of an option, on the line of the message.
@@ -39,13 +39,13 @@ fn is_unseen(character: char) -> bool {
     }
 }
 
-impl Place {
+impl Field {
     /// Whether a character is one of those that the line uses here itself.
     fn uses(self, character: char) -> bool {
         match character {
             '%' => true,
-            ' ' | ',' | '(' | ')' => self != Place::Payload,
-            '/' | '?' | '&' => self == Place::Part,
+            ' ' | ',' | '(' | ')' => self != Field::Payload,
+            '/' | '?' | '&' => self == Field::Part,
             _ => false,
         }
     }
@@ -57,8 +57,8 @@ fn write_encoded(page: &mut String, octet: u8) -> Result<(), Starved> {
 }
 
 /// Writes a character, percent-encoded where it would not be seen for what it is.
-fn write_character(page: &mut String, place: Place, character: char) -> Result<(), Starved> {
-    if !place.uses(character) && !is_unseen(character) {
+fn write_character(page: &mut String, field: Field, character: char) -> Result<(), Starved> {
+    if !field.uses(character) && !is_unseen(character) {
         return Ok(page.push(character)?);
     }
     let mut buffer = [0; 4];
@@ -70,29 +70,29 @@ fn write_character(page: &mut String, place: Place, character: char) -> Result<(
 }
 
 /// Writes text in UTF-8 as it is read here.
-pub(crate) fn write_text(page: &mut String, place: Place, text: &str) -> Result<(), Starved> {
+pub(crate) fn write_text(page: &mut String, field: Field, text: &str) -> Result<(), Starved> {
     'characters: for character in text.chars() {
-        write_character(page, place, character)?;
+        write_character(page, field, character)?;
     }
     Ok(())
 }
 
 /// Writes an octet of a value that is no text.
-fn write_octet(page: &mut String, place: Place, octet: u8) -> Result<(), Starved> {
+fn write_octet(page: &mut String, field: Field, octet: u8) -> Result<(), Starved> {
     if octet.is_ascii() {
-        return write_character(page, place, char::from(octet));
+        return write_character(page, field, char::from(octet));
     }
     write_encoded(page, octet)
 }
 
 /// Writes octets as the text that they are; where they are no text in UTF-8, with each octet that
 /// is not ASCII percent-encoded.
-pub(crate) fn write_octets(page: &mut String, place: Place, octets: &[u8]) -> Result<(), Starved> {
+pub(crate) fn write_octets(page: &mut String, field: Field, octets: &[u8]) -> Result<(), Starved> {
     if let Ok(text) = str::from_utf8(octets) {
-        return write_text(page, place, text);
+        return write_text(page, field, text);
     }
     'octets: for octet in octets {
-        write_octet(page, place, *octet)?;
+        write_octet(page, field, *octet)?;
     }
     Ok(())
 }

@@ -1,7 +1,7 @@
 //! The options of a message, as text.
 
 use super::codes::is_request;
-use super::octets::{Place, write_hexadecimal, write_octets};
+use super::octets::{Field, write_hexadecimal, write_octets};
 use super::table::{Form, named};
 use block_wise::{block_read, block_size};
 use coap_message::{Opt, View, options_of};
@@ -34,7 +34,7 @@ pub(crate) fn write_joined(
     'options: for option in options_of(view) {
         if option.number == number {
             page.push_str(lead(begun, first, next))?;
-            write_octets(page, Place::Part, option.value)?;
+            write_octets(page, Field::Part, option.value)?;
             begun = true;
         }
     }
@@ -97,7 +97,7 @@ fn write_value(page: &mut String, code: u8, form: Form, value: &[u8]) -> Result<
     match form {
         Form::Number | Form::ContentFormat | Form::Observe => write_number(page, code, form, value),
         Form::Block => write_block(page, value),
-        Form::Text => write_octets(page, Place::Value, value),
+        Form::Text => write_octets(page, Field::Value, value),
         Form::Opaque | Form::Part => write_hexadecimal(page, value),
     }
 }

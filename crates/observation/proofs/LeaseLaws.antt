@@ -22,7 +22,6 @@ use Rattle.std.proofs.Common.{
   refl,
   sym,
   ap,
-  ap₂,
   subst,
   ◌∙◌,
 }
@@ -50,7 +49,7 @@ use Rattle.record_model.specs.ListingLines.{
   part_of_kind,
 }
 use Rattle.record_model.specs.Matching.{endpoint_matches, endpoint_pairs}
-use Rattle.record_model.specs.Records.{item_of, items_of, rebased, registered, updated}
+use Rattle.record_model.specs.Records.{rebased, registered, updated}
 use Rattle.history_model.specs.declared.entries.Change.{Change}
 use Rattle.history_model.specs.declared.entries.Change.TheVariants as change
 use Rattle.history_model.specs.declared.entries.Entry.{Entry}
@@ -66,6 +65,7 @@ use Rattle.history_model.specs.Replay.{
   number_named,
   numbered,
   registered_under,
+  replaced,
   replay,
   with_changed,
 }
@@ -73,7 +73,7 @@ use Rattle.history_model.proofs.ChangedLines.{test_from_same}
 use Rattle.history_model.proofs.NumberLaws.{replay-HasRisingNumbers}
 use Rattle.history_model.proofs.ReplayLaws.{replay-nil, replay_push}
 use Rattle.directory_core.specs.LinksAgainst.{AreAgainst}
-use Rattle.directory_core.proofs.AgainstLaws.{against_rebased}
+use Rattle.directory_core.proofs.AgainstLaws.{against_made, against_rebased}
 use Rattle.directory_core.proofs.ChangeLaws.{filter-numbered, known_of}
 use Rattle.journal_model.specs.declared.steps.Step.{Step}
 use Rattle.journal_model.specs.declared.rows.Row.{Row}
@@ -88,28 +88,22 @@ use Rattle.observation.specs.Entering.{IsEntered}
 abbrev IsAgainst : Record → Type 0
 IsAgainst r = AreAgainst r.base r.items
 
-made_again : (base : List ℕ) (link : SubmittedLink)
-    → rebased base (item_of base link) ≡ item_of base link
-unfolding rebased item_of
-made_again base link = refl
-
-made_against : (base : List ℕ) (links : List SubmittedLink) → AreAgainst base (items_of base links)
-made_against base [] = refl
-made_against base (link ∷ links) =
-    ap₂ (λ (x : Item) (xs : List Item). x ∷ xs) (made_again base link) (made_against base links)
-
 registered-IsAgainst : (number : ℕ) (now : Moment) (peer : Peer) (params : RegParams)
     (links : List SubmittedLink)
     → IsAgainst (registered number now peer params links)
 unfolding registered
 registered-IsAgainst number now peer params links =
-    made_against (registered_base params.base peer) links
+    against_made (registered_base params.base peer) links
 
 updated-IsAgainst : (now : Moment) (peer : Peer) (given : UpdateParams) (r : Record)
     → IsAgainst (updated now peer given r)
 unfolding updated
 updated-IsAgainst now peer given r =
     against_rebased (updated_base given.base r.base_given r.base peer) r.items
+
+replaced-IsAgainst : (links : List SubmittedLink) (r : Record) → IsAgainst (replaced links r)
+unfolding replaced
+replaced-IsAgainst links r = against_made r.base links
 
 changed-IsAgainst : (number : ℕ) (new : Record → Record)
     → ((r : Record) → IsAgainst (new r))
@@ -148,6 +142,8 @@ apply-IsAgainst state entry h = of_change entry.change
     of_change (change.Update number given) =
         changed-IsAgainst number (updated entry.moment entry.peer given)
         (updated-IsAgainst entry.moment entry.peer given) state.records h
+    of_change (change.Replace number links) =
+        changed-IsAgainst number (replaced links) (replaced-IsAgainst links) state.records h
     of_change (change.Remove number) =
         each_filter IsAgainst (λ r. not (is_numbered number r)) state.records h
 
@@ -294,6 +290,7 @@ stays-shown rows s entry (Some old) (Some new) into update stays query = by entr
         → kind_of c ≡ kind_of_change.Update
         → is_other_part query (Some old) (Some new) ≡ false
     by (change.Register params links) is e = absurd cc
+    by (change.Replace number links) is e = absurd cc
     by (change.Remove number) is e = absurd cc
     by (change.Update number given) is e =
         let state : State = replay (entries rows) in

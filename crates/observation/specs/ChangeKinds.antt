@@ -11,6 +11,7 @@ use Rattle.observation.specs.declared.change_kinds.ChangeKind.TheVariants as kin
 abbrev pub kind_of : Change → ChangeKind
 kind_of (change.Register params links) = kind.Registration
 kind_of (change.Update number given) = kind.Update
+kind_of (change.Replace number links) = kind.Replacement
 kind_of (change.Remove number) = kind.Removal
 
 -- the registration is there before and after, with the same base and the same attributes

@@ -14,6 +14,8 @@ pub enum ChangeKind {
     /// An update, which resolves the links against the base, and changes none of them where that
     /// stays (RFC 9176 section 5.3.1).
     Update,
+    /// Other links for a registration (RFC 9176 section 5.3).
+    Replacement,
     /// A removal (RFC 9176 section 5.3.2).
     Removal,
 }

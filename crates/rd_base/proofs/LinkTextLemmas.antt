@@ -58,10 +58,10 @@ use Rattle.rd_base.specs.LinkTexts.{
 use Rattle.rd_base.specs.Spans.{part, IsAt, IsPlacedAt, IsPlacedIfAny, IsTextAt}
 use Rattle.rd_base.proofs.SpanLemmas.{
   appended-at,
-  IsPlace-at,
-  IsPlace-more,
-  IsPlaceIfAny-at,
-  IsPlaceIfAny-more,
+  IsStretch-at,
+  IsStretch-more,
+  IsStretchIfAny-at,
+  IsStretchIfAny-more,
   IsPlacedAt-more,
   IsPlacedIfAny-more,
   IsText-at,
@@ -126,7 +126,7 @@ module _ (t m t' a n a' : List ℕ) (et : t' ≡ t ++ m) (ea : a' ≡ a ++ n) wh
   HoldsLine-more s h = record {
     target = IsText-more t m t' s.target et h.target;
     raw = IsText-more t m t' s.raw et h.raw;
-    anchor = IsPlaceIfAny-more t m t' a n a' et ea s.anchor h.anchor;
+    anchor = IsStretchIfAny-more t m t' a n a' et ea s.anchor h.anchor;
     line = IsText-more t m t' s.line et h.line;
     spelled =
         rw (
@@ -151,7 +151,7 @@ module _ (t m t' a n a' : List ℕ) (et : t' ≡ t ++ m) (ea : a' ≡ a ++ n) wh
 
   pub HoldsPair-more : (p : PairSpans) → HoldsPair t a p → HoldsPair t' a' p
   HoldsPair-more p h =
-      (IsPlace-more t m t' a n a' et ea p.name h.0, IsPlace-more t m t' a n a' et ea p.value h.1)
+      (IsStretch-more t m t' a n a' et ea p.name h.0, IsStretch-more t m t' a n a' et ea p.value h.1)
 
   pub pair-same : (p : PairSpans) → HoldsPair t a p → pair_of t' a' p ≡ pair_of t a p
   pair-same p h =
@@ -176,7 +176,7 @@ module _ (t a : List ℕ) (s : LineSpans) (target raw : List ℕ) (anchor : Opti
   HoldsLine-at = record {
     target = IsText-at t s.target target h.target;
     raw = IsText-at t s.raw raw h.raw;
-    anchor = IsPlaceIfAny-at t a s.anchor anchor h.anchor;
+    anchor = IsStretchIfAny-at t a s.anchor anchor h.anchor;
     line = IsText-at t s.line _ h.line;
     spelled =
         rw (h.target.0.1, h.raw.0.1, placed_if_any-at t a s.anchor anchor h.anchor) (h.line.0.1);
@@ -504,7 +504,7 @@ module _ (s l a k₁ a₁ k₂ a' raw : List ℕ) (ps : List PairSpans) (taken :
   pair-waiting =
       rw left-grown (All-push (HoldsPair raw a') (drop taken ps) p
       (λ at d m. HoldsPair-more raw [] raw a _ a' (sym (append-nil raw)) wider _ (w at d m))
-      (IsPlace-at raw a' p.name name named, IsPlace-at raw a' p.value value v))
+      (IsStretch-at raw a' p.name name named, IsStretch-at raw a' p.value value v))
 
   pub pair-within : taken ≤ length (ps ++ p ∷ [])
   pair-within = rw (length-append ps (p ∷ [])) (omega arith)

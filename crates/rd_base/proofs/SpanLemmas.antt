@@ -28,8 +28,8 @@ use Rattle.std.proofs.lemmas.Str.{IsUtf8-drop, IsCharBoundary-from_take}
 use Rattle.std.specs.Prelude.{Option, Some, None, option_map}
 use Rattle.std.specs.Str.{IsUtf8}
 use Rattle.rd_base.specs.declared.spans.Span.{Span}
-use Rattle.rd_base.specs.declared.spans.Place.{Place}
-use Rattle.rd_base.specs.declared.spans.Place.TheVariants as place
+use Rattle.rd_base.specs.declared.spans.Stretch.{Stretch}
+use Rattle.rd_base.specs.declared.spans.Stretch.TheVariants as stretch
 use Rattle.rd_base.specs.Spans.{
   part,
   placed,
@@ -37,9 +37,9 @@ use Rattle.rd_base.specs.Spans.{
   IsText,
   IsAt,
   IsTextAt,
-  IsPlace,
+  IsStretch,
   IsPlacedAt,
-  IsPlaceIfAny,
+  IsStretchIfAny,
   IsPlacedIfAny,
 }
 
@@ -75,29 +75,29 @@ pub IsText-at : (xs : List ℕ) (s : Span) (x : List ℕ) → IsTextAt xs s x �
 IsText-at xs s x a = (a.0.0, rw a.0.1 a.1)
 
 module _ (t m t' a n a' : List ℕ) (et : t' ≡ t ++ m) (ea : a' ≡ a ++ n) where
-  pub placed-more : (p : Place) → IsPlace t a p → placed t' a' p ≡ placed t a p
-  placed-more (place.Here s) h = part-more t m t' s et h.0
-  placed-more (place.Apart s) h = part-more a n a' s ea h.0
+  pub placed-more : (p : Stretch) → IsStretch t a p → placed t' a' p ≡ placed t a p
+  placed-more (stretch.Here s) h = part-more t m t' s et h.0
+  placed-more (stretch.Apart s) h = part-more a n a' s ea h.0
 
-  pub IsPlace-more : (p : Place) → IsPlace t a p → IsPlace t' a' p
-  IsPlace-more (place.Here s) h = IsText-more t m t' s et h
-  IsPlace-more (place.Apart s) h = IsText-more a n a' s ea h
+  pub IsStretch-more : (p : Stretch) → IsStretch t a p → IsStretch t' a' p
+  IsStretch-more (stretch.Here s) h = IsText-more t m t' s et h
+  IsStretch-more (stretch.Apart s) h = IsText-more a n a' s ea h
 
-  pub IsPlacedAt-more : (p : Place) (x : List ℕ) → IsPlacedAt t a p x → IsPlacedAt t' a' p x
-  IsPlacedAt-more (place.Here s) x h = IsTextAt-more t m t' s x et h
-  IsPlacedAt-more (place.Apart s) x h = IsTextAt-more a n a' s x ea h
+  pub IsPlacedAt-more : (p : Stretch) (x : List ℕ) → IsPlacedAt t a p x → IsPlacedAt t' a' p x
+  IsPlacedAt-more (stretch.Here s) x h = IsTextAt-more t m t' s x et h
+  IsPlacedAt-more (stretch.Apart s) x h = IsTextAt-more a n a' s x ea h
 
-  pub placed_if_any-more : (o : Option Place)
-      → IsPlaceIfAny t a o
+  pub placed_if_any-more : (o : Option Stretch)
+      → IsStretchIfAny t a o
       → option_map (placed t' a') o ≡ option_map (placed t a) o
   placed_if_any-more None h = refl
   placed_if_any-more (Some p) h = ap (λ (x : List ℕ). Some x) (placed-more p h)
 
-  pub IsPlaceIfAny-more : (o : Option Place) → IsPlaceIfAny t a o → IsPlaceIfAny t' a' o
-  IsPlaceIfAny-more None h = h
-  IsPlaceIfAny-more (Some p) h = IsPlace-more p h
+  pub IsStretchIfAny-more : (o : Option Stretch) → IsStretchIfAny t a o → IsStretchIfAny t' a' o
+  IsStretchIfAny-more None h = h
+  IsStretchIfAny-more (Some p) h = IsStretch-more p h
 
-  pub IsPlacedIfAny-more : (o : Option Place) (x : Option (List ℕ))
+  pub IsPlacedIfAny-more : (o : Option Stretch) (x : Option (List ℕ))
       → IsPlacedIfAny t a o x
       → IsPlacedIfAny t' a' o x
   IsPlacedIfAny-more None None h = h
@@ -106,22 +106,22 @@ module _ (t m t' a n a' : List ℕ) (et : t' ≡ t ++ m) (ea : a' ≡ a ++ n) wh
   IsPlacedIfAny-more (Some p) (Some x) h = IsPlacedAt-more p x h
 
 -- what stands there is a text, and this one
-pub IsPlace-at : (t a : List ℕ) (p : Place) (x : List ℕ) → IsPlacedAt t a p x → IsPlace t a p
-IsPlace-at t a (place.Here s) x h = IsText-at t s x h
-IsPlace-at t a (place.Apart s) x h = IsText-at a s x h
+pub IsStretch-at : (t a : List ℕ) (p : Stretch) (x : List ℕ) → IsPlacedAt t a p x → IsStretch t a p
+IsStretch-at t a (stretch.Here s) x h = IsText-at t s x h
+IsStretch-at t a (stretch.Apart s) x h = IsText-at a s x h
 
-pub placed-at : (t a : List ℕ) (p : Place) (x : List ℕ) → IsPlacedAt t a p x → placed t a p ≡ x
-placed-at t a (place.Here s) x h = h.0.1
-placed-at t a (place.Apart s) x h = h.0.1
+pub placed-at : (t a : List ℕ) (p : Stretch) (x : List ℕ) → IsPlacedAt t a p x → placed t a p ≡ x
+placed-at t a (stretch.Here s) x h = h.0.1
+placed-at t a (stretch.Apart s) x h = h.0.1
 
-pub IsPlaceIfAny-at : (t a : List ℕ) (o : Option Place) (x : Option (List ℕ))
+pub IsStretchIfAny-at : (t a : List ℕ) (o : Option Stretch) (x : Option (List ℕ))
     → IsPlacedIfAny t a o x
-    → IsPlaceIfAny t a o
-IsPlaceIfAny-at t a None x h = tt
-IsPlaceIfAny-at t a (Some p) None h = elim h [ ]
-IsPlaceIfAny-at t a (Some p) (Some x) h = IsPlace-at t a p x h
+    → IsStretchIfAny t a o
+IsStretchIfAny-at t a None x h = tt
+IsStretchIfAny-at t a (Some p) None h = elim h [ ]
+IsStretchIfAny-at t a (Some p) (Some x) h = IsStretch-at t a p x h
 
-pub placed_if_any-at : (t a : List ℕ) (o : Option Place) (x : Option (List ℕ))
+pub placed_if_any-at : (t a : List ℕ) (o : Option Stretch) (x : Option (List ℕ))
     → IsPlacedIfAny t a o x
     → option_map (placed t a) o ≡ x
 placed_if_any-at t a None None h = refl

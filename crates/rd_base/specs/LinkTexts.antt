@@ -13,8 +13,8 @@ use Rattle.rd_base.specs.LinkLines.{comma, line_by, listed, submitted}
 use Rattle.rd_base.specs.Spans.{
   part,
   placed,
-  IsPlace,
-  IsPlaceIfAny,
+  IsStretch,
+  IsStretchIfAny,
   IsPlacedIfAny,
   IsText,
   IsTextAt,
@@ -29,7 +29,7 @@ abbrev pub pairs_of : List ℕ → List ℕ → List PairSpans → List Pair
 pairs_of raw apart pairs = map (pair_of raw apart) pairs
 
 abbrev pub HoldsPair : List ℕ → List ℕ → PairSpans → Type 0
-HoldsPair raw apart p = IsPlace raw apart p.name × IsPlace raw apart p.value
+HoldsPair raw apart p = IsStretch raw apart p.name × IsStretch raw apart p.value
 
 -- the parts of this line stand at the spans
 pub record IsLineAt (text apart : List ℕ) (s : LineSpans) (t r : List ℕ) (a : Option (List ℕ)) :
@@ -43,7 +43,7 @@ pub record IsLineAt (text apart : List ℕ) (s : LineSpans) (t r : List ℕ) (a 
 pub record HoldsLine (text apart : List ℕ) (s : LineSpans) : Type 0 where
   pub target : IsText text s.target
   pub raw : IsText text s.raw
-  pub anchor : IsPlaceIfAny text apart s.anchor
+  pub anchor : IsStretchIfAny text apart s.anchor
   pub line : IsText text s.line
   pub spelled :
       part text s.line

@@ -3,8 +3,8 @@ use Rattle.std.specs.Prelude.{ℕ, ◌≡◌, ◌≤◌, ⊤, List, [], length, 
 use Rattle.std.specs.List.{slice_range}
 use Rattle.std.specs.Str.{IsUtf8}
 use Rattle.rd_base.specs.declared.spans.Span.{Span}
-use Rattle.rd_base.specs.declared.spans.Place.{Place}
-use Rattle.rd_base.specs.declared.spans.Place.TheVariants as place
+use Rattle.rd_base.specs.declared.spans.Stretch.{Stretch}
+use Rattle.rd_base.specs.declared.spans.Stretch.TheVariants as stretch
 
 -- what stands at a span
 abbrev pub part : {X : Type 0} → List X → Span → List X
@@ -26,38 +26,38 @@ IsAt xs s x = IsWithin xs s × (part xs s ≡ x)
 abbrev pub IsTextAt : List ℕ → Span → List ℕ → Type 0
 IsTextAt xs s x = IsAt xs s x × IsUtf8 x
 
--- what stands at a place: in the text, or apart from it
-abbrev pub placed : List ℕ → List ℕ → Place → List ℕ
-placed text apart (place.Here s) = part text s
-placed text apart (place.Apart s) = part apart s
+-- what stands at a stretch: in the text, or apart from it
+abbrev pub placed : List ℕ → List ℕ → Stretch → List ℕ
+placed text apart (stretch.Here s) = part text s
+placed text apart (stretch.Apart s) = part apart s
 
--- a text stands at the place
-abbrev pub IsPlace : List ℕ → List ℕ → Place → Type 0
-IsPlace text apart (place.Here s) = IsText text s
-IsPlace text apart (place.Apart s) = IsText apart s
+-- a text stands at the stretch
+abbrev pub IsStretch : List ℕ → List ℕ → Stretch → Type 0
+IsStretch text apart (stretch.Here s) = IsText text s
+IsStretch text apart (stretch.Apart s) = IsText apart s
 
--- this text stands at the place
-abbrev pub IsPlacedAt : List ℕ → List ℕ → Place → List ℕ → Type 0
-IsPlacedAt text apart (place.Here s) x = IsTextAt text s x
-IsPlacedAt text apart (place.Apart s) x = IsTextAt apart s x
+-- this text stands at the stretch
+abbrev pub IsPlacedAt : List ℕ → List ℕ → Stretch → List ℕ → Type 0
+IsPlacedAt text apart (stretch.Here s) x = IsTextAt text s x
+IsPlacedAt text apart (stretch.Apart s) x = IsTextAt apart s x
 
--- what a text that was given a place takes of what stands apart
-abbrev pub kept_apart : Place → List ℕ → List ℕ
-kept_apart (place.Here s) x = []
-kept_apart (place.Apart s) x = x
+-- what a text that was given a stretch takes of what stands apart
+abbrev pub kept_apart : Stretch → List ℕ → List ℕ
+kept_apart (stretch.Here s) x = []
+kept_apart (stretch.Apart s) x = x
 
 -- the same of a text that may be there
-abbrev pub IsPlaceIfAny : List ℕ → List ℕ → Option Place → Type 0
-IsPlaceIfAny text apart None = ⊤
-IsPlaceIfAny text apart (Some p) = IsPlace text apart p
+abbrev pub IsStretchIfAny : List ℕ → List ℕ → Option Stretch → Type 0
+IsStretchIfAny text apart None = ⊤
+IsStretchIfAny text apart (Some p) = IsStretch text apart p
 
-abbrev pub IsPlacedIfAny : List ℕ → List ℕ → Option Place → Option (List ℕ) → Type 0
+abbrev pub IsPlacedIfAny : List ℕ → List ℕ → Option Stretch → Option (List ℕ) → Type 0
 IsPlacedIfAny text apart None None = ⊤
 IsPlacedIfAny text apart None (Some x) = ⊥
 IsPlacedIfAny text apart (Some p) None = ⊥
 IsPlacedIfAny text apart (Some p) (Some x) = IsPlacedAt text apart p x
 
-abbrev pub kept_apart_if_any : Option Place → Option (List ℕ) → List ℕ
+abbrev pub kept_apart_if_any : Option Stretch → Option (List ℕ) → List ℕ
 kept_apart_if_any None x = []
 kept_apart_if_any (Some p) None = []
 kept_apart_if_any (Some p) (Some x) = kept_apart p x

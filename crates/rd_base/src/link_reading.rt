@@ -4,10 +4,10 @@ ghost use Rattle.std.specs.Prelude.{IsTrue, MatchOption};
 ghost use Rattle.rd_base.specs.LinkLines.{link_line};
 ghost use Rattle.rd_base.specs.LinkTexts.{AreLinks, links_in};
 ghost use Rattle.rd_base.specs.PairRefs.{text_seen};
-ghost use Rattle.rd_base.specs.Spans.{IsPlaceIfAny, placed};
+ghost use Rattle.rd_base.specs.Spans.{IsStretchIfAny, placed};
 
 use crate::link_texts::{LinkSpans, LinkTexts, PairSpans};
-use crate::spans::{Place, at, at_place};
+use crate::spans::{Stretch, at, at_stretch};
 use std::marker::Model;
 
 /// An attribute that is borrowed.
@@ -20,10 +20,10 @@ pub struct PairRef<'a> {
 }
 
 /// Where a text begins in another one, where it stands there.
-fn begin(place: Place) -> usize {
-    match place {
-        Place::Here(span) => span.from as usize,
-        Place::Apart(_) => 0,
+fn begin(stretch: Stretch) -> usize {
+    match stretch {
+        Stretch::Here(span) => span.from as usize,
+        Stretch::Apart(_) => 0,
     }
 }
 
@@ -100,8 +100,8 @@ impl<'a> Iterator for LinkPairs<'a> {
 
     fn next(&mut self) -> Option<PairRef<'a>> {
         let (first, rest) = self.left.split_first()?;
-        let name = at_place(self.raw, self.apart, first.name);
-        let value = at_place(self.raw, self.apart, first.value);
+        let name = at_stretch(self.raw, self.apart, first.name);
+        let value = at_stretch(self.raw, self.apart, first.value);
         self.left = rest;
         Some(PairRef { name, value })
     }
@@ -127,14 +127,14 @@ impl<'a> Model for Link<'a> {
     ghost invariant = { λ l. HoldsIn l.texts.now l.spans.now };
 }
 
-/// The text at a place, where there is one.
-fn at_place_if_any<'a>(text: &'a str, apart: &'a str, place: Option<Place>) -> Option<&'a str>
-    requires { IsPlaceIfAny text.now apart.now place }
-    ensures { text_seen result ≡ option_map (placed text.now apart.now) place }
+/// The text at a stretch, where there is one.
+fn at_stretch_if_any<'a>(text: &'a str, apart: &'a str, stretch: Option<Stretch>) -> Option<&'a str>
+    requires { IsStretchIfAny text.now apart.now stretch }
+    ensures { text_seen result ≡ option_map (placed text.now apart.now) stretch }
 {
-    match place {
+    match stretch {
         None => None,
-        Some(place) => Some(at_place(text, apart, place)),
+        Some(stretch) => Some(at_stretch(text, apart, stretch)),
     }
 }
 
@@ -151,7 +151,7 @@ impl<'a> Link<'a> {
         ensures { text_seen result ≡ self.now.anchor_ref }
     {
         let source = self.texts.source.as_str();
-        at_place_if_any(
+        at_stretch_if_any(
             source,
             self.texts.apart.as_str(),
             self.spans.submitted.anchor,
@@ -170,7 +170,7 @@ impl<'a> Link<'a> {
         ensures { text_seen result ≡ self.now.anchor }
     {
         let listed = self.texts.listed.as_str();
-        at_place_if_any(listed, self.texts.apart.as_str(), self.spans.listed.anchor)
+        at_stretch_if_any(listed, self.texts.apart.as_str(), self.spans.listed.anchor)
     }
 
     /// The attributes as they were written, each from its semicolon on, without anchors.

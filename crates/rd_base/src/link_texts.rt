@@ -6,7 +6,7 @@ ghost use Rattle.rd_base.specs.LinkTexts.{IsLineAt};
 ghost use Rattle.rd_base.specs.Spans.{IsPlacedIfAny, kept_apart_if_any};
 
 use crate::Starved;
-use crate::spans::{Place, Span, append, append_escaped, offset, push};
+use crate::spans::{Span, Stretch, append, append_escaped, offset, push};
 
 /// Where the parts of a line stand.
 #[derive(Clone, Copy, Debug, Drop)]
@@ -16,7 +16,7 @@ pub(crate) struct LineSpans {
     /// The attributes as they were written, in the text of the line.
     pub(crate) raw: Span,
     /// The anchor, in the text of the line or apart.
-    pub(crate) anchor: Option<Place>,
+    pub(crate) anchor: Option<Stretch>,
     /// The whole line.
     pub(crate) line: Span,
 }
@@ -25,9 +25,9 @@ pub(crate) struct LineSpans {
 #[derive(Clone, Copy, Debug, Drop)]
 pub(crate) struct PairSpans {
     /// The name.
-    pub(crate) name: Place,
+    pub(crate) name: Stretch,
     /// The value.
-    pub(crate) value: Place,
+    pub(crate) value: Stretch,
 }
 
 /// Where the parts of a link stand.
@@ -75,21 +75,21 @@ fn append_anchor(
     text: &mut String,
     anchor: Option<&str>,
     apart: &mut String,
-) -> Result<Option<Place>, Starved>
+) -> Result<Option<Stretch>, Starved>
     ensures text { IfOk result (λ _. string_bytes text.new ≡ string_bytes text.old
         ++ anchor_text (option_map (λ a. a.now) anchor.entry)) }
-    ensures at { IfOk result (λ place. IsPlacedIfAny (string_bytes text.new)
-        (string_bytes apart.new) place (option_map (λ a. a.now) anchor.entry)) }
-    ensures apart { IfOk result (λ place. string_bytes apart.new ≡ string_bytes apart.old
-        ++ kept_apart_if_any place (option_map (λ a. a.now) anchor.entry)) }
+    ensures at { IfOk result (λ stretch. IsPlacedIfAny (string_bytes text.new)
+        (string_bytes apart.new) stretch (option_map (λ a. a.now) anchor.entry)) }
+    ensures apart { IfOk result (λ stretch. string_bytes apart.new ≡ string_bytes apart.old
+        ++ kept_apart_if_any stretch (option_map (λ a. a.now) anchor.entry)) }
 {
     let Some(anchor) = anchor else {
         return Ok(None);
     };
     push(text, ";anchor=\"")?;
-    let place = append_escaped(text, anchor, apart)?;
+    let stretch = append_escaped(text, anchor, apart)?;
     push(text, "\"")?;
-    Ok(Some(place))
+    Ok(Some(stretch))
 }
 
 /// Appends the line of a link, and says where its parts stand. `Starved`: out of memory, or a text

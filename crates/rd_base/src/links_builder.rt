@@ -9,7 +9,7 @@ use crate::Starved;
 use crate::link_reading::Link;
 use crate::link_texts::{LinkSpans, LinkTexts, PairSpans, Room, append_line};
 use crate::shared_links::Items;
-use crate::spans::{Span, offset, place_of, push};
+use crate::spans::{Span, offset, push, stretch_of};
 use std::alloc::Global;
 use std::marker::Model;
 
@@ -172,8 +172,8 @@ impl LinksBuilder {
             links,
         } = texts;
         let written = raw.as_str();
-        let name = place_of(written, name_from, name, &mut apart)?;
-        let value = place_of(written, value_from, value, &mut apart)?;
+        let name = stretch_of(written, name_from, name, &mut apart)?;
+        let value = stretch_of(written, value_from, value, &mut apart)?;
         pairs.push(PairSpans { name, value })?;
         Ok(LinksBuilder {
             texts: LinkTexts {

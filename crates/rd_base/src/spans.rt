@@ -4,7 +4,7 @@ ghost use Rattle.std.specs.Prelude.{OnOk, encode_utf8};
 ghost use Rattle.std.specs.List.{list_any};
 ghost use Rattle.std.specs.String.{string_bytes};
 ghost use Rattle.rd_base.specs.LinkLines.{quote_mark, backslash, escaped_character};
-ghost use Rattle.rd_base.specs.Spans.{part, placed, kept_apart, IsPlace, IsPlacedAt, IsText};
+ghost use Rattle.rd_base.specs.Spans.{part, placed, kept_apart, IsStretch, IsPlacedAt, IsText};
 ghost use Rattle.rd_base.specs.Spans.{IsTextAt};
 
 use crate::Starved;
@@ -20,7 +20,7 @@ pub(crate) struct Span {
 
 /// Where a text stands that is mostly a part of another one.
 #[derive(Clone, Copy, Debug, Drop)]
-pub(crate) enum Place {
+pub(crate) enum Stretch {
     /// In the other text.
     Here(Span),
     /// In a text of its own, since the other has it with escapes.
@@ -70,15 +70,15 @@ pub(crate) fn at(text: &str, span: Span) -> &str
     unsafe { str::from_utf8_unchecked(octets) }
 }
 
-/// The text at a place.
+/// The text at a stretch.
 #[inline(always)]
-pub(crate) fn at_place<'a>(text: &'a str, apart: &'a str, place: Place) -> &'a str
-    requires { IsPlace text.now apart.now place }
-    ensures { result.now ≡ placed text.now apart.now place }
+pub(crate) fn at_stretch<'a>(text: &'a str, apart: &'a str, stretch: Stretch) -> &'a str
+    requires { IsStretch text.now apart.now stretch }
+    ensures { result.now ≡ placed text.now apart.now stretch }
 {
-    match place {
-        Place::Here(span) => at(text, span),
-        Place::Apart(span) => at(apart, span),
+    match stretch {
+        Stretch::Here(span) => at(text, span),
+        Stretch::Apart(span) => at(apart, span),
     }
 }
 
@@ -96,23 +96,23 @@ fn found(text: &str, from: usize, part: &str) -> Option<Span>
     Some(Span { from, upto })
 }
 
-/// A place for a text: this octet of another one if it stands there, and else apart. `Starved`: out
+/// A stretch for a text: this octet of another one if it stands there, else apart. `Starved`: out
 /// of memory.
 #[inline(always)]
-pub(crate) fn place_of(
+pub(crate) fn stretch_of(
     text: &str,
     from: usize,
     part: &str,
     apart: &mut String,
-) -> Result<Place, Starved>
-    ensures at { IfOk result (λ place. IsPlacedAt text.now
-        (string_bytes apart.new) place part.now) }
-    ensures apart { IfOk result (λ place. string_bytes apart.new ≡ string_bytes apart.old
-        ++ kept_apart place part.now) }
+) -> Result<Stretch, Starved>
+    ensures at { IfOk result (λ stretch. IsPlacedAt text.now
+        (string_bytes apart.new) stretch part.now) }
+    ensures apart { IfOk result (λ stretch. string_bytes apart.new ≡ string_bytes apart.old
+        ++ kept_apart stretch part.now) }
 {
     match found(text, from, part) {
-        Some(span) => Ok(Place::Here(span)),
-        None => Ok(Place::Apart(append(apart, part)?)),
+        Some(span) => Ok(Stretch::Here(span)),
+        None => Ok(Stretch::Apart(append(apart, part)?)),
     }
 }
 
@@ -162,17 +162,17 @@ pub(crate) fn append_escaped(
     text: &mut String,
     more: &str,
     apart: &mut String,
-) -> Result<Place, Starved>
+) -> Result<Stretch, Starved>
     ensures text { IfOk result (λ _. string_bytes text.new ≡ string_bytes text.old
         ++ flat_map escaped_character more.now) }
-    ensures at { IfOk result (λ place. IsPlacedAt (string_bytes text.new)
-        (string_bytes apart.new) place more.now) }
-    ensures apart { IfOk result (λ place. string_bytes apart.new ≡ string_bytes apart.old
-        ++ kept_apart place more.now) }
+    ensures at { IfOk result (λ stretch. IsPlacedAt (string_bytes text.new)
+        (string_bytes apart.new) stretch more.now) }
+    ensures apart { IfOk result (λ stretch. string_bytes apart.new ≡ string_bytes apart.old
+        ++ kept_apart stretch more.now) }
 {
     if has_escaped(more) {
         push_escaped_text(text, more)?;
-        return Ok(Place::Apart(append(apart, more)?));
+        return Ok(Stretch::Apart(append(apart, more)?));
     }
-    Ok(Place::Here(append(text, more)?))
+    Ok(Stretch::Here(append(text, more)?))
 }

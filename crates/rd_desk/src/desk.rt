@@ -263,9 +263,9 @@ impl<B: Board> Desk<B> {
         self.tables.commit(&mut self.board, now, mids, job, out)
     }
 
-    /// The step that does the job to keep a listing, at a moment in milliseconds that is at most
-    /// 10^15; one below that of the directory is lifted to it. `out` is empty, and gets what is
-    /// sent: the block of the listing that was asked for (RFC 7959 section 2.4). `Starved`: out of
+    /// The step that does the job to keep a listing or a source, at a moment in milliseconds that
+    /// is at most 10^15; one below that of the directory is lifted to it. `out` is empty, and gets
+    /// what is sent: the block of it that was asked for (RFC 7959 section 2.4). `Starved`: out of
     /// memory; nothing is kept, and the request is answered 5.00.
     pub fn keep(&mut self, now: Moment, mids: &mut Mids, job: KeepJob, out: &mut Outbox) -> Stepped
         requires moment { now.0 ≤ 10 ^ 15 }

@@ -7,6 +7,6 @@ use crate::{KeepJob, WriteJob};
 pub enum Job {
     /// A write that was admitted.
     Write(WriteJob),
-    /// A listing that a look formed.
+    /// A listing or a source that a look formed.
     Keep(KeepJob),
 }

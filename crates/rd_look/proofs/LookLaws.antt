@@ -31,9 +31,19 @@ use Rattle.message_model.specs.Request.{path_in, observe_in}
 use Rattle.record_model.specs.Discovery.{discovery}
 use Rattle.history_model.specs.declared.entries.Entry.{Entry}
 use Rattle.history_model.specs.Listing.{listing, tag}
+use Rattle.history_model.specs.Sources.{source}
 use Rattle.journal_model.specs.declared.steps.Step.{Step}
 use Rattle.journal_model.specs.Effects.{without_memory}
 use Rattle.journal_model.specs.Requests.{
+  Method,
+  get,
+  post,
+  put,
+  delete,
+  other_method,
+  method_of,
+  is_location,
+  is_get,
   is_lookup,
   is_discovery,
   is_later_block,
@@ -45,7 +55,7 @@ use Rattle.journal_model.specs.Requests.{
   is_look_request,
 }
 use Rattle.journal_model.specs.Bodies.{body_reply, is_long}
-use Rattle.journal_model.specs.Sought.{sought_at}
+use Rattle.journal_model.specs.Sought.{source_of, sought_at, sought_of, sought_in, has_tag}
 use Rattle.journal_model.specs.Looks.{
   Look,
   answered,
@@ -55,6 +65,7 @@ use Rattle.journal_model.specs.Looks.{
   unless_long,
   unless_valid,
   found_under,
+  found_or_not,
   look_for,
   look,
   look_sent,
@@ -62,7 +73,7 @@ use Rattle.journal_model.specs.Looks.{
   looked,
 }
 use Rattle.rd_look.specs.Looking.{look_done}
-use Rattle.std.proofs.lemmas.Bool.{and_parts}
+use Rattle.std.proofs.lemmas.Bool.{and_parts, false≢true}
 use Rattle.message_model.specs.declared.messages.Role.{Role}
 use Rattle.message_model.specs.declared.messages.Role.TheVariants as role
 use Rattle.message_model.specs.Reading.{reading}
@@ -71,45 +82,106 @@ use Rattle.rd_request.proofs.AskedLaws.{none_there}
 
 -- discovery finds the links of the directory itself
 pub discovered : (history : List Entry) (moment : ℕ) (m : Message) (octets : List ℕ)
-    → is_discovery (path_in m) ≡ true
+    → path_in m ≡ path.Core
     → octets ≡ discovery (query_of m)
     → look history moment m ≡ Some (answered (body_reply None None (asked_block m) octets))
 unfolding look
-discovered history moment m octets is same = at (path_in m) is where
-  at : (p : Path)
-      → is_discovery p ≡ true
-      → option_map (look_for history moment m) (sought_at p (query_of m))
-      ≡ Some (answered (body_reply None None (asked_block m) octets))
-  at path.Core h =
-      ap (λ (what : List ℕ). Some (answered (body_reply None None (asked_block m) what))) (sym same)
-  at path.SimpleRd h = cc
-  at path.Rd h = cc
-  at (path.Location number) h = cc
-  at path.Res h = cc
-  at path.Ep h = cc
-  at path.Other h = cc
+discovered history moment m octets is same =
+    ap (λ (p : Path). option_map (look_for history moment m)
+    (sought_at p (method_of m.code) (query_of m))) is
+    ∙ ap (λ (what : List ℕ). Some (answered (body_reply None None (asked_block m) what)))
+    (sym same)
 
--- any other look finds a listing
+-- a lookup finds a listing
 pub looked_up : (history : List Entry) (moment : ℕ) (m : Message)
-    → only_looks m ≡ true
-    → is_discovery (path_in m) ≡ false
+    → is_lookup (path_in m) ≡ true
     → look history moment m
     ≡ Some (found_under (Some (tag history moment)) m (listing (query_of m) history moment))
 unfolding look
-looked_up history moment m looks other =
-    at (path_in m) (not (is_later_block m)) (not (is_heeded (observe_in m))) looks other where
-      at : (p : Path) (first plain : Bool)
-          → (is_discovery p || (is_lookup p && first && plain)) ≡ true
-          → is_discovery p ≡ false
-          → option_map (look_for history moment m) (sought_at p (query_of m))
-          ≡ Some (found_under (Some (tag history moment)) m (listing (query_of m) history moment))
-      at path.Core first plain looks other = cc
-      at path.SimpleRd first plain looks other = cc
-      at path.Rd first plain looks other = cc
-      at (path.Location number) first plain looks other = cc
-      at path.Res first plain looks other = refl
-      at path.Ep first plain looks other = refl
-      at path.Other first plain looks other = cc
+looked_up history moment m lookup = at (path_in m) lookup where
+  at : (p : Path)
+      → is_lookup p ≡ true
+      → option_map (look_for history moment m) (sought_at p (method_of m.code) (query_of m))
+      ≡ Some (found_under (Some (tag history moment)) m (listing (query_of m) history moment))
+  at path.Core h = cc
+  at path.SimpleRd h = cc
+  at path.Rd h = cc
+  at (path.Location number) h = cc
+  at path.Res h = refl
+  at path.Ep h = refl
+  at path.Other h = cc
+
+-- what only looks at a location is a GET
+get_at : (m : Message) (number : ℕ)
+    → only_looks m ≡ true
+    → path_in m ≡ path.Location number
+    → method_of m.code ≡ get
+get_at m number looks is =
+    by (method_of m.code) (not (is_later_block m)) (not (is_heeded (observe_in m)))
+    (subst (λ (p : Path).
+    (is_discovery p || (is_lookup p && not (is_later_block m) && not (is_heeded (observe_in m)))
+    || ((is_location p && is_get (method_of m.code)) && not (is_later_block m)))
+    ≡ true) is looks)
+  where
+    by : (method : Method) (first plain : Bool)
+        → (is_discovery (path.Location number)
+        || (is_lookup (path.Location number) && first && plain)
+        || ((is_location (path.Location number) && is_get method) && first))
+        ≡ true
+        → method ≡ get
+    by get first plain h = refl
+    by post first plain h = cc
+    by put first plain h = cc
+    by delete first plain h = cc
+    by other_method first plain h = cc
+
+-- a read of a registration finds its source, where it is live
+pub read_at : (history : List Entry) (moment : ℕ) (m : Message) (number : ℕ)
+    → only_looks m ≡ true
+    → path_in m ≡ path.Location number
+    → look history moment m
+    ≡ Some (found_or_not (Some (tag history moment)) m (source number history moment))
+unfolding look
+read_at history moment m number looks is =
+    ap (λ (p : Path). option_map (look_for history moment m)
+    (sought_at p (method_of m.code) (query_of m))) is
+    ∙ ap (λ (method : Method). option_map (look_for history moment m) (sought_of number method))
+    (get_at m number looks is)
+
+-- what stands under a tag and is sought at the location of a registration is its source
+pub seeks_source : (m : Message) (number : ℕ)
+    → path_in m ≡ path.Location number
+    → has_tag (sought_in m) ≡ true
+    → sought_in m ≡ Some (source_of number)
+seeks_source m number is tagged =
+    ap (λ (p : Path). sought_at p (method_of m.code) (query_of m)) is
+    ∙ by (method_of m.code)
+    (subst (λ (p : Path). has_tag (sought_at p (method_of m.code) (query_of m)) ≡ true) is tagged)
+  where
+    by : (method : Method)
+        → has_tag (sought_of number method) ≡ true
+        → sought_of number method ≡ Some (source_of number)
+    by get h = refl
+    by post h = cc
+    by put h = cc
+    by delete h = cc
+    by other_method h = cc
+
+-- a message at a path only looks
+abbrev looks_by : Path → Message → Bool
+looks_by p m =
+    is_discovery p
+    || (is_lookup p && not (is_later_block m) && not (is_heeded (observe_in m)))
+    || ((is_location p && is_get (method_of m.code)) && not (is_later_block m))
+
+-- what writes to no registration that is there is no look
+pub no_look_at_rd : (m : Message) → only_looks m ≡ true → path_in m ≡ path.Rd → ⊥
+no_look_at_rd m looks is =
+    false≢true (ap (λ (p : Path). looks_by p m) (sym is) ∙ looks)
+
+pub no_look_at_simple : (m : Message) → only_looks m ≡ true → path_in m ≡ path.SimpleRd → ⊥
+no_look_at_simple m looks is =
+    false≢true (ap (λ (p : Path). looks_by p m) (sym is) ∙ looks)
 
 -- the client has it, where it names the tag
 pub found_valid : (m : Message) (given current what : List ℕ)

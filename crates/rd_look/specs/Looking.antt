@@ -11,6 +11,7 @@ use Rattle.journal_model.specs.Looks.{
   Look,
   answered,
   still_valid,
+  not_live,
   unless_long,
   look_sent,
   body_held,
@@ -20,14 +21,15 @@ use Rattle.rd_look.specs.declared.looks.Found.TheVariants as found
 use Rattle.rd_look.specs.declared.looks.Looked.{Looked}
 use Rattle.rd_look.specs.declared.looks.Looked.TheVariants as ended
 
--- what a look gives that found this: 2.03 where the client has it, and else the body, which is held
--- where it is a listing longer than a block
+-- what a look gives that found this: 2.03 where the client has it, 4.04 where a registration is not
+-- live, and else the body, which is held where it is a listing or a source longer than a block
 abbrev pub look_found : Message → Found → Look
 look_found m (found.Valid current) = answered (still_valid current.0)
-look_found m (found.Listing listing) =
-    unless_long (is_long (asked_block m) listing.octets) m
-    (record { body = listing.octets; tag = listing.tag.0 })
+look_found m (found.Links links) =
+    unless_long (is_long (asked_block m) links.octets) m
+    (record { body = links.octets; tag = links.tag.0 })
 look_found m (found.OwnLinks octets) = answered (body_reply None None (asked_block m) octets)
+look_found m found.NotLive = answered not_live
 
 -- it ran out of memory
 abbrev pub is_starved_look : Looked → Bool

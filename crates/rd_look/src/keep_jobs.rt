@@ -11,15 +11,15 @@ use std::alloc::Global;
 use std::marker::Model;
 use std::sync::Arc;
 
-/// A listing that a look formed, to be kept for its further blocks and sent from its first block on
-/// (RFC 7959 section 2.4).
+/// A listing or a source that a look formed, to be kept for its further blocks and sent from its
+/// first block on (RFC 7959 section 2.4).
 #[derive(Drop)]
 pub struct KeepJob {
     /// Who asked.
     pub peer: Peer,
     /// The request of the look.
     pub request: KeptRequest,
-    /// The listing.
+    /// The listing or the source.
     pub body: Arc<Bytes>,
     /// Its entity tag.
     pub tag: Tag,
@@ -47,7 +47,8 @@ impl Model for KeepJob {
 }
 
 impl KeepJob {
-    /// The job to keep a listing that the look by this request formed. `Starved`: out of memory.
+    /// The job to keep a listing or a source that the look by this request formed. `Starved`: out
+    /// of memory.
     pub fn of(
         alloc: Global,
         peer: Peer,

@@ -1,9 +1,13 @@
-//! Lookups and discovery that are answered from one version of the directory, and the job that a
-//! long listing leaves (RFC 9176 sections 4.1 and 6, RFC 7959 section 2.4).
+//! Lookups, reads of a registration, and discovery that are answered from one version of the
+//! directory, and the job that a long listing or source leaves (RFC 9176 sections 4.1, 5.3.3 and 6,
+//! RFC 7959 section 2.4).
 #![tactic(auto)]
 
 mod keep_jobs;
 mod looks;
 
 pub use keep_jobs::KeepJob;
-pub use looks::{Looked, answer_look, listing_at, look, look_request, look_starved, send_block};
+pub use looks::{
+    Looked, answer_look, answer_not_live, links_at, listing_at, look, look_request, look_starved,
+    send_block,
+};

@@ -1,13 +1,14 @@
-//! Lookups and discovery that are answered from one version of the directory (RFC 9176 sections 4.1
-//! and 6, RFC 7252 section 5.10.6.2).
+//! Lookups, reads of a registration, and discovery that are answered from one version of the
+//! directory (RFC 9176 sections 4.1, 5.3.3 and 6, RFC 7252 section 5.10.6.2).
 ghost use Rattle.std.specs.Prelude.{◌≡◌, ◌≤◌, ◌<◌, ◌^◌, ℕ, true, false, List, length, Ok, Some};
-ghost use Rattle.std.specs.Prelude.{IfOk};
+ghost use Rattle.std.specs.Prelude.{IfOk, option_and_then};
 ghost use Rattle.std.specs.Option.{ForSome};
 ghost use Rattle.message_model.specs.Reading.{reading};
 ghost use Rattle.message_model.specs.Spelling.{spelling};
 ghost use Rattle.coap_message.specs.Views.{message_in};
 ghost use Rattle.history_model.specs.declared.entries.Entry.{Entry};
 ghost use Rattle.history_model.specs.Listing.{listing, tag};
+ghost use Rattle.history_model.specs.Sources.{source};
 ghost use Rattle.history_model.specs.Versions.{VersionStandsFor};
 ghost use Rattle.event_model.specs.declared.notes.Note.{Note};
 ghost use Rattle.journal_model.specs.declared.steps.Step.{Step};
@@ -16,6 +17,7 @@ ghost use Rattle.journal_model.specs.Effects.{answering};
 ghost use Rattle.journal_model.specs.Looks as looks_of;
 ghost use Rattle.journal_model.specs.Machine.{is_look_datagram};
 ghost use Rattle.journal_model.specs.Requests as requests_of;
+ghost use Rattle.journal_model.specs.Sought.{body, has_tag, sought_in};
 ghost use Rattle.coap_answers.specs.Outboxes.{most_datagrams};
 ghost use Rattle.coap_answers.specs.Replies.{IsReply, reply_said};
 ghost use Rattle.coap_answers.specs.Sendings.{IsStepOf, Sends};
@@ -28,9 +30,9 @@ use coap_answers::{Mids, Outbox, Reply, answer, answer_starved, body_reply, is_l
 use coap_options::{Meaning, etags};
 use directory_core::Directory;
 use listing::discovery;
-use message_model::codes::VALID;
+use message_model::codes::{NOT_FOUND, VALID};
 use rd_base::{Bytes, Moment, Peer, Query, Starved, Steps, Tag};
-use rd_request::{Incoming, Request, is_core, query_of, read_datagram};
+use rd_request::{Incoming, Request, Resource, query_of, read_datagram};
 use std::alloc::Global;
 use std::marker::Brand;
 use std::sync::ledger::{Blank, Ledger};
@@ -40,16 +42,17 @@ use std::sync::ledger::{Blank, Ledger};
 pub enum Looked {
     /// It is answered.
     Done,
-    /// Its listing is longer than one block: nothing is sent yet, and the worker has this job.
+    /// Its listing or source is longer than one block: nothing is sent yet, and the worker has this
+    /// job.
     Held(KeepJob),
     /// Out of memory: it is answered 5.00.
     Starved,
 }
 
-/// A listing under its entity tag.
+/// A listing, or the source of a registration, under its entity tag.
 #[derive(Drop)]
-struct TaggedListing {
-    /// The listing.
+struct TaggedLinks {
+    /// The listing or the source.
     octets: Bytes,
     /// Its entity tag.
     tag: Tag,
@@ -58,12 +61,14 @@ struct TaggedListing {
 /// What a look finds.
 #[derive(Drop)]
 enum Found {
-    /// The client has the listing already, under this tag.
+    /// The client has the listing or the source already, under this tag.
     Valid(Tag),
-    /// The listing.
-    Listing(TaggedListing),
+    /// The listing or the source.
+    Links(TaggedLinks),
     /// The links of the directory itself, which have no tag.
     OwnLinks(Bytes),
+    /// The registration is not live, and has no source.
+    NotLive,
 }
 
 /// Whether a tag is among those that the request names (RFC 7252 section 5.10.6.2).
@@ -119,7 +124,64 @@ fn find_listing(
         return Ok(Found::Valid(tag));
     }
     let octets = listing_at::<Brand>(Blank::new(1), version, now, query)?;
-    Ok(Found::Listing(TaggedListing { octets, tag }))
+    Ok(Found::Links(TaggedLinks { octets, tag }))
+}
+
+/// What a read of the registration of a number finds in a version at a moment: its source, unless
+/// the client has it, where it is live. `Starved`: out of memory.
+fn find_source(
+    version: &Directory,
+    now: Moment,
+    request: &Request<'_>,
+    number: u64,
+) -> Result<Found, Starved>
+    requires after_at { version.now.at ≤ now.0 }
+    requires after_sweep { version.now.swept ≤ now.0 }
+    ensures { (history : List Entry)
+        → VersionStandsFor 0 history version.now
+        → IfOk result (λ found. looks_of.found_or_not (Some (tag history now.0))
+        (message_of request.now) (source number history now.0)
+        ≡ look_found (message_of request.now) found) }
+{
+    let Some(octets) = version.source(number, now)? else {
+        return Ok(Found::NotLive);
+    };
+    let current = version.tag(now);
+    if names_tag(&request.meaning, current) {
+        return Ok(Found::Valid(current));
+    }
+    Ok(Found::Links(TaggedLinks {
+        octets,
+        tag: current,
+    }))
+}
+
+/// The listing of a lookup, or the source of a read, in a version at a moment; none where the
+/// registration that is read is not live. `Starved`: out of memory.
+pub fn links_at(
+    alloc: Global,
+    version: &Directory,
+    now: Moment,
+    request: &Request<'_>,
+) -> Result<Option<Bytes>, Starved>
+    requires seeks { has_tag (sought_in (message_of request.now)) ≡ true }
+    requires after_at { version.now.at ≤ now.0 }
+    requires after_sweep { version.now.swept ≤ now.0 }
+    ensures { (history : List Entry)
+        → VersionStandsFor 0 history version.now
+        → IfOk result (λ found. found
+        ≡ option_and_then (λ sought. body sought history now.0)
+        (sought_in (message_of request.now))) }
+{
+    match request.resource {
+        Resource::Location(number) => version.source(number, now),
+        Resource::Lookup(_) => {
+            let query = query_of(alloc, request)?;
+            let octets = listing_at::<Brand>(Blank::new(1), version, now, &query)?;
+            Ok(Some(octets))
+        }
+        Resource::Core | Resource::SimpleRegistration | Resource::Registration => unreachable!(),
+    }
 }
 
 /// What a look finds in a version at a moment. `Starved`: out of memory.
@@ -137,12 +199,19 @@ fn find(
         → IfOk result (λ found. looks_of.look history now.0 (message_of request.now)
         ≡ Some (look_found (message_of request.now) found)) }
 {
-    let query = query_of(alloc, request)?;
-    if is_core(&request.resource) {
-        let octets = discovery(alloc, &query)?;
-        return Ok(Found::OwnLinks(octets));
+    match request.resource {
+        Resource::Core => {
+            let query = query_of(alloc, request)?;
+            let octets = discovery(alloc, &query)?;
+            Ok(Found::OwnLinks(octets))
+        }
+        Resource::Lookup(_) => {
+            let query = query_of(alloc, request)?;
+            find_listing(version, now, request, &query)
+        }
+        Resource::Location(number) => find_source(version, now, request, number),
+        Resource::SimpleRegistration | Resource::Registration => unreachable!(),
     }
-    find_listing(version, now, request, &query)
 }
 
 /// What is answered to a request that names the tag of what is found: 2.03 with this tag alone (RFC
@@ -161,6 +230,18 @@ fn still_valid(tag: Tag) -> Reply<'static>
         block1: None,
         payload: b"",
     }
+}
+
+/// A read of a registration that is not live is answered 4.04 (RFC 9176 section 5.3.3).
+pub fn answer_not_live(mids: &mut Mids, peer: Peer, request: &Request<'_>, out: &mut Outbox)
+    requires room { length out.old < most_datagrams }
+    ensures { (s : Step) (notes : List Note)
+        → IsStepOf s peer mids.old
+        → Sends (answering s (message_of request.now) looks_of.not_live notes) out.old out.new
+        mids.old mids.new }
+{
+    let reply = Reply::plain(NOT_FOUND, b"registration");
+    answer(mids, peer, &request.meaning.view, &reply, out);
 }
 
 /// The block of a body that is asked for is sent, the first where none is, under a tag and an
@@ -187,7 +268,8 @@ pub fn send_block(
     answer(mids, peer, &request.meaning.view, &reply, out);
 }
 
-/// What is found is sent, or held where it is a listing longer than the block that is asked for.
+/// What is found is sent, or held where it is a listing or a source longer than the block that is
+/// asked for.
 fn give(
     alloc: Global,
     mids: &mut Mids,
@@ -212,8 +294,12 @@ fn give(
             answer(mids, peer, &request.meaning.view, &still_valid(tag), out);
             return Looked::Done;
         }
-        Found::Listing(tagged) => {
-            return give_listing(alloc, mids, peer, request, tagged, out);
+        Found::Links(tagged) => {
+            return give_links(alloc, mids, peer, request, tagged, out);
+        }
+        Found::NotLive => {
+            answer_not_live(mids, peer, request, out);
+            return Looked::Done;
         }
         Found::OwnLinks(octets) => {
             send_block(mids, peer, request, None, None, octets.as_slice(), out);
@@ -222,13 +308,13 @@ fn give(
     }
 }
 
-/// A listing is sent, or held where it is longer than the block that is asked for.
-fn give_listing(
+/// A listing or a source is sent, or held where it is longer than the block that is asked for.
+fn give_links(
     alloc: Global,
     mids: &mut Mids,
     peer: Peer,
     request: &Request<'_>,
-    tagged: TaggedListing,
+    tagged: TaggedLinks,
     out: &mut Outbox,
 ) -> Looked
     requires read { reading (spelling (message_of request.now)) ≡ Ok (message_of request.now) }
@@ -237,13 +323,13 @@ fn give_listing(
     ensures sends { (s : Step)
         → IsStepOf s peer mids.old
         → Sends (look_done (is_starved_look result) s (message_of request.now)
-        (look_found (message_of request.now) (Found.Listing tagged))) out.old out.new
+        (look_found (message_of request.now) (Found.Links tagged))) out.old out.new
         mids.old mids.new }
     ensures held { IsHeld peer (spelling (message_of request.now))
         (look_left (is_starved_look result)
-        (look_found (message_of request.now) (Found.Listing tagged))) result }
+        (look_found (message_of request.now) (Found.Links tagged))) result }
 {
-    let TaggedListing { octets, tag } = tagged;
+    let TaggedLinks { octets, tag } = tagged;
     if !is_long(&request.asked, octets.as_slice()) {
         send_block(mids, peer, request, Some(tag), None, octets.as_slice(), out);
         return Looked::Done;
@@ -304,9 +390,10 @@ pub fn answer_look(
 
 /// A request that only looks ([`is_look`](rd_request::is_look)) is answered from a version of the
 /// directory at a moment, which is not before its last entry and its last sweep: 2.05 with what is
-/// found, or 2.03 where the request names the tag of the listing (RFC 7252 section 5.10.6.2). A
-/// listing that is longer than the block that is asked for is not sent: it is held, to be kept
-/// first. `out` has room for one datagram more.
+/// found; 2.03 where the request names the tag of the listing or of the source (RFC 7252 section
+/// 5.10.6.2); 4.04 where it reads a registration that is not live. A listing or a source that is
+/// longer than the block that is asked for is not sent: it is held, to be kept first. `out` has
+/// room for one datagram more.
 pub fn look(
     alloc: Global,
     version: &Directory,

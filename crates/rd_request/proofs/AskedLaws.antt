@@ -72,16 +72,6 @@ good_request m none = by (refusal_of m) (has_bad_query m) refl none where
   by None false e h = e
   by None true e h = let refused = rw e at h in cc
 
--- a request that only looks is a discovery or a lookup
-pub looks_seek : (m : Message) → only_looks m ≡ true → seeks_links (path_in m) ≡ true
-looks_seek m looks =
-    by (is_discovery (path_in m)) (is_lookup (path_in m)) (not (is_later_block m))
-    (not (is_heeded (observe_in m))) looks where
-      by : (d l first plain : Bool) → (d || (l && first && plain)) ≡ true → (d || l) ≡ true
-      by true l first plain h = refl
-      by false true first plain h = refl
-      by false false first plain h = h
-
 -- nothing is there
 pub none_there : {A : Type 0} (o : Option A) → is_none o ≡ true → o ≡ None
 none_there None e = refl

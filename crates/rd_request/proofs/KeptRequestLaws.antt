@@ -4,14 +4,13 @@ use Rattle.message_model.specs.declared.messages.Role.{Role}
 use Rattle.message_model.specs.declared.messages.Unread.{Unread}
 use Rattle.message_model.specs.Message.{Message}
 use Rattle.message_model.specs.Reading.{reading}
-use Rattle.message_model.specs.Request.{path_in}
 use Rattle.message_model.specs.Spelling.{spelling}
 use Rattle.journal_model.specs.Machine.{is_look_datagram}
 use Rattle.rd_request.specs.declared.accepted.Request.{Request}
 use Rattle.rd_request.specs.declared.incoming.Incoming.TheVariants as incoming
 use Rattle.rd_request.specs.Accepted.{message_of}
 use Rattle.rd_request.specs.Incoming.{IsFor, IsIncoming}
-use Rattle.rd_request.specs.WriteRequests.{is_write_path, is_write_datagram}
+use Rattle.rd_request.specs.WriteRequests.{is_write_datagram, writes_to_registrations}
 use Rattle.rd_request.proofs.IncomingLaws.{looks_is}
 use Rattle.rd_request.proofs.WriteRequestLaws.{write_in}
 
@@ -40,7 +39,7 @@ pub writes_kept : (kept own : Message)
     → own ≡ kept
     → reading (spelling kept) ≡ Ok kept
     → is_write_datagram (spelling kept) ≡ true
-    → is_write_path (path_in own) ≡ true
+    → writes_to_registrations own ≡ true
 writes_kept kept own same read writes =
-    subst (λ (m : Message). is_write_path (path_in m) ≡ true) (sym same)
+    subst (λ (m : Message). writes_to_registrations m ≡ true) (sym same)
     (write_in (spelling kept) kept read writes).1

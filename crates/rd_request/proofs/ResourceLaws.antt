@@ -18,6 +18,7 @@ use Rattle.std.proofs.Common.{
 }
 use Rattle.std.specs.Prelude.{if◌then◌else◌}
 use Rattle.std.proofs.lemmas.Bool.Decides.{nat_tests}
+use Rattle.rd_base.specs.declared.queries.Kind.{Kind}
 use Rattle.rd_base.specs.declared.queries.Kind.TheVariants as kind
 use Rattle.message_model.specs.declared.requests.Path.{Path}
 use Rattle.message_model.specs.declared.requests.Path.TheVariants as path
@@ -32,12 +33,12 @@ use Rattle.message_model.specs.Refusals.{
   option_refusal_or,
 }
 use Rattle.message_model.specs.Request.{path_in, has_proxy}
-use Rattle.journal_model.specs.Requests.{refusal_of_request, refusal_or_next, is_discovery, kind_of}
+use Rattle.journal_model.specs.Requests.{refusal_of_request, refusal_or_next, is_lookup, kind_of}
 use Rattle.rd_request.specs.declared.accepted.Request.{Request}
 use Rattle.rd_request.specs.declared.resources.Resource.{Resource}
 use Rattle.rd_request.specs.declared.resources.Resource.TheVariants as resource
 use Rattle.rd_request.specs.Accepted.{message_of}
-use Rattle.rd_request.specs.Resources.{resource_at, is_at, kind_at, is_core}
+use Rattle.rd_request.specs.Resources.{resource_at, is_at, kind_at}
 
 -- a path that names nothing is refused
 names_none : (p : Path) → resource_at p ≡ None → is_nowhere p ≡ true
@@ -111,16 +112,6 @@ kind_there (resource.Lookup kind.Resource) p h = ap kind_of (sym (links_at p h))
 kind_there (resource.Lookup kind.Endpoint) p h = ap kind_of (sym (endpoints_at p h))
 kind_there (resource.Lookup kind.Discovery) p h = absurd (nothing_at p h)
 
--- a discovery
-pub core_there : (r : Resource) (p : Path) → is_at r p ≡ true → is_core r ≡ is_discovery p
-core_there resource.Core p h = ap is_discovery (sym (core_at p h))
-core_there resource.SimpleRegistration p h = ap is_discovery (sym (simple_at p h))
-core_there resource.Registration p h = ap is_discovery (sym (registration_at p h))
-core_there (resource.Location number) p h = ap is_discovery (sym (location_at number p h))
-core_there (resource.Lookup kind.Resource) p h = ap is_discovery (sym (links_at p h))
-core_there (resource.Lookup kind.Endpoint) p h = ap is_discovery (sym (endpoints_at p h))
-core_there (resource.Lookup kind.Discovery) p h = absurd (nothing_at p h)
-
 -- ---- the path of a request, by what it is about
 
 there : (request : Request) (r : Resource)
@@ -148,3 +139,23 @@ pub location_path : (request : Request) (number : ℕ)
 location_path request number is =
     sym request.meaning.path_said
     ∙ location_at number request.meaning.path (there request (resource.Location number) is)
+
+pub core_path : (request : Request)
+    → request.resource ≡ resource.Core
+    → path_in (message_of request) ≡ path.Core
+core_path request is =
+    sym request.meaning.path_said
+    ∙ core_at request.meaning.path (there request resource.Core is)
+
+-- a path at which something is looked up
+looked_up_at : (k : Kind) (p : Path) → is_at (resource.Lookup k) p ≡ true → is_lookup p ≡ true
+looked_up_at kind.Resource p h = ap is_lookup (links_at p h)
+looked_up_at kind.Endpoint p h = ap is_lookup (endpoints_at p h)
+looked_up_at kind.Discovery p h = absurd (nothing_at p h)
+
+pub lookup_path : (request : Request) (k : Kind)
+    → request.resource ≡ resource.Lookup k
+    → is_lookup (path_in (message_of request)) ≡ true
+lookup_path request k is =
+    ap is_lookup (sym request.meaning.path_said)
+    ∙ looked_up_at k request.meaning.path (there request (resource.Lookup k) is)

@@ -21,14 +21,13 @@ use Rattle.message_model.specs.declared.messages.Role.TheVariants as role
 use Rattle.message_model.specs.declared.messages.Unread.{Unread}
 use Rattle.message_model.specs.Message.{Message, role_of}
 use Rattle.message_model.specs.Reading.{reading}
-use Rattle.message_model.specs.Request.{path_in}
 use Rattle.journal_model.specs.Effects.{Reply}
 use Rattle.journal_model.specs.Requests.{refusal_of_request}
 use Rattle.rd_request.specs.WriteRequests.{
-  is_write_path,
   is_write_message,
   is_write_reading,
   is_write_datagram,
+  writes_to_registrations,
 }
 
 -- a request that is such a write is one by its datagram
@@ -36,13 +35,13 @@ pub write_datagram : (datagram : List ℕ) (m : Message)
     → reading datagram ≡ Ok m
     → role_of m.kind m.code ≡ role.Request
     → refusal_of_request m ≡ None
-    → is_write_path (path_in m) ≡ true
+    → writes_to_registrations m ≡ true
     → is_write_datagram datagram ≡ true
 unfolding is_write_datagram
 write_datagram datagram m read request none writes =
     subst (λ (r : Result Message Unread). is_write_reading r ≡ true) (sym read)
     (subst (λ (r : Role). is_write_message r m ≡ true) (sym request)
-    (subst (λ (o : Option Reply). (is_none o && is_write_path (path_in m)) ≡ true) (sym none)
+    (subst (λ (o : Option Reply). (is_none o && writes_to_registrations m) ≡ true) (sym none)
     writes))
 
 none_there : {A : Type 0} (o : Option A) → is_none o ≡ true → o ≡ None
@@ -51,9 +50,9 @@ none_there (Some x) e = absurd (false≢true e)
 
 write_message : (r : Role) (m : Message)
     → is_write_message r m ≡ true
-    → (refusal_of_request m ≡ None) × (is_write_path (path_in m) ≡ true)
+    → (refusal_of_request m ≡ None) × (writes_to_registrations m ≡ true)
 write_message role.Request m h =
-    let both = and_parts (is_none (refusal_of_request m)) (is_write_path (path_in m)) h in
+    let both = and_parts (is_none (refusal_of_request m)) (writes_to_registrations m) h in
     (none_there (refusal_of_request m) both.0, both.1)
 write_message role.Ping m h = absurd (false≢true h)
 write_message role.Acknowledgement m h = absurd (false≢true h)
@@ -65,7 +64,7 @@ write_message role.Ignored m h = absurd (false≢true h)
 pub write_in : (datagram : List ℕ) (m : Message)
     → reading datagram ≡ Ok m
     → is_write_datagram datagram ≡ true
-    → (refusal_of_request m ≡ None) × (is_write_path (path_in m) ≡ true)
+    → (refusal_of_request m ≡ None) × (writes_to_registrations m ≡ true)
 unfolding is_write_datagram
 write_in datagram m is h =
     write_message (role_of m.kind m.code) m

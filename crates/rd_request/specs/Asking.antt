@@ -18,7 +18,7 @@ use Rattle.message_model.specs.declared.requests.Path.{Path}
 use Rattle.message_model.specs.declared.requests.Refusal.TheVariants as refusal
 use Rattle.message_model.specs.Codes as codes_of
 use Rattle.message_model.specs.Message.{Message}
-use Rattle.message_model.specs.Refusals.{refusal_of, refusal_code, refusal_word}
+use Rattle.message_model.specs.Refusals.{refusal_of, refusal_code, diagnostic_of}
 use Rattle.journal_model.specs.Effects.{Reply, diagnostic}
 use Rattle.journal_model.specs.Requests.{is_discovery, is_lookup, register}
 use Rattle.rd_request.specs.declared.requests.Refused.{Refused}
@@ -35,7 +35,7 @@ begins_observation (Some value) = value == register
 
 -- the answer to a refusal (RFC 7252 section 5.5.2)
 abbrev pub refused_with : Refused → Reply
-refused_with (refused.Request refusal) = diagnostic (refusal_code refusal) (refusal_word refusal)
+refused_with (refused.Request refusal) = diagnostic (refusal_code refusal) (diagnostic_of refusal)
 refused_with refused.Query = diagnostic codes_of.bad_request (codes "query")
 refused_with refused.Payload = diagnostic codes_of.bad_request (codes "payload")
 

@@ -7,13 +7,18 @@ use Rattle.message_model.specs.Reading.{reading}
 use Rattle.message_model.specs.Spelling.{spelling}
 use Rattle.message_model.specs.Request.{path_in}
 use Rattle.coap_message.specs.Views.{message_in}
-use Rattle.journal_model.specs.Requests.{refusal_of_request, is_lookup, only_looks}
+use Rattle.journal_model.specs.Requests.{
+  refusal_of_request,
+  is_lookup,
+  only_looks,
+  reads_registration,
+}
 use Rattle.rd_request.specs.declared.incoming.Incoming.{Incoming}
 use Rattle.rd_request.specs.declared.incoming.Incoming.TheVariants as incoming
 use Rattle.rd_request.specs.declared.requests.Refused.{Refused}
 use Rattle.rd_request.specs.Accepted.{message_of}
 use Rattle.rd_request.specs.Asking.{refused_with, IsRefusedBy}
-use Rattle.rd_request.specs.WriteRequests.{is_write_path}
+use Rattle.rd_request.specs.WriteRequests.{writes_to_registrations}
 
 -- the datagram is this message, and spells it; the message is for that (RFC 7252 section 4)
 pub record IsFor (r : Role) (datagram : List ℕ) (m : Message) : Type 0 where
@@ -44,9 +49,13 @@ IsIncoming datagram (incoming.Lookup request) =
     IsFor role.Request datagram (message_of request)
     × (only_looks (message_of request) ≡ false)
     × (is_lookup (path_in (message_of request)) ≡ true)
+IsIncoming datagram (incoming.Read request) =
+    IsFor role.Request datagram (message_of request)
+    × (only_looks (message_of request) ≡ false)
+    × (reads_registration (message_of request) ≡ true)
 IsIncoming datagram (incoming.Write request) =
     IsFor role.Request datagram (message_of request)
-    × (is_write_path (path_in (message_of request)) ≡ true)
+    × (writes_to_registrations (message_of request) ≡ true)
 
 -- it only looks
 abbrev pub looks : Incoming → Bool

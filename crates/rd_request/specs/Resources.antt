@@ -34,11 +34,3 @@ kind_at resource.SimpleRegistration = kind.Discovery
 kind_at resource.Registration = kind.Discovery
 kind_at (resource.Location number) = kind.Discovery
 kind_at (resource.Lookup what) = what
-
--- it is that of discovery
-abbrev pub is_core : Resource → Bool
-is_core resource.Core = true
-is_core resource.SimpleRegistration = false
-is_core resource.Registration = false
-is_core (resource.Location number) = false
-is_core (resource.Lookup what) = false

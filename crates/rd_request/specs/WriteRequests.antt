@@ -3,23 +3,18 @@ use Rattle.std.specs.Prelude.{ℕ, Bool, true, false, ◌&&◌, List, Result, Ok
 use Rattle.message_model.specs.declared.messages.Role.{Role}
 use Rattle.message_model.specs.declared.messages.Role.TheVariants as role
 use Rattle.message_model.specs.declared.messages.Unread.{Unread}
-use Rattle.message_model.specs.declared.requests.Path.{Path}
-use Rattle.message_model.specs.declared.requests.Path.TheVariants as path
 use Rattle.message_model.specs.Message.{Message, role_of}
 use Rattle.message_model.specs.Reading.{reading}
 use Rattle.message_model.specs.Request.{path_in}
-use Rattle.journal_model.specs.Requests.{refusal_of_request}
+use Rattle.journal_model.specs.Requests.{refusal_of_request, method_of, is_write}
 
--- what is written to: the registrations, or one of them (RFC 9176 sections 5, 5.1 and 5.3)
-abbrev pub is_write_path : Path → Bool
-is_write_path path.Rd = true
-is_write_path path.SimpleRd = true
-is_write_path (path.Location number) = true
-is_write_path _ = false
+-- it writes to the registrations, or to one of them (RFC 9176 sections 5, 5.1 and 5.3)
+abbrev pub writes_to_registrations : Message → Bool
+writes_to_registrations m = is_write (path_in m) (method_of m.code)
 
 -- a message is a write that nothing refuses
 abbrev pub is_write_message : Role → Message → Bool
-is_write_message role.Request m = is_none (refusal_of_request m) && is_write_path (path_in m)
+is_write_message role.Request m = is_none (refusal_of_request m) && writes_to_registrations m
 is_write_message _ m = false
 
 -- what is read of a datagram is such a write

@@ -1,12 +1,13 @@
 //! What a datagram is to the directory. It is read here, and nowhere else (RFC 7252 section 4).
-ghost use Rattle.std.specs.Prelude.{◌≡◌, ◌&&◌, ℕ, not, List, Ok};
+ghost use Rattle.std.specs.Prelude.{◌≡◌, ◌&&◌, ℕ, not, true, List, Ok};
 ghost use Rattle.message_model.specs.Reading.{reading};
 ghost use Rattle.message_model.specs.Spelling.{spelling};
-ghost use Rattle.message_model.specs.Request.{observe_in};
+ghost use Rattle.message_model.specs.Request.{path_in, observe_in};
 ghost use Rattle.message_model.specs.declared.messages.Role.TheVariants as role;
 ghost use Rattle.coap_message.specs.Views.{message_in};
 ghost use Rattle.journal_model.specs.Machine.{is_look_datagram};
 ghost use Rattle.journal_model.specs.Requests as requests_of;
+ghost use Rattle.journal_model.specs.Requests.{is_location, reads_registration};
 ghost use Rattle.rd_request.specs.Accepted.{message_of};
 ghost use Rattle.rd_request.specs.Incoming.{IsFor, IsIncoming, looks};
 
@@ -15,6 +16,7 @@ use crate::requests::{Refused, asked, is_heeded, is_later_block};
 use crate::resources::Resource;
 use coap_message::{Unread, View, role_of, view};
 use message_model::Role;
+use message_model::codes::GET;
 
 /// What a datagram is to the directory.
 #[derive(Clone, Copy, Debug)]
@@ -33,11 +35,14 @@ pub enum Incoming<'a> {
     Response(View<'a>),
     /// A request that is refused for itself.
     Refused(View<'a>, Refused),
-    /// A request that only looks: a discovery, or a lookup of a first block that neither begins nor
-    /// ends an observation. It is answered from the registrations alone.
+    /// A request that only looks: a discovery, or of a first block a lookup that neither begins nor
+    /// ends an observation, or a read of a registration. It is answered from the registrations
+    /// alone.
     Look(Request<'a>),
     /// Any other lookup.
     Lookup(Request<'a>),
+    /// A read of a registration, of a further block.
+    Read(Request<'a>),
     /// A request that writes to the registrations, or to one of them.
     Write(Request<'a>),
 }
@@ -51,6 +56,33 @@ fn is_plain(request: &Request<'_>) -> bool
         return false;
     }
     !is_heeded(request.meaning.observe)
+}
+
+/// A read of a registration, which only looks where it is of a first block.
+fn read(request: Request<'_>) -> Incoming<'_>
+    requires { reads_registration (message_of request.entry) ≡ true }
+    ensures { (datagram : List ℕ)
+        → IsFor role.Request datagram (message_of request.entry)
+        → IsIncoming datagram result }
+{
+    if is_later_block(&request) {
+        return Incoming::Read(request);
+    }
+    Incoming::Look(request)
+}
+
+/// A request on a registration, by its method: GET reads the links (RFC 9176 section 5.3.3), and
+/// whatever else it may ask is a write.
+fn on_location(request: Request<'_>) -> Incoming<'_>
+    requires { is_location (path_in (message_of request.entry)) ≡ true }
+    ensures { (datagram : List ℕ)
+        → IsFor role.Request datagram (message_of request.entry)
+        → IsIncoming datagram result }
+{
+    if request.meaning.view.code == GET {
+        return read(request);
+    }
+    Incoming::Write(request)
 }
 
 /// A request that nothing refuses for itself, by what it is about.
@@ -67,9 +99,8 @@ fn served(request: Request<'_>) -> Incoming<'_>
             }
             Incoming::Lookup(request)
         }
-        Resource::SimpleRegistration | Resource::Registration | Resource::Location(_) => {
-            Incoming::Write(request)
-        }
+        Resource::Location(_) => on_location(request),
+        Resource::SimpleRegistration | Resource::Registration => Incoming::Write(request),
     }
 }
 
@@ -126,13 +157,14 @@ fn looks(incoming: &Incoming<'_>) -> bool
         | Incoming::Response(_)
         | Incoming::Refused(_, _)
         | Incoming::Lookup(_)
+        | Incoming::Read(_)
         | Incoming::Write(_) => false,
     }
 }
 
-/// Whether a datagram is a request that only looks: a lookup of a first block that neither begins
-/// nor ends an observation, or a discovery, which nothing refuses. It is answered from the
-/// registrations alone.
+/// Whether a datagram is a request that only looks: a discovery, or of a first block a lookup that
+/// neither begins nor ends an observation, or a read of a registration, which nothing refuses. It
+/// is answered from the registrations alone.
 pub fn is_look(datagram: &[u8]) -> bool
     ensures { result ≡ is_look_datagram datagram.now }
 {

@@ -16,4 +16,4 @@ pub use kept_requests::KeptRequest;
 pub use lookup_queries::query_of;
 pub use parameters::given_params;
 pub use requests::{Refused, begins_observation, is_heeded, is_later_block};
-pub use resources::{Resource, is_core};
+pub use resources::Resource;

@@ -33,7 +33,8 @@ fn reading_of(path: &Path, code: u8) -> Option<Reading>
     }
 }
 
-/// As what those of a request on a registration are read: an update alone has any that are read.
+/// As what those of a request on a registration are read: an update alone has any that are read;
+/// those of a read, a replacement and a removal are passed over.
 fn reading_on_location(code: u8) -> Option<Reading>
     ensures { result ≡ requests_of.reading_on_location (requests_of.method_of code) }
 {

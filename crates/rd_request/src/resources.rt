@@ -47,16 +47,3 @@ pub(crate) fn kind_at(resource: &Resource) -> Kind
         | Resource::Location(_) => Kind::Discovery,
     }
 }
-
-/// Whether it is that of discovery.
-pub fn is_core(resource: &Resource) -> bool
-    ensures { result ≡ resources.is_core resource.now }
-{
-    match *resource {
-        Resource::Core => true,
-        Resource::SimpleRegistration
-        | Resource::Registration
-        | Resource::Location(_)
-        | Resource::Lookup(_) => false,
-    }
-}

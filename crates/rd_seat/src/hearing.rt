@@ -64,8 +64,8 @@ impl Seat {
     /// 10^15: a look where it is one ([`rd_desk::is_look`]), for which it waits for nobody, and
     /// else a step at a turn of the seat, for which it waits. Waits of messages that go out are
     /// made from the word. `out` is empty, and gets what is sent. `Held`: the worker has a job, a
-    /// write that is admitted or a listing to be kept. `Starved`: out of memory; a request is
-    /// answered 5.00.
+    /// write that is admitted, or a listing or a source to be kept. `Starved`: out of memory; a
+    /// request is answered 5.00.
     pub fn hear<R: Wait, G: Gate>(
         &mut self,
         rt: &R,

@@ -1,4 +1,4 @@
-//! The turn in which a listing is kept that a look formed.
+//! The turn in which a listing or a source is kept that a look formed.
 ghost use Rattle.std.specs.Prelude.{◌≡◌, ◌≤◌, ◌^◌, []};
 ghost use Rattle.rd_desk.specs.calls.Stepping.{is_starved_step};
 ghost use Rattle.turn_lock.specs.Shown.{id_of, lock_of};
@@ -26,7 +26,7 @@ struct Parts {
 }
 
 impl Share {
-    /// The step that keeps a listing, at a turn.
+    /// The step that keeps a listing or a source, at a turn.
     pub(crate) fn keep<R: Wait, G: Gate>(
         &mut self,
         rt: &R,

@@ -149,7 +149,7 @@ impl Seat {
         self.share.commit(rt, hall.lock(), gate, now, job, out)
     }
 
-    /// The step that keeps a listing, at a turn of the seat.
+    /// The step that keeps a listing or a source, at a turn of the seat.
     pub(crate) fn keep<R: Wait, G: Gate>(
         &mut self,
         rt: &R,
@@ -173,9 +173,9 @@ impl Seat {
     /// A request that only looks ([`rd_desk::is_look`]) is answered from the version that was
     /// published last, at a moment in milliseconds that is at most 10^15; one below that of the
     /// seat's last row or look, or of the version's last entry, is lifted. `out` is empty, and
-    /// gets the answer (RFC 9176 section 6). `Held`: the listing is longer than the block that
-    /// was asked for, and the worker has the job to keep it. `Starved`: out of memory; it is
-    /// answered 5.00. It waits for nobody.
+    /// gets the answer (RFC 9176 sections 4.1, 5.3.3 and 6). `Held`: the listing or the source is
+    /// longer than the block that was asked for, and the worker has the job to keep it. `Starved`:
+    /// out of memory; it is answered 5.00. It waits for nobody.
     ///
     /// The version has all entries that the seat has seen, and all of those that its looks before
     /// were answered from.

@@ -1,6 +1,6 @@
 -- Proofs of the code that makes drafts. LinkParameterLaws, ReferenceLaws, LinkLaws: one link.
 -- FaultLaws, LinksLaws: all links, and their first fault. DraftLaws: what is known of a draft.
--- WeightLaws: what it weighs.
+-- WeightLaws: what it weighs. SubmissionLaws: links before there is a base.
 pub mod LinkParameterLaws
 pub mod ReferenceLaws
 pub mod LinkLaws
@@ -8,3 +8,4 @@ pub mod FaultLaws
 pub mod LinksLaws
 pub mod DraftLaws
 pub mod WeightLaws
+pub mod SubmissionLaws

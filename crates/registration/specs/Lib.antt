@@ -4,3 +4,4 @@ pub mod References
 pub mod Links
 pub mod OtherBases
 pub mod Weights
+pub mod Submissions

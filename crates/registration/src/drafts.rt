@@ -7,7 +7,7 @@ ghost use Rattle.rd_base.specs.declared.moments.Moment.{Moment};
 ghost use Rattle.rd_base.specs.Peers.{IsHost};
 ghost use Rattle.record_model.specs.AllowedParameters.{AreAllowed};
 ghost use Rattle.record_model.specs.Bases.{registered_base};
-ghost use Rattle.record_model.specs.Bodies.{linked_references};
+ghost use Rattle.record_model.specs.Bodies.{is_reference, linked_references};
 ghost use Rattle.record_model.specs.BodyFaults.{body_fault};
 ghost use Rattle.record_model.specs.Parameters.{is_base};
 ghost use Rattle.record_model.specs.Records.{registered};
@@ -16,6 +16,7 @@ ghost use Rattle.registration.specs.Drafts.{IsDraft, IsFaultOf, drafted, has_ref
 ghost use Rattle.registration.specs.Links.{BodyReads};
 
 use crate::links::read_links;
+use crate::submissions::Submitted;
 use link_format::{LinkBad, check};
 use rd_base::{Items, LinksBuilder, Name, Pairs, Peer, RegParams, Starved, Text, base_of};
 use ref_resolve::parts;
@@ -92,9 +93,9 @@ fn registered_base(alloc: Global, given: Option<Text>, peer: Peer) -> Result<Tex
     }
 }
 
-/// The links of a body against a base, or its first fault.
+/// The links of a body against a base, or its first fault. The empty base is one too.
 fn items_of(alloc: Global, base: &str, body: &[u8]) -> Result<Items, DraftFault>
-    requires { is_base base.now ≡ true }
+    requires { is_reference base.now ≡ true }
     ensures { BodyReads base.now body.now result }
 {
     let listed = usize::saturating_add(base.len(), body.len());
@@ -152,4 +153,22 @@ pub fn build(alloc: Global, params: RegParams, peer: Peer, body: &[u8]) -> Resul
         attrs,
         items,
     })
+}
+
+/// The links of a body, before there is a base.
+///
+/// # Errors
+///
+/// Those of [`build`](crate::build): `Links` exactly where the body is no link document; else
+/// `Reference` exactly where a target or an anchor is no URI-reference; else `Limited` exactly
+/// where a link without a scheme in its target has one in its anchor. `Starved` may come instead of
+/// each, and leaves nothing.
+pub fn submitted(alloc: Global, body: &[u8]) -> Result<Submitted, DraftFault>
+    ensures links { IfOk result (λ links. linked_references body.now ≡ Some links) }
+    ensures good { OnOk result (body_fault body.now ≡ None) }
+    ensures limited { OnOk result (is_refused_as_limited body.now ≡ false) }
+    ensures refused { IfErr result (λ fault. IsFaultOf body.now fault) }
+{
+    let items = items_of(alloc, "", body)?;
+    Ok(Submitted::of(items))
 }

@@ -7,8 +7,10 @@ mod link_parameters;
 mod links;
 mod other_bases;
 mod references;
+mod submissions;
 mod weights;
 
-pub use drafts::{Draft, DraftFault, build};
+pub use drafts::{Draft, DraftFault, build, submitted};
 pub use other_bases::rebased;
+pub use submissions::Submitted;
 pub use weights::weight;

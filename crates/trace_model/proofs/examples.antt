@@ -1,6 +1,7 @@
 mod RegistrationTraces
 mod LookupTraces
 mod BlockTraces
+mod SourceTraces
 mod ObserverTraces
 mod FetchTraces
 mod FullTableTraces

@@ -40,9 +40,9 @@ use Rattle.journal_model.specs.AskedListings.{
   Asked,
   asked_by_observer,
   asked_at,
-  answers_lookup,
+  answers_with_links,
 }
-use Rattle.journal_model.specs.CarriedBlocks.{is_content, is_tagged, FormedAs, Sent, is_listing}
+use Rattle.journal_model.specs.CarriedBlocks.{is_content, is_tagged, FormedAs, Sent, shows_links}
 use Rattle.journal_model.proofs.RowEquations.{row-step}
 use Rattle.journal_model.proofs.entries.JournalLaws.{Made, each_row, journal-AreRows}
 use Rattle.journal_model.proofs.entries.CommitPlaces.{journal-place}
@@ -123,7 +123,7 @@ named_of (Some x) asked h = (x, refl)
 -- each response is addressed, where each datagram is known and each notice was formed as the
 -- headline says
 addressed : (rows : List Row) → AllSent rows → (sent : Sent rows)
-    → (sent.here.row.step.kind ≡ step.Tick → is_listing sent ≡ true
+    → (sent.here.row.step.kind ≡ step.Tick → shows_links sent ≡ true
     → FormedAs sent.here sent.peer sent.message)
     → is_response sent.message ≡ true
     → IsAddressed sent.here.row.step.kind sent.here sent.peer sent.message
@@ -139,9 +139,10 @@ addressed rows all sent formed responds = by sent.here.row.step.kind refl
         let f : FormedAs sent.here sent.peer sent.message =
         formed tick
         (and_from (is_content sent.message)
-        (answers_lookup sent.here.row.step.kind (reading sent.here.row.step.datagram)
+        (answers_with_links sent.here.row.step.kind (reading sent.here.row.step.datagram)
         || is_tagged sent.message) content
-        (ap (λ k. answers_lookup k (reading sent.here.row.step.datagram) || is_tagged sent.message)
+        (ap (λ k.
+        answers_with_links k (reading sent.here.row.step.datagram) || is_tagged sent.message)
         tick)) in
         let o =
         named_of (observer_named (sent.peer, sent.message.token) sent.here.before) f.asked
@@ -160,7 +161,7 @@ addressed rows all sent formed responds = by sent.here.row.step.kind refl
 
 -- so it is of rows of which each datagram is known
 rows-SendsToWhoAsked : (rows : List Row) → AllSent rows
-    → ((sent : Sent rows) → sent.here.row.step.kind ≡ step.Tick → is_listing sent ≡ true
+    → ((sent : Sent rows) → sent.here.row.step.kind ≡ step.Tick → shows_links sent ≡ true
     → FormedAs sent.here sent.peer sent.message) → SendsToWhoAsked rows
 rows-SendsToWhoAsked rows all formed_so = record {
   fitting = λ datagram. sent-fitting rows all datagram;

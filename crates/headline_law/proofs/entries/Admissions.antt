@@ -50,6 +50,7 @@ use Rattle.journal_model.proofs.NoteKinds.{
 use Rattle.journal_model.proofs.StepNotes.{
   keep_effects-notes,
   lookup_effects-notes,
+  read_effects-notes,
   tick_effects-notes,
 }
 use Rattle.journal_model.proofs.notes.StepTable.{StepNoted, effects-StepNoted}
@@ -131,6 +132,9 @@ effects_admit kind starved rows moment s peer mid =
     by ns (noted.lookup m here read at is) =
         never_of of_lookup (λ p n. refl) rows moment peer mid ns
         (ap (are of_lookup) is ∙ lookup_effects-notes rows moment s m)
+    by ns (noted.source m here read at is) =
+        never_of of_lookup (λ p n. refl) rows moment peer mid ns
+        (ap (are of_lookup) is ∙ read_effects-notes rows moment s m)
     by ns (noted.empty here all) = never_of of_empty (λ p n. refl) rows moment peer mid ns all
     by ns (noted.response m here read responds is) =
         never_of of_response (λ p n. refl) rows moment peer mid ns

@@ -20,6 +20,7 @@ use Rattle.message_model.specs.RequestKey.{key_in}
 use Rattle.message_model.specs.Uploads.{max_body, collected_before, is_one_too_many}
 use Rattle.message_model.specs.Responses.{block_in, is_elsewhere}
 use Rattle.record_model.specs.Parameters.{registration_values}
+use Rattle.history_model.specs.declared.entries.Change.{Change}
 use Rattle.history_model.specs.declared.entries.Change.TheVariants as change
 use Rattle.history_model.specs.declared.entries.Entry.{Entry}
 use Rattle.history_model.specs.declared.refusals.Refusal.{Refusal}
@@ -62,26 +63,32 @@ use Rattle.journal_model.specs.Changes.{
   registered_links,
   registration,
   created_at,
+  changed_with,
   number_after,
   entry_of_step,
+  replaced_links,
+  replacement,
+  Purpose,
+  to_register,
+  to_replace,
+  body_used,
 }
 use Rattle.journal_model.specs.Registrations.{
   block_taken,
   block_unless,
   block_after,
   block_uploaded,
-  registration_outcome,
+  links_outcome,
   registering,
+  replacing,
   block_room,
 }
 use Rattle.journal_model.specs.Commits.{
   settling,
   simple_unless,
-  on_location,
+  location_outcome,
   write_done,
   commit_effects,
-  updating,
-  removing,
   fetch_room,
 }
 use Rattle.journal_model.specs.Responses.{
@@ -103,7 +110,7 @@ use Rattle.journal_model.specs.PlacedRows.{Within}
 use Rattle.journal_model.specs.declared.steps.StepKind.{StepKind}
 use Rattle.journal_model.specs.declared.steps.StepKind.TheVariants as step
 use Rattle.journal_model.specs.FetchCompletions.{EndsBody}
-use Rattle.journal_model.specs.AskedChanges.{AsksChange, IsAskedBy, IsEntryOf}
+use Rattle.journal_model.specs.AskedChanges.{BringsLinks, AsksChange, IsAskedBy, IsEntryOf}
 use Rattle.journal_model.proofs.entries.ResponseEntries.{content_of}
 use Rattle.journal_model.proofs.NoteKinds.{empty-entries_in}
 use Rattle.journal_model.proofs.EntriesNoted.{entries_in}
@@ -112,6 +119,7 @@ use Rattle.journal_model.proofs.notes.StepTable as noted
 use Rattle.journal_model.proofs.entries.QuietSteps.{
   keep_effects-entries_in,
   lookup_effects-entries_in,
+  read_effects-entries_in,
   write_effects-entries_in,
   tick_effects-entries_in,
 }
@@ -199,39 +207,72 @@ abbrev OfRequest : Path → List Row → ℕ → Step → Message → Entry → 
 OfRequest p rows moment s m entry =
     (entry ≡ entry_of_step moment s entry.change) × AsksChange p rows moment s m entry.change
 
--- a registration, whole or a block of one
-registering-enters : (rows : List Row) (moment : ℕ) (s : Step) (m : Message)
-    → AllEnter (OfRequest path.Rd rows moment s m) (registering rows moment s m).notes
-unfolding registering block_uploaded
-registering-enters rows moment s m = by (sent_block m) refl
+-- a replacement of links by those of a body
+replacement-enters : (P : Entry → Type 0) (history : List Entry) (moment : ℕ) (s : Step)
+    (number : ℕ) (body : List ℕ) (further : List Opt) (notes : List Note)
+    → ((links : List SubmittedLink)
+    → body_read body ≡ good_body links
+    → P (entry_of_step moment s (change.Replace number links)))
+    → AllEnter P notes
+    → AllEnter P (replacement history moment s number body further notes).notes
+unfolding replacement
+replacement-enters P history moment s number body further notes good others =
+    by (body_read body) refl
   where
-    P : Entry → Type 0
-    P = OfRequest path.Rd rows moment s m
+    by : (read : BodyRead)
+        → body_read body ≡ read
+        → AllEnter P (replaced_links history moment s number further notes read).notes
+    by (bad_body word) e = tt
+    by (good_body links) e =
+        change_made-enters P history (entry_of_step moment s (change.Replace number links))
+        (record { reply = changed_with further; notes = notes }) (good links e) others
 
+-- the change that links are for
+abbrev change_for : Purpose → List SubmittedLink → Change
+change_for (to_register params) links = change.Register params links
+change_for (to_replace number) links = change.Replace number links
+
+-- a whole body, by what its links are for
+body_used-enters : (P : Entry → Type 0) (purpose : Purpose) (history : List Entry) (moment : ℕ)
+    (s : Step) (body : List ℕ) (further : List Opt) (notes : List Note)
+    → ((links : List SubmittedLink)
+    → body_read body ≡ good_body links
+    → P (entry_of_step moment s (change_for purpose links)))
+    → AllEnter P notes
+    → AllEnter P (body_used purpose history moment s body further notes).notes
+body_used-enters P (to_register params) history moment s body further notes good others =
+    registration-enters P history moment s params body further notes good others
+body_used-enters P (to_replace number) history moment s body further notes good others =
+    replacement-enters P history moment s number body further notes good others
+
+-- links that come whole, or a block of them
+links-enter : (P : Entry → Type 0) (purpose : Purpose) (rows : List Row) (moment : ℕ) (s : Step)
+    (m : Message)
+    → ((links : List SubmittedLink)
+    → BringsLinks rows moment s m links
+    → P (entry_of_step moment s (change_for purpose links)))
+    → AllEnter P (links_outcome (sent_block m) purpose rows moment s m).notes
+unfolding block_uploaded
+links-enter P purpose rows moment s m good = by (sent_block m) refl
+  where
     taken : (more : Bool) (b : Block) (before : List ℕ) → b.more ≡ more → sent_block m ≡ Some b
         → collected_before b (live_upload moment (s.peer, key_in m) (events rows)) ≡ Some before
-        → AllEnter P (block_taken more rows moment s m b (before ++ m.payload)).notes
+        → AllEnter P (block_taken more purpose rows moment s m b (before ++ m.payload)).notes
     taken true b before last is e = (tt, tt)
     taken false b before last is e =
-        registration-enters P (entries rows) moment s (registration_values (queries_in m))
-        (before ++ m.payload) _ (note.Finished s.peer (key_in m) ∷ [])
-        (λ links read. (
-          refl,
-          (
-            refl,
-            record {
-              last = ap more_follow is ∙ last;
-              collected = before;
-              before = rw is e;
-              read = read;
-            },
-          ),
-        )) (tt, tt)
+        body_used-enters P purpose (entries rows) moment s (before ++ m.payload) _
+        (note.Finished s.peer (key_in m) ∷ [])
+        (λ links read. good links (record {
+          last = ap more_follow is ∙ last;
+          collected = before;
+          before = rw is e;
+          read = read;
+        })) (tt, tt)
 
     unless : (too_long too_many : Bool) (b : Block) (before : List ℕ)
         → sent_block m ≡ Some b
         → collected_before b (live_upload moment (s.peer, key_in m) (events rows)) ≡ Some before
-        → AllEnter P (block_unless (block_room too_long too_many) rows moment s m b
+        → AllEnter P (block_unless (block_room too_long too_many) purpose rows moment s m b
         (before ++ m.payload)).notes
     unless true too_many b before is e = tt
     unless false true b before is e = tt
@@ -241,8 +282,8 @@ registering-enters rows moment s m = by (sent_block m) refl
         → sent_block m ≡ Some b
         → collected_before b (live_upload moment (s.peer, key_in m) (events rows)) ≡ front
         → AllEnter P
-        (block_after front (live_upload moment (s.peer, key_in m) (events rows)) rows moment s m
-        b).notes
+        (block_after front (live_upload moment (s.peer, key_in m) (events rows)) purpose rows moment
+        s m b).notes
     after None b is e = tt
     after (Some front) b is e =
         unless (nat_lt max_body (length front + length m.payload))
@@ -251,38 +292,84 @@ registering-enters rows moment s m = by (sent_block m) refl
 
     by : (b : Option Block)
         → sent_block m ≡ b
-        → AllEnter P (registration_outcome b rows moment s m).notes
+        → AllEnter P (links_outcome b purpose rows moment s m).notes
     by None is =
-        registration-enters P (entries rows) moment s (registration_values (queries_in m)) m.payload
-        [] []
-        (λ links read. (
-          refl,
-          (
-            refl,
-            record {
-              last = ap more_follow is;
-              collected = [];
-              before = rw is refl;
-              read = read;
-            },
-          ),
-        )) tt
+        body_used-enters P purpose (entries rows) moment s m.payload [] []
+        (λ links read. good links (record {
+          last = ap more_follow is;
+          collected = [];
+          before = rw is refl;
+          read = read;
+        })) tt
     by (Some b) is =
         after (collected_before b (live_upload moment (s.peer, key_in m) (events rows))) b is refl
 
--- the method of a code that is none of POST
-method_but_post : (a b c d : Bool) (P : Method → Type 0)
-    → b ≡ false
-    → P get
-    → P put
-    → P delete
-    → P other_method
-    → P (cond a get (cond b post (cond c put (cond d delete other_method))))
-method_but_post true b c d P e g p x o = g
-method_but_post false true c d P e g p x o = absurd cc
-method_but_post false false true d P e g p x o = p
-method_but_post false false false true P e g p x o = x
-method_but_post false false false false P e g p x o = o
+-- a registration, whole or a block of one
+registering-enters : (rows : List Row) (moment : ℕ) (s : Step) (m : Message)
+    → AllEnter (OfRequest path.Rd rows moment s m) (registering rows moment s m).notes
+unfolding registering
+registering-enters rows moment s m =
+    links-enter (OfRequest path.Rd rows moment s m)
+    (to_register (registration_values (queries_in m))) rows moment s m
+    (λ links brings. (refl, (refl, brings)))
+
+-- the code of a method that a request has
+post_code : (m : Message) → method_of m.code ≡ post → m.code ≡ codes_of.post
+post_code m is = eqb-true m.code codes_of.post (by (m.code == codes_of.get)
+    (m.code == codes_of.post) (m.code == codes_of.put) (m.code == codes_of.delete) is)
+  where
+    by : (a b c d : Bool)
+        → cond a get (cond b post (cond c put (cond d delete other_method))) ≡ post
+        → b ≡ true
+    by true b c d e = absurd (let no : get ≡ post = e in cc)
+    by false true c d e = refl
+    by false false true d e = absurd (let no : put ≡ post = e in cc)
+    by false false false true e = absurd (let no : delete ≡ post = e in cc)
+    by false false false false e = absurd (let no : other_method ≡ post = e in cc)
+
+put_code : (m : Message) → method_of m.code ≡ put → m.code ≡ codes_of.put
+put_code m is = eqb-true m.code codes_of.put (by (m.code == codes_of.get)
+    (m.code == codes_of.post) (m.code == codes_of.put) (m.code == codes_of.delete) is)
+  where
+    by : (a b c d : Bool)
+        → cond a get (cond b post (cond c put (cond d delete other_method))) ≡ put
+        → c ≡ true
+    by true b c d e = absurd (let no : get ≡ put = e in cc)
+    by false true c d e = absurd (let no : post ≡ put = e in cc)
+    by false false true d e = refl
+    by false false false true e = absurd (let no : delete ≡ put = e in cc)
+    by false false false false e = absurd (let no : other_method ≡ put = e in cc)
+
+delete_code : (m : Message) → method_of m.code ≡ delete → m.code ≡ codes_of.delete
+delete_code m is = eqb-true m.code codes_of.delete (by (m.code == codes_of.get)
+    (m.code == codes_of.post) (m.code == codes_of.put) (m.code == codes_of.delete) is)
+  where
+    by : (a b c d : Bool)
+        → cond a get (cond b post (cond c put (cond d delete other_method))) ≡ delete
+        → d ≡ true
+    by true b c d e = absurd (let no : get ≡ delete = e in cc)
+    by false true c d e = absurd (let no : post ≡ delete = e in cc)
+    by false false true d e = absurd (let no : put ≡ delete = e in cc)
+    by false false false true e = refl
+    by false false false false e = absurd (let no : other_method ≡ delete = e in cc)
+
+-- a write on a registration, by its method
+location-enters : (w : Method) (rows : List Row) (moment : ℕ) (s : Step) (m : Message) (number : ℕ)
+    → method_of m.code ≡ w
+    → AllEnter (OfRequest (path.Location number) rows moment s m)
+    (location_outcome w rows moment s m number).notes
+unfolding replacing
+location-enters get rows moment s m number is = tt
+location-enters post rows moment s m number is =
+    change_made-enters (OfRequest (path.Location number) rows moment s m) (entries rows) _ _
+    (refl, (post_code m is, refl, refl)) tt
+location-enters put rows moment s m number is =
+    links-enter (OfRequest (path.Location number) rows moment s m) (to_replace number) rows moment s
+    m (λ links brings. (refl, (put_code m is, refl, brings)))
+location-enters delete rows moment s m number is =
+    change_made-enters (OfRequest (path.Location number) rows moment s m) (entries rows) _ _
+    (refl, (delete_code m is, refl)) tt
+location-enters other_method rows moment s m number is = tt
 
 -- a commit
 commit_enters : (rows : List Row) (moment place : ℕ) (s : Step) (m : Message)
@@ -302,41 +389,6 @@ commit_enters rows moment place s m = by (path_in m)
     simple false true = (tt, tt)
     simple false false = (tt, (tt, tt))
 
-    updated : (number : ℕ)
-        → (m.code == codes_of.post) ≡ true
-        → AllEnter (OfRequest (path.Location number) rows moment s m)
-        (settling place s m (updating rows moment s m number)).notes
-    updated number e =
-        settled (OfRequest (path.Location number) rows moment s m) (updating rows moment s m number)
-        (change_made-enters (OfRequest (path.Location number) rows moment s m) (entries rows) _ _
-        (refl, (eqb-true m.code codes_of.post e, refl, refl)) tt)
-
-    removed : (number : ℕ)
-        → (m.code == codes_of.post) ≡ false
-        → AllEnter (OfRequest (path.Location number) rows moment s m)
-        (settling place s m (removing rows moment s number)).notes
-    removed number e =
-        settled (OfRequest (path.Location number) rows moment s m) (removing rows moment s number)
-        (change_made-enters (OfRequest (path.Location number) rows moment s m) (entries rows) _ _
-        (refl, (e, refl)) tt)
-
-    location : (number : ℕ) (b : Bool)
-        → (m.code == codes_of.post) ≡ b
-        → AllEnter (OfRequest (path.Location number) rows moment s m)
-        (on_location (method_of m.code) rows moment place s m number).notes
-    location number true e =
-        subst (λ (w : Method).
-        AllEnter (OfRequest (path.Location number) rows moment s m)
-        (on_location w rows moment place s m number).notes)
-        (sym (ap method_of (eqb-true m.code codes_of.post e))) (updated number e)
-    location number false e =
-        method_but_post (m.code == codes_of.get) (m.code == codes_of.post) (m.code == codes_of.put)
-        (m.code == codes_of.delete)
-        (λ (w : Method).
-        AllEnter (OfRequest (path.Location number) rows moment s m)
-        (on_location w rows moment place s m number).notes) e
-        (removed number e) (removed number e) (removed number e) (removed number e)
-
     by : (p : Path)
         → AllEnter (OfRequest p rows moment s m) (write_done p rows moment place s m).notes
     by path.Core = tt
@@ -346,7 +398,10 @@ commit_enters rows moment place s m = by (path_in m)
     by path.Rd =
         settled (OfRequest path.Rd rows moment s m) (registering rows moment s m)
         (registering-enters rows moment s m)
-    by (path.Location number) = location number (m.code == codes_of.post) refl
+    by (path.Location number) =
+        settled (OfRequest (path.Location number) rows moment s m)
+        (location_outcome (method_of m.code) rows moment s m number)
+        (location-enters (method_of m.code) rows moment s m number refl)
     by path.Res = tt
     by path.Ep = tt
     by path.Other = tt
@@ -451,6 +506,8 @@ step_enters starved rows moment s ns it = by it
         none_enter P ns (ap entries_in is ∙ write_effects-entries_in (events rows) moment s m)
     by (noted.lookup m here read at is) =
         none_enter P ns (ap entries_in is ∙ lookup_effects-entries_in rows moment s m)
+    by (noted.source m here read at is) =
+        none_enter P ns (ap entries_in is ∙ read_effects-entries_in rows moment s m)
     by (noted.empty here all) = none_enter P ns (empty-entries_in ns all)
     by (noted.response m here read responds is) =
         subst (AllEnter P) (sym is) (response_enters rows moment s m P

@@ -58,6 +58,7 @@ use Rattle.journal_model.proofs.NoteKinds.{
 use Rattle.journal_model.proofs.StepNotes.{
   keep_effects-notes,
   lookup_effects-notes,
+  read_effects-notes,
   write_effects-notes,
   tick_effects-notes,
 }
@@ -109,6 +110,9 @@ commit_of_failure kind starved rows moment s place ns it h = by it
     by (noted.lookup m here read at is) =
         no (never_of of_lookup (λ p. refl) place ns
         (ap (are of_lookup) is ∙ lookup_effects-notes rows moment s m))
+    by (noted.source m here read at is) =
+        no (never_of of_lookup (λ p. refl) place ns
+        (ap (are of_lookup) is ∙ read_effects-notes rows moment s m))
     by (noted.empty here all) = no (never_of of_empty (λ p. refl) place ns all)
     by (noted.response m here read responds is) =
         no (never_of of_response (λ p. refl) place ns

@@ -23,12 +23,13 @@ use Rattle.journal_model.specs.BodyFormers.{reads_further_block, sends_again, re
 use Rattle.journal_model.specs.BodyFormers.{former_at, asker_at}
 use Rattle.journal_model.specs.CarriedBlocks.{seen, is_content, is_tagged, FormedAs}
 use Rattle.journal_model.specs.AskedListings.{
-  answers_lookup,
+  answers_with_links,
   asked_by_observer,
   observer_named,
   asked_at,
 }
 use Rattle.journal_model.proofs.entries.JournalLaws.{entries-IsPrefix-row}
+use Rattle.journal_model.specs.Sought.{listing_of}
 use Rattle.journal_model.proofs.sends.BodyAnswers.{wanted_by_observer, Bears, bears_carries}
 use Rattle.rd_base.proofs.lemmas.Among.{Among, all_among, among_all, find_only}
 use Rattle.journal_model.proofs.flights.NoticesAgain.{events_after_again, stood}
@@ -39,7 +40,7 @@ Carried here d =
     (m : Message)
     → reading d.1 ≡ Ok m
     → is_content m ≡ true
-    → (answers_lookup here.row.step.kind (reading here.row.step.datagram) || is_tagged m) ≡ true
+    → (answers_with_links here.row.step.kind (reading here.row.step.datagram) || is_tagged m) ≡ true
     → FormedAs here d.0 m
 
 -- ---- what the worker had seen
@@ -119,8 +120,9 @@ observer_formed here former o d m tick stands same bears formed = record {
       ∙ ap (λ found. option_map (λ (x : Observer). asked_by_observer x) found)
       (observer_named-Some here.before o stands));
   carries =
-      bears_carries (wanted_by_observer o) o.query (entries (former.row ∷ former.before))
-      former.row.moment.0 m bears;
+      bears_carries (wanted_by_observer o) (listing_of o.query)
+      (entries (former.row ∷ former.before)) former.row.moment.0
+      (listing o.query (entries (former.row ∷ former.before)) former.row.moment.0) m refl bears;
   holds_seen = former_holds_seen here.row.step.kind d.0 m.mid here former at_kind;
 }
   where

@@ -31,6 +31,7 @@ use Rattle.journal_model.specs.Ticks.{
 }
 use Rattle.journal_model.proofs.NoteKinds.{of_again, of_resent, are}
 use Rattle.journal_model.proofs.StepNotes.{notices_again-notes, requests_again-notes}
+use Rattle.journal_model.specs.Sought.{listing_of}
 use Rattle.journal_model.proofs.notes.LookupNotes.{IsAsking, NoteAsAsked, NotesAsAsked}
 use Rattle.journal_model.proofs.flights.NoticesAgain.{events_after_again}
 use Rattle.rd_base.proofs.lemmas.Each.{each_append}
@@ -84,7 +85,7 @@ notice_notes_as_asked rows moment s asking =
         (tag (entries rows) moment)
         ∷ []) [])
     kept_one o asks true =
-        (record { query = o.query; asks = asks.asks; body_is = refl; tag_is = refl }, tt)
+        (record { sought = listing_of o.query; seeks = asks.asks; found = refl; tag_is = refl }, tt)
     kept_one o asks false = tt
 
     unless : (b : Bool) (so_far : Effects) (o : Observer)

@@ -20,7 +20,7 @@ use Rattle.journal_model.specs.Machine.{IsJournal, begun, made}
 use Rattle.journal_model.specs.DeskJournal.{IsDeskJournal}
 use Rattle.journal_model.specs.BodyFormers.{former_of_body, is_formed_in_rows}
 use Rattle.journal_model.specs.AnswersAsFormed.{AnswersAsFormed, DeskAnswersAsFormed}
-use Rattle.journal_model.specs.CarriedBlocks.{FormedAs, is_content, Sent, is_listing}
+use Rattle.journal_model.specs.CarriedBlocks.{FormedAs, is_content, Sent, shows_links}
 use Rattle.journal_model.proofs.StepNotes.{requests_again-notes}
 use Rattle.journal_model.proofs.EntriesNoted.{entries_in}
 use Rattle.journal_model.proofs.sends.PlainSteps.{ArePlain}
@@ -48,6 +48,7 @@ use Rattle.headline_law.proofs.sends.StepOutcomes.{
   plain,
   look,
   lookup,
+  source,
   keep,
   heard_outcome,
   looked_outcome,
@@ -56,7 +57,7 @@ use Rattle.headline_law.proofs.sends.StepOutcomes.{
 }
 use Rattle.headline_law.proofs.rows.RowCarries.{NoteAsFormed, RowCarries, asks_as_noted, plain_row}
 use Rattle.headline_law.proofs.rows.RowCarries.{look_row, own_notes_as_formed}
-use Rattle.headline_law.proofs.rows.LookupRows.{lookup_row}
+use Rattle.headline_law.proofs.rows.LookupRows.{lookup_row, read_row}
 use Rattle.headline_law.proofs.rows.KeepRows.{KeepOf, keep_of, keep_row}
 use Rattle.journal_model.proofs.entries.JournalLaws.{entries-none_noted, journal-AreRows}
 use Rattle.journal_model.proofs.entries.JournalLaws.{desk-AreRows}
@@ -96,6 +97,9 @@ row_of_outcome keeps rows r e all known sent notes (look m heard_so read is) =
     ∙ ap (λ x. x.notes) is)
 row_of_outcome keeps rows r e all known sent notes (lookup m heard_so read lookups is) =
     lookup_row keeps rows r m all heard_so read lookups (sent ∙ ap (λ x. x.sent) is) (notes
+    ∙ ap (λ x. x.notes) is)
+row_of_outcome keeps rows r e all known sent notes (source m heard_so read reads is) =
+    read_row keeps rows r m all heard_so read reads (sent ∙ ap (λ x. x.sent) is) (notes
     ∙ ap (λ x. x.notes) is)
 row_of_outcome keeps rows r e all known sent notes (keep m body current read kind is) =
     keep_row keeps rows r m body current (known m body current read kind) kind read (sent
@@ -261,7 +265,8 @@ no_keeps (r ∷ before) =
 
 -- what is known of an answer
 carried_by : (keeps : Bool) (rows : List Row) → CarriesAll keeps rows → (sent : Sent rows)
-    → is_listing sent ≡ true → (keeps || is_formed_in_rows sent.here.row.step.kind sent.here) ≡ true
+    → shows_links sent ≡ true
+    → (keeps || is_formed_in_rows sent.here.row.step.kind sent.here) ≡ true
     → FormedAs sent.here sent.peer sent.message
 carried_by keeps rows all sent listed known =
     let parts = and_parts (is_content sent.message) _ listed in
@@ -273,7 +278,7 @@ carried_by keeps rows all sent listed known =
 pub answer_formed : (rows : List Row)
     → IsJournal rows
     → (sent : Sent rows)
-    → is_listing sent ≡ true
+    → shows_links sent ≡ true
     → FormedAs sent.here sent.peer sent.message
 answer_formed rows journal sent listed =
     carried_by true rows
@@ -282,7 +287,7 @@ answer_formed rows journal sent listed =
 
 -- so was each answer of a desk whose body was formed in a row
 pub desk_answer_formed : (rows : List Row) → IsDeskJournal rows → (sent : Sent rows)
-    → is_listing sent ≡ true → is_formed_in_rows sent.here.row.step.kind sent.here ≡ true
+    → shows_links sent ≡ true → is_formed_in_rows sent.here.row.step.kind sent.here ≡ true
     → FormedAs sent.here sent.peer sent.message
 desk_answer_formed rows journal sent listed formed =
     carried_by false rows
@@ -293,8 +298,8 @@ pub desk-DeskAnswersAsFormed : (rows : List Row) → IsDeskJournal rows → Desk
 desk-DeskAnswersAsFormed rows journal =
     record { carried = λ sent listed formed. desk_answer_formed rows journal sent listed formed }
 
--- each lookup answers the listing of the history at the row that formed it, and 2.03 is sent
--- exactly where a look names the tag
+-- each lookup answers the listing, and each read of a registration its source, of the history at
+-- the row that formed it, and 2.03 is sent exactly where a look names the tag
 pub answers_as_formed : (rows : List Row) → IsJournal rows → AnswersAsFormed rows
 answers_as_formed rows journal = record {
   carried = λ sent listed. answer_formed rows journal sent listed;

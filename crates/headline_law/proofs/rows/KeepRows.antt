@@ -1,9 +1,9 @@
 -- Rows of keeps: what they send and keep was formed by the look whose job they end.
 use Rattle.std.proofs.Common.{◌≡◌, ℕ, ◌≤◌, Bool, true, false, not, cond, List, [], ◌∷◌, length}
-use Rattle.std.proofs.Common.{Some, None, Ok, refl, sym, ap, subst, ◌∙◌}
-use Rattle.std.specs.Prelude.{is_none, option_map}
+use Rattle.std.proofs.Common.{Option, Some, None, Ok, refl, sym, ap, subst, ◌∙◌}
+use Rattle.std.specs.Prelude.{option_map}
 use Rattle.std.specs.List.{AllByRecursion}
-use Rattle.std.proofs.lemmas.Bool.{false≢true, and_parts}
+use Rattle.std.proofs.lemmas.Bool.{false≢true}
 use Rattle.rd_base.specs.declared.peers.Peer.{Peer}
 use Rattle.message_model.specs.declared.messages.Role.TheVariants as role
 use Rattle.message_model.specs.Message.{Message, role_of}
@@ -15,25 +15,19 @@ use Rattle.journal_model.specs.declared.steps.StepKind.{StepKind}
 use Rattle.journal_model.specs.declared.steps.StepKind.TheVariants as step
 use Rattle.journal_model.specs.declared.rows.Row.{Row}
 use Rattle.journal_model.specs.Journal.{entries}
-use Rattle.journal_model.specs.Requests.{
-  refusal_of_request,
-  query_of,
-  asked_block,
-  only_looks,
-  is_look_request,
-}
+use Rattle.journal_model.specs.Requests.{asked_block}
 use Rattle.journal_model.specs.Bodies.{is_long}
-use Rattle.message_model.specs.declared.requests.Path.{Path}
-use Rattle.message_model.specs.declared.requests.Path.TheVariants as path
-use Rattle.message_model.specs.Request.{path_in}
+use Rattle.history_model.specs.Sources.{source}
 use Rattle.history_model.specs.declared.entries.Entry.{Entry}
 use Rattle.event_model.specs.KeptAnswers.{Answer}
 use Rattle.std.proofs.lemmas.Option.{same_Some}
-use Rattle.journal_model.specs.Sought.{sought_at}
+use Rattle.journal_model.specs.Sought.{Sought, listing_of, source_of, own_links, sought_in}
+use Rattle.journal_model.specs.Sought as seeking
 use Rattle.journal_model.specs.Looks.{
   names_tag,
   unless_long,
   unless_valid,
+  found_or_not,
   look_for,
   look,
   body_held,
@@ -56,7 +50,6 @@ use Rattle.journal_model.specs.PlacedRows.{Placed}
 use Rattle.journal_model.specs.BodyFormers.{look_of, former_of_body, former_at, is_keep}
 use Rattle.journal_model.specs.BodyFormers.{is_formed_in_rows}
 use Rattle.journal_model.specs.AskedListings.{asked_at}
-use Rattle.journal_model.specs.CarriedBlocks.{Carries}
 use Rattle.journal_model.proofs.EntriesNoted.{entries_in}
 use Rattle.journal_model.proofs.StepNotes.{keep_effects-notes}
 use Rattle.journal_model.proofs.notes.SilentSteps.{looked_notes}
@@ -72,7 +65,7 @@ use Rattle.journal_model.proofs.sends.BodyAnswers.{
   bears_carries,
 }
 use Rattle.headline_law.proofs.sends.LookupSends.{IsAnswerOf, keep_bears}
-use Rattle.journal_model.proofs.notes.LookupNotes.{look_fits, IsAsking, KeptAt, OfWatched}
+use Rattle.journal_model.proofs.notes.LookupNotes.{IsAsking, KeptAt, OfWatched}
 use Rattle.headline_law.proofs.sends.ValidLaw.{LooksAt, a_look_reads, looked_a_look}
 use Rattle.headline_law.proofs.flights.CarriedListings.{Carried, former_holds_seen}
 use Rattle.headline_law.proofs.rows.RowCarries.{NoteAsFormed, RowCarries, asked_in-own}
@@ -80,51 +73,72 @@ use Rattle.rd_base.proofs.lemmas.Each.{each_weaker}
 
 -- ---- a row of a keep
 
--- what a look holds is the listing of its request, under its tag
-held_listing : (history : List Entry) (moment : ℕ) (m : Message) (found : Answer)
-    → body_held (look history moment m) ≡ Some found
-    → (found.body ≡ listing (query_of m) history moment) × (found.tag ≡ tag history moment)
-unfolding look
-held_listing history moment m found e = by (path_in m) e
-  where
-    now : Answer
-    now = record { body = listing (query_of m) history moment; tag = tag history moment }
+-- a body under a tag is what is found of what a request seeks, in a history at a moment
+record IsHeld (history : List Entry) (moment : ℕ) (m : Message) (a : Answer) : Type 0 where
+  sought : Sought
+  seeks : sought_in m ≡ Some sought
+  found : seeking.body sought history moment ≡ Some a.body
+  tag_is : a.tag ≡ tag history moment
 
-    none : None ≡ Some found
-        → (found.body ≡ listing (query_of m) history moment) × (found.tag ≡ tag history moment)
+-- so it is of what a look holds
+held_found : (history : List Entry) (moment : ℕ) (m : Message) (a : Answer)
+    → body_held (look history moment m) ≡ Some a
+    → IsHeld history moment m a
+unfolding look
+held_found history moment m a e = by (sought_in m) refl e
+  where
+    now : List ℕ → Answer
+    now whole = record { body = whole; tag = tag history moment }
+
+    none : None ≡ Some a → IsHeld history moment m a
     none h = absurd cc
 
-    long : (b : Bool)
-        → body_held (Some (unless_long b m now)) ≡ Some found
-        → (found.body ≡ listing (query_of m) history moment) × (found.tag ≡ tag history moment)
-    long true h =
-        let same : found ≡ now = sym (same_Some now found h) in
-        (ap (λ (a : Answer). a.body) same, ap (λ (a : Answer). a.tag) same)
-    long false h = none h
+    long : (sought : Sought) (whole : List ℕ) (b : Bool)
+        → sought_in m ≡ Some sought
+        → seeking.body sought history moment ≡ Some whole
+        → body_held (Some (unless_long b m (now whole))) ≡ Some a
+        → IsHeld history moment m a
+    long sought whole true seeks is h =
+        subst (IsHeld history moment m) (same_Some (now whole) a h)
+        (record { sought = sought; seeks = seeks; found = is; tag_is = refl })
+    long sought whole false seeks is h = none h
 
-    valid : (b : Bool)
-        → body_held (Some (unless_valid b m now)) ≡ Some found
-        → (found.body ≡ listing (query_of m) history moment) × (found.tag ≡ tag history moment)
-    valid true h = none h
-    valid false h = long (is_long (asked_block m) (listing (query_of m) history moment)) h
+    valid : (sought : Sought) (whole : List ℕ) (b : Bool)
+        → sought_in m ≡ Some sought
+        → seeking.body sought history moment ≡ Some whole
+        → body_held (Some (unless_valid b m (now whole))) ≡ Some a
+        → IsHeld history moment m a
+    valid sought whole true seeks is h = none h
+    valid sought whole false seeks is h =
+        long sought whole (is_long (asked_block m) whole) seeks is h
 
-    by : (p : Path)
-        → body_held (option_map (look_for history moment m) (sought_at p (query_of m))) ≡ Some found
-        → (found.body ≡ listing (query_of m) history moment) × (found.tag ≡ tag history moment)
-    by path.Core h = none h
-    by path.SimpleRd h = none h
-    by path.Rd h = none h
-    by (path.Location number) h = none h
-    by path.Res h = valid (names_tag (tag history moment) m) h
-    by path.Ep h = valid (names_tag (tag history moment) m) h
-    by path.Other h = none h
+    of_source : (number : ℕ) (o : Option (List ℕ))
+        → sought_in m ≡ Some (source_of number)
+        → source number history moment ≡ o
+        → body_held (Some (found_or_not (Some (tag history moment)) m o)) ≡ Some a
+        → IsHeld history moment m a
+    of_source number None seeks is h = none h
+    of_source number (Some whole) seeks is h =
+        valid (source_of number) whole (names_tag (tag history moment) m) seeks is h
+
+    by : (o : Option Sought)
+        → sought_in m ≡ o
+        → body_held (option_map (look_for history moment m) o) ≡ Some a
+        → IsHeld history moment m a
+    by None seeks h = none h
+    by (Some (listing_of query)) seeks h =
+        valid (listing_of query) (listing query history moment) (names_tag (tag history moment) m)
+        seeks refl h
+    by (Some (source_of number)) seeks h =
+        of_source number (source number history moment) seeks refl h
+    by (Some (own_links query)) seeks h = none h
 
 -- so it is of what a look at its datagram leaves
-left_listing : (starved : Bool) (history : List Entry) (moment : ℕ) (m : Message) (found : Answer)
-    → held_after starved history moment (Ok m) ≡ Some found
-    → (found.body ≡ listing (query_of m) history moment) × (found.tag ≡ tag history moment)
-left_listing true history moment m found e = absurd (let h : None ≡ Some found = e in cc)
-left_listing false history moment m found e = held_listing history moment m found e
+left_found : (starved : Bool) (history : List Entry) (moment : ℕ) (m : Message) (a : Answer)
+    → held_after starved history moment (Ok m) ≡ Some a
+    → IsHeld history moment m a
+left_found true history moment m a e = absurd (let h : None ≡ Some a = e in cc)
+left_found false history moment m a e = held_found history moment m a e
 
 -- two keeps of one body are equal in both parts
 same_keep : (body current others other : List ℕ)
@@ -140,11 +154,6 @@ same_keep body current others other e = (ap body_of e, ap tag_of e)
     tag_of (step.Keep b t) = t
     tag_of _ = []
 
--- a request that is looked at only looks
-look_only : (m : Message) → is_look_request m ≡ true → only_looks m ≡ true
-unfolding is_look_request
-look_only m h = (and_parts (is_none (refusal_of_request m)) (only_looks m) h).1
-
 -- the look whose job a keep ends
 pub record KeepOf (rows : List Row) (worker : ℕ) (m : Message) (body current : List ℕ) : Type 0
   where
@@ -152,7 +161,7 @@ pub record KeepOf (rows : List Row) (worker : ℕ) (m : Message) (body current :
     pub found : look_of worker rows ≡ Some look
     pub is_kept : KeptAt (entries (look.row ∷ look.before)) look.row.moment.0 (key_in m) body
         current
-    pub query_is : is_kept.query ≡ query_of m
+    pub sought_is : sought_in m ≡ Some is_kept.sought
     pub asks : role_of m.kind m.code ≡ role.Request
 
 -- a row of a look notes nothing, and its datagram is that of a look
@@ -202,14 +211,18 @@ keep_of rows s m body current journal may kind read = record {
   look = held.look;
   found = held.found;
   is_kept = record {
-    query = query_of m;
-    asks = record { request = m; fits = look_fits m only; key_is = refl; query_is = refl };
-    body_is =
-        parts.0
-        ∙ ap (λ history. listing (query_of m) history held.look.row.moment.0) (sym same_entries);
-    tag_is = parts.1 ∙ ap (λ history. tag history held.look.row.moment.0) (sym same_entries);
+    sought = its_body.sought;
+    seeks = record { request = m; key_is = refl; sought_is = its_body.seeks };
+    found =
+        subst (λ history.
+        seeking.body its_body.sought history held.look.row.moment.0 ≡ Some body)
+        (sym same_entries) (its_body.found ∙ ap Some (sym kept.0));
+    tag_is =
+        kept.1
+        ∙ its_body.tag_is
+        ∙ ap (λ history. tag history held.look.row.moment.0) (sym same_entries);
   };
-  query_is = refl;
+  sought_is = its_body.seeks;
   asks =
       subst (λ (x : Message). role_of x.kind x.code ≡ role.Request)
       (same_message looks_at.message m held.look.row.step.datagram looks_at.read_is same_read)
@@ -233,29 +246,21 @@ keep_of rows s m body current journal may kind read = record {
     same_entries : entries (held.look.row ∷ held.look.before) ≡ entries held.look.before
     same_entries = entries-none_noted held.look.before held.look.row (ap entries_in its.silent)
 
-    parts :
-        (body ≡ listing (query_of m) (entries held.look.before) held.look.row.moment.0)
-        × (current ≡ tag (entries held.look.before) held.look.row.moment.0)
-    parts =
-        let kept =
+    kept : (body ≡ held.keeps.found.body) × (current ≡ held.keeps.found.tag)
+    kept =
         same_keep body current held.keeps.found.body held.keeps.found.tag
-        (sym kind ∙ held.keeps.kind) in
-        let left =
-        left_listing held.look.row.starved (entries held.look.before) held.look.row.moment.0 m
+        (sym kind ∙ held.keeps.kind)
+
+    its_body :
+        IsHeld (entries held.look.before) held.look.row.moment.0 m held.keeps.found
+    its_body =
+        left_found held.look.row.starved (entries held.look.before) held.look.row.moment.0 m
         held.keeps.found
         (ap (held_after held.look.row.starved (entries held.look.before) held.look.row.moment.0)
-        (sym same_read) ∙ held.keeps.held) in
-        (kept.0 ∙ left.0, kept.1 ∙ left.1)
+        (sym same_read) ∙ held.keeps.held)
 
     looks_at : LooksAt (reading held.look.row.step.datagram)
     looks_at = a_look_reads (reading held.look.row.step.datagram) its.looks
-
-    only : only_looks m ≡ true
-    only =
-        let same : looks_at.message ≡ m =
-        same_message looks_at.message m held.look.row.step.datagram looks_at.read_is
-        same_read in
-        subst (λ x. only_looks x ≡ true) same (look_only looks_at.message looks_at.looks)
 
 -- any row of a keep
 -- of a journal in which it is known to end a look; of any other nothing is said of what it sends
@@ -303,23 +308,16 @@ keep_row true rows r m body current ends kind read sent notes = record {
     one d bears n e listed _ = record {
       former = it.look;
       formed = formed d.0 n.mid;
-      asked = asking (wanted_by m) (query_of m);
+      asked = asking (wanted_by m) it.is_kept.sought;
       asks =
           ap (λ k. asked_at k (d.0, n.token) here) kind
-          ∙ asked_in-own r.step.peer m (d.0, n.token) (reading r.step.datagram) read bears.0
-          (bears.1 n e listed).token_is;
+          ∙ asked_in-own r.step.peer m it.is_kept.sought (d.0, n.token) (reading r.step.datagram)
+          read it.sought_is bears.0 (bears.1 n e listed).token_is;
       holds_seen = former_holds_seen r.step.kind d.0 n.mid here it.look (formed d.0 n.mid);
       carries =
-          subst (λ q.
-          Carries n (asking (wanted_by m) q) (entries (it.look.row ∷ it.look.before))
-          it.look.row.moment.0) it.query_is
-          (bears_carries (wanted_by m) it.is_kept.query (entries (it.look.row ∷ it.look.before))
-          it.look.row.moment.0 n
-          (subst (λ t.
-          Bears (wanted_by m)
-          (listing it.is_kept.query (entries (it.look.row ∷ it.look.before))
-          it.look.row.moment.0) t n) it.is_kept.tag_is
-          (subst (λ b. Bears (wanted_by m) b current n) it.is_kept.body_is (bears.1 n e listed))));
+          bears_carries (wanted_by m) it.is_kept.sought (entries (it.look.row ∷ it.look.before))
+          it.look.row.moment.0 body n it.is_kept.found
+          (subst (λ t. Bears (wanted_by m) body t n) it.is_kept.tag_is (bears.1 n e listed));
     }
 keep_row false rows r m body current ends kind read sent notes = record {
   carried = λ known. absurd

@@ -1,6 +1,6 @@
--- Rows of lookups: what they send was formed as the headline says, also where it is read from a
--- kept answer.
-use Rattle.std.proofs.Common.{◌≡◌, ℕ, ◌≤◌, ◌||◌, Bool, true, false, not, cond, List, [], ◌∷◌}
+-- Rows of lookups and of reads of a registration: what they send was formed as the headline says,
+-- also where it is read from a kept answer.
+use Rattle.std.proofs.Common.{◌≡◌, ℕ, ◌||◌, Bool, true, false, not, cond, List, [], ◌∷◌}
 use Rattle.std.proofs.Common.{length, Option, Some, None, option_and_then, Ok, refl, sym, ap, subst}
 use Rattle.std.proofs.Common.{◌∙◌}
 use Rattle.std.specs.Prelude.{is_some}
@@ -12,7 +12,6 @@ use Rattle.message_model.specs.Message.{Message}
 use Rattle.message_model.specs.Reading.{reading}
 use Rattle.message_model.specs.Request.{path_in}
 use Rattle.message_model.specs.RequestKey.{key_in}
-use Rattle.history_model.specs.Listing.{listing}
 use Rattle.event_model.specs.declared.notes.Note.{Note}
 use Rattle.event_model.specs.declared.notes.Note.TheVariants as note
 use Rattle.event_model.specs.Same.{RequestName, is_same_request}
@@ -23,16 +22,19 @@ use Rattle.journal_model.specs.declared.steps.StepKind.{StepKind}
 use Rattle.journal_model.specs.declared.steps.StepKind.TheVariants as step
 use Rattle.journal_model.specs.declared.rows.Row.{Row}
 use Rattle.journal_model.specs.Journal.{is_heard, events, entries}
-use Rattle.journal_model.specs.Requests.{query_of, is_lookup, is_later_block}
-use Rattle.journal_model.specs.Lookups.{lookup_effects}
+use Rattle.journal_model.specs.Effects.{Effects}
+use Rattle.journal_model.specs.Requests.{is_lookup, is_later_block, reads_registration}
+use Rattle.journal_model.specs.Lookups.{lookup_effects, read_effects}
 use Rattle.journal_model.specs.PlacedRows.{Placed}
 use Rattle.journal_model.specs.BodyFormers.{former_of_body, former_of_kept, reads_answer}
 use Rattle.journal_model.specs.BodyFormers.{reads_further_block, former_of_further, former_at}
 use Rattle.journal_model.specs.BodyFormers.{last_kept, is_keep, is_of_keep, reads_body_of_keep}
 use Rattle.journal_model.specs.BodyFormers.{is_formed_in_rows}
-use Rattle.journal_model.specs.CarriedBlocks.{Carries}
 use Rattle.journal_model.proofs.EntriesNoted.{entries_in}
-use Rattle.journal_model.proofs.entries.QuietSteps.{lookup_effects-entries_in}
+use Rattle.journal_model.proofs.entries.QuietSteps.{
+  lookup_effects-entries_in,
+  read_effects-entries_in,
+}
 use Rattle.message_model.proofs.ReadingLaws.{header_read}
 use Rattle.journal_model.proofs.sends.BodyAnswers.{
   wanted_by,
@@ -41,20 +43,21 @@ use Rattle.journal_model.proofs.sends.BodyAnswers.{
   tag-length,
   bears_carries,
 }
-use Rattle.headline_law.proofs.sends.LookupSends.{IsAnswerOf, AreListings, AreBodiesOf, reads_kept}
+use Rattle.headline_law.proofs.sends.LookupSends.{IsAnswerOf, AreFound, AreBodiesOf, reads_kept}
 use Rattle.headline_law.proofs.sends.LookupSends.{LookupOutcome, now, kept, lookup_outcome}
+use Rattle.headline_law.proofs.sends.LookupSends.{read_outcome}
 use Rattle.journal_model.proofs.EventRows.{AllRows, row_of, row_within, said_by}
 use Rattle.journal_model.proofs.notes.LookupNotes.{
-  asks_once,
-  lookup_fits,
+  seeks_once,
   KeptAt,
   NotesAsAsked,
   lookup_notes_as_asked,
+  read_notes_as_asked,
 }
 use Rattle.headline_law.proofs.flights.CarriedListings.{Carried, former_holds_seen}
 use Rattle.headline_law.proofs.rows.RowCarries.{KeptAsFormed, NoteAsFormed, RowCarries}
 use Rattle.headline_law.proofs.rows.RowCarries.{asks_as_noted, heard_former, heard_asked}
-use Rattle.headline_law.proofs.rows.RowCarries.{asked_in-own, lookup_no_discovery}
+use Rattle.headline_law.proofs.rows.RowCarries.{asked_in-own}
 use Rattle.headline_law.proofs.rows.RowCarries.{heard_forms_itself, now_carried}
 use Rattle.headline_law.proofs.rows.RowCarries.{own_notes_as_formed}
 use Rattle.rd_base.proofs.lemmas.Among.{all_among}
@@ -133,24 +136,19 @@ kept_from keeps rows moment name answer all known e =
       is_kept = by.is_kept;
     }
 
--- ---- a row of a lookup
+-- ---- a row of a lookup, or of a read of a registration
 
 -- one that reads a kept answer
 used_carried : (rows : List Row) (r : Row) (m : Message) (answer : Answer) → is_later_block m ≡ true
-    → is_heard r.step.kind ≡ true → reading r.step.datagram ≡ Ok m → is_lookup (path_in m) ≡ true
+    → is_heard r.step.kind ≡ true → reading r.step.datagram ≡ Ok m
     → r.notes ≡ note.Used r.step.peer (key_in m) ∷ []
     → KeptFrom rows (r.step.peer, key_in m) answer
     → AreBodiesOf r.step.peer (wanted_by m) answer.body answer.tag r.sent
     → AllByRecursion (Carried (record { row = r; before = rows })) r.sent
-used_carried rows r m answer further heard read lookup notes from all =
+used_carried rows r m answer further heard read notes from all =
     each_weaker (IsAnswerOf r.step.peer (wanted_by m) answer.body answer.tag)
     (Carried (record { row = r; before = rows })) one r.sent all
   where
-    same_query : from.is_kept.query ≡ query_of m
-    same_query =
-        asks_once (key_in m) from.is_kept.query m from.is_kept.asks (lookup_fits (path_in m) lookup)
-        refl
-
     here : Placed
     here = record { row = r; before = rows }
 
@@ -172,36 +170,32 @@ used_carried rows r m answer further heard read lookup notes from all =
     one d body n e listed _ = record {
       former = from.former;
       formed = formed d.0 n.mid;
-      asked = asking (wanted_by m) (query_of m);
+      asked = asking (wanted_by m) from.is_kept.sought;
       asks =
           heard_asked r.step.kind (d.0, n.token) (record { row = r; before = rows }) heard
-          ∙ asked_in-own r.step.peer m (d.0, n.token) (reading r.step.datagram) read body.0
+          ∙ asked_in-own r.step.peer m from.is_kept.sought (d.0, n.token)
+          (reading r.step.datagram) read
+          (seeks_once (key_in m) from.is_kept.sought m from.is_kept.seeks refl) body.0
           (body.1 n e listed).token_is;
       holds_seen = former_holds_seen r.step.kind d.0 n.mid here from.former (formed d.0 n.mid);
       carries =
-          subst (λ q.
-          Carries n (asking (wanted_by m) q)
-          (entries (from.former.row ∷ from.former.before)) from.former.row.moment.0)
-          same_query
-          (bears_carries (wanted_by m) from.is_kept.query
-          (entries (from.former.row ∷ from.former.before)) from.former.row.moment.0 n
-          (subst (λ t.
-          Bears (wanted_by m)
-          (listing from.is_kept.query (entries (from.former.row ∷ from.former.before))
-          from.former.row.moment.0) t n) from.is_kept.tag_is
-          (subst (λ b. Bears (wanted_by m) b answer.tag n) from.is_kept.body_is
-          (body.1 n e listed))));
+          bears_carries (wanted_by m) from.is_kept.sought
+          (entries (from.former.row ∷ from.former.before)) from.former.row.moment.0 answer.body n
+          from.is_kept.found
+          (subst (λ t. Bears (wanted_by m) answer.body t n) from.is_kept.tag_is
+          (body.1 n e listed));
     }
 
--- any row of a lookup
-pub lookup_row : (keeps : Bool) (rows : List Row) (r : Row) (m : Message)
+-- any row with what a lookup or a read sends and notes
+row_of_lookup : (keeps : Bool) (rows : List Row) (r : Row) (m : Message) (e : Effects)
     → AllRows (RowCarries keeps) rows → is_heard r.step.kind ≡ true → reading r.step.datagram ≡ Ok m
-    → is_lookup (path_in m) ≡ true
-    → r.sent ≡ (lookup_effects rows r.moment.0 r.step m).sent
-    → r.notes ≡ (lookup_effects rows r.moment.0 r.step m).notes → RowCarries keeps rows r
-lookup_row keeps rows r m all heard read lookup sent notes = record {
-  carried = λ known. by known
-      (lookup_outcome rows r.moment.0 r.step m small (lookup_no_discovery (path_in m) lookup));
+    → r.sent ≡ e.sent → r.notes ≡ e.notes
+    → entries_in e.notes ≡ []
+    → NotesAsAsked rows r.moment.0 e.notes
+    → LookupOutcome rows r.moment.0 r.step m e
+    → RowCarries keeps rows r
+row_of_lookup keeps rows r m e all heard read sent notes silent as_asked outcome = record {
+  carried = λ known. by known outcome;
   noted = λ _. own;
   asking = asks_as_noted here r.notes own;
 }
@@ -209,19 +203,13 @@ lookup_row keeps rows r m all heard read lookup sent notes = record {
     here : Placed
     here = record { row = r; before = rows }
 
-    small : length m.token ≤ 8
-    small = (header_read r.step.datagram m read).token
-
     same_entries : entries (r ∷ rows) ≡ entries rows
-    same_entries =
-        entries-none_noted rows r
-        (ap entries_in notes ∙ lookup_effects-entries_in rows r.moment.0 r.step m)
+    same_entries = entries-none_noted rows r (ap entries_in notes ∙ silent)
 
     own : AllByRecursion (NoteAsFormed here) r.notes
     own = own_notes_as_formed rows r
         (heard_forms_itself r.step.kind (record { row = r; before = rows }) heard) same_entries
-        r.notes (subst (NotesAsAsked rows r.moment.0) (sym notes)
-        (lookup_notes_as_asked rows r.moment.0 r.step m lookup small))
+        r.notes (subst (NotesAsAsked rows r.moment.0) (sym notes) as_asked)
 
     reads_of : reads_further_block (Ok m) here ≡ true
         → reads_body_of_keep (reading r.step.datagram) here ≡ is_of_keep
@@ -239,12 +227,12 @@ lookup_row keeps rows r m all heard read lookup sent notes = record {
     known_by step.Tick h known reads = absurd (false≢true h)
 
     by : (keeps || is_formed_in_rows r.step.kind here) ≡ true
-        → LookupOutcome rows r.moment.0 r.step m (lookup_effects rows r.moment.0 r.step m)
+        → LookupOutcome rows r.moment.0 r.step m e
         → AllByRecursion (Carried (record { row = r; before = rows })) r.sent
-    by known (now none listed) =
+    by known (now none it) =
         now_carried rows r m heard read same_entries (ap (list_any reads_kept) notes
-        ∙ none) (subst (AreListings r.step.peer m (entries rows) r.moment.0) (sym sent) listed)
-    by known (kept answer further found used bodies) =
+        ∙ none) (subst (AreFound r.step.peer m (entries rows) r.moment.0) (sym sent) it)
+    by known (kept answer further live used bodies) =
         let reads : reads_further_block (Ok m) here ≡ true =
         rw (
           further,
@@ -252,9 +240,34 @@ lookup_row keeps rows r m all heard read lookup sent notes = record {
           is_same_request-refl (r.step.peer, key_in m),
         ) refl in
         let from = kept_from keeps rows r.moment.0 (r.step.peer, key_in m) answer all
-        (known_by r.step.kind heard known reads) found in
-        used_carried rows r m answer further heard read lookup (notes ∙ used) from
+        (known_by r.step.kind heard known reads) live in
+        used_carried rows r m answer further heard read (notes ∙ used) from
         (subst (AreBodiesOf r.step.peer (wanted_by m) answer.body answer.tag) (sym sent)
         (bodies (ap length from.is_kept.tag_is
         ∙ tag-length (entries (from.former.row ∷ from.former.before))
         from.former.row.moment.0)))
+
+-- any row of a lookup
+pub lookup_row : (keeps : Bool) (rows : List Row) (r : Row) (m : Message)
+    → AllRows (RowCarries keeps) rows → is_heard r.step.kind ≡ true → reading r.step.datagram ≡ Ok m
+    → is_lookup (path_in m) ≡ true
+    → r.sent ≡ (lookup_effects rows r.moment.0 r.step m).sent
+    → r.notes ≡ (lookup_effects rows r.moment.0 r.step m).notes → RowCarries keeps rows r
+lookup_row keeps rows r m all heard read lookup sent notes =
+    let small = (header_read r.step.datagram m read).token in
+    row_of_lookup keeps rows r m (lookup_effects rows r.moment.0 r.step m) all heard read sent notes
+    (lookup_effects-entries_in rows r.moment.0 r.step m)
+    (lookup_notes_as_asked rows r.moment.0 r.step m lookup small)
+    (lookup_outcome rows r.moment.0 r.step m small lookup)
+
+-- any row of a read of a registration
+pub read_row : (keeps : Bool) (rows : List Row) (r : Row) (m : Message)
+    → AllRows (RowCarries keeps) rows → is_heard r.step.kind ≡ true → reading r.step.datagram ≡ Ok m
+    → reads_registration m ≡ true
+    → r.sent ≡ (read_effects rows r.moment.0 r.step m).sent
+    → r.notes ≡ (read_effects rows r.moment.0 r.step m).notes → RowCarries keeps rows r
+read_row keeps rows r m all heard read reads sent notes =
+    row_of_lookup keeps rows r m (read_effects rows r.moment.0 r.step m) all heard read sent notes
+    (read_effects-entries_in rows r.moment.0 r.step m)
+    (read_notes_as_asked rows r.moment.0 r.step m)
+    (read_outcome rows r.moment.0 r.step m (header_read r.step.datagram m read).token reads)

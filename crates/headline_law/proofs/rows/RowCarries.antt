@@ -1,17 +1,15 @@
 -- A row that is no tick: what it sends was formed as the headline says, and so was what it keeps.
 use Rattle.std.proofs.Common.{◌≡◌, ℕ, ◌≤◌, ◌&&◌, ◌||◌, Bool, true, false, not, cond, List, [], ◌∷◌}
-use Rattle.std.proofs.Common.{length, Some, Result, Ok, Err, refl, sym, ap, ap₂, subst, ◌∙◌}
+use Rattle.std.proofs.Common.{length, option_map, Some, Result, Ok, Err, refl, sym, ap, ap₂}
+use Rattle.std.proofs.Common.{subst, ◌∙◌}
 use Rattle.std.specs.List.{list_any, AllByRecursion}
 use Rattle.std.proofs.lemmas.Bool.{false≢true}
 use Rattle.rd_base.specs.declared.peers.Peer.{Peer}
 use Rattle.message_model.specs.declared.messages.Unread.{Unread}
-use Rattle.message_model.specs.declared.requests.Path.{Path}
-use Rattle.message_model.specs.declared.requests.Path.TheVariants as path
 use Rattle.message_model.specs.Message.{Message, longest_token}
-use Rattle.message_model.specs.Request.{path_in}
 use Rattle.message_model.specs.RequestKey.{key_in}
 use Rattle.message_model.specs.Reading.{reading}
-use Rattle.history_model.specs.Listing.{listing, tag}
+use Rattle.history_model.specs.Listing.{tag}
 use Rattle.event_model.specs.declared.notes.Note.{Note}
 use Rattle.event_model.specs.declared.notes.Note.TheVariants as note
 use Rattle.event_model.specs.Same.{RequestName}
@@ -20,13 +18,16 @@ use Rattle.journal_model.specs.declared.steps.StepKind.{StepKind}
 use Rattle.journal_model.specs.declared.steps.StepKind.TheVariants as step
 use Rattle.journal_model.specs.declared.rows.Row.{Row}
 use Rattle.journal_model.specs.Journal.{is_heard, entries}
-use Rattle.journal_model.specs.Requests.{query_of, is_lookup, is_discovery, is_later_block}
+use Rattle.journal_model.specs.Requests.{is_later_block}
+use Rattle.journal_model.specs.Sought.{Sought, sought_in, has_tag}
+use Rattle.journal_model.specs.Sought as seeking
 use Rattle.journal_model.specs.Looks.{look_effects}
 use Rattle.journal_model.specs.PlacedRows.{Placed}
 use Rattle.journal_model.specs.BodyFormers.{former_of_body, reads_answer, reads_further_block}
 use Rattle.journal_model.specs.BodyFormers.{former_of_further, former_at, is_keep}
 use Rattle.journal_model.specs.BodyFormers.{is_formed_in_rows}
-use Rattle.journal_model.specs.AskedListings.{asked_in, asked_at, names_lookup, answers_lookup}
+use Rattle.journal_model.specs.AskedListings.{asked_of, asked_in, asked_at, seeks_links}
+use Rattle.journal_model.specs.AskedListings.{answers_with_links}
 use Rattle.journal_model.proofs.EntriesNoted.{entries_in}
 use Rattle.journal_model.proofs.StepNotes.{look_effects-notes}
 use Rattle.message_model.proofs.ReadingLaws.{header_read}
@@ -35,12 +36,14 @@ use Rattle.journal_model.proofs.sends.BodyAnswers.{
   asking,
   Bears,
   IsUntagged,
+  HasNone,
   other_code,
   bears_carries,
 }
 use Rattle.journal_model.proofs.sends.PlainSteps.{ArePlain, IsPlain}
-use Rattle.headline_law.proofs.sends.LookupSends.{IsAnswerOf, AreListings, look_lists}
-use Rattle.headline_law.proofs.sends.LookupSends.{look_discovers, reads_kept}
+use Rattle.headline_law.proofs.sends.LookupSends.{IsAnswerOf, AreFound, of_body, of_none}
+use Rattle.headline_law.proofs.sends.LookupSends.{LookOutcome, found, discovered, look_outcome}
+use Rattle.headline_law.proofs.sends.LookupSends.{reads_kept}
 use Rattle.journal_model.proofs.notes.LookupNotes.{IsAsking, KeptAt, NoteAsAsked, NotesAsAsked}
 use Rattle.journal_model.proofs.notes.LookupNotes.{OfWatched}
 use Rattle.headline_law.proofs.flights.CarriedListings.{Carried, former_holds_seen}
@@ -48,13 +51,13 @@ use Rattle.headline_law.proofs.sends.StepOutcomes.{is_keeping}
 use Rattle.journal_model.proofs.entries.JournalLaws.{entries-none_noted}
 use Rattle.rd_base.proofs.lemmas.Each.{each_weaker, each_failing, none_pass}
 
--- an answer that is kept at a row: the listing of the query of its key, at the row that formed it
+-- an answer that is kept at a row: what is found of what its key seeks, at the row that formed it
 pub record KeptAsFormed (here : Placed) (key body current : List ℕ) : Type 0 where
   pub former : Placed
   pub formed : former_of_body here.row.step.kind here ≡ Some former
   pub is_kept : KeptAt (entries (former.row ∷ former.before)) former.row.moment.0 key body current
 
--- a note of a row is as it was formed: what is kept is the listing at the row that formed it, and
+-- a note of a row is as it was formed: what is kept is what is found at the row that formed it, and
 -- an observer asks for its query
 abbrev pub NoteAsFormed : Placed → Note → Type 0
 NoteAsFormed here (note.Kept peer key body current) = KeptAsFormed here key body current
@@ -130,16 +133,18 @@ heard_asked (step.Keep body current) name here h = absurd (false≢true h)
 heard_asked step.Tick name here h = absurd (false≢true h)
 
 -- where the answer has its peer and its token
-pub asked_in-own : (peer : Peer) (m : Message) (name : RequestName) (read : Result Message Unread)
+pub asked_in-own : (peer : Peer) (m : Message) (sought : Sought) (name : RequestName)
+    (read : Result Message Unread)
     → read ≡ Ok m
+    → sought_in m ≡ Some sought
     → name.0 ≡ peer
     → name.1 ≡ m.token
-    → asked_in name peer read ≡ Some (asking (wanted_by m) (query_of m))
-asked_in-own peer m name read is same_peer same_token =
+    → asked_in name peer read ≡ Some (asking (wanted_by m) sought)
+asked_in-own peer m sought name read is seeks same_peer same_token =
     ap (asked_in name peer) is
-    ∙ subst (λ (x : RequestName). asked_in x peer (Ok m) ≡ Some (asking (wanted_by m) (query_of m)))
+    ∙ subst (λ (x : RequestName). asked_in x peer (Ok m) ≡ Some (asking (wanted_by m) sought))
     (ap₂ (λ p t. (p, t)) (sym same_peer) (sym same_token))
-    (rw (is_same_request-refl (peer, m.token)) refl)
+    (rw (is_same_request-refl (peer, m.token)) (ap (option_map (asked_of m)) seeks))
 
 -- and what such a row keeps, it formed itself
 pub heard_forms_itself : (k : StepKind) (here : Placed)
@@ -176,34 +181,35 @@ formed_now here k peer mid hears none =
     heard_former k peer mid here hears
     ∙ rw (reads_none here (reading here.row.step.datagram) none) refl
 
--- the listing now
+-- what is found now
 pub now_carried : (rows : List Row) (r : Row) (m : Message) → is_heard r.step.kind ≡ true
     → reading r.step.datagram ≡ Ok m → entries (r ∷ rows) ≡ entries rows
     → list_any reads_kept r.notes ≡ false
-    → AreListings r.step.peer m (entries rows) r.moment.0 r.sent
+    → AreFound r.step.peer m (entries rows) r.moment.0 r.sent
     → AllByRecursion (Carried (record { row = r; before = rows })) r.sent
-now_carried rows r m hears read same_entries none all =
-    each_weaker
-    (IsAnswerOf r.step.peer (wanted_by m) (listing (query_of m) (entries rows) r.moment.0)
-    (tag (entries rows) r.moment.0)) (Carried (record { row = r; before = rows })) one
-    r.sent all
+now_carried rows r m hears read same_entries none (of_none all) =
+    each_weaker (λ (d : Peer × List ℕ). HasNone d.1) (Carried (record { row = r; before = rows }))
+    (λ d no n e content _. absurd (false≢true (sym (no n e) ∙ content))) r.sent all
+now_carried rows r m hears read same_entries none (of_body sought whole seeks is all) =
+    each_weaker (IsAnswerOf r.step.peer (wanted_by m) whole (tag (entries rows) r.moment.0))
+    (Carried (record { row = r; before = rows })) one r.sent all
   where
     one : (d : Peer × List ℕ)
-        → IsAnswerOf r.step.peer (wanted_by m) (listing (query_of m) (entries rows) r.moment.0)
-        (tag (entries rows) r.moment.0) d
+        → IsAnswerOf r.step.peer (wanted_by m) whole (tag (entries rows) r.moment.0) d
         → Carried (record { row = r; before = rows }) d
     one d body n e listed _ = record {
       former = record { row = r; before = rows };
       formed = formed_now (record { row = r; before = rows }) r.step.kind d.0 n.mid hears none;
-      asked = asking (wanted_by m) (query_of m);
+      asked = asking (wanted_by m) sought;
       asks =
           heard_asked r.step.kind (d.0, n.token) (record { row = r; before = rows }) hears
-          ∙ asked_in-own r.step.peer m (d.0, n.token) (reading r.step.datagram) read body.0
-          (body.1 n e listed).token_is;
-      carries = bears_carries (wanted_by m) (query_of m) (entries (r ∷ rows)) r.moment.0 n
-          (subst (λ history.
-          Bears (wanted_by m) (listing (query_of m) history r.moment.0)
-          (tag history r.moment.0) n) (sym same_entries) (body.1 n e listed));
+          ∙ asked_in-own r.step.peer m sought (d.0, n.token) (reading r.step.datagram) read seeks
+          body.0 (body.1 n e listed).token_is;
+      carries = bears_carries (wanted_by m) sought (entries (r ∷ rows)) r.moment.0 whole n
+          (subst (λ history. seeking.body sought history r.moment.0 ≡ Some whole) (sym same_entries)
+          is)
+          (subst (λ history. Bears (wanted_by m) whole (tag history r.moment.0) n)
+          (sym same_entries) (body.1 n e listed));
       holds_seen = former_holds_seen r.step.kind d.0 n.mid (record { row = r; before = rows })
           (record { row = r; before = rows })
           (formed_now (record { row = r; before = rows }) r.step.kind d.0 n.mid hears none);
@@ -232,31 +238,13 @@ own_notes_as_formed rows r formed same_entries (n ∷ notes) h =
     by (note.Watched o) k = k
     by _ k = tt
 
--- a discovery is no lookup
-discovery_no_lookup : (p : Path) → is_discovery p ≡ true → is_lookup p ≡ false
-discovery_no_lookup path.Core h = refl
-discovery_no_lookup path.Res h = absurd (false≢true h)
-discovery_no_lookup path.Ep h = absurd (false≢true h)
-discovery_no_lookup path.SimpleRd h = refl
-discovery_no_lookup path.Rd h = refl
-discovery_no_lookup (path.Location number) h = refl
-discovery_no_lookup path.Other h = refl
-
--- and a lookup is no discovery
-pub lookup_no_discovery : (p : Path) → is_lookup p ≡ true → is_discovery p ≡ false
-lookup_no_discovery p h = by (is_discovery p) refl
-  where
-    by : (b : Bool) → is_discovery p ≡ b → b ≡ false
-    by true e = absurd (false≢true (sym (discovery_no_lookup p e) ∙ h))
-    by false e = refl
-
 -- a row of a look
 pub look_row : (keeps : Bool) (rows : List Row) (r : Row) (m : Message)
     → is_heard r.step.kind ≡ true → reading r.step.datagram ≡ Ok m
     → r.sent ≡ (look_effects (entries rows) r.moment.0 r.step m).sent
     → r.notes ≡ (look_effects (entries rows) r.moment.0 r.step m).notes → RowCarries keeps rows r
 look_row keeps rows r m hears read sent notes = record {
-  carried = λ _. by (is_discovery (path_in m)) refl;
+  carried = λ _. by (look_outcome (entries rows) r.moment.0 r.step m small);
   noted = λ _. subst (AllByRecursion (NoteAsFormed (record { row = r; before = rows })))
       (sym none) tt;
   asking = subst (AllByRecursion (OfWatched IsAsking)) (sym none) tt;
@@ -268,33 +256,29 @@ look_row keeps rows r m hears read sent notes = record {
     small : length m.token ≤ longest_token
     small = (header_read r.step.datagram m read).token
 
-    -- a discovery is no lookup
-    no_lookup : (k : StepKind)
+    -- a discovery seeks neither a listing nor a source
+    no_links : (k : StepKind)
         → is_heard k ≡ true
-        → is_discovery (path_in m) ≡ true
-        → answers_lookup k (reading r.step.datagram) ≡ false
-    no_lookup step.Admit h discovers =
-        ap names_lookup read ∙ discovery_no_lookup (path_in m) discovers
-    no_lookup step.Look h discovers =
-        ap names_lookup read ∙ discovery_no_lookup (path_in m) discovers
-    no_lookup (step.Commit place) h discovers = absurd (false≢true h)
-    no_lookup (step.Keep body current) h discovers = absurd (false≢true h)
-    no_lookup step.Tick h discovers = absurd (false≢true h)
+        → has_tag (sought_in m) ≡ false
+        → answers_with_links k (reading r.step.datagram) ≡ false
+    no_links step.Admit h without = ap seeks_links read ∙ without
+    no_links step.Look h without = ap seeks_links read ∙ without
+    no_links (step.Commit place) h without = absurd (false≢true h)
+    no_links (step.Keep body current) h without = absurd (false≢true h)
+    no_links step.Tick h without = absurd (false≢true h)
 
-    by : (b : Bool)
-        → is_discovery (path_in m) ≡ b
+    by : LookOutcome r.step.peer m (entries rows) r.moment.0
+        (look_effects (entries rows) r.moment.0 r.step m).sent
         → AllByRecursion (Carried (record { row = r; before = rows })) r.sent
-    by true discovers =
+    by (discovered without all) =
         each_weaker (λ (d : Peer × List ℕ). IsUntagged d.1)
         (Carried (record { row = r; before = rows }))
-        (λ d none n e content listed.
+        (λ d untagged n e content listed.
         absurd
-        (false≢true (sym (rw (no_lookup r.step.kind hears discovers, none n e content) refl)
+        (false≢true (sym (rw (no_links r.step.kind hears without, untagged n e content) refl)
         ∙ listed))) r.sent
-        (subst (AllByRecursion (λ (d : Peer × List ℕ). IsUntagged d.1)) (sym sent)
-        (look_discovers (entries rows) r.moment.0 r.step m small discovers))
-    by false lists =
+        (subst (AllByRecursion (λ (d : Peer × List ℕ). IsUntagged d.1)) (sym sent) all)
+    by (found it) =
         now_carried rows r m hears read (entries-none_noted rows r (ap entries_in none))
         (ap (list_any reads_kept) none)
-        (subst (AreListings r.step.peer m (entries rows) r.moment.0) (sym sent)
-        (look_lists (entries rows) r.moment.0 r.step m small lists))
+        (subst (AreFound r.step.peer m (entries rows) r.moment.0) (sym sent) it)

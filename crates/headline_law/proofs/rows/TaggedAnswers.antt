@@ -1,4 +1,5 @@
--- Equal tags that are read in two answers to equal queries mean blocks of one listing.
+-- Equal tags that are read in two answers of one thing sought mean blocks of one listing, or of one
+-- source.
 use Rattle.std.proofs.Common.{◌≡◌, ℕ, Bool, true, false, cond, List, [], ◌∷◌, ◌++◌, Option, Some}
 use Rattle.std.proofs.Common.{None, option_map, option_and_then, Result, Ok, Err, refl, sym, ap}
 use Rattle.std.proofs.Common.{subst, ◌∙◌, append_assoc}
@@ -6,14 +7,15 @@ use Rattle.std.specs.Prelude.{is_some}
 use Rattle.std.specs.List.{list_any}
 use Rattle.std.proofs.lemmas.Option.{same_Some}
 use Rattle.rd_base.specs.declared.peers.Peer.{Peer}
-use Rattle.rd_base.specs.declared.queries.Query.{Query}
 use Rattle.message_model.specs.declared.messages.Unread.{Unread}
 use Rattle.message_model.specs.Message.{Message}
 use Rattle.message_model.specs.Reading.{reading}
 use Rattle.message_model.specs.Request.{etags_in}
 use Rattle.message_model.specs.RequestKey.{key_in}
-use Rattle.history_model.specs.Listing.{listing, tag}
-use Rattle.history_model.proofs.TagLaws.{listing-live}
+use Rattle.history_model.specs.declared.entries.Entry.{Entry}
+use Rattle.history_model.specs.Listing.{tag}
+use Rattle.history_model.specs.Live.{live}
+use Rattle.history_model.proofs.TagLaws.{listing-live, source-live}
 use Rattle.event_model.specs.Same.{RequestName}
 use Rattle.event_model.specs.KeptAnswers.{answer_kept}
 use Rattle.journal_model.specs.declared.steps.StepKind.{StepKind}
@@ -28,7 +30,9 @@ use Rattle.journal_model.specs.PlacedRows.{Within, Placed, last_row}
 use Rattle.journal_model.specs.BodyFormers.{former_of_body, former_of_kept, former_of_notice}
 use Rattle.journal_model.specs.BodyFormers.{reads_further_block, sends_again, former_of_further}
 use Rattle.journal_model.specs.BodyFormers.{former_at}
-use Rattle.journal_model.specs.BlocksOfOne.{query_of_sent, AreBlocksOfOne}
+use Rattle.journal_model.specs.BlocksOfOne.{sought_of_sent, AreBlocksOfOne}
+use Rattle.journal_model.specs.Sought.{Sought, listing_of, source_of, own_links}
+use Rattle.journal_model.specs.Sought as seeking
 use Rattle.journal_model.specs.TagsDecideStates.{TagsDecideStates, FormedTagsDecideStates}
 use Rattle.journal_model.specs.CarriedBlocks.{FormedAs, IsBlockOf, Sent}
 use Rattle.journal_model.specs.AskedListings.{Asked}
@@ -156,23 +160,33 @@ stands_former k peer mid here p e = by k e
 
 -- ---- the law
 
--- two answers that were formed in rows, with equal tags, to one query
-formed_share : (rows : List Row) → AreRows rows → (one other : Sent rows) (query : Query)
+-- what is sought is found alike where the live registrations are equal
+body-live : (sought : Sought) (history other : List Entry) (moment late : ℕ)
+    → live history moment ≡ live other late
+    → seeking.body sought history moment ≡ seeking.body sought other late
+body-live (listing_of query) history other moment late same =
+    ap Some (listing-live query history other moment late same)
+body-live (source_of number) history other moment late same =
+    source-live number history other moment late same
+body-live (own_links query) history other moment late same = refl
+
+-- two answers that were formed in rows, with equal tags, of one thing sought
+formed_share : (rows : List Row) → AreRows rows → (one other : Sent rows) (sought : Sought)
     → FormedAs one.here one.peer one.message → FormedAs other.here other.peer other.message
-    → etags_in one.message ≡ etags_in other.message → query_of_sent one ≡ Some query
-    → query_of_sent other ≡ Some query → AreBlocksOfOne rows query one.message other.message
-formed_share rows all one other query f g same_tags asks_one asks_other = record {
+    → etags_in one.message ≡ etags_in other.message → sought_of_sent one ≡ Some sought
+    → sought_of_sent other ≡ Some sought → AreBlocksOfOne rows sought one.message other.message
+formed_share rows all one other sought f g same_tags asks_one asks_other = record {
   before = f.former.before;
   row = f.former.row;
   within = here;
+  whole = f.carries.whole;
+  found = found_first;
   first_tag = f.carries.tag;
   second_tag = sym same_tags ∙ f.carries.tag;
-  first = subst (λ q. IsBlockOf (asked_block one.message)
-      (listing q (entries (f.former.row ∷ f.former.before)) f.former.row.moment.0)
-      one.message.payload) first_query f.carries.block.block;
+  first = f.carries.block.block;
   second =
       subst (λ body. IsBlockOf (asked_block other.message) body other.message.payload)
-      (sym same_listings) g.carries.block.block;
+      (sym same_bodies) g.carries.block.block;
 }
   where
     here : Stands rows f.former
@@ -196,26 +210,39 @@ formed_share rows all one other query f g same_tags asks_one asks_other = record
         ≡ tag (entries (g.former.row ∷ g.former.before)) g.former.row.moment.0
     same_tag = ap first_of (sym f.carries.tag ∙ (same_tags ∙ g.carries.tag))
 
-    first_query : f.asked.query ≡ query
-    first_query = same_Some f.asked.query query
-        (sym (ap (option_map (λ (a : Asked). a.query)) f.asks) ∙ asks_one)
+    first_sought : f.asked.sought ≡ sought
+    first_sought = same_Some f.asked.sought sought
+        (sym (ap (option_map (λ (a : Asked). a.sought)) f.asks) ∙ asks_one)
 
-    second_query : g.asked.query ≡ query
-    second_query = same_Some g.asked.query query
-        (sym (ap (option_map (λ (a : Asked). a.query)) g.asks) ∙ asks_other)
+    second_sought : g.asked.sought ≡ sought
+    second_sought = same_Some g.asked.sought sought
+        (sym (ap (option_map (λ (a : Asked). a.sought)) g.asks) ∙ asks_other)
 
-    same_listings : listing query
-        (entries (f.former.row ∷ f.former.before)) f.former.row.moment.0 ≡ listing g.asked.query
-        (entries (g.former.row ∷ g.former.before)) g.former.row.moment.0
-    same_listings =
-        listing-live query (entries (f.former.row ∷ f.former.before))
+    found_first : seeking.body sought
+        (entries (f.former.row ∷ f.former.before)) f.former.row.moment.0 ≡ Some f.carries.whole
+    found_first =
+        subst (λ (x : Sought).
+        seeking.body x (entries (f.former.row ∷ f.former.before)) f.former.row.moment.0
+        ≡ Some f.carries.whole) first_sought f.carries.found
+
+    found_second : seeking.body sought
+        (entries (g.former.row ∷ g.former.before)) g.former.row.moment.0 ≡ Some g.carries.whole
+    found_second =
+        subst (λ (x : Sought).
+        seeking.body x (entries (g.former.row ∷ g.former.before)) g.former.row.moment.0
+        ≡ Some g.carries.whole) second_sought g.carries.found
+
+    same_bodies : f.carries.whole ≡ g.carries.whole
+    same_bodies =
+        same_Some f.carries.whole g.carries.whole
+        (sym found_first
+        ∙ (body-live sought (entries (f.former.row ∷ f.former.before))
         (entries (g.former.row ∷ g.former.before)) f.former.row.moment.0 g.former.row.moment.0
         (tags_tell rows f.former.before g.former.before f.former.row g.former.row all here there
         same_tag).1
-        ∙ ap (λ (q : Query). listing q
-        (entries (g.former.row ∷ g.former.before)) g.former.row.moment.0) (sym second_query)
+        ∙ found_second))
 
--- equally tagged answers come from one state, and carry blocks of one listing
+-- equally tagged answers come from one state, and carry blocks of one listing or of one source
 pub journal-TagsDecideStates : (rows : List Row) → IsJournal rows → TagsDecideStates rows
 journal-TagsDecideStates rows journal = record {
   histories =
@@ -226,8 +253,8 @@ journal-TagsDecideStates rows journal = record {
       λ before other_before r other here there same.
       (tags_tell rows before other_before r other (journal-AreRows rows journal) here there
       same).1;
-  answers = λ one other query listed also same_tags asks_one asks_other.
-      formed_share rows (journal-AreRows rows journal) one other query
+  answers = λ one other sought listed also same_tags asks_one asks_other.
+      formed_share rows (journal-AreRows rows journal) one other sought
       (answer_formed rows journal one listed)
       (answer_formed rows journal other also) same_tags asks_one asks_other;
 }
@@ -245,7 +272,7 @@ desk-FormedTagsDecideStates rows journal = record {
       λ before other_before r other here there same.
       (tags_tell rows before other_before r other (desk-AreRows rows journal) here there
       same).1;
-  answers = λ one other query formed also same_tags asks_one asks_other.
-      formed_share rows (desk-AreRows rows journal) one other query formed also same_tags asks_one
+  answers = λ one other sought formed also same_tags asks_one asks_other.
+      formed_share rows (desk-AreRows rows journal) one other sought formed also same_tags asks_one
       asks_other;
 }

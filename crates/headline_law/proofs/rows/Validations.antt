@@ -12,6 +12,7 @@ use Rattle.std.proofs.Common.{
   [],
   ◌∷◌,
   length,
+  Option,
   Some,
   None,
   Result,
@@ -24,15 +25,14 @@ use Rattle.std.proofs.Common.{
   arith,
 }
 use Rattle.std.specs.List.{AllByRecursion}
-use Rattle.std.proofs.lemmas.Bool.{false≢true, and_parts}
-use Rattle.std.specs.Prelude.{is_none, option_map}
+use Rattle.std.proofs.lemmas.Bool.{false≢true}
+use Rattle.std.specs.Prelude.{is_some, option_map}
 use Rattle.rd_base.specs.declared.peers.Peer.{Peer}
 use Rattle.message_model.specs.declared.messages.Unread.{Unread}
 use Rattle.message_model.specs.Message.{Message, longest_token}
 use Rattle.message_model.specs.Codes as codes_of
 use Rattle.message_model.specs.OptionTable as table
 use Rattle.message_model.specs.Reading.{reading}
-use Rattle.message_model.specs.Request.{path_in}
 use Rattle.message_model.specs.Spelling.{spelling, header_spelling}
 use Rattle.message_model.proofs.MessageLaws.{reading_in_order}
 use Rattle.message_model.proofs.ReadingLaws.{header_read}
@@ -45,15 +45,7 @@ use Rattle.journal_model.specs.declared.steps.StepKind.TheVariants as step
 use Rattle.journal_model.specs.declared.rows.Row.{Row}
 use Rattle.journal_model.specs.Journal.{is_look, entries}
 use Rattle.journal_model.specs.Effects.{answer, answering, without_memory}
-use Rattle.journal_model.specs.Requests.{
-  query_of,
-  asked_block,
-  refusal_of_request,
-  is_lookup,
-  is_discovery,
-  only_looks,
-  is_look_request,
-}
+use Rattle.journal_model.specs.Requests.{asked_block, is_look_request}
 use Rattle.journal_model.specs.Bodies.{is_long}
 use Rattle.journal_model.specs.Effects.{answering}
 use Rattle.journal_model.specs.Looks.{
@@ -61,6 +53,7 @@ use Rattle.journal_model.specs.Looks.{
   still_valid,
   unless_long,
   unless_valid,
+  found_or_not,
   look_for,
   look,
   look_sent,
@@ -84,7 +77,7 @@ use Rattle.journal_model.proofs.sends.BodyAnswers.{
 }
 use Rattle.journal_model.proofs.sends.PlainSteps.{starved_plain}
 use Rattle.journal_model.proofs.sends.TickSends.{plain_not_valid}
-use Rattle.journal_model.proofs.sends.ValidSends.{NotValid, body_code, looks_either}
+use Rattle.journal_model.proofs.sends.ValidSends.{NotValid, body_code}
 use Rattle.headline_law.proofs.sends.ValidLaw.{
   RowSends,
   journal_sends,
@@ -93,53 +86,63 @@ use Rattle.headline_law.proofs.sends.ValidLaw.{
   a_look_reads,
 }
 use Rattle.headline_law.proofs.rows.RowCarries.{asked_in-own}
-use Rattle.journal_model.specs.Sought.{sought_at}
+use Rattle.journal_model.specs.Sought.{
+  Sought,
+  listing_of,
+  source_of,
+  own_links,
+  sought_in,
+  has_tag,
+  is_found,
+}
+use Rattle.history_model.specs.Sources.{source}
 use Rattle.event_model.specs.KeptAnswers.{Answer}
-use Rattle.message_model.specs.declared.requests.Path.{Path}
-use Rattle.message_model.specs.declared.requests.Path.TheVariants as path
 
--- a datagram to a peer and a token: where it is read to be 2.03, it carries this tag and nothing
--- else, and the request named the tag
-pub record IsValidation (s : Step) (m : Message) (current : List ℕ) (d : Peer × List ℕ)
-    (n : Message) : Type 0 where
+-- a datagram to a peer and a token: where it is read to be 2.03, it carries the tag of a history at
+-- a moment and nothing else, and the request named that tag and seeks what is found there under it
+pub record IsValidation (s : Step) (m : Message) (history : List Entry) (moment : ℕ)
+    (d : Peer × List ℕ) (n : Message) : Type 0 where
   pub peer_is : d.0 ≡ s.peer
   pub token_is : n.token ≡ m.token
-  pub lists : is_discovery (path_in m) ≡ false
-  pub named : names_tag current m ≡ true
-  pub options : n.options ≡ (table.etag, current) ∷ []
+  pub sought : Sought
+  pub seeks : sought_in m ≡ Some sought
+  pub tagged : has_tag (sought_in m) ≡ true
+  pub there : is_found (sought_in m) history moment ≡ true
+  pub named : names_tag (tag history moment) m ≡ true
+  pub options : n.options ≡ (table.etag, tag history moment) ∷ []
   pub payload : n.payload ≡ []
 
 -- whatever it is read to be
-abbrev pub ValidatesAt : Step → Message → List ℕ → Peer × List ℕ → Type 0
-ValidatesAt s m current d =
-    (n : Message) → reading d.1 ≡ Ok n → n.code ≡ codes_of.valid → IsValidation s m current d n
+abbrev pub ValidatesAt : Step → Message → List Entry → ℕ → Peer × List ℕ → Type 0
+ValidatesAt s m history moment d =
+    (n : Message) → reading d.1 ≡ Ok n → n.code ≡ codes_of.valid
+    → IsValidation s m history moment d n
 
 -- octets with another code
-other_validates : (s : Step) (m : Message) (current : List ℕ) (d : Peer × List ℕ)
+other_validates : (s : Step) (m : Message) (history : List Entry) (moment : ℕ) (d : Peer × List ℕ)
     → NotValid d.1
-    → ValidatesAt s m current d
-other_validates s m current d other n e valid =
+    → ValidatesAt s m history moment d
+other_validates s m history moment d other n e valid =
     absurd (false≢true
     (sym other ∙ (ap (λ c. c == codes_of.valid) (sym (code_read d.1 n e)) ∙ rw valid refl)))
 
 -- a look
 look_validates : (history : List Entry) (moment : ℕ) (s : Step) (m : Message)
     → length m.token ≤ longest_token
-    → AllByRecursion (ValidatesAt s m (tag history moment)) (look_effects history moment s m).sent
+    → AllByRecursion (ValidatesAt s m history moment) (look_effects history moment s m).sent
 unfolding look_effects look answering spelling header_spelling
-look_validates history moment s m small = by (path_in m) refl
+look_validates history moment s m small = by (sought_in m) refl
   where
-    fresh : Answer
-    fresh = record { body = listing (query_of m) history moment; tag = tag history moment }
+    fresh : List ℕ → Answer
+    fresh whole = record { body = whole; tag = tag history moment }
 
-    long : (b : Bool)
-        → AllByRecursion (ValidatesAt s m (tag history moment))
-        (look_sent s m (Some (unless_long b m fresh))).sent
-    long true = tt
-    long false = (
-      other_validates s m (tag history moment) (s.peer, _)
-          (body_code (Some (tag history moment)) None (asked_block m)
-          (listing (query_of m) history moment)),
+    long : (b : Bool) (whole : List ℕ)
+        → AllByRecursion (ValidatesAt s m history moment)
+        (look_sent s m (Some (unless_long b m (fresh whole)))).sent
+    long true whole = tt
+    long false whole = (
+      other_validates s m history moment (s.peer, _)
+          (body_code (Some (tag history moment)) None (asked_block m) whole),
       tt,
     )
 
@@ -159,42 +162,56 @@ look_validates history moment s m small = by (path_in m) refl
           empty = λ none. absurd (omega arith);
         })) e
 
-    valid : (b : Bool)
-        → is_discovery (path_in m) ≡ false
+    valid : (sought : Sought) (whole : List ℕ) (b : Bool)
+        → sought_in m ≡ Some sought
+        → has_tag (Some sought) ≡ true
+        → is_found (Some sought) history moment ≡ true
         → names_tag (tag history moment) m ≡ b
-        → AllByRecursion (ValidatesAt s m (tag history moment))
-        (look_sent s m (Some (unless_valid b m fresh))).sent
-    valid true lists names = (
+        → AllByRecursion (ValidatesAt s m history moment)
+        (look_sent s m (Some (unless_valid b m (fresh whole)))).sent
+    valid sought whole true seeks under there names = (
       (λ n e is. subst (λ (x : Message).
-          IsValidation s m (tag history moment)
+          IsValidation s m history moment
           (s.peer, spelling (answer s m (still_valid (tag history moment)))) x) (same n e)
           (record {
             peer_is = refl;
             token_is = refl;
-            lists = lists;
+            sought = sought;
+            seeks = seeks;
+            tagged = ap has_tag seeks ∙ under;
+            there = ap (λ (o : Option Sought). is_found o history moment) seeks ∙ there;
             named = names;
             options = refl;
             payload = refl;
           })),
       tt,
     )
-    valid false lists names = long (is_long (asked_block m) (listing (query_of m) history moment))
+    valid sought whole false seeks under there names = long (is_long (asked_block m) whole) whole
 
-    by : (p : Path)
-        → path_in m ≡ p
-        → AllByRecursion (ValidatesAt s m (tag history moment))
-        (look_sent s m (option_map (look_for history moment m) (sought_at p (query_of m)))).sent
-    by path.Core is = (
-      other_validates s m (tag history moment) (s.peer, _)
-          (body_code None None (asked_block m) (discovery (query_of m))),
+    of_source : (number : ℕ) (o : Option (List ℕ))
+        → sought_in m ≡ Some (source_of number)
+        → source number history moment ≡ o
+        → AllByRecursion (ValidatesAt s m history moment)
+        (look_sent s m (Some (found_or_not (Some (tag history moment)) m o))).sent
+    of_source number None seeks is = (other_validates s m history moment (s.peer, _) refl, tt)
+    of_source number (Some whole) seeks is =
+        valid (source_of number) whole (names_tag (tag history moment) m) seeks refl
+        (ap (λ (o : Option (List ℕ)). is_some o) is) refl
+
+    by : (o : Option Sought)
+        → sought_in m ≡ o
+        → AllByRecursion (ValidatesAt s m history moment)
+        (look_sent s m (option_map (look_for history moment m) o)).sent
+    by None seeks = tt
+    by (Some (listing_of query)) seeks =
+        valid (listing_of query) (listing query history moment) (names_tag (tag history moment) m)
+        seeks refl refl refl
+    by (Some (source_of number)) seeks = of_source number (source number history moment) seeks refl
+    by (Some (own_links query)) seeks = (
+      other_validates s m history moment (s.peer, _)
+          (body_code None None (asked_block m) (discovery query)),
       tt,
     )
-    by path.SimpleRd is = tt
-    by path.Rd is = tt
-    by (path.Location number) is = tt
-    by path.Other is = tt
-    by path.Res is = valid (names_tag (tag history moment) m) (ap is_discovery is) refl
-    by path.Ep is = valid (names_tag (tag history moment) m) (ap is_discovery is) refl
 
 -- whatever the row of a look sends
 row_validates : (rows : List Row) (s : Step) (starved : Bool) → MayMake rows s → s.kind ≡ step.Look
@@ -226,28 +243,21 @@ row_validates rows s starved may is =
     m : Message
     m = it.message
 
-    current : List ℕ
-    current = tag (entries rows) (row_moment rows s)
-
-    lookup : is_discovery (path_in m) ≡ false → is_lookup (path_in m) ≡ true
-    lookup lists =
-        looks_either m (and_parts (is_none (refusal_of_request m)) (only_looks m) it.looks).1
-        ∙ rw lists refl
-
-    one : (d : Peer × List ℕ) → ValidatesAt s m current d → Each d
+    one : (d : Peer × List ℕ) → ValidatesAt s m (entries rows) (row_moment rows s) d → Each d
     one d h n e valid =
-        let v : IsValidation s m current d n = h n e valid in
+        let v : IsValidation s m (entries rows) (row_moment rows s) d n = h n e valid in
         record {
           looks = ap is_look is;
           named =
-              ap (looks_with_tag current) it.read_is ∙ rw (it.looks, lookup v.lists, v.named) refl;
-          asked = asking (wanted_by m) (query_of m);
+              ap (looks_with_tag (entries rows) (row_moment rows s)) it.read_is
+              ∙ rw (it.looks, v.tagged, v.there, v.named) refl;
+          asked = asking (wanted_by m) v.sought;
           asks =
               ap (λ k.
               asked_at k (d.0, n.token)
               (record { row = row rows s starved; before = rows })) is
-              ∙ asked_in-own s.peer m (d.0, n.token) (reading s.datagram) it.read_is v.peer_is
-              v.token_is;
+              ∙ asked_in-own s.peer m v.sought (d.0, n.token) (reading s.datagram) it.read_is
+              v.seeks v.peer_is v.token_is;
           options = v.options;
           payload = v.payload;
         }
@@ -256,10 +266,11 @@ row_validates rows s starved may is =
         → AllByRecursion Each (looked b (entries rows) (row_moment rows s) s (Ok m)).sent
     by true =
         each_weaker (λ (d : Peer × List ℕ). NotValid d.1) Each
-        (λ d other. one d (other_validates s m current d other)) (without_memory s m).sent
+        (λ d other. one d (other_validates s m (entries rows) (row_moment rows s) d other))
+        (without_memory s m).sent
         (plain_not_valid (without_memory s m).sent (starved_plain s m))
     by false =
-        each_weaker (ValidatesAt s m current) Each one
+        each_weaker (ValidatesAt s m (entries rows) (row_moment rows s)) Each one
         (look_effects (entries rows) (row_moment rows s) s m).sent
         (look_validates (entries rows) (row_moment rows s) s m
         (header_read s.datagram m it.read_is).token)

@@ -44,10 +44,8 @@ use Rattle.journal_model.specs.Registrations.{registering}
 use Rattle.journal_model.specs.Requests.{Method, get, post, put, delete, other_method, method_of}
 use Rattle.journal_model.specs.Commits.{
   settling,
-  updating,
-  removing,
   simple_unless,
-  on_location,
+  location_outcome,
   write_done,
   commit_effects,
   fetch_room,
@@ -66,7 +64,7 @@ use Rattle.journal_model.specs.Responses.{
   response_use,
 }
 use Rattle.journal_model.proofs.NoteKinds.{are}
-use Rattle.journal_model.proofs.notes.ChangeNotes.{change_made-notes, registering-notes}
+use Rattle.journal_model.proofs.notes.ChangeNotes.{registering-notes, location-notes}
 use Rattle.journal_model.proofs.sends.PlainSteps.{
   IsPlainCode,
   IsPlain,
@@ -76,6 +74,7 @@ use Rattle.journal_model.proofs.sends.PlainSteps.{
   plain_answering,
   change_plain,
   registering_plain,
+  replacing_plain,
   never_settles,
 }
 use Rattle.rd_base.proofs.lemmas.Each.{each_append}
@@ -91,6 +90,17 @@ of_change _ = false
 pub record CommitsPlainly (sent : List (Peer × List ℕ)) (notes : List Note) : Type 0 where
   pub sends : ArePlain sent
   pub settles : AllByRecursion SettlesPlainly notes
+
+-- a write on a registration
+location_plain : (w : Method) (rows : List Row) (moment : ℕ) (s : Step) (m : Message) (number : ℕ)
+    → IsPlainCode (location_outcome w rows moment s m number).reply.code
+location_plain get rows moment s m number = record { no_content = refl; no_valid = refl }
+location_plain post rows moment s m number =
+    change_plain (entries rows) _ _ (record { no_content = refl; no_valid = refl })
+location_plain put rows moment s m number = replacing_plain rows moment s m number
+location_plain delete rows moment s m number =
+    change_plain (entries rows) _ _ (record { no_content = refl; no_valid = refl })
+location_plain other_method rows moment s m number = record { no_content = refl; no_valid = refl }
 
 -- a commit of a write that was read
 pub commit_plain : (rows : List Row) (moment place : ℕ) (s : Step) (m : Message)
@@ -131,30 +141,6 @@ commit_plain rows moment place s m = by (path_in m)
       settles = (record { no_content = refl; no_valid = refl }, (tt, tt));
     }
 
-    location : (w : Method) (number : ℕ)
-        → CommitsPlainly (on_location w rows moment place s m number).sent
-        (on_location w rows moment place s m number).notes
-    location get number =
-        settled (removing rows moment s number)
-        (change_plain (entries rows) _ _ (record { no_content = refl; no_valid = refl }))
-        (change_made-notes of_change (λ entry. refl) (entries rows) _ _ refl)
-    location post number =
-        settled (updating rows moment s m number)
-        (change_plain (entries rows) _ _ (record { no_content = refl; no_valid = refl }))
-        (change_made-notes of_change (λ entry. refl) (entries rows) _ _ refl)
-    location put number =
-        settled (removing rows moment s number)
-        (change_plain (entries rows) _ _ (record { no_content = refl; no_valid = refl }))
-        (change_made-notes of_change (λ entry. refl) (entries rows) _ _ refl)
-    location delete number =
-        settled (removing rows moment s number)
-        (change_plain (entries rows) _ _ (record { no_content = refl; no_valid = refl }))
-        (change_made-notes of_change (λ entry. refl) (entries rows) _ _ refl)
-    location other_method number =
-        settled (removing rows moment s number)
-        (change_plain (entries rows) _ _ (record { no_content = refl; no_valid = refl }))
-        (change_made-notes of_change (λ entry. refl) (entries rows) _ _ refl)
-
     by : (p : Path)
         → CommitsPlainly (write_done p rows moment place s m).sent
         (write_done p rows moment place s m).notes
@@ -166,7 +152,11 @@ commit_plain rows moment place s m = by (path_in m)
         settled (registering rows moment s m) (registering_plain rows moment s m)
         (registering-notes of_change (λ entry. refl) (λ peer key number octets. refl)
         (λ peer key. refl) rows moment s m)
-    by (path.Location number) = location (method_of m.code) number
+    by (path.Location number) =
+        settled (location_outcome (method_of m.code) rows moment s m number)
+        (location_plain (method_of m.code) rows moment s m number)
+        (location-notes of_change (λ entry. refl) (λ peer key number octets. refl)
+        (λ peer key. refl) (method_of m.code) rows moment s m number)
     by path.Res = record { sends = tt; settles = tt }
     by path.Ep = record { sends = tt; settles = tt }
     by path.Other = record { sends = tt; settles = tt }

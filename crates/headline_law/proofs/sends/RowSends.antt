@@ -45,15 +45,29 @@ use Rattle.journal_model.specs.declared.steps.StepKind.TheVariants as step
 use Rattle.journal_model.specs.declared.rows.Row.{Row}
 use Rattle.journal_model.specs.Journal.{is_look, events, entries}
 use Rattle.journal_model.specs.Effects.{Reply, answering, without_memory}
-use Rattle.journal_model.specs.Requests.{refusal_of_request, is_lookup, only_looks, is_look_request}
+use Rattle.journal_model.specs.Requests.{
+  Method,
+  get,
+  post,
+  put,
+  delete,
+  other_method,
+  method_of,
+  refusal_of_request,
+  is_lookup,
+  is_location,
+  only_looks,
+  is_look_request,
+}
 use Rattle.journal_model.specs.Looks.{look_effects, looked, keep_effects}
 use Rattle.journal_model.specs.Commits.{commit_effects}
 use Rattle.journal_model.specs.Ticks.{tick_effects}
-use Rattle.journal_model.specs.Lookups.{lookup_effects}
+use Rattle.journal_model.specs.Lookups.{lookup_effects, read_effects}
 use Rattle.journal_model.specs.Writes.{write_effects}
 use Rattle.journal_model.specs.EmptyMessages.{acknowledged, reset}
 use Rattle.journal_model.specs.Responses.{response_effects}
 use Rattle.journal_model.specs.Rows.{
+  served_on_location,
   served,
   request_answered,
   message_effects,
@@ -68,6 +82,7 @@ use Rattle.journal_model.proofs.StepNotes.{
   look_effects-notes,
   keep_effects-notes,
   lookup_effects-notes,
+  read_effects-notes,
   write_effects-notes,
   acknowledged-notes,
   reset-notes,
@@ -95,6 +110,7 @@ use Rattle.journal_model.proofs.sends.ValidSends.{
   look_no_confirmable_valid,
   keep_not_valid,
   lookup_not_valid,
+  read_not_valid,
 }
 use Rattle.journal_model.proofs.sends.TickSends.{
   AskedPlain,
@@ -209,6 +225,22 @@ request_sends rows moment s m past other = by (refusal_of_request m) refl
         (write_effects (events rows) moment s m).notes
         (write_effects-notes (events rows) moment s m))
 
+    there : (w : Method)
+        → is_location (path_in m) ≡ true
+        → method_of m.code ≡ w
+        → only_looks m ≡ false
+        → Sends (served_on_location w rows moment s m).sent
+        (served_on_location w rows moment s m).notes
+    there get at is looks =
+        quiet_sends of_lookup (λ place octets. refl) (λ peer token mid params number. refl)
+        (read_effects rows moment s m).sent (read_effects rows moment s m).notes
+        (read_not_valid rows moment s m (rw (at, is) refl) looks)
+        (read_effects-notes rows moment s m)
+    there post at is looks = write
+    there put at is looks = write
+    there delete at is looks = write
+    there other_method at is looks = record { none_valid = tt; facts = tt }
+
     on : (p : Path)
         → path_in m ≡ p
         → only_looks m ≡ false
@@ -218,7 +250,7 @@ request_sends rows moment s m past other = by (refusal_of_request m) refl
     on path.Ep is looks = lookup path.Ep is refl looks
     on path.SimpleRd is looks = write
     on path.Rd is looks = write
-    on (path.Location number) is looks = write
+    on (path.Location number) is looks = there (method_of m.code) (ap is_location is) refl looks
     on path.Other is looks = record { none_valid = tt; facts = tt }
 
     by : (refusal : Option Reply)
@@ -319,6 +351,16 @@ request_facts rows moment s m = by (refusal_of_request m)
     lookup = quiet_facts of_lookup (λ place octets. refl) (λ peer token mid params number. refl) _
         (lookup_effects rows moment s m).notes (lookup_effects-notes rows moment s m)
 
+    there : (w : Method) → AllByRecursion (NoteFact (served_on_location w rows moment s m).sent)
+        (served_on_location w rows moment s m).notes
+    there get =
+        quiet_facts of_lookup (λ place octets. refl) (λ peer token mid params number. refl) _
+        (read_effects rows moment s m).notes (read_effects-notes rows moment s m)
+    there post = write
+    there put = write
+    there delete = write
+    there other_method = tt
+
     on : (p : Path) → AllByRecursion (NoteFact (served p rows moment s m).sent)
         (served p rows moment s m).notes
     on path.Core = no_facts _ _ (look_effects-notes (entries rows) moment s m)
@@ -326,7 +368,7 @@ request_facts rows moment s m = by (refusal_of_request m)
     on path.Ep = lookup
     on path.SimpleRd = write
     on path.Rd = write
-    on (path.Location number) = write
+    on (path.Location number) = there (method_of m.code)
     on path.Other = tt
 
     by : (refusal : Option Reply)

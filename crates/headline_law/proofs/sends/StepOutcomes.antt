@@ -40,14 +40,27 @@ use Rattle.journal_model.specs.declared.steps.StepKind.TheVariants as step
 use Rattle.journal_model.specs.declared.rows.Row.{Row}
 use Rattle.journal_model.specs.Journal.{is_heard, events, entries}
 use Rattle.journal_model.specs.Effects.{Effects, Reply, answering}
-use Rattle.journal_model.specs.Requests.{refusal_of_request, is_lookup}
+use Rattle.journal_model.specs.Requests.{
+  Method,
+  get,
+  post,
+  put,
+  delete,
+  other_method,
+  method_of,
+  refusal_of_request,
+  is_lookup,
+  is_location,
+  reads_registration,
+}
 use Rattle.journal_model.specs.Looks.{look_effects, looked, keep_effects}
-use Rattle.journal_model.specs.Lookups.{lookup_effects}
+use Rattle.journal_model.specs.Lookups.{lookup_effects, read_effects}
 use Rattle.journal_model.specs.Writes.{write_effects}
 use Rattle.journal_model.specs.Commits.{commit_effects}
 use Rattle.journal_model.specs.EmptyMessages.{acknowledged, reset}
 use Rattle.journal_model.specs.Responses.{response_effects}
 use Rattle.journal_model.specs.Rows.{
+  served_on_location,
   served,
   request_answered,
   message_effects,
@@ -90,6 +103,12 @@ pub data StepOutcome (rows : List Row) (moment : ℕ) (s : Step) (e : Effects) :
       → is_lookup (path_in m) ≡ true
       → e ≡ lookup_effects rows moment s m
       → StepOutcome rows moment s e
+  source : (m : Message)
+      → is_heard s.kind ≡ true
+      → reading s.datagram ≡ Ok m
+      → reads_registration m ≡ true
+      → e ≡ read_effects rows moment s m
+      → StepOutcome rows moment s e
   keep : (m : Message) (body tag : List ℕ)
       → reading s.datagram ≡ Ok m
       → s.kind ≡ step.Keep body tag
@@ -131,13 +150,23 @@ request_outcome rows moment s m settled hears read = by (refusal_of_request m) r
         (write_effects (events rows) moment s m).notes
         (write_effects-notes (events rows) moment s m))
 
+    there : (w : Method)
+        → is_location (path_in m) ≡ true
+        → method_of m.code ≡ w
+        → StepOutcome rows moment s (served_on_location w rows moment s m)
+    there get at is = source m hears read (rw (at, is) refl) refl
+    there post at is = write
+    there put at is = write
+    there delete at is = write
+    there other_method at is = plain tt refl
+
     on : (p : Path) → path_in m ≡ p → StepOutcome rows moment s (served p rows moment s m)
     on path.Core is = look m hears read refl
     on path.Res is = lookup m hears read (ap is_lookup is) refl
     on path.Ep is = lookup m hears read (ap is_lookup is) refl
     on path.SimpleRd is = write
     on path.Rd is = write
-    on (path.Location number) is = write
+    on (path.Location number) is = there (method_of m.code) (ap is_location is) refl
     on path.Other is = plain tt refl
 
     by : (refusal : Option Reply)

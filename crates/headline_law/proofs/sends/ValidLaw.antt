@@ -34,7 +34,6 @@ use Rattle.message_model.specs.declared.messages.Unread.{Unread}
 use Rattle.message_model.specs.Codes as codes_of
 use Rattle.message_model.specs.Message.{Message, role_of}
 use Rattle.message_model.specs.Reading.{reading}
-use Rattle.history_model.specs.Listing.{tag}
 use Rattle.event_model.specs.declared.notes.Note.{Note}
 use Rattle.event_model.specs.declared.notes.Note.TheVariants as note
 use Rattle.event_model.specs.Events.{Event}
@@ -207,7 +206,7 @@ a_look_reads (Ok m) h = by (role_of m.kind m.code) refl h
 look_is_valid : (rows : List Row) (moment : ℕ) (s : Step)
     → is_look_reading (reading s.datagram) ≡ true
     → (code_sent (looked false (entries rows) moment s (reading s.datagram)).sent == codes_of.valid)
-    ≡ looks_with_tag (tag (entries rows) moment) (reading s.datagram)
+    ≡ looks_with_tag (entries rows) moment (reading s.datagram)
 look_is_valid rows moment s h =
     let it = a_look_reads (reading s.datagram) h in
     rw it.read_is (look_valid (entries rows) moment s it.message ∙ rw it.looks refl)
@@ -223,7 +222,7 @@ first_not_valid (d ∷ sent) h = h.0
 row_is_valid : (rows : List Row) (s : Step) → MayMake rows s → RowSends rows (row rows s false)
     → (code_sent (row rows s false).sent == codes_of.valid)
     ≡ (is_look s.kind
-    && looks_with_tag (tag (entries rows) (row rows s false).moment.0) (reading s.datagram))
+    && looks_with_tag (entries rows) (row rows s false).moment.0 (reading s.datagram))
 unfolding row effects
 row_is_valid rows s may sends = by s.kind refl sends.others
   where
@@ -232,7 +231,7 @@ row_is_valid rows s may sends = by s.kind refl sends.others
         → (is_look kind ≡ false → NoneValid (effects kind false rows (row_moment rows s) s).sent)
         → (code_sent (effects kind false rows (row_moment rows s) s).sent == codes_of.valid)
         ≡ (is_look kind
-        && looks_with_tag (tag (entries rows) (row_moment rows s)) (reading s.datagram))
+        && looks_with_tag (entries rows) (row_moment rows s) (reading s.datagram))
     by step.Admit is others = first_not_valid _ (others refl)
     by step.Look is others = look_is_valid rows (row_moment rows s) s (looked_a_look rows s may is)
     by (step.Commit place) is others = first_not_valid _ (others refl)
@@ -246,7 +245,7 @@ pub looks_are_validated : (rows before : List Row) (r : Row)
     → r.starved ≡ false
     → (code_sent r.sent == codes_of.valid)
     ≡ (is_look r.step.kind
-    && looks_with_tag (tag (entries before) r.moment.0) (reading r.step.datagram))
+    && looks_with_tag (entries before) r.moment.0 (reading r.step.datagram))
 unfolding row
 looks_are_validated rows before r journal within fed =
     let it : Made before r = each_row rows before r journal within in
@@ -257,6 +256,6 @@ looks_are_validated rows before r journal within fed =
     subst (λ (x : Row).
     (code_sent x.sent == codes_of.valid)
     ≡ (is_look x.step.kind
-    && looks_with_tag (tag (entries before) x.moment.0) (reading x.step.datagram)))
+    && looks_with_tag (entries before) x.moment.0 (reading x.step.datagram)))
     (sym is)
     (row_is_valid before it.step it.may (subst (RowSends before) is sends))

@@ -19,7 +19,7 @@ use Rattle.history_model.specs.declared.entries.Entry.{Entry}
 use Rattle.history_model.specs.declared.refusals.Refusal.TheVariants as refusal
 use Rattle.history_model.specs.Refusals.{change_refusal}
 use Rattle.history_model.proofs.HistoryLiterals.{history_on_literals}
-use Rattle.history_model.proofs.Samples.{device, registers}
+use Rattle.history_model.proofs.Samples.{device, registers, replaces}
 
 -- a thousand links to a base of 200 octets
 abbrev thousand_links : List ℕ
@@ -39,6 +39,20 @@ sixth_text :
     change_refusal 0 (long 1 ∷ long 2 ∷ long 3 ∷ long 4 ∷ long 5 ∷ []) (long 6) ≡ Some refusal.Text
 unfolding history_on_literals
 sixth_text = refl
+
+-- one of the five may be given as many other links, and not twice as many
+abbrev five : List Entry
+five = long 1 ∷ long 2 ∷ long 3 ∷ long 4 ∷ long 5 ∷ []
+
+replaced_text : change_refusal 0 five (replaces 2000 device 5 thousand_links) ≡ None
+unfolding history_on_literals
+replaced_text = refl
+
+doubled_text :
+    change_refusal 0 five (replaces 2000 device 5 (thousand_links ++ codes "," ++ thousand_links))
+    ≡ Some refusal.Text
+unfolding history_on_literals
+doubled_text = refl
 
 -- and one of the five may come again
 again_text : change_refusal 0 (long 1 ∷ long 2 ∷ long 3 ∷ long 4 ∷ long 5 ∷ []) (long 5) ≡ None

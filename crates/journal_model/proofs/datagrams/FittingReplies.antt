@@ -48,7 +48,7 @@ use Rattle.message_model.specs.OptionTable as table
 use Rattle.message_model.specs.Blocks.{block_of}
 use Rattle.message_model.specs.Numbers.{uint_bytes}
 use Rattle.message_model.specs.Reading.{reading}
-use Rattle.message_model.specs.Refusals.{refusal_of, refusal_code, refusal_word, link_format}
+use Rattle.message_model.specs.Refusals.{refusal_of, refusal_code, diagnostic_of, link_format}
 use Rattle.message_model.specs.Request.{queries_in}
 use Rattle.message_model.specs.RequestKey.{key_in}
 use Rattle.message_model.specs.Spelling.{spelling}
@@ -76,6 +76,12 @@ use Rattle.journal_model.specs.declared.rows.Row.{Row}
 use Rattle.journal_model.specs.Journal.{events, entries}
 use Rattle.journal_model.specs.Effects.{Reply, bare, diagnostic}
 use Rattle.journal_model.specs.Requests.{
+  Method,
+  get,
+  post,
+  put,
+  delete,
+  other_method,
   sent_block,
   number_of,
   szx_of,
@@ -85,7 +91,7 @@ use Rattle.journal_model.specs.Requests.{
   refusal_of_request,
 }
 use Rattle.journal_model.specs.Bodies.{block2_option, answered_block, part_reply, body_reply}
-use Rattle.journal_model.specs.Looks.{still_valid}
+use Rattle.journal_model.specs.Looks.{still_valid, not_live}
 use Rattle.journal_model.specs.Changes.{
   Outcome,
   refused_as,
@@ -98,8 +104,15 @@ use Rattle.journal_model.specs.Changes.{
   registered_links,
   registration,
   created_at,
+  changed_with,
   number_after,
   entry_of_step,
+  replaced_links,
+  replacement,
+  Purpose,
+  to_register,
+  to_replace,
+  body_used,
 }
 use Rattle.journal_model.specs.Registrations.{
   block1_option,
@@ -107,10 +120,12 @@ use Rattle.journal_model.specs.Registrations.{
   block_unless,
   block_after,
   block_uploaded,
-  registration_outcome,
+  links_outcome,
   registering,
+  replacing,
   block_room,
 }
+use Rattle.journal_model.specs.Commits.{location_outcome}
 use Rattle.journal_model.specs.SentDatagrams.{IsFitting}
 use Rattle.journal_model.proofs.MessageSizeLaws.{room_for, spelling-most}
 use Rattle.journal_model.proofs.sends.BodyAnswers.{
@@ -219,7 +234,7 @@ unfolding refusal_of_request
 refusal_GoodIf m = by (refusal_of m)
   where
     coded : (why : requests.Refusal)
-        → IsGoodReply (diagnostic (refusal_code why) (refusal_word why))
+        → IsGoodReply (diagnostic (refusal_code why) (diagnostic_of why))
     coded (refused_for.BadOption number) =
         good_word codes_of.bad_option (codes "option") refl (λ e. absurd (omega (arith, e)))
         (omega arith)
@@ -449,35 +464,76 @@ good_registration history moment s params body further notes few = by (linked_re
     by None = good_bad (codes "links") (omega arith)
     by (Some links) = limited (is_some (first_unlimited links)) links
 
--- a registration, whole or a block of one
-pub good_registering : (rows : List Row) (moment : ℕ) (s : Step) (m : Message)
-    → IsGoodReply (registering rows moment s m).reply
-unfolding registering block_uploaded
-good_registering rows moment s m = by (sent_block m)
+-- a replacement of links by those of a whole body
+good_replacement : (history : List Entry) (moment : ℕ) (s : Step) (number : ℕ) (body : List ℕ)
+    (further : List Opt) (notes : List Note)
+    → IsGoodReply (changed_with further)
+    → IsGoodReply (replacement history moment s number body further notes).reply
+unfolding replacement body_read
+good_replacement history moment s number body further notes good = by (linked_references body)
   where
-    one_block : (b : Block) → FewOptions (block1_option b)
-    one_block b =
-        let h = block_value-length b in
-        ((omega arith, omega arith, omega (arith, h), tt), omega (arith, h))
+    limited : (b : Bool) (links : List SubmittedLink)
+        → IsGoodReply
+        (replaced_links history moment s number further notes (limited_links b links)).reply
+    limited true links = good_bad (codes "limited") (omega arith)
+    limited false links =
+        good_change history (entry_of_step moment s (change.Replace number links))
+        (record { reply = changed_with further; notes = notes }) (λ e. good)
 
-    continues : (b : Block)
-        → IsGoodReply (record { code = codes_of.continue; options = block1_option b; payload = [] })
-    continues b = let h = block_value-length b in record {
-      class = refl;
-      filled = λ e. absurd (omega (arith, e));
-      options = (omega arith, omega arith, omega (arith, h), tt);
-      room = omega (arith, h);
-    }
+    by : (read : Option (List SubmittedLink))
+        → IsGoodReply
+        (replaced_links history moment s number further notes (links_or_bad read)).reply
+    by None = good_bad (codes "links") (omega arith)
+    by (Some links) = limited (is_some (first_unlimited links)) links
 
+-- Block1 in an answer: a few options
+one_block : (b : Block) → FewOptions (block1_option b)
+one_block b =
+    let h = block_value-length b in
+    ((omega arith, omega arith, omega (arith, h), tt), omega (arith, h))
+
+-- a code with Block1, and nothing else
+good_block1 : (code : ℕ) (b : Block)
+    → codes_of.is_reserved code ≡ false
+    → (code ≡ codes_of.empty → ⊥)
+    → IsGoodReply (record { code = code; options = block1_option b; payload = [] })
+good_block1 code b class filled = let h = block_value-length b in record {
+  class = class;
+  filled = filled;
+  options = (omega arith, omega arith, omega (arith, h), tt);
+  room = omega (arith, h);
+}
+
+-- a whole body, by what its links are for, answered with Block1 or without
+good_body_used : (purpose : Purpose) (history : List Entry) (moment : ℕ) (s : Step)
+    (body : List ℕ) (further : List Opt) (notes : List Note)
+    → FewOptions further
+    → IsGoodReply (changed_with further)
+    → IsGoodReply (body_used purpose history moment s body further notes).reply
+good_body_used (to_register params) history moment s body further notes few good =
+    good_registration history moment s params body further notes few
+good_body_used (to_replace number) history moment s body further notes few good =
+    good_replacement history moment s number body further notes good
+
+-- links that come whole, or a block of them
+good_links : (block : Option Block) (purpose : Purpose) (rows : List Row) (moment : ℕ) (s : Step)
+    (m : Message)
+    → IsGoodReply (links_outcome block purpose rows moment s m).reply
+unfolding block_uploaded
+good_links block purpose rows moment s m = by block
+  where
     taken : (more : Bool) (b : Block) (body : List ℕ)
-        → IsGoodReply (block_taken more rows moment s m b body).reply
-    taken true b body = continues b
+        → IsGoodReply (block_taken more purpose rows moment s m b body).reply
+    taken true b body =
+        good_block1 codes_of.continue b refl (λ e. absurd (omega (arith, e)))
     taken false b body =
-        good_registration (entries rows) moment s (registration_values (queries_in m)) body
-        (block1_option b) (note.Finished s.peer (key_in m) ∷ []) (one_block b)
+        good_body_used purpose (entries rows) moment s body (block1_option b)
+        (note.Finished s.peer (key_in m) ∷ []) (one_block b)
+        (good_block1 codes_of.changed b refl (λ e. absurd (omega (arith, e))))
 
     unless : (too_long too_many : Bool) (b : Block) (body : List ℕ)
-        → IsGoodReply (block_unless (block_room too_long too_many) rows moment s m b body).reply
+        → IsGoodReply (block_unless (block_room too_long too_many) purpose rows moment s m b
+        body).reply
     unless true too_many b body =
         good_word codes_of.request_entity_too_large (codes "size") refl
         (λ e. absurd (omega (arith, e))) (omega arith)
@@ -485,7 +541,7 @@ good_registering rows moment s m = by (sent_block m)
     unless false false b body = taken b.more b body
 
     after : (front upload : Option (List ℕ)) (b : Block)
-        → IsGoodReply (block_after front upload rows moment s m b).reply
+        → IsGoodReply (block_after front upload purpose rows moment s m b).reply
     after None upload b =
         good_word codes_of.request_entity_incomplete (codes "order") refl
         (λ e. absurd (omega (arith, e))) (omega arith)
@@ -493,10 +549,47 @@ good_registering rows moment s m = by (sent_block m)
         unless (nat_lt max_body (length front + length m.payload))
         (is_one_too_many b upload (live_uploads moment (events rows))) b (front ++ m.payload)
 
-    by : (b : Option Block) → IsGoodReply (registration_outcome b rows moment s m).reply
+    by : (b : Option Block) → IsGoodReply (links_outcome b purpose rows moment s m).reply
     by None =
-        good_registration (entries rows) moment s (registration_values (queries_in m)) m.payload []
-        [] (tt, omega arith)
+        good_body_used purpose (entries rows) moment s m.payload [] [] (tt, omega arith)
+        (good_bare codes_of.changed refl (λ e. absurd (omega (arith, e))))
     by (Some b) =
         let upload : Option (List ℕ) = live_upload moment (s.peer, key_in m) (events rows) in
         after (collected_before b upload) upload b
+
+-- a registration, and a replacement of links
+pub good_registering : (rows : List Row) (moment : ℕ) (s : Step) (m : Message)
+    → IsGoodReply (registering rows moment s m).reply
+unfolding registering
+good_registering rows moment s m =
+    good_links (sent_block m) (to_register (registration_values (queries_in m))) rows moment s m
+
+pub good_replacing : (rows : List Row) (moment : ℕ) (s : Step) (m : Message) (number : ℕ)
+    → IsGoodReply (replacing rows moment s m number).reply
+unfolding replacing
+good_replacing rows moment s m number =
+    good_links (sent_block m) (to_replace number) rows moment s m
+
+-- what comes of a write on a registration
+pub good_location : (w : Method) (rows : List Row) (moment : ℕ) (s : Step) (m : Message)
+    (number : ℕ)
+    → IsGoodReply (location_outcome w rows moment s m number).reply
+good_location get rows moment s m number =
+    good_word codes_of.method_not_allowed (codes "method") refl (λ e. absurd (omega (arith, e)))
+    (omega arith)
+good_location post rows moment s m number =
+    good_change (entries rows) _ _
+    (λ e. good_bare codes_of.changed refl (λ e. absurd (omega (arith, e))))
+good_location put rows moment s m number = good_replacing rows moment s m number
+good_location delete rows moment s m number =
+    good_change (entries rows) _ _
+    (λ e. good_bare codes_of.deleted refl (λ e. absurd (omega (arith, e))))
+good_location other_method rows moment s m number =
+    good_word codes_of.method_not_allowed (codes "method") refl (λ e. absurd (omega (arith, e)))
+    (omega arith)
+
+-- a registration that is not live
+pub good_not_live : IsGoodReply not_live
+good_not_live =
+    good_word codes_of.not_found (codes "registration") refl (λ e. absurd (omega (arith, e)))
+    (omega arith)

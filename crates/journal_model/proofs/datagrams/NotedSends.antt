@@ -94,7 +94,9 @@ use Rattle.journal_model.specs.Bodies.{is_long, part_reply, body_reply}
 use Rattle.journal_model.specs.Looks.{look_effects, looked, keep_effects}
 use Rattle.journal_model.specs.Lookups.{
   listing_now,
+  found_now,
   block_now,
+  block_of_found,
   block_of_kept,
   later_block,
   removal,
@@ -109,12 +111,15 @@ use Rattle.journal_model.specs.Lookups.{
   first_block_effects,
   block_effects,
   lookup_effects,
+  read_block_effects,
+  read_effects,
   observing_by,
 }
 use Rattle.journal_model.specs.Writes.{write_effects}
 use Rattle.journal_model.specs.EmptyMessages.{acknowledged, reset}
 use Rattle.journal_model.specs.Responses.{response_effects}
 use Rattle.journal_model.specs.Rows.{
+  served_on_location,
   served,
   refusal_answered,
   unread_answered,
@@ -129,10 +134,8 @@ use Rattle.journal_model.specs.Changes.{Outcome}
 use Rattle.journal_model.specs.Registrations.{registering}
 use Rattle.journal_model.specs.Commits.{
   settling,
-  updating,
-  removing,
   simple_unless,
-  on_location,
+  location_outcome,
   write_done,
   commit_effects,
   fetch_room,
@@ -153,13 +156,13 @@ use Rattle.journal_model.proofs.StepNotes.{
   reset-notes,
 }
 use Rattle.journal_model.proofs.notes.ChangeNotes.{
-  change_made-notes,
   registering-notes,
+  location-notes,
   response_effects-notes,
 }
 use Rattle.journal_model.proofs.notes.SilentSteps.{refusal_notes, unread_notes, looked_notes}
 use Rattle.journal_model.proofs.observers.ObserversKnow.{IsNoTick}
-use Rattle.journal_model.proofs.notes.LookupNotes.{IsAsking, lookup_fits}
+use Rattle.journal_model.proofs.notes.LookupNotes.{IsAsking, lookup_seeks, found_KeptAt}
 use Rattle.journal_model.proofs.sends.BodyAnswers.{
   Wanted,
   IsBodyOf,
@@ -180,8 +183,8 @@ use Rattle.journal_model.proofs.datagrams.FittingReplies.{
   good_bare,
   good_unavailable,
   good_body_reply,
-  good_change,
   good_registering,
+  good_location,
 }
 use Rattle.journal_model.proofs.datagrams.OwnSends.{answer_unconfirmable}
 
@@ -364,14 +367,63 @@ first_answer peer kind mid token current observe asked body small short usable f
     (content_of current observe asked body first) first
     (body_bears kind mid token current observe asked body small short usable)
 
--- ---- lookups
+-- ---- lookups and reads of a registration
+
+later_facts : (rows : List Row) (moment : ℕ) (s : Step) (m : Message)
+    → NoteFacts step.Admit s (later_block rows moment s m).sent (later_block rows moment s m).notes
+unfolding later_block answering
+later_facts rows moment s m =
+    by (found_now rows moment m) refl (kept_answer moment (s.peer, key_in m) (events rows))
+  where
+    now_block : (a : Answer)
+        → length a.tag ≡ 8
+        → (part : Option (List ℕ × Bool))
+        → NoteFacts step.Admit s (block_now s m a part).sent (block_now s m a part).notes
+    now_block a short None = tt
+    now_block a short (Some part) = (short, tt)
+
+    fresh : (found : Option Answer)
+        → found_now rows moment m ≡ found
+        → NoteFacts step.Admit s (block_of_found s m found).sent (block_of_found s m found).notes
+    fresh None is = tt
+    fresh (Some a) is =
+        now_block a
+        (ap length (found_KeptAt rows moment m a is).tag_is ∙ tag-length (entries rows) moment)
+        (block_of a.body (number_of (asked_block m)) (szx_of (asked_block m)))
+
+    by : (found : Option Answer)
+        → found_now rows moment m ≡ found
+        → (kept : Option Answer)
+        → NoteFacts step.Admit s (block_of_kept s m found kept).sent
+        (block_of_kept s m found kept).notes
+    by found is (Some answer) = (tt, tt)
+    by found is None = fresh found is
+
+look_facts : (rows : List Row) (moment : ℕ) (s : Step) (m : Message)
+    → NoteFacts step.Admit s (look_effects (entries rows) moment s m).sent
+    (look_effects (entries rows) moment s m).notes
+look_facts rows moment s m =
+    no_facts step.Admit s (look_effects (entries rows) moment s m).sent
+    (look_effects (entries rows) moment s m).notes (look_effects-notes (entries rows) moment s m)
+
+read_facts : (rows : List Row) (moment : ℕ) (s : Step) (m : Message)
+    → NoteFacts step.Admit s (read_effects rows moment s m).sent
+    (read_effects rows moment s m).notes
+unfolding read_effects
+read_facts rows moment s m = by (is_later_block m)
+  where
+    by : (b : Bool)
+        → NoteFacts step.Admit s (read_block_effects b rows moment s m).sent
+        (read_block_effects b rows moment s m).notes
+    by true = later_facts rows moment s m
+    by false = look_facts rows moment s m
 
 pub lookup_facts : (rows : List Row) (moment : ℕ) (s : Step) (m : Message)
     → reading s.datagram ≡ Ok m
     → is_lookup (path_in m) ≡ true
     → NoteFacts step.Admit s (lookup_effects rows moment s m).sent
     (lookup_effects rows moment s m).notes
-unfolding lookup_effects later_block observed unobserved answering
+unfolding lookup_effects observed unobserved answering
 lookup_facts rows moment s m read lookup = by (is_later_block m) refl
   where
     small : length m.token ≤ longest_token
@@ -379,20 +431,6 @@ lookup_facts rows moment s m read lookup = by (is_later_block m) refl
 
     short : length (tag (entries rows) moment) ≡ 8
     short = tag-length (entries rows) moment
-
-    now_block : (part : Option (List ℕ × Bool))
-        → NoteFacts step.Admit s (block_now s m (listing_now rows moment m) part).sent
-        (block_now s m (listing_now rows moment m) part).notes
-    now_block None = tt
-    now_block (Some part) = (short, tt)
-
-    later : (found : Option Answer)
-        → NoteFacts step.Admit s (block_of_kept s m (listing_now rows moment m) found).sent
-        (block_of_kept s m (listing_now rows moment m) found).notes
-    later (Some found) = (tt, tt)
-    later None =
-        now_block (block_of (listing_now rows moment m).body (number_of (asked_block m))
-        (szx_of (asked_block m)))
 
     removed : (sent : List (Peer × List ℕ)) (b : Bool) (peer : Peer) (token : List ℕ)
         → NoteFacts step.Admit s sent (cond b (note.Unwatched peer token ∷ []) [])
@@ -424,9 +462,8 @@ lookup_facts rows moment s m read lookup = by (is_later_block m) refl
                 record {
                   request =
                       m;
-                  fits = lookup_fits (path_in m) lookup;
                   key_is = refl;
-                  query_is = refl;
+                  sought_is = lookup_seeks m lookup;
                 };
             token = small;
             szx = szx-usable (asked_block m) (request-usable m);
@@ -447,13 +484,6 @@ lookup_facts rows moment s m read lookup = by (is_later_block m) refl
         (removed sent (is_observer (s.peer, m.token) (observers (events rows))) s.peer m.token)
         (keeps sent (is_long (asked_block m) (listing_now rows moment m).body))
 
-    only_looked : NoteFacts step.Admit s (look_effects (entries rows) moment s m).sent
-        (look_effects (entries rows) moment s m).notes
-    only_looked =
-        no_facts step.Admit s (look_effects (entries rows) moment s m).sent
-        (look_effects (entries rows) moment s m).notes
-        (look_effects-notes (entries rows) moment s m)
-
     valued : (b c : Bool)
         → number_of (asked_block m) ≡ 0
         → NoteFacts step.Admit s (observation_effects (observing_by b c) rows moment s m).sent
@@ -462,20 +492,20 @@ lookup_facts rows moment s m read lookup = by (is_later_block m) refl
         with_value (has_room_for (query_of m) (without (s.peer, m.token) (observers (events rows))))
         first
     valued false true first = with_value false first
-    valued false false first = only_looked
+    valued false false first = look_facts rows moment s m
 
     observe : (o : Option ℕ)
         → number_of (asked_block m) ≡ 0
         → NoteFacts step.Admit s (first_block_effects o rows moment s m).sent
         (first_block_effects o rows moment s m).notes
-    observe None first = only_looked
+    observe None first = look_facts rows moment s m
     observe (Some value) first = valued (value == register) (value == deregister) first
 
     by : (b : Bool)
         → is_later_block m ≡ b
         → NoteFacts step.Admit s (block_effects b rows moment s m).sent
         (block_effects b rows moment s m).notes
-    by true e = later (kept_answer moment (s.peer, key_in m) (events rows))
+    by true e = later_facts rows moment s m
     by false e =
         observe (observe_in m)
         (let low = ltb-false 0 (number_of (asked_block m)) e in omega (arith, low))
@@ -542,9 +572,6 @@ commit_facts rows moment place s m read asks = by (path_in m)
     changed_reply : IsGoodReply (bare codes_of.changed)
     changed_reply = good_bare codes_of.changed refl (λ e. absurd (omega (arith, e)))
 
-    deleted_reply : IsGoodReply (bare codes_of.deleted)
-    deleted_reply = good_bare codes_of.deleted refl (λ e. absurd (omega (arith, e)))
-
     simple : (running too_many : Bool)
         → NoteFacts (step.Commit place) s
         (simple_unless (fetch_room running too_many) (events rows) place s m).sent
@@ -562,26 +589,6 @@ commit_facts rows moment place s m read asks = by (path_in m)
     simple false false =
         (settled_by place s m (bare codes_of.changed) read asks changed_reply, (tt, tt))
 
-    removes : (number : ℕ)
-        → NoteFacts (step.Commit place) s (settling place s m (removing rows moment s number)).sent
-        (settling place s m (removing rows moment s number)).notes
-    removes number =
-        outcome (removing rows moment s number)
-        (good_change (entries rows) _ _ (λ e. deleted_reply))
-        (change_made-notes of_change (λ entry. refl) (entries rows) _ _ refl)
-
-    location : (w : Method) (number : ℕ)
-        → NoteFacts (step.Commit place) s (on_location w rows moment place s m number).sent
-        (on_location w rows moment place s m number).notes
-    location get number = removes number
-    location post number =
-        outcome (updating rows moment s m number)
-        (good_change (entries rows) _ _ (λ e. changed_reply))
-        (change_made-notes of_change (λ entry. refl) (entries rows) _ _ refl)
-    location put number = removes number
-    location delete number = removes number
-    location other_method number = removes number
-
     by : (p : Path)
         → NoteFacts (step.Commit place) s (write_done p rows moment place s m).sent
         (write_done p rows moment place s m).notes
@@ -593,7 +600,11 @@ commit_facts rows moment place s m read asks = by (path_in m)
         outcome (registering rows moment s m) (good_registering rows moment s m)
         (registering-notes of_change (λ entry. refl) (λ peer key number octets. refl)
         (λ peer key. refl) rows moment s m)
-    by (path.Location number) = location (method_of m.code) number
+    by (path.Location number) =
+        outcome (location_outcome (method_of m.code) rows moment s m number)
+        (good_location (method_of m.code) rows moment s m number)
+        (location-notes of_change (λ entry. refl) (λ peer key number octets. refl)
+        (λ peer key. refl) (method_of m.code) rows moment s m number)
     by path.Res = tt
     by path.Ep = tt
     by path.Other = tt
@@ -636,18 +647,24 @@ request_facts rows moment s m read = by (refusal_of_request m)
         (write_effects (events rows) moment s m).notes
         (write_effects-notes (events rows) moment s m)
 
+    there : (w : Method)
+        → NoteFacts step.Admit s (served_on_location w rows moment s m).sent
+        (served_on_location w rows moment s m).notes
+    there get = read_facts rows moment s m
+    there post = written
+    there put = written
+    there delete = written
+    there other_method = tt
+
     on : (p : Path)
         → path_in m ≡ p
         → NoteFacts step.Admit s (served p rows moment s m).sent (served p rows moment s m).notes
-    on path.Core at =
-        no_facts step.Admit s (look_effects (entries rows) moment s m).sent
-        (look_effects (entries rows) moment s m).notes
-        (look_effects-notes (entries rows) moment s m)
+    on path.Core at = look_facts rows moment s m
     on path.Res at = lookup_facts rows moment s m read (ap is_lookup at)
     on path.Ep at = lookup_facts rows moment s m read (ap is_lookup at)
     on path.SimpleRd at = written
     on path.Rd at = written
-    on (path.Location number) at = written
+    on (path.Location number) at = there (method_of m.code)
     on path.Other at = tt
 
     by : (refusal : Option Reply)

@@ -65,6 +65,7 @@ use Rattle.message_model.proofs.MessageLaws.{reading_in_order}
 use Rattle.message_model.proofs.ReadingLaws.{header_read}
 use Rattle.record_model.specs.Discovery.{discovery}
 use Rattle.history_model.specs.declared.entries.Entry.{Entry}
+use Rattle.history_model.specs.Sources.{source}
 use Rattle.history_model.specs.Listing.{listing, tag}
 use Rattle.event_model.specs.declared.notes.Note.{Note}
 use Rattle.event_model.specs.declared.notes.Note.TheVariants as note
@@ -119,11 +120,13 @@ use Rattle.journal_model.specs.Requests.{
   method_of,
 }
 use Rattle.journal_model.specs.Bodies.{is_long, body_reply}
-use Rattle.journal_model.specs.Sought.{listing_of, sought_at, body}
+use Rattle.journal_model.specs.Sought.{Sought, listing_of, source_of, own_links, sought_in}
 use Rattle.journal_model.specs.Looks.{
   names_tag,
   unless_long,
   unless_valid,
+  not_live,
+  found_or_not,
   look_for,
   look,
   look_sent,
@@ -133,7 +136,9 @@ use Rattle.journal_model.specs.Looks.{
 }
 use Rattle.journal_model.specs.Lookups.{
   listing_now,
+  found_now,
   block_now,
+  block_of_found,
   block_of_kept,
   later_block,
   without,
@@ -144,6 +149,8 @@ use Rattle.journal_model.specs.Lookups.{
   first_block_effects,
   block_effects,
   lookup_effects,
+  read_block_effects,
+  read_effects,
   observing_by,
 }
 use Rattle.journal_model.specs.Writes.{again_answered, admitted_unless, write_unless, write_effects}
@@ -151,10 +158,8 @@ use Rattle.journal_model.specs.Changes.{Outcome}
 use Rattle.journal_model.specs.Registrations.{registering}
 use Rattle.journal_model.specs.Commits.{
   settling,
-  updating,
-  removing,
   simple_unless,
-  on_location,
+  location_outcome,
   write_done,
   commit_effects,
   fetch_room,
@@ -176,6 +181,7 @@ use Rattle.journal_model.specs.Responses.{
   response_use,
 }
 use Rattle.journal_model.specs.Rows.{
+  served_on_location,
   served,
   refusal_answered,
   unread_answered,
@@ -214,9 +220,11 @@ use Rattle.journal_model.proofs.datagrams.FittingReplies.{
   good_part_reply,
   good_body_reply,
   good_valid,
-  good_change,
   good_registering,
+  good_location,
+  good_not_live,
 }
+use Rattle.journal_model.proofs.notes.LookupNotes.{found_KeptAt}
 
 -- a datagram of a step that is no tick, after rows
 pub record IsOwn (rows : List Row) (s : Step) (d : Peer × List ℕ) : Type 0 where
@@ -422,7 +430,7 @@ look_own : (rows : List Row) (history : List Entry) (moment : ℕ) (s : Step) (m
     → role_of m.kind m.code ≡ role.Request
     → AreOwn rows s (look_effects history moment s m).sent
 unfolding look_effects look
-look_own rows history moment s m read asks = by (path_in m)
+look_own rows history moment s m read asks = by (sought_in m)
   where
     long : (b : Bool) (found : Answer)
         → length found.tag ≡ 8
@@ -438,26 +446,83 @@ look_own rows history moment s m read asks = by (path_in m)
     valid true found short = own_answering rows s m _ [] read asks (good_valid found.tag short)
     valid false found short = long (is_long (asked_block m) found.body) found short
 
-    lists : AreOwn rows s
-        (look_sent s m (Some (look_for history moment m (listing_of (query_of m))))).sent
-    lists =
-        valid (names_tag (tag history moment) m)
-        (record { body = listing (query_of m) history moment; tag = tag history moment })
-        (tag-length history moment)
-
-    by : (p : Path)
+    shown : (whole : List ℕ)
         → AreOwn rows s
-        (look_sent s m (option_map (look_for history moment m) (sought_at p (query_of m)))).sent
-    by path.Core =
-        own_answering rows s m (body_reply None None (asked_block m) (discovery (query_of m))) []
+        (look_sent s m (Some (found_or_not (Some (tag history moment)) m (Some whole)))).sent
+    shown whole =
+        valid (names_tag (tag history moment) m)
+        (record { body = whole; tag = tag history moment }) (tag-length history moment)
+
+    of_source : (found : Option (List ℕ))
+        → AreOwn rows s
+        (look_sent s m (Some (found_or_not (Some (tag history moment)) m found))).sent
+    of_source None = own_answering rows s m not_live [] read asks good_not_live
+    of_source (Some whole) = shown whole
+
+    by : (o : Option Sought)
+        → AreOwn rows s (look_sent s m (option_map (look_for history moment m) o)).sent
+    by None = tt
+    by (Some (listing_of query)) = shown (listing query history moment)
+    by (Some (source_of number)) = of_source (source number history moment)
+    by (Some (own_links query)) =
+        own_answering rows s m (body_reply None None (asked_block m) (discovery query)) [] read asks
+        (good_body_reply None None (asked_block m) (discovery query) tt (usable m))
+
+-- a further block
+later_own : (rows : List Row) (moment : ℕ) (s : Step) (m : Message)
+    → KnownBefore rows
+    → reading s.datagram ≡ Ok m
+    → role_of m.kind m.code ≡ role.Request
+    → AreOwn rows s (later_block rows moment s m).sent
+unfolding later_block
+later_own rows moment s m past read asks =
+    by (found_now rows moment m) refl (kept_answer moment (s.peer, key_in m) (events rows)) refl
+  where
+    now_block : (a : Answer)
+        → length a.tag ≡ 8
+        → (part : Option (List ℕ × Bool))
+        → block_of a.body (number_of (asked_block m)) (szx_of (asked_block m)) ≡ part
+        → AreOwn rows s (block_now s m a part).sent
+    now_block a short None cut =
+        own_answering rows s m _ [] read asks
+        (good_part_reply (Some a.tag) None (asked_block m) a.body None short (usable m) cut)
+    now_block a short (Some part) cut =
+        own_answering rows s m _ _ read asks
+        (good_part_reply (Some a.tag) None (asked_block m) a.body (Some part) short (usable m) cut)
+
+    fresh : (found : Option Answer)
+        → found_now rows moment m ≡ found
+        → AreOwn rows s (block_of_found s m found).sent
+    fresh None is = own_answering rows s m not_live [] read asks good_not_live
+    fresh (Some a) is =
+        now_block a
+        (ap length (found_KeptAt rows moment m a is).tag_is ∙ tag-length (entries rows) moment)
+        (block_of a.body (number_of (asked_block m)) (szx_of (asked_block m))) refl
+
+    by : (found : Option Answer)
+        → found_now rows moment m ≡ found
+        → (kept : Option Answer)
+        → kept_answer moment (s.peer, key_in m) (events rows) ≡ kept
+        → AreOwn rows s (block_of_kept s m found kept).sent
+    by found is (Some answer) e =
+        own_answering rows s m (body_reply (Some answer.tag) None (asked_block m) answer.body) _
         read asks
-        (good_body_reply None None (asked_block m) (discovery (query_of m)) tt (usable m))
-    by path.SimpleRd = tt
-    by path.Rd = tt
-    by (path.Location number) = tt
-    by path.Res = lists
-    by path.Ep = lists
-    by path.Other = tt
+        (good_body_reply (Some answer.tag) None (asked_block m) answer.body
+        (past.kept moment (s.peer, key_in m) answer e) (usable m))
+    by found is None e = fresh found is
+
+-- a read of a registration
+read_own : (rows : List Row) (moment : ℕ) (s : Step) (m : Message)
+    → KnownBefore rows
+    → reading s.datagram ≡ Ok m
+    → role_of m.kind m.code ≡ role.Request
+    → AreOwn rows s (read_effects rows moment s m).sent
+unfolding read_effects
+read_own rows moment s m past read asks = by (is_later_block m)
+  where
+    by : (b : Bool) → AreOwn rows s (read_block_effects b rows moment s m).sent
+    by true = later_own rows moment s m past read asks
+    by false = look_own rows (entries rows) moment s m read asks
 
 -- a lookup that the journal takes part in
 lookup_own : (rows : List Row) (moment : ℕ) (s : Step) (m : Message)
@@ -465,39 +530,11 @@ lookup_own : (rows : List Row) (moment : ℕ) (s : Step) (m : Message)
     → reading s.datagram ≡ Ok m
     → role_of m.kind m.code ≡ role.Request
     → AreOwn rows s (lookup_effects rows moment s m).sent
-unfolding lookup_effects later_block observed unobserved
+unfolding lookup_effects observed unobserved
 lookup_own rows moment s m past read asks = by (is_later_block m)
   where
-    now : Answer
-    now = listing_now rows moment m
-
     short : length (tag (entries rows) moment) ≡ 8
     short = tag-length (entries rows) moment
-
-    now_block : (part : Option (List ℕ × Bool))
-        → block_of (listing_now rows moment m).body (number_of (asked_block m))
-        (szx_of (asked_block m))
-        ≡ part
-        → AreOwn rows s (block_now s m (listing_now rows moment m) part).sent
-    now_block None cut =
-        own_answering rows s m _ [] read asks
-        (good_part_reply (Some (tag (entries rows) moment)) None (asked_block m)
-        (listing_now rows moment m).body None short (usable m) cut)
-    now_block (Some part) cut =
-        own_answering rows s m _ _ read asks
-        (good_part_reply (Some (tag (entries rows) moment)) None (asked_block m)
-        (listing_now rows moment m).body (Some part) short (usable m) cut)
-
-    later : (found : Option Answer)
-        → kept_answer moment (s.peer, key_in m) (events rows) ≡ found
-        → AreOwn rows s (block_of_kept s m (listing_now rows moment m) found).sent
-    later (Some found) e =
-        own_answering rows s m (body_reply (Some found.tag) None (asked_block m) found.body) _ read
-        asks (good_body_reply (Some found.tag) None (asked_block m) found.body
-        (past.kept moment (s.peer, key_in m) found e) (usable m))
-    later None e =
-        now_block (block_of (listing_now rows moment m).body (number_of (asked_block m))
-        (szx_of (asked_block m))) refl
 
     with_value : (b : Bool)
         → AreOwn rows s (observed_if b rows s m (listing_now rows moment m)).sent
@@ -525,7 +562,7 @@ lookup_own rows moment s m past read asks = by (is_later_block m)
     observe (Some value) = valued (value == register) (value == deregister)
 
     by : (b : Bool) → AreOwn rows s (block_effects b rows moment s m).sent
-    by true = later (kept_answer moment (s.peer, key_in m) (events rows)) refl
+    by true = later_own rows moment s m past read asks
     by false = observe (observe_in m)
 
 -- a request that is heard
@@ -546,13 +583,20 @@ request_own rows moment s m past read asks = by (refusal_of_request m) refl
     refused Ack bad reply good = own_answering rows s m reply [] read asks good
     refused Rst bad reply good = own_answering rows s m reply [] read asks good
 
+    there : (w : Method) → AreOwn rows s (served_on_location w rows moment s m).sent
+    there get = read_own rows moment s m past read asks
+    there post = write_own rows moment s m past read asks
+    there put = write_own rows moment s m past read asks
+    there delete = write_own rows moment s m past read asks
+    there other_method = tt
+
     on : (p : Path) → AreOwn rows s (served p rows moment s m).sent
     on path.Core = look_own rows (entries rows) moment s m read asks
     on path.Res = lookup_own rows moment s m past read asks
     on path.Ep = lookup_own rows moment s m past read asks
     on path.SimpleRd = write_own rows moment s m past read asks
     on path.Rd = write_own rows moment s m past read asks
-    on (path.Location number) = write_own rows moment s m past read asks
+    on (path.Location number) = there (method_of m.code)
     on path.Other = tt
 
     by : (refusal : Option Reply)
@@ -578,9 +622,6 @@ commit_own rows moment place s m read asks = by (path_in m)
     changed_reply : IsGoodReply (bare codes_of.changed)
     changed_reply = good_bare codes_of.changed refl (λ e. absurd (omega (arith, e)))
 
-    deleted_reply : IsGoodReply (bare codes_of.deleted)
-    deleted_reply = good_bare codes_of.deleted refl (λ e. absurd (omega (arith, e)))
-
     outcome : (o : Outcome) → IsGoodReply o.reply → AreOwn rows s (settling place s m o).sent
     outcome o good = (own_answer rows s m o.reply read asks good, tt)
 
@@ -605,28 +646,15 @@ commit_own rows moment place s m read asks = by (path_in m)
       ),
     )
 
-    removes : (number : ℕ) → AreOwn rows s (settling place s m (removing rows moment s number)).sent
-    removes number =
-        outcome (removing rows moment s number)
-        (good_change (entries rows) _ _ (λ e. deleted_reply))
-
-    location : (w : Method) (number : ℕ)
-        → AreOwn rows s (on_location w rows moment place s m number).sent
-    location get number = removes number
-    location post number =
-        outcome (updating rows moment s m number)
-        (good_change (entries rows) _ _ (λ e. changed_reply))
-    location put number = removes number
-    location delete number = removes number
-    location other_method number = removes number
-
     by : (p : Path) → AreOwn rows s (write_done p rows moment place s m).sent
     by path.Core = tt
     by path.SimpleRd =
         simple (is_fetching s.peer (events rows))
         (nat_le max_fetches (length (fetches (events rows))))
     by path.Rd = outcome (registering rows moment s m) (good_registering rows moment s m)
-    by (path.Location number) = location (method_of m.code) number
+    by (path.Location number) =
+        outcome (location_outcome (method_of m.code) rows moment s m number)
+        (good_location (method_of m.code) rows moment s m number)
     by path.Res = tt
     by path.Ep = tt
     by path.Other = tt

@@ -56,7 +56,6 @@ use Rattle.journal_model.specs.Journal.{events, entries, row_at}
 use Rattle.journal_model.specs.Effects.{Reply, answer, answering}
 use Rattle.journal_model.specs.Changes.{Outcome}
 use Rattle.journal_model.specs.Requests.{
-  refusal_of_request,
   Method,
   get,
   post,
@@ -64,23 +63,25 @@ use Rattle.journal_model.specs.Requests.{
   delete,
   other_method,
   method_of,
+  is_changing,
+  is_write,
+  refusal_of_request,
 }
 use Rattle.journal_model.specs.Looks.{look_effects}
-use Rattle.journal_model.specs.Lookups.{lookup_effects}
+use Rattle.journal_model.specs.Lookups.{lookup_effects, read_effects}
 use Rattle.journal_model.specs.EmptyMessages.{acknowledged, reset}
 use Rattle.journal_model.specs.Responses.{response_effects}
 use Rattle.journal_model.specs.Registrations.{registering}
 use Rattle.journal_model.specs.Commits.{
   settling,
   simple_unless,
-  on_location,
+  location_outcome,
   write_done,
   commit_effects,
-  updating,
-  removing,
   fetch_room,
 }
 use Rattle.journal_model.specs.Rows.{
+  served_on_location,
   served,
   refusal_answered,
   unread_answered,
@@ -105,6 +106,7 @@ use Rattle.journal_model.proofs.NoteKinds.{of_lookup, of_empty, of_response, are
 use Rattle.journal_model.proofs.StepNotes.{
   look_effects-notes,
   lookup_effects-notes,
+  read_effects-notes,
   acknowledged-notes,
   reset-notes,
 }
@@ -122,17 +124,10 @@ use Rattle.journal_model.proofs.desks.TouchedExchanges.{
 
 -- ---- what is admitted is a write
 
--- the path is one that writes go to
-abbrev is_write : Path → Bool
-is_write path.SimpleRd = true
-is_write path.Rd = true
-is_write (path.Location number) = true
-is_write _ = false
-
--- what is read of a datagram goes to such a path
+-- what is read of a datagram is a write
 abbrev is_write_reading : Result Message Unread → Bool
 is_write_reading (Err fault) = false
-is_write_reading (Ok m) = is_write (path_in m)
+is_write_reading (Ok m) = is_write (path_in m) (method_of m.code)
 
 -- notes of a kind that admits nothing
 never : (kind : Note → Bool)
@@ -158,9 +153,20 @@ response_admits_none : (n : Note) → of_response n ≡ true → is_admitting n 
 response_admits_none (note.Admitted peer mid) h = absurd (false≢true h)
 response_admits_none _ h = refl
 
+there_writes : (w : Method) (rows : List Row) (moment : ℕ) (s : Step) (m : Message)
+    → list_any is_admitting (served_on_location w rows moment s m).notes ≡ true
+    → is_changing w ≡ true
+there_writes get rows moment s m some =
+    absurd (never of_lookup lookup_admits_none (read_effects rows moment s m).notes
+    (read_effects-notes rows moment s m) some)
+there_writes post rows moment s m some = refl
+there_writes put rows moment s m some = refl
+there_writes delete rows moment s m some = refl
+there_writes other_method rows moment s m some = absurd (false≢true some)
+
 served_writes : (p : Path) (rows : List Row) (moment : ℕ) (s : Step) (m : Message)
     → list_any is_admitting (served p rows moment s m).notes ≡ true
-    → is_write p ≡ true
+    → is_write p (method_of m.code) ≡ true
 unfolding served
 served_writes path.Core rows moment s m some =
     absurd (never_noted (look_effects (entries rows) moment s m).notes
@@ -173,12 +179,13 @@ served_writes path.Ep rows moment s m some =
     (lookup_effects-notes rows moment s m) some)
 served_writes path.SimpleRd rows moment s m some = refl
 served_writes path.Rd rows moment s m some = refl
-served_writes (path.Location number) rows moment s m some = refl
+served_writes (path.Location number) rows moment s m some =
+    there_writes (method_of m.code) rows moment s m some
 served_writes path.Other rows moment s m some = absurd (false≢true some)
 
 request_writes : (refusal : Option Reply) (rows : List Row) (moment : ℕ) (s : Step) (m : Message)
     → list_any is_admitting (request_answered refusal rows moment s m).notes ≡ true
-    → is_write (path_in m) ≡ true
+    → is_write (path_in m) (method_of m.code) ≡ true
 request_writes (Some refusal) rows moment s m some =
     absurd (never_noted (refusal_answered m.kind (first_bad_option m.options) s m refusal).notes
     (refusal_notes m.kind (first_bad_option m.options) s m refusal) some)
@@ -186,7 +193,7 @@ request_writes None rows moment s m some = served_writes (path_in m) rows moment
 
 role_writes : (r : Role) (starved : Bool) (rows : List Row) (moment : ℕ) (s : Step) (m : Message)
     → list_any is_admitting (message_effects r starved rows moment s m).notes ≡ true
-    → is_write (path_in m) ≡ true
+    → is_write (path_in m) (method_of m.code) ≡ true
 unfolding answering
 role_writes role.Ping starved rows moment s m some = absurd (false≢true some)
 role_writes role.Acknowledgement starved rows moment s m some =
@@ -281,7 +288,7 @@ write_at (r ∷ before) place admission (made {rows} s starved journal may) foun
 -- ---- what is committed is ended
 
 commit_ends_it : (rows : List Row) (moment place : ℕ) (s : Step) (m : Message)
-    → is_write (path_in m) ≡ true
+    → is_write (path_in m) (method_of m.code) ≡ true
     → list_any (is_ending_of place) (commit_effects rows moment place s m).notes ≡ true
 unfolding commit_effects answering
 commit_ends_it rows moment place s m it = by (path_in m) it
@@ -304,22 +311,15 @@ commit_ends_it rows moment place s m it = by (path_in m) it
     simple false true = rw (eqb-refl place) refl
     simple false false = rw (eqb-refl place) refl
 
-    location : (w : Method) (number : ℕ)
-        → list_any (is_ending_of place) (on_location w rows moment place s m number).notes ≡ true
-    location get number = settled_at (removing rows moment s number)
-    location post number = settled_at (updating rows moment s m number)
-    location put number = settled_at (removing rows moment s number)
-    location delete number = settled_at (removing rows moment s number)
-    location other_method number = settled_at (removing rows moment s number)
-
     by : (p : Path)
-        → is_write p ≡ true
+        → is_write p (method_of m.code) ≡ true
         → list_any (is_ending_of place) (write_done p rows moment place s m).notes ≡ true
     by path.SimpleRd h =
         simple (is_fetching s.peer (events rows))
         (nat_le max_fetches (length (fetches (events rows))))
     by path.Rd h = settled_at (registering rows moment s m)
-    by (path.Location number) h = location (method_of m.code) number
+    by (path.Location number) h =
+        settled_at (location_outcome (method_of m.code) rows moment s m number)
     by path.Core h = absurd (false≢true h)
     by path.Res h = absurd (false≢true h)
     by path.Ep h = absurd (false≢true h)

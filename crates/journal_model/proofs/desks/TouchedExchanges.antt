@@ -40,18 +40,16 @@ use Rattle.journal_model.specs.declared.steps.Step.{Step}
 use Rattle.journal_model.specs.declared.steps.StepKind.{StepKind}
 use Rattle.journal_model.specs.declared.steps.StepKind.TheVariants as step
 use Rattle.journal_model.specs.declared.rows.Row.{Row}
-use Rattle.journal_model.specs.Journal.{events, entries}
+use Rattle.journal_model.specs.Journal.{events}
 use Rattle.journal_model.specs.Effects.{answer, answering}
 use Rattle.journal_model.specs.Changes.{Outcome}
 use Rattle.journal_model.specs.Registrations.{registering}
 use Rattle.journal_model.specs.Commits.{
   settling,
   simple_unless,
-  on_location,
+  location_outcome,
   write_done,
   commit_effects,
-  updating,
-  removing,
   fetch_room,
 }
 use Rattle.journal_model.specs.Writes.{again_answered, admitted_unless, write_unless, write_effects}
@@ -68,16 +66,17 @@ use Rattle.journal_model.proofs.NoteKinds.{
 use Rattle.journal_model.proofs.StepNotes.{
   keep_effects-notes,
   lookup_effects-notes,
+  read_effects-notes,
   tick_effects-notes,
 }
 use Rattle.journal_model.proofs.notes.ChangeNotes.{
-  change_made-notes,
   registering-notes,
+  location-notes,
   response_effects-notes,
 }
 use Rattle.journal_model.proofs.notes.StepTable.{StepNoted, effects-StepNoted}
 use Rattle.journal_model.proofs.notes.StepTable as noted
-use Rattle.journal_model.specs.Requests.{Method, get, post, put, delete, other_method, method_of}
+use Rattle.journal_model.specs.Requests.{method_of}
 
 -- it admits nothing, and settles or fails at most what was admitted at a place
 abbrev pub ends_at : ℕ → Note → Bool
@@ -175,24 +174,6 @@ commit_ends rows moment place s m = by (path_in m)
     simple false true = rw (eqb-refl place) refl
     simple false false = rw (eqb-refl place) refl
 
-    location : (w : Method) (number : ℕ)
-        → are (ends_at place) (on_location w rows moment place s m number).notes ≡ true
-    location get number =
-        settled_at (removing rows moment s number)
-        (change_made-notes (ends_at place) (λ entry. refl) (entries rows) _ _ refl)
-    location post number =
-        settled_at (updating rows moment s m number)
-        (change_made-notes (ends_at place) (λ entry. refl) (entries rows) _ _ refl)
-    location put number =
-        settled_at (removing rows moment s number)
-        (change_made-notes (ends_at place) (λ entry. refl) (entries rows) _ _ refl)
-    location delete number =
-        settled_at (removing rows moment s number)
-        (change_made-notes (ends_at place) (λ entry. refl) (entries rows) _ _ refl)
-    location other_method number =
-        settled_at (removing rows moment s number)
-        (change_made-notes (ends_at place) (λ entry. refl) (entries rows) _ _ refl)
-
     by : (p : Path) → are (ends_at place) (write_done p rows moment place s m).notes ≡ true
     by path.Core = refl
     by path.SimpleRd =
@@ -202,7 +183,10 @@ commit_ends rows moment place s m = by (path_in m)
         settled_at (registering rows moment s m)
         (registering-notes (ends_at place) (λ entry. refl) (λ peer key number octets. refl)
         (λ peer key. refl) rows moment s m)
-    by (path.Location number) = location (method_of m.code) number
+    by (path.Location number) =
+        settled_at (location_outcome (method_of m.code) rows moment s m number)
+        (location-notes (ends_at place) (λ entry. refl) (λ peer key number octets. refl)
+        (λ peer key. refl) (method_of m.code) rows moment s m number)
     by path.Res = refl
     by path.Ep = refl
     by path.Other = refl
@@ -222,6 +206,9 @@ effects-Touches kind starved rows moment s =
     by ns (noted.lookup m here read at is) =
         aside (are-weaker of_lookup is_aside lookup_aside ns
         (ap (are of_lookup) is ∙ lookup_effects-notes rows moment s m))
+    by ns (noted.source m here read at is) =
+        aside (are-weaker of_lookup is_aside lookup_aside ns
+        (ap (are of_lookup) is ∙ read_effects-notes rows moment s m))
     by ns (noted.empty here all) = aside (are-weaker of_empty is_aside empty_aside ns all)
     by ns (noted.response m here read responds is) =
         aside (are-weaker of_response is_aside response_aside ns

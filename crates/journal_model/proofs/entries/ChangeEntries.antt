@@ -26,6 +26,7 @@ use Rattle.std.proofs.Common.{
   Ok,
   Err,
   sym,
+  subst,
 }
 use Rattle.std.proofs.lemmas.Bool.{false≢true}
 use Rattle.rd_base.specs.declared.parameters.RegParams.{RegParams}
@@ -44,7 +45,7 @@ use Rattle.history_model.specs.declared.entries.Change.TheVariants as change
 use Rattle.history_model.specs.declared.entries.Entry.{Entry}
 use Rattle.history_model.specs.declared.refusals.Refusal.{Refusal}
 use Rattle.history_model.specs.declared.refusals.Refusal.TheVariants as refusal
-use Rattle.history_model.specs.Legal.{HasGoodBody}
+use Rattle.history_model.specs.Legal.{AreOfGoodBody, HasGoodBody}
 use Rattle.history_model.specs.Refusals.{change_refusal}
 use Rattle.event_model.specs.declared.notes.Note.{Note}
 use Rattle.event_model.specs.declared.notes.Note.TheVariants as note
@@ -79,24 +80,30 @@ use Rattle.journal_model.specs.Changes.{
   registered_links,
   registration,
   created_at,
+  changed_with,
   number_after,
   entry_of_step,
+  replaced_links,
+  replacement,
+  Purpose,
+  to_register,
+  to_replace,
+  body_used,
 }
 use Rattle.journal_model.specs.Registrations.{
   block_taken,
   block_unless,
   block_after,
   block_uploaded,
-  registration_outcome,
+  links_outcome,
   registering,
+  replacing,
   block_room,
 }
 use Rattle.journal_model.specs.Commits.{
   settling,
-  updating,
-  removing,
   simple_unless,
-  on_location,
+  location_outcome,
   write_done,
   commit_effects,
   fetch_room,
@@ -177,17 +184,17 @@ change_made-OutcomeEntry history moment entry outcome l at good silent reports =
     by None e = one_change entry (ap (λ entries. entry ∷ entries) silent) at good e reports
 
 -- what is read of a good body
-body_read-good : (body : List ℕ) (params : RegParams) (links : List SubmittedLink)
+body_read-good : (body : List ℕ) (links : List SubmittedLink)
     → body_read body ≡ good_body links
-    → HasGoodBody (change.Register params links)
+    → AreOfGoodBody links
 unfolding body_read is_refused_as_limited
-body_read-good body params links e = by (linked_references body) refl e
+body_read-good body links e = by (linked_references body) refl e
   where
     limited : (all : List SubmittedLink) (b : Bool)
         → linked_references body ≡ Some all
         → is_some (first_unlimited all) ≡ b
         → limited_links b all ≡ good_body links
-        → HasGoodBody (change.Register params links)
+        → AreOfGoodBody links
     limited all true linked tested same =
         absurd (let h : bad_body (codes "limited") ≡ good_body links = same in cc)
     limited all false linked tested same =
@@ -197,7 +204,7 @@ body_read-good body params links e = by (linked_references body) refl e
     by : (read : Option (List SubmittedLink))
         → linked_references body ≡ read
         → links_or_bad read ≡ good_body links
-        → HasGoodBody (change.Register params links)
+        → AreOfGoodBody links
     by None linked same = absurd (let h : bad_body (codes "links") ≡ good_body links = same in cc)
     by (Some all) linked same = limited all (is_some (first_unlimited all)) linked refl same
 
@@ -228,44 +235,109 @@ registration-OutcomeEntry history moment s params body further notes l silent =
               further;
           notes = notes;
         }) l refl
-        (body_read-good body params links e) silent refl
+        (body_read-good body links e) silent refl
 
--- a registration, whole or a block of one
-registering-OutcomeEntry : (rows : List Row) (moment : ℕ) (s : Step) (m : Message) (l : Bool)
-    → OutcomeEntry (entries rows) moment (registering rows moment s m) l
-unfolding registering block_uploaded
-registering-OutcomeEntry rows moment s m l = by (sent_block m)
+-- a replacement of links by those of a whole body; its answer reports a change on a location
+replacement-OutcomeEntry : (history : List Entry) (moment : ℕ) (s : Step) (number : ℕ)
+    (body : List ℕ) (further : List Opt) (notes : List Note)
+    → entries_in notes ≡ []
+    → OutcomeEntry history moment (replacement history moment s number body further notes) true
+unfolding replacement
+replacement-OutcomeEntry history moment s number body further notes silent =
+    by (body_read body) refl
+  where
+    bad : (word : List ℕ)
+        → OutcomeEntry history moment
+        (replaced_links history moment s number further notes (bad_body word)) true
+    bad word = no_change refl refl
+
+    by : (read : BodyRead)
+        → body_read body ≡ read
+        → OutcomeEntry history moment (replaced_links history moment s number further notes read)
+        true
+    by (bad_body word) e = bad word
+    by (good_body links) e =
+        change_made-OutcomeEntry history moment
+        (entry_of_step moment s (change.Replace number links))
+        (record { reply = changed_with further; notes = notes }) true refl
+        (body_read-good body links e) silent refl
+
+-- what is noted of a body that is whole, or of a block, is for a location or is for none
+abbrev reports_at : Purpose → Bool → Type 0
+reports_at (to_register params) l = Unit {0}
+reports_at (to_replace number) l = l ≡ true
+
+-- a whole body, by what its links are for
+body_used-OutcomeEntry : (purpose : Purpose) (history : List Entry) (moment : ℕ) (s : Step)
+    (body : List ℕ) (further : List Opt) (notes : List Note) (l : Bool)
+    → reports_at purpose l
+    → entries_in notes ≡ []
+    → OutcomeEntry history moment (body_used purpose history moment s body further notes) l
+body_used-OutcomeEntry (to_register params) history moment s body further notes l at silent =
+    registration-OutcomeEntry history moment s params body further notes l silent
+body_used-OutcomeEntry (to_replace number) history moment s body further notes l at silent =
+    subst (OutcomeEntry history moment (replacement history moment s number body further notes))
+    (sym at) (replacement-OutcomeEntry history moment s number body further notes silent)
+
+-- links that come whole, or a block of them
+links-OutcomeEntry : (block : Option Block) (purpose : Purpose) (rows : List Row) (moment : ℕ)
+    (s : Step) (m : Message) (l : Bool)
+    → reports_at purpose l
+    → OutcomeEntry (entries rows) moment (links_outcome block purpose rows moment s m) l
+unfolding block_uploaded
+links-OutcomeEntry block purpose rows moment s m l at = by block
   where
     taken : (more : Bool) (b : Block) (body : List ℕ)
-        → OutcomeEntry (entries rows) moment (block_taken more rows moment s m b body) l
+        → OutcomeEntry (entries rows) moment (block_taken more purpose rows moment s m b body) l
     taken true b body = no_change refl refl
     taken false b body =
-        registration-OutcomeEntry (entries rows) moment s (registration_values (queries_in m)) body
-        _ (note.Finished s.peer (key_in m) ∷ []) l refl
+        body_used-OutcomeEntry purpose (entries rows) moment s body _
+        (note.Finished s.peer (key_in m) ∷ []) l at refl
 
     unless : (too_long too_many : Bool) (b : Block) (body : List ℕ)
         → OutcomeEntry (entries rows) moment
-        (block_unless (block_room too_long too_many) rows moment s m b body)
+        (block_unless (block_room too_long too_many) purpose rows moment s m b body)
         l
     unless true too_many b body = no_change refl refl
     unless false true b body = no_change refl refl
     unless false false b body = taken b.more b body
 
     after : (front upload : Option (List ℕ)) (b : Block)
-        → OutcomeEntry (entries rows) moment (block_after front upload rows moment s m b) l
+        → OutcomeEntry (entries rows) moment (block_after front upload purpose rows moment s m b) l
     after None upload b = no_change refl refl
     after (Some front) upload b =
         unless (nat_lt max_body (length front + length m.payload))
         (is_one_too_many b upload (live_uploads moment (events rows))) b (front ++ m.payload)
 
     by : (b : Option Block)
-        → OutcomeEntry (entries rows) moment (registration_outcome b rows moment s m) l
+        → OutcomeEntry (entries rows) moment (links_outcome b purpose rows moment s m) l
     by None =
-        registration-OutcomeEntry (entries rows) moment s (registration_values (queries_in m))
-        m.payload [] [] l refl
+        body_used-OutcomeEntry purpose (entries rows) moment s m.payload [] [] l at refl
     by (Some b) =
         let upload : Option (List ℕ) = live_upload moment (s.peer, key_in m) (events rows) in
         after (collected_before b upload) upload b
+
+-- a registration, whole or a block of one
+registering-OutcomeEntry : (rows : List Row) (moment : ℕ) (s : Step) (m : Message) (l : Bool)
+    → OutcomeEntry (entries rows) moment (registering rows moment s m) l
+unfolding registering
+registering-OutcomeEntry rows moment s m l =
+    links-OutcomeEntry (sent_block m) (to_register (registration_values (queries_in m))) rows moment
+    s m l tt
+
+-- a write on a registration, by its method
+location-OutcomeEntry : (w : Method) (rows : List Row) (moment : ℕ) (s : Step) (m : Message)
+    (number : ℕ)
+    → OutcomeEntry (entries rows) moment (location_outcome w rows moment s m number) true
+unfolding replacing
+location-OutcomeEntry get rows moment s m number = no_change refl refl
+location-OutcomeEntry post rows moment s m number =
+    change_made-OutcomeEntry (entries rows) moment _ _ true refl tt refl refl
+location-OutcomeEntry put rows moment s m number =
+    links-OutcomeEntry (sent_block m) (to_replace number) rows moment s m true refl
+location-OutcomeEntry delete rows moment s m number =
+    change_made-OutcomeEntry (entries rows) moment _ _ true refl tt refl refl
+location-OutcomeEntry other_method rows moment s m number = no_change refl refl
 
 -- the answer has the code of what came of the write, and settling it notes no entry
 settling-ChangeEntry : (history : List Entry) (moment place : ℕ) (s : Step) (m : Message)
@@ -299,25 +371,6 @@ commit_effects-ChangeEntry rows moment place s m = by (path_in m)
     simple false true = no_change refl refl
     simple false false = no_change refl refl
 
-    location : (w : Method) (number : ℕ)
-        → ChangeEntry (entries rows) moment (on_location w rows moment place s m number).notes
-        (is_code_of_change (code_sent (on_location w rows moment place s m number).sent) true)
-    location get number =
-        settling-ChangeEntry (entries rows) moment place s m (removing rows moment s number) true
-        (change_made-OutcomeEntry (entries rows) moment _ _ true refl tt refl refl)
-    location post number =
-        settling-ChangeEntry (entries rows) moment place s m (updating rows moment s m number) true
-        (change_made-OutcomeEntry (entries rows) moment _ _ true refl tt refl refl)
-    location put number =
-        settling-ChangeEntry (entries rows) moment place s m (removing rows moment s number) true
-        (change_made-OutcomeEntry (entries rows) moment _ _ true refl tt refl refl)
-    location delete number =
-        settling-ChangeEntry (entries rows) moment place s m (removing rows moment s number) true
-        (change_made-OutcomeEntry (entries rows) moment _ _ true refl tt refl refl)
-    location other_method number =
-        settling-ChangeEntry (entries rows) moment place s m (removing rows moment s number) true
-        (change_made-OutcomeEntry (entries rows) moment _ _ true refl tt refl refl)
-
     by : (p : Path)
         → ChangeEntry (entries rows) moment (write_done p rows moment place s m).notes
         (is_code_of_change (code_sent (write_done p rows moment place s m).sent)
@@ -329,7 +382,10 @@ commit_effects-ChangeEntry rows moment place s m = by (path_in m)
     by path.Rd =
         settling-ChangeEntry (entries rows) moment place s m (registering rows moment s m) false
         (registering-OutcomeEntry rows moment s m false)
-    by (path.Location number) = location (method_of m.code) number
+    by (path.Location number) =
+        settling-ChangeEntry (entries rows) moment place s m
+        (location_outcome (method_of m.code) rows moment s m number) true
+        (location-OutcomeEntry (method_of m.code) rows moment s m number)
     by path.Res = no_change refl refl
     by path.Ep = no_change refl refl
     by path.Other = no_change refl refl

@@ -38,6 +38,7 @@ use Rattle.journal_model.proofs.notes.StepTable as noted
 use Rattle.journal_model.proofs.entries.QuietSteps.{
   keep_effects-entries_in,
   lookup_effects-entries_in,
+  read_effects-entries_in,
   write_effects-entries_in,
   tick_effects-entries_in,
 }
@@ -103,6 +104,8 @@ effects-EntryOrigin kind starved rows moment s =
         nowhere (ap entries_in is ∙ write_effects-entries_in (events rows) moment s m)
     by ns (noted.lookup m here read at is) =
         nowhere (ap entries_in is ∙ lookup_effects-entries_in rows moment s m)
+    by ns (noted.source m here read at is) =
+        nowhere (ap entries_in is ∙ read_effects-entries_in rows moment s m)
     by ns (noted.empty here all) = nowhere (empty-entries_in ns all)
     by ns (noted.response m here read responds is) =
         heard_entry m ns here read responds is (fetch_of s m (events rows)) refl

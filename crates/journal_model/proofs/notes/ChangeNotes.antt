@@ -74,24 +74,30 @@ use Rattle.journal_model.specs.Changes.{
   registered_links,
   registration,
   created_at,
+  changed_with,
   number_after,
   entry_of_step,
+  replaced_links,
+  replacement,
+  Purpose,
+  to_register,
+  to_replace,
+  body_used,
 }
 use Rattle.journal_model.specs.Registrations.{
   block_taken,
   block_unless,
   block_after,
   block_uploaded,
-  registration_outcome,
+  links_outcome,
   registering,
+  replacing,
   block_room,
 }
 use Rattle.journal_model.specs.Commits.{
   settling,
-  updating,
-  removing,
   simple_unless,
-  on_location,
+  location_outcome,
   write_done,
   commit_effects,
   fetch_room,
@@ -152,7 +158,79 @@ registration-notes kind entered history moment s params body further notes h = b
           notes = notes;
         }) h
 
--- a registration, whole or a block of one, where what it may note is of a kind
+-- a replacement of links by those of a whole body
+replacement-notes : (kind : Note → Bool)
+    → ((entry : Entry) → kind (note.Entered entry) ≡ true)
+    → (history : List Entry) (moment : ℕ) (s : Step) (number : ℕ) (body : List ℕ)
+    (further : List Opt) (notes : List Note)
+    → are kind notes ≡ true
+    → are kind (replacement history moment s number body further notes).notes ≡ true
+unfolding replacement
+replacement-notes kind entered history moment s number body further notes h = by (body_read body)
+  where
+    by : (read : BodyRead)
+        → are kind (replaced_links history moment s number further notes read).notes ≡ true
+    by (bad_body word) = refl
+    by (good_body links) =
+        change_made-notes kind entered history
+        (entry_of_step moment s (change.Replace number links))
+        (record { reply = changed_with further; notes = notes }) h
+
+-- a whole body, by what its links are for
+body_used-notes : (kind : Note → Bool)
+    → ((entry : Entry) → kind (note.Entered entry) ≡ true)
+    → (purpose : Purpose) (history : List Entry) (moment : ℕ) (s : Step) (body : List ℕ)
+    (further : List Opt) (notes : List Note)
+    → are kind notes ≡ true
+    → are kind (body_used purpose history moment s body further notes).notes ≡ true
+body_used-notes kind entered (to_register params) history moment s body further notes h =
+    registration-notes kind entered history moment s params body further notes h
+body_used-notes kind entered (to_replace number) history moment s body further notes h =
+    replacement-notes kind entered history moment s number body further notes h
+
+-- links that come whole, or a block of them, where what may be noted is of a kind
+links_outcome-notes : (kind : Note → Bool)
+    → ((entry : Entry) → kind (note.Entered entry) ≡ true)
+    → ((peer : Peer) (key : List ℕ) (number : ℕ) (octets : List ℕ)
+    → kind (note.Piece peer key number octets) ≡ true)
+    → ((peer : Peer) (key : List ℕ) → kind (note.Finished peer key) ≡ true)
+    → (block : Option Block) (purpose : Purpose) (rows : List Row) (moment : ℕ) (s : Step)
+    (m : Message)
+    → are kind (links_outcome block purpose rows moment s m).notes ≡ true
+unfolding block_uploaded
+links_outcome-notes kind entered piece finished block purpose rows moment s m = by block
+  where
+    taken : (more : Bool) (b : Block) (body : List ℕ)
+        → are kind (block_taken more purpose rows moment s m b body).notes ≡ true
+    taken true b body =
+        and_from (kind (note.Piece s.peer (key_in m) b.num m.payload)) true
+        (piece s.peer (key_in m) b.num m.payload) refl
+    taken false b body =
+        body_used-notes kind entered purpose (entries rows) moment s body _
+        (note.Finished s.peer (key_in m) ∷ [])
+        (and_from (kind (note.Finished s.peer (key_in m))) true (finished s.peer (key_in m)) refl)
+
+    unless : (too_long too_many : Bool) (b : Block) (body : List ℕ)
+        → are kind (block_unless (block_room too_long too_many) purpose rows moment s m b
+        body).notes ≡ true
+    unless true too_many b body = refl
+    unless false true b body = refl
+    unless false false b body = taken b.more b body
+
+    after : (front upload : Option (List ℕ)) (b : Block)
+        → are kind (block_after front upload purpose rows moment s m b).notes ≡ true
+    after None upload b = refl
+    after (Some front) upload b =
+        unless (nat_lt max_body (length front + length m.payload))
+        (is_one_too_many b upload (live_uploads moment (events rows))) b (front ++ m.payload)
+
+    by : (b : Option Block) → are kind (links_outcome b purpose rows moment s m).notes ≡ true
+    by None = body_used-notes kind entered purpose (entries rows) moment s m.payload [] [] refl
+    by (Some b) =
+        let upload : Option (List ℕ) = live_upload moment (s.peer, key_in m) (events rows) in
+        after (collected_before b upload) upload b
+
+-- a registration, and a replacement of links
 pub registering-notes : (kind : Note → Bool)
     → ((entry : Entry) → kind (note.Entered entry) ≡ true)
     → ((peer : Peer) (key : List ℕ) (number : ℕ) (octets : List ℕ)
@@ -160,40 +238,39 @@ pub registering-notes : (kind : Note → Bool)
     → ((peer : Peer) (key : List ℕ) → kind (note.Finished peer key) ≡ true)
     → (rows : List Row) (moment : ℕ) (s : Step) (m : Message)
     → are kind (registering rows moment s m).notes ≡ true
-unfolding registering block_uploaded
-registering-notes kind entered piece finished rows moment s m = by (sent_block m)
-  where
-    taken : (more : Bool) (b : Block) (body : List ℕ)
-        → are kind (block_taken more rows moment s m b body).notes ≡ true
-    taken true b body =
-        and_from (kind (note.Piece s.peer (key_in m) b.num m.payload)) true
-        (piece s.peer (key_in m) b.num m.payload) refl
-    taken false b body =
-        registration-notes kind entered (entries rows) moment s (registration_values (queries_in m))
-        body _ (note.Finished s.peer (key_in m) ∷ [])
-        (and_from (kind (note.Finished s.peer (key_in m))) true (finished s.peer (key_in m)) refl)
+unfolding registering
+registering-notes kind entered piece finished rows moment s m =
+    links_outcome-notes kind entered piece finished (sent_block m)
+    (to_register (registration_values (queries_in m))) rows moment s m
 
-    unless : (too_long too_many : Bool) (b : Block) (body : List ℕ)
-        → are kind (block_unless (block_room too_long too_many) rows moment s m b body).notes
-        ≡ true
-    unless true too_many b body = refl
-    unless false true b body = refl
-    unless false false b body = taken b.more b body
+pub replacing-notes : (kind : Note → Bool)
+    → ((entry : Entry) → kind (note.Entered entry) ≡ true)
+    → ((peer : Peer) (key : List ℕ) (number : ℕ) (octets : List ℕ)
+    → kind (note.Piece peer key number octets) ≡ true)
+    → ((peer : Peer) (key : List ℕ) → kind (note.Finished peer key) ≡ true)
+    → (rows : List Row) (moment : ℕ) (s : Step) (m : Message) (number : ℕ)
+    → are kind (replacing rows moment s m number).notes ≡ true
+unfolding replacing
+replacing-notes kind entered piece finished rows moment s m number =
+    links_outcome-notes kind entered piece finished (sent_block m) (to_replace number) rows moment s
+    m
 
-    after : (front upload : Option (List ℕ)) (b : Block)
-        → are kind (block_after front upload rows moment s m b).notes ≡ true
-    after None upload b = refl
-    after (Some front) upload b =
-        unless (nat_lt max_body (length front + length m.payload))
-        (is_one_too_many b upload (live_uploads moment (events rows))) b (front ++ m.payload)
-
-    by : (b : Option Block) → are kind (registration_outcome b rows moment s m).notes ≡ true
-    by None =
-        registration-notes kind entered (entries rows) moment s (registration_values (queries_in m))
-        m.payload [] [] refl
-    by (Some b) =
-        let upload : Option (List ℕ) = live_upload moment (s.peer, key_in m) (events rows) in
-        after (collected_before b upload) upload b
+-- a write on a registration
+pub location-notes : (kind : Note → Bool)
+    → ((entry : Entry) → kind (note.Entered entry) ≡ true)
+    → ((peer : Peer) (key : List ℕ) (number : ℕ) (octets : List ℕ)
+    → kind (note.Piece peer key number octets) ≡ true)
+    → ((peer : Peer) (key : List ℕ) → kind (note.Finished peer key) ≡ true)
+    → (w : Method) (rows : List Row) (moment : ℕ) (s : Step) (m : Message) (number : ℕ)
+    → are kind (location_outcome w rows moment s m number).notes ≡ true
+location-notes kind entered piece finished get rows moment s m number = refl
+location-notes kind entered piece finished post rows moment s m number =
+    change_made-notes kind entered (entries rows) _ _ refl
+location-notes kind entered piece finished put rows moment s m number =
+    replacing-notes kind entered piece finished rows moment s m number
+location-notes kind entered piece finished delete rows moment s m number =
+    change_made-notes kind entered (entries rows) _ _ refl
+location-notes kind entered piece finished other_method rows moment s m number = refl
 
 -- a write that is done settles it, and notes its change
 abbrev pub of_done : Note → Bool
@@ -222,24 +299,6 @@ commit_effects-done rows moment place s m = by (path_in m)
     simple false true = refl
     simple false false = refl
 
-    location : (w : Method) (number : ℕ)
-        → are of_done (on_location w rows moment place s m number).notes ≡ true
-    location get number =
-        settled (removing rows moment s number)
-        (change_made-notes of_done (λ entry. refl) (entries rows) _ _ refl)
-    location post number =
-        settled (updating rows moment s m number)
-        (change_made-notes of_done (λ entry. refl) (entries rows) _ _ refl)
-    location put number =
-        settled (removing rows moment s number)
-        (change_made-notes of_done (λ entry. refl) (entries rows) _ _ refl)
-    location delete number =
-        settled (removing rows moment s number)
-        (change_made-notes of_done (λ entry. refl) (entries rows) _ _ refl)
-    location other_method number =
-        settled (removing rows moment s number)
-        (change_made-notes of_done (λ entry. refl) (entries rows) _ _ refl)
-
     by : (p : Path) → are of_done (write_done p rows moment place s m).notes ≡ true
     by path.Core = refl
     by path.SimpleRd =
@@ -249,7 +308,10 @@ commit_effects-done rows moment place s m = by (path_in m)
         settled (registering rows moment s m)
         (registering-notes of_done (λ entry. refl) (λ peer key number octets. refl)
         (λ peer key. refl) rows moment s m)
-    by (path.Location number) = location (method_of m.code) number
+    by (path.Location number) =
+        settled (location_outcome (method_of m.code) rows moment s m number)
+        (location-notes of_done (λ entry. refl) (λ peer key number octets. refl) (λ peer key. refl)
+        (method_of m.code) rows moment s m number)
     by path.Res = refl
     by path.Ep = refl
     by path.Other = refl

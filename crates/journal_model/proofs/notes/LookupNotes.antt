@@ -1,5 +1,5 @@
--- What is noted of lookups: answers are kept under the key of a request that asks for their query,
--- and observers ask for theirs.
+-- What is noted of lookups and of reads of a registration: answers are kept under the key of a
+-- request that seeks them, and observers ask for their query.
 use Rattle.std.proofs.Common.{
   ◌≡◌,
   ℕ,
@@ -7,7 +7,6 @@ use Rattle.std.proofs.Common.{
   ◌<◌,
   ◌==◌,
   ◌&&◌,
-  ◌||◌,
   Bool,
   true,
   false,
@@ -28,17 +27,20 @@ use Rattle.std.proofs.Common.{
   subst,
   ◌∙◌,
 }
+use Rattle.std.specs.Prelude.{option_map, option_and_then}
 use Rattle.std.specs.List.{AllByRecursion}
 use Rattle.std.proofs.lemmas.Bool.{false≢true}
 use Rattle.rd_base.specs.declared.peers.Peer.{Peer}
-use Rattle.rd_base.specs.declared.queries.Query.{Query}
 use Rattle.message_model.specs.declared.requests.Path.{Path}
 use Rattle.message_model.specs.declared.requests.Path.TheVariants as path
 use Rattle.message_model.specs.Message.{Message, longest_token}
 use Rattle.message_model.specs.Blocks.{reserved_szx, block_of}
 use Rattle.message_model.specs.Request.{path_in, queries_in, observe_in}
 use Rattle.message_model.specs.RequestKey.{key_in}
-use Rattle.message_model.proofs.KeyLaws.{FitsKey, IsSameRequest, key_of_once}
+use Rattle.message_model.specs.OptionTable as table
+use Rattle.message_model.specs.OptionTable.{values}
+use Rattle.message_model.proofs.KeyLaws.{IsSameRequest, key_of_once}
+use Rattle.message_model.proofs.LocationLaws.{path_fits}
 use Rattle.record_model.specs.Criteria.{lookup_values}
 use Rattle.history_model.specs.declared.entries.Entry.{Entry}
 use Rattle.history_model.specs.Listing.{listing, tag}
@@ -63,23 +65,42 @@ use Rattle.journal_model.specs.Journal.{events, entries}
 use Rattle.journal_model.specs.Effects.{answering}
 use Rattle.journal_model.specs.Bodies.{is_long}
 use Rattle.journal_model.specs.Requests.{
+  Method,
+  get,
+  post,
+  put,
+  delete,
+  other_method,
+  method_of,
+  is_get,
   kind_of,
   query_of,
   asked_block,
   number_of,
   szx_of,
   is_lookup,
-  is_discovery,
-  only_looks,
+  is_location,
+  reads_registration,
   is_later_block,
-  is_heeded,
   register,
   deregister,
 }
+use Rattle.journal_model.specs.Sought.{
+  Sought,
+  listing_of,
+  sought_at,
+  sought_in,
+  has_tag,
+  answer_of,
+  answer_for,
+}
+use Rattle.journal_model.specs.Sought as seeking
 use Rattle.journal_model.specs.Looks.{look_effects}
 use Rattle.journal_model.specs.Lookups.{
   listing_now,
+  found_now,
   block_now,
+  block_of_found,
   block_of_kept,
   later_block,
   removal,
@@ -94,75 +115,90 @@ use Rattle.journal_model.specs.Lookups.{
   first_block_effects,
   block_effects,
   lookup_effects,
+  read_block_effects,
+  read_effects,
   observing_by,
 }
 use Rattle.journal_model.proofs.StepNotes.{look_effects-notes}
 use Rattle.journal_model.proofs.sends.BodyAnswers.{szx-usable, request-usable}
 
--- a request with this key asks for this query
-pub record Asks (key : List ℕ) (query : Query) : Type 0 where
+-- a request with this key seeks this
+pub record Seeks (key : List ℕ) (sought : Sought) : Type 0 where
   pub request : Message
-  pub fits : FitsKey (path_in request)
   pub key_is : key ≡ key_in request
-  pub query_is : query ≡ query_of request
+  pub sought_is : sought_in request ≡ Some sought
 
--- lookups and looks have paths that fit a key
-pub lookup_fits : (p : Path) → is_lookup p ≡ true → FitsKey p
-lookup_fits path.Core e = tt
-lookup_fits path.SimpleRd e = tt
-lookup_fits path.Rd e = tt
-lookup_fits (path.Location number) e = absurd (false≢true e)
-lookup_fits path.Res e = tt
-lookup_fits path.Ep e = tt
-lookup_fits path.Other e = tt
-
--- so has whatever is looked at
-pub look_fits : (m : Message) → only_looks m ≡ true → FitsKey (path_in m)
-look_fits m h = by (path_in m) h
+-- a lookup seeks the listing of its query
+pub lookup_seeks : (m : Message)
+    → is_lookup (path_in m) ≡ true
+    → sought_in m ≡ Some (listing_of (query_of m))
+lookup_seeks m lookup = by (path_in m) lookup
   where
     by : (p : Path)
-        → (is_discovery p
-        || (is_lookup p && not (is_later_block m) && not (is_heeded (observe_in m))))
-        ≡ true
-        → FitsKey p
-    by path.Core e = tt
-    by path.Res e = tt
-    by path.Ep e = tt
-    by path.SimpleRd e = tt
-    by path.Rd e = tt
+        → is_lookup p ≡ true
+        → sought_at p (method_of m.code) (query_of m) ≡ Some (listing_of (query_of m))
+    by path.Core e = absurd (false≢true e)
+    by path.SimpleRd e = absurd (false≢true e)
+    by path.Rd e = absurd (false≢true e)
     by (path.Location number) e = absurd (false≢true e)
-    by path.Other e = tt
+    by path.Res e = refl
+    by path.Ep e = refl
+    by path.Other e = absurd (false≢true e)
 
--- whichever request has the key asks for the same
-pub asks_once : (key : List ℕ) (query : Query) (m : Message)
-    → Asks key query
-    → FitsKey (path_in m)
+-- a read of a registration seeks its source, under a tag
+pub read_seeks : (m : Message) → reads_registration m ≡ true → has_tag (sought_in m) ≡ true
+read_seeks m reads = by (path_in m) (method_of m.code) reads
+  where
+    by : (p : Path) (w : Method)
+        → (is_location p && is_get w) ≡ true
+        → has_tag (sought_at p w (query_of m)) ≡ true
+    by path.Core w e = absurd (false≢true e)
+    by path.SimpleRd w e = absurd (false≢true e)
+    by path.Rd w e = absurd (false≢true e)
+    by (path.Location number) get e = refl
+    by (path.Location number) post e = absurd (false≢true e)
+    by (path.Location number) put e = absurd (false≢true e)
+    by (path.Location number) delete e = absurd (false≢true e)
+    by (path.Location number) other_method e = absurd (false≢true e)
+    by path.Res w e = absurd (false≢true e)
+    by path.Ep w e = absurd (false≢true e)
+    by path.Other w e = absurd (false≢true e)
+
+-- whichever request has the key seeks the same
+pub seeks_once : (key : List ℕ) (sought : Sought) (m : Message)
+    → Seeks key sought
     → key ≡ key_in m
-    → query ≡ query_of m
-asks_once key query m it fits same =
+    → sought_in m ≡ Some sought
+seeks_once key sought m it same =
     let one : IsSameRequest it.request.code (path_in it.request) (queries_in it.request) m.code
     (path_in m) (queries_in m) =
     key_of_once it.request.code (path_in it.request) (queries_in it.request) m.code (path_in m)
-    (queries_in m) it.fits fits (sym it.key_is ∙ same) in
-    it.query_is
-    ∙ (ap (λ (p : Path). lookup_values (kind_of p) (queries_in it.request)) one.path
-    ∙ ap (λ (qs : List (List ℕ)). lookup_values (kind_of (path_in m)) qs) one.queries)
+    (queries_in m) (path_fits (values table.uri_path it.request.options))
+    (path_fits (values table.uri_path m.options)) (sym it.key_is ∙ same) in
+    sym (ap (λ (c : ℕ).
+    sought_at (path_in it.request) (method_of c)
+    (lookup_values (kind_of (path_in it.request)) (queries_in it.request))) one.method
+    ∙ (ap (λ (p : Path).
+    sought_at p (method_of m.code) (lookup_values (kind_of p) (queries_in it.request))) one.path
+    ∙ ap (λ (qs : List (List ℕ)).
+    sought_at (path_in m) (method_of m.code) (lookup_values (kind_of (path_in m)) qs)) one.queries))
+    ∙ it.sought_is
 
 -- an observer asks for its query, in blocks of a size that there is
 pub record IsAsking (o : Observer) : Type 0 where
-  pub asks : Asks o.key o.query
+  pub asks : Seeks o.key (listing_of o.query)
   pub token : length o.token ≤ longest_token
   pub szx : o.szx < reserved_szx
 
--- an answer is the listing of the query of its key, from a history at a moment
-pub record KeptAt (history : List Entry) (moment : ℕ) (key body current : List ℕ) : Type 0 where
-  pub query : Query
-  pub asks : Asks key query
-  pub body_is : body ≡ listing query history moment
+-- an answer is what is found of what its key seeks, in a history at a moment
+pub record KeptAt (history : List Entry) (moment : ℕ) (key whole current : List ℕ) : Type 0 where
+  pub sought : Sought
+  pub seeks : Seeks key sought
+  pub found : seeking.body sought history moment ≡ Some whole
   pub tag_is : current ≡ tag history moment
 
--- the note is as its lookup asked, after a history at a moment: what is kept is the listing of its
--- query, and an observer asks for its query
+-- the note is as its request asked, after a history at a moment: what is kept is what is found of
+-- what it seeks, and an observer asks for its query
 abbrev pub NoteAsAsked : List Entry → ℕ → Note → Type 0
 NoteAsAsked history moment (note.Kept peer key body current) =
     KeptAt history moment key body current
@@ -173,39 +209,102 @@ NoteAsAsked history moment _ = Unit {0}
 abbrev pub NotesAsAsked : List Row → ℕ → List Note → Type 0
 NotesAsAsked rows moment notes = AllByRecursion (NoteAsAsked (entries rows) moment) notes
 
--- ---- lookups
+-- what is found now is what the key of the request seeks
+pub found_KeptAt : (rows : List Row) (moment : ℕ) (m : Message) (a : Answer)
+    → found_now rows moment m ≡ Some a
+    → KeptAt (entries rows) moment (key_in m) a.body a.tag
+found_KeptAt rows moment m a found = by (sought_in m) refl found
+  where
+    with_body : (sought : Sought) (b : Option (List ℕ))
+        → sought_in m ≡ Some sought
+        → seeking.body sought (entries rows) moment ≡ b
+        → option_map (λ (whole : List ℕ).
+        answer_of whole (tag (entries rows) moment)) b
+        ≡ Some a
+        → KeptAt (entries rows) moment (key_in m) a.body a.tag
+    with_body sought None seeks is e = absurd (let none : None ≡ Some a = e in cc)
+    with_body sought (Some whole) seeks is e =
+        let same : answer_of whole (tag (entries rows) moment) ≡ a = cc in
+        subst (λ (x : Answer). KeptAt (entries rows) moment (key_in m) x.body x.tag) same
+        (record {
+          sought = sought;
+          seeks = record { request = m; key_is = refl; sought_is = seeks };
+          found = is;
+          tag_is = refl;
+        })
+
+    by : (o : Option Sought)
+        → sought_in m ≡ o
+        → option_and_then (λ (sought : Sought). answer_for sought (entries rows) moment) o ≡ Some a
+        → KeptAt (entries rows) moment (key_in m) a.body a.tag
+    by None e h = absurd (let none : None ≡ Some a = h in cc)
+    by (Some sought) e h =
+        with_body sought (seeking.body sought (entries rows) moment) e refl h
+
+-- ---- lookups and reads
+
+-- the notes of a further block are so
+later_notes_as_asked : (rows : List Row) (moment : ℕ) (s : Step) (m : Message)
+    → NotesAsAsked rows moment (later_block rows moment s m).notes
+unfolding later_block answering
+later_notes_as_asked rows moment s m =
+    by (found_now rows moment m) (kept_answer moment (s.peer, key_in m) (events rows)) refl
+  where
+    now_block : (a : Answer)
+        → found_now rows moment m ≡ Some a
+        → (part : Option (List ℕ × Bool))
+        → NotesAsAsked rows moment (block_now s m a part).notes
+    now_block a found None = tt
+    now_block a found (Some part) = (found_KeptAt rows moment m a found, tt)
+
+    fresh : (o : Option Answer)
+        → found_now rows moment m ≡ o
+        → NotesAsAsked rows moment (block_of_found s m o).notes
+    fresh None found = tt
+    fresh (Some a) found =
+        now_block a found (block_of a.body (number_of (asked_block m)) (szx_of (asked_block m)))
+
+    by : (o kept : Option Answer)
+        → found_now rows moment m ≡ o
+        → NotesAsAsked rows moment (block_of_kept s m o kept).notes
+    by o (Some answer) found = (tt, tt)
+    by o None found = fresh o found
+
+-- those of a look are none
+look_notes_as_asked : (rows : List Row) (moment : ℕ) (s : Step) (m : Message)
+    → NotesAsAsked rows moment (look_effects (entries rows) moment s m).notes
+look_notes_as_asked rows moment s m =
+    subst (NotesAsAsked rows moment) (sym (look_effects-notes (entries rows) moment s m)) tt
+
+-- the notes of a read of a registration are so
+pub read_notes_as_asked : (rows : List Row) (moment : ℕ) (s : Step) (m : Message)
+    → NotesAsAsked rows moment (read_effects rows moment s m).notes
+unfolding read_effects
+read_notes_as_asked rows moment s m = by (is_later_block m)
+  where
+    by : (b : Bool) → NotesAsAsked rows moment (read_block_effects b rows moment s m).notes
+    by true = later_notes_as_asked rows moment s m
+    by false = look_notes_as_asked rows moment s m
 
 -- the notes of a lookup are so
 pub lookup_notes_as_asked : (rows : List Row) (moment : ℕ) (s : Step) (m : Message)
     → is_lookup (path_in m) ≡ true
     → length m.token ≤ longest_token
     → NotesAsAsked rows moment (lookup_effects rows moment s m).notes
-unfolding lookup_effects later_block observed unobserved answering
+unfolding lookup_effects observed unobserved answering
 lookup_notes_as_asked rows moment s m lookup small = by (is_later_block m)
   where
-    asks : Asks (key_in m) (query_of m)
-    asks = record {
-      request = m;
-      fits = lookup_fits (path_in m) lookup;
-      key_is = refl;
-      query_is = refl;
-    }
+    asks : Seeks (key_in m) (listing_of (query_of m))
+    asks = record { request = m; key_is = refl; sought_is = lookup_seeks m lookup }
 
     kept : KeptAt (entries rows) moment (key_in m) (listing (query_of m) (entries rows) moment)
         (tag (entries rows) moment)
-    kept = record { query = query_of m; asks = asks; body_is = refl; tag_is = refl }
-
-    now_block : (part : Option (List ℕ × Bool))
-        → NotesAsAsked rows moment (block_now s m (listing_now rows moment m) part).notes
-    now_block None = tt
-    now_block (Some part) = (kept, tt)
-
-    later : (found : Option Answer)
-        → NotesAsAsked rows moment (block_of_kept s m (listing_now rows moment m) found).notes
-    later (Some answer) = (tt, tt)
-    later None =
-        now_block (block_of (listing_now rows moment m).body (number_of (asked_block m))
-        (szx_of (asked_block m)))
+    kept = record {
+      sought = listing_of (query_of m);
+      seeks = asks;
+      found = refl;
+      tag_is = refl;
+    }
 
     removed : (b : Bool) (peer : Peer) (token : List ℕ)
         → NotesAsAsked rows moment (cond b (note.Unwatched peer token ∷ []) [])
@@ -242,24 +341,20 @@ lookup_notes_as_asked rows moment s m lookup small = by (is_later_block m)
         (removed (is_observer (s.peer, m.token) (observers (events rows))) s.peer m.token)
         (keeps (is_long (asked_block m) (listing_now rows moment m).body))
 
-    only_looked : NotesAsAsked rows moment (look_effects (entries rows) moment s m).notes
-    only_looked =
-        subst (NotesAsAsked rows moment) (sym (look_effects-notes (entries rows) moment s m)) tt
-
     valued : (b c : Bool)
         → NotesAsAsked rows moment (observation_effects (observing_by b c) rows moment s m).notes
     valued true c =
         added (has_room_for (query_of m) (without (s.peer, m.token) (observers (events rows))))
     valued false true = added false
-    valued false false = only_looked
+    valued false false = look_notes_as_asked rows moment s m
 
     observe : (o : Option ℕ)
         → NotesAsAsked rows moment (first_block_effects o rows moment s m).notes
-    observe None = only_looked
+    observe None = look_notes_as_asked rows moment s m
     observe (Some value) = valued (value == register) (value == deregister)
 
     by : (b : Bool) → NotesAsAsked rows moment (block_effects b rows moment s m).notes
-    by true = later (kept_answer moment (s.peer, key_in m) (events rows))
+    by true = later_notes_as_asked rows moment s m
     by false = observe (observe_in m)
 
 -- ---- observers

@@ -1,5 +1,6 @@
--- The one table of what each step notes: nothing, or what a write, a lookup, an empty message, a
--- response, a commit, a keep or a tick notes, or that a commit failed, where it ran out of memory.
+-- The one table of what each step notes: nothing, or what a write, a lookup, a read of a
+-- registration, an empty message, a response, a commit, a keep or a tick notes, or that a commit
+-- failed, where it ran out of memory.
 use Rattle.std.proofs.Common.{
   ◌≡◌,
   ℕ,
@@ -35,14 +36,27 @@ use Rattle.journal_model.specs.declared.steps.StepKind.TheVariants as step
 use Rattle.journal_model.specs.declared.rows.Row.{Row}
 use Rattle.journal_model.specs.Journal.{events, entries}
 use Rattle.journal_model.specs.Effects.{Reply, answering}
-use Rattle.journal_model.specs.Requests.{refusal_of_request, is_lookup}
+use Rattle.journal_model.specs.Requests.{
+  Method,
+  get,
+  post,
+  put,
+  delete,
+  other_method,
+  method_of,
+  refusal_of_request,
+  is_lookup,
+  is_location,
+  reads_registration,
+}
 use Rattle.journal_model.specs.Looks.{keep_effects}
-use Rattle.journal_model.specs.Lookups.{lookup_effects}
+use Rattle.journal_model.specs.Lookups.{lookup_effects, read_effects}
 use Rattle.journal_model.specs.Writes.{write_effects}
 use Rattle.journal_model.specs.Responses.{response_effects}
 use Rattle.journal_model.specs.Commits.{commit_effects}
 use Rattle.journal_model.specs.Ticks.{tick_effects}
 use Rattle.journal_model.specs.Rows.{
+  served_on_location,
   served,
   request_answered,
   message_effects,
@@ -71,6 +85,12 @@ pub data StepNoted (kind : StepKind) (starved : Bool) (rows : List Row) (moment 
       → is_lookup (path_in m) ≡ true
       → notes ≡ (lookup_effects rows moment s m).notes
       → StepNoted kind starved rows moment s notes
+  source : (m : Message)
+      → kind ≡ step.Admit
+      → reading s.datagram ≡ Ok m
+      → reads_registration m ≡ true
+      → notes ≡ (read_effects rows moment s m).notes
+      → StepNoted kind starved rows moment s notes
   empty : kind ≡ step.Admit → are of_empty notes ≡ true → StepNoted kind starved rows moment s notes
   response : (m : Message)
       → kind ≡ step.Admit
@@ -95,6 +115,21 @@ pub data StepNoted (kind : StepKind) (starved : Bool) (rows : List Row) (moment 
       → notes ≡ (tick_effects starved rows moment s).notes
       → StepNoted kind starved rows moment s notes
 
+-- a request on a registration as it is heard
+there-StepNoted : (w : Method) (starved : Bool) (rows : List Row) (moment : ℕ) (s : Step)
+    (m : Message)
+    → reading s.datagram ≡ Ok m
+    → role_of m.kind m.code ≡ role.Request
+    → is_location (path_in m) ≡ true
+    → method_of m.code ≡ w
+    → StepNoted step.Admit starved rows moment s (served_on_location w rows moment s m).notes
+there-StepNoted get starved rows moment s m read asks at by =
+    source m refl read (rw (at, by) refl) refl
+there-StepNoted post starved rows moment s m read asks at by = write m refl read asks refl
+there-StepNoted put starved rows moment s m read asks at by = write m refl read asks refl
+there-StepNoted delete starved rows moment s m read asks at by = write m refl read asks refl
+there-StepNoted other_method starved rows moment s m read asks at by = nothing refl
+
 -- a request that is served as it is heard
 served-StepNoted : (p : Path) (starved : Bool) (rows : List Row) (moment : ℕ) (s : Step)
     (m : Message)
@@ -112,7 +147,7 @@ served-StepNoted path.Ep starved rows moment s m read asks at =
 served-StepNoted path.SimpleRd starved rows moment s m read asks at = write m refl read asks refl
 served-StepNoted path.Rd starved rows moment s m read asks at = write m refl read asks refl
 served-StepNoted (path.Location number) starved rows moment s m read asks at =
-    write m refl read asks refl
+    there-StepNoted (method_of m.code) starved rows moment s m read asks (ap is_location at) refl
 served-StepNoted path.Other starved rows moment s m read asks at = nothing refl
 
 -- a request as it is heard, refused or served

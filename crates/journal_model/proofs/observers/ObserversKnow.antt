@@ -29,13 +29,12 @@ use Rattle.message_model.specs.Message.{Message}
 use Rattle.message_model.specs.Reading.{reading}
 use Rattle.message_model.specs.Request.{observe_in}
 use Rattle.message_model.specs.RequestKey.{key_in}
-use Rattle.message_model.specs.Blocks.{block_of}
 use Rattle.history_model.specs.Listing.{listing}
 use Rattle.event_model.specs.declared.notes.Note.{Note}
 use Rattle.event_model.specs.declared.notes.Note.TheVariants as note
 use Rattle.event_model.specs.declared.notes.Observer.{Observer}
 use Rattle.event_model.specs.Same.{RequestName}
-use Rattle.event_model.specs.KeptAnswers.{Answer, kept_answer}
+use Rattle.event_model.specs.KeptAnswers.{Answer}
 use Rattle.event_model.specs.Observers.{observers, is_observer, has_room_for}
 use Rattle.journal_model.specs.declared.steps.Step.{Step}
 use Rattle.journal_model.specs.declared.steps.StepKind.{StepKind}
@@ -47,8 +46,6 @@ use Rattle.journal_model.specs.Bodies.{is_long}
 use Rattle.journal_model.specs.Requests.{
   query_of,
   asked_block,
-  number_of,
-  szx_of,
   is_later_block,
   register,
   deregister,
@@ -56,8 +53,6 @@ use Rattle.journal_model.specs.Requests.{
 use Rattle.journal_model.specs.Looks.{look_effects}
 use Rattle.journal_model.specs.Lookups.{
   listing_now,
-  block_now,
-  block_of_kept,
   later_block,
   removal,
   without,
@@ -78,10 +73,20 @@ use Rattle.journal_model.specs.DeskJournal.{IsDeskJournal}
 use Rattle.journal_model.proofs.entries.JournalLaws.{journal-AreRows, desk-AreRows}
 use Rattle.journal_model.specs.ObserversKnow.{ObserversKnow}
 use Rattle.journal_model.proofs.EntriesNoted.{entries_in}
-use Rattle.journal_model.proofs.NoteKinds.{of_write, of_empty, of_commit, of_response, are, none_of}
+use Rattle.journal_model.proofs.NoteKinds.{
+  of_read,
+  of_write,
+  of_empty,
+  of_commit,
+  of_response,
+  are,
+  none_of,
+}
 use Rattle.journal_model.proofs.StepNotes.{
   look_effects-notes,
   keep_effects-notes,
+  later_block-kept,
+  read_effects-kept,
   write_effects-notes,
 }
 use Rattle.journal_model.proofs.entries.QuietSteps.{lookup_effects-entries_in}
@@ -159,23 +164,11 @@ keeping-quiet s m answer = by (is_long (asked_block m) answer.body)
 -- a lookup
 lookup_observer_notes : (rows : List Row) (moment : ℕ) (s : Step) (m : Message)
     → ObserverNotes rows moment (lookup_effects rows moment s m).notes
-unfolding lookup_effects later_block observed unobserved answering
+unfolding lookup_effects observed unobserved answering
 lookup_observer_notes rows moment s m = by (is_later_block m) refl
   where
     silent : entries_in (lookup_effects rows moment s m).notes ≡ []
     silent = lookup_effects-entries_in rows moment s m
-
-    now_block : (part : Option (List ℕ × Bool))
-        → list_any is_observing (block_now s m (listing_now rows moment m) part).notes ≡ false
-    now_block None = refl
-    now_block (Some part) = refl
-
-    later : (kept : Option Answer)
-        → list_any is_observing (block_of_kept s m (listing_now rows moment m) kept).notes ≡ false
-    later (Some answer) = refl
-    later None =
-        now_block (block_of (listing_now rows moment m).body (number_of (asked_block m))
-        (szx_of (asked_block m)))
 
     ended :
         list_any is_observing (observed_if false rows s m (listing_now rows moment m)).notes ≡ false
@@ -219,7 +212,9 @@ lookup_observer_notes rows moment s m = by (is_later_block m) refl
     by : (b : Bool)
         → is_later_block m ≡ b
         → ObserverNotes rows moment (block_effects b rows moment s m).notes
-    by true e = quiet (later (kept_answer moment (s.peer, key_in m) (events rows)))
+    by true e =
+        quiet (quiet_of of_read (λ o. refl) (λ p t b n. refl) (λ p t. refl)
+        (later_block rows moment s m).notes (later_block-kept rows moment s m))
     by false e =
         observing (observe_in m)
         (subst (λ b. entries_in (block_effects b rows moment s m).notes ≡ []) e silent)
@@ -255,6 +250,9 @@ step_observer_notes kind starved rows moment s no_tick =
         (ap (are of_write) is ∙ write_effects-notes (events rows) moment s m)
     by ns (noted.lookup m here read at is) =
         subst (ObserverNotes rows moment) (sym is) (lookup_observer_notes rows moment s m)
+    by ns (noted.source m here read at is) =
+        quiet_kind of_read (λ o. refl) (λ p t b n. refl) (λ p t. refl) ns
+        (ap (are of_read) is ∙ read_effects-kept rows moment s m)
     by ns (noted.empty here all) =
         quiet_kind of_empty (λ o. refl) (λ p t b n. refl) (λ p t. refl) ns all
     by ns (noted.response m here read responds is) =

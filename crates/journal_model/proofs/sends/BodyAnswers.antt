@@ -76,9 +76,8 @@ use Rattle.journal_model.specs.Bodies.{is_long}
 use Rattle.journal_model.specs.Ticks.{first_block, block_shown}
 use Rattle.message_model.proofs.MessageLaws.{reading_in_order}
 use Rattle.message_model.proofs.ReadingLaws.{header_read}
-use Rattle.rd_base.specs.declared.queries.Query.{Query}
 use Rattle.history_model.specs.declared.entries.Entry.{Entry}
-use Rattle.history_model.specs.Listing.{listing, tag, tag_from}
+use Rattle.history_model.specs.Listing.{tag, tag_from}
 use Rattle.journal_model.specs.Effects.{Reply}
 use Rattle.journal_model.specs.Requests.{asked_block, number_of, szx_of}
 use Rattle.journal_model.specs.Bodies.{
@@ -99,6 +98,8 @@ use Rattle.journal_model.specs.CarriedBlocks.{
   CarriesBlock,
   Carries,
 }
+use Rattle.journal_model.specs.Sought.{Sought}
+use Rattle.journal_model.specs.Sought as seeking
 use Rattle.journal_model.specs.AskedListings.{Asked}
 
 -- a message with the code, options and payload of a reply
@@ -311,9 +312,9 @@ wanted_by m = record {
 abbrev pub wanted_by_observer : Observer → Wanted
 wanted_by_observer o = record { token = o.token; number = 0; szx = o.szx }
 
--- what is wanted, of the listing of a query
-abbrev pub asking : Wanted → Query → Asked
-asking wanted query = record { query = query; number = wanted.number; szx = wanted.szx }
+-- what is wanted, of what is sought
+abbrev pub asking : Wanted → Sought → Asked
+asking wanted sought = record { sought = sought; number = wanted.number; szx = wanted.szx }
 
 -- a message with the block of a body that is wanted, under a tag
 pub record Bears (wanted : Wanted) (body tag : List ℕ) (m : Message) : Type 0 where
@@ -602,10 +603,11 @@ body_untagged kind mid token observe asked body small =
         (same_message _ m _ (part_again kind mid token None observe asked part small tt) e)
         (rw (untagged kind mid token observe asked part) refl)
 
--- a listing under its tag, as the headline has it
-pub bears_carries : (wanted : Wanted) (query : Query) (history : List Entry) (moment : ℕ)
-    (m : Message)
-    → Bears wanted (listing query history moment) (tag history moment) m
-    → Carries m (asking wanted query) history moment
-bears_carries wanted query history moment m b =
-    record { block = b.block; tag = b.tagged }
+-- a body that is found, under its tag, as the headline has it
+pub bears_carries : (wanted : Wanted) (sought : Sought) (history : List Entry) (moment : ℕ)
+    (whole : List ℕ) (m : Message)
+    → seeking.body sought history moment ≡ Some whole
+    → Bears wanted whole (tag history moment) m
+    → Carries m (asking wanted sought) history moment
+bears_carries wanted sought history moment whole m found b =
+    record { whole = whole; found = found; block = b.block; tag = b.tagged }

@@ -76,16 +76,24 @@ use Rattle.journal_model.specs.Changes.{
   registered_links,
   registration,
   created_at,
+  changed_with,
   number_after,
   entry_of_step,
+  replaced_links,
+  replacement,
+  Purpose,
+  to_register,
+  to_replace,
+  body_used,
 }
 use Rattle.journal_model.specs.Registrations.{
   block_taken,
   block_unless,
   block_after,
   block_uploaded,
-  registration_outcome,
+  links_outcome,
   registering,
+  replacing,
   block_room,
 }
 use Rattle.journal_model.specs.Writes.{again_answered, admitted_unless, write_unless, write_effects}
@@ -247,40 +255,76 @@ registration_plain history moment s params body further notes = by (body_read bo
           notes = notes;
         }) (record { no_content = refl; no_valid = refl })
 
--- a registration, whole or a block of one
-pub registering_plain : (rows : List Row) (moment : ℕ) (s : Step) (m : Message)
-    → IsPlainCode (registering rows moment s m).reply.code
-unfolding registering block_uploaded
-registering_plain rows moment s m = by (sent_block m)
+-- a replacement of links by those of a whole body
+replacement_plain : (history : List Entry) (moment : ℕ) (s : Step) (number : ℕ) (body : List ℕ)
+    (further : List Opt) (notes : List Note)
+    → IsPlainCode (replacement history moment s number body further notes).reply.code
+unfolding replacement
+replacement_plain history moment s number body further notes = by (body_read body)
+  where
+    by : (read : BodyRead)
+        → IsPlainCode (replaced_links history moment s number further notes read).reply.code
+    by (bad_body word) = record { no_content = refl; no_valid = refl }
+    by (good_body links) =
+        change_plain history (entry_of_step moment s (change.Replace number links))
+        (record { reply = changed_with further; notes = notes })
+        (record { no_content = refl; no_valid = refl })
+
+-- a whole body, by what its links are for
+body_used_plain : (purpose : Purpose) (history : List Entry) (moment : ℕ) (s : Step)
+    (body : List ℕ) (further : List Opt) (notes : List Note)
+    → IsPlainCode (body_used purpose history moment s body further notes).reply.code
+body_used_plain (to_register params) history moment s body further notes =
+    registration_plain history moment s params body further notes
+body_used_plain (to_replace number) history moment s body further notes =
+    replacement_plain history moment s number body further notes
+
+-- links that come whole, or a block of them
+links_plain : (block : Option Block) (purpose : Purpose) (rows : List Row) (moment : ℕ) (s : Step)
+    (m : Message)
+    → IsPlainCode (links_outcome block purpose rows moment s m).reply.code
+unfolding block_uploaded
+links_plain block purpose rows moment s m = by block
   where
     taken : (more : Bool) (b : Block) (body : List ℕ)
-        → IsPlainCode (block_taken more rows moment s m b body).reply.code
+        → IsPlainCode (block_taken more purpose rows moment s m b body).reply.code
     taken true b body = record { no_content = refl; no_valid = refl }
     taken false b body =
-        registration_plain (entries rows) moment s (registration_values (queries_in m)) body _
+        body_used_plain purpose (entries rows) moment s body _
         (note.Finished s.peer (key_in m) ∷ [])
 
     unless : (too_long too_many : Bool) (b : Block) (body : List ℕ)
-        → IsPlainCode (block_unless (block_room too_long too_many) rows moment s m b
+        → IsPlainCode (block_unless (block_room too_long too_many) purpose rows moment s m b
         body).reply.code
     unless true too_many b body = record { no_content = refl; no_valid = refl }
     unless false true b body = record { no_content = refl; no_valid = refl }
     unless false false b body = taken b.more b body
 
     after : (front upload : Option (List ℕ)) (b : Block)
-        → IsPlainCode (block_after front upload rows moment s m b).reply.code
+        → IsPlainCode (block_after front upload purpose rows moment s m b).reply.code
     after None upload b = record { no_content = refl; no_valid = refl }
     after (Some front) upload b =
         unless (nat_lt max_body (length front + length m.payload))
         (is_one_too_many b upload (live_uploads moment (events rows))) b (front ++ m.payload)
 
-    by : (b : Option Block) → IsPlainCode (registration_outcome b rows moment s m).reply.code
-    by None =
-        registration_plain (entries rows) moment s (registration_values (queries_in m)) m.payload []
-        []
+    by : (b : Option Block) → IsPlainCode (links_outcome b purpose rows moment s m).reply.code
+    by None = body_used_plain purpose (entries rows) moment s m.payload [] []
     by (Some b) =
         let upload : Option (List ℕ) = live_upload moment (s.peer, key_in m) (events rows) in
         after (collected_before b upload) upload b
+
+-- a registration, and a replacement of links
+pub registering_plain : (rows : List Row) (moment : ℕ) (s : Step) (m : Message)
+    → IsPlainCode (registering rows moment s m).reply.code
+unfolding registering
+registering_plain rows moment s m =
+    links_plain (sent_block m) (to_register (registration_values (queries_in m))) rows moment s m
+
+pub replacing_plain : (rows : List Row) (moment : ℕ) (s : Step) (m : Message) (number : ℕ)
+    → IsPlainCode (replacing rows moment s m number).reply.code
+unfolding replacing
+replacing_plain rows moment s m number =
+    links_plain (sent_block m) (to_replace number) rows moment s m
 
 -- what notes settle is so
 abbrev pub SettlesPlainly : Note → Type 0

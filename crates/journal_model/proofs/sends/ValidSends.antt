@@ -27,14 +27,13 @@ use Rattle.std.proofs.Common.{
   ◌∙◌,
   arith,
 }
+use Rattle.std.specs.Prelude.{is_some}
 use Rattle.std.specs.List.{AllByRecursion}
 use Rattle.std.proofs.lemmas.Bool.{false≢true, ne_eqb}
 use Rattle.rd_base.specs.declared.peers.Peer.{Peer}
 use Rattle.message_model.specs.declared.blocks.Block.{Block}
 use Rattle.message_model.specs.declared.messages.Kind4.{Kind4}
 use Rattle.message_model.specs.declared.messages.Kind4.TheVariants.{Con, Non, Ack, Rst}
-use Rattle.message_model.specs.declared.requests.Path.{Path}
-use Rattle.message_model.specs.declared.requests.Path.TheVariants as path
 use Rattle.message_model.specs.Message.{Message}
 use Rattle.message_model.specs.Codes as codes_of
 use Rattle.message_model.specs.Blocks.{block_of}
@@ -44,6 +43,7 @@ use Rattle.message_model.specs.Spelling.{kind_number, header_spelling, spelling}
 use Rattle.record_model.specs.Discovery.{discovery}
 use Rattle.history_model.specs.declared.entries.Entry.{Entry}
 use Rattle.history_model.specs.Listing.{listing, tag}
+use Rattle.history_model.specs.Sources.{source}
 use Rattle.event_model.specs.KeptAnswers.{Answer, kept_answer}
 use Rattle.event_model.specs.Observers.{observers, has_room_for, observe_value}
 use Rattle.journal_model.specs.declared.steps.Step.{Step}
@@ -62,9 +62,18 @@ use Rattle.journal_model.specs.Requests.{
   register,
   deregister,
   is_heeded,
+  reads_registration,
   only_looks,
 }
-use Rattle.journal_model.specs.Sought.{sought_at}
+use Rattle.journal_model.specs.Sought.{
+  Sought,
+  listing_of,
+  source_of,
+  own_links,
+  sought_in,
+  has_tag,
+  is_found,
+}
 use Rattle.journal_model.specs.Looks.{
   Look,
   answered,
@@ -72,6 +81,7 @@ use Rattle.journal_model.specs.Looks.{
   names_tag,
   unless_long,
   unless_valid,
+  found_or_not,
   look_for,
   look,
   look_sent,
@@ -80,7 +90,9 @@ use Rattle.journal_model.specs.Looks.{
 }
 use Rattle.journal_model.specs.Lookups.{
   listing_now,
+  found_now,
   block_now,
+  block_of_found,
   block_of_kept,
   later_block,
   without,
@@ -91,6 +103,8 @@ use Rattle.journal_model.specs.Lookups.{
   first_block_effects,
   block_effects,
   lookup_effects,
+  read_block_effects,
+  read_effects,
   observing_by,
 }
 use Rattle.journal_model.specs.PlacedRows.{code_at, code_sent}
@@ -162,59 +176,48 @@ unfolding body_reply
 body_code tag observe asked body =
     part_code tag observe asked (block_of body (number_of asked) (szx_of asked))
 
--- a look of a listing answers 2.03 exactly where the request names the tag
+-- a look of a listing, or of the source of a registration that is live, answers 2.03 exactly where
+-- the request names the tag
 pub look_valid : (history : List Entry) (moment : ℕ) (s : Step) (m : Message)
     → (code_sent (look_effects history moment s m).sent == codes_of.valid)
-    ≡ (is_lookup (path_in m) && names_tag (tag history moment) m)
+    ≡ (has_tag (sought_in m)
+    && is_found (sought_in m) history moment
+    && names_tag (tag history moment) m)
 unfolding look_effects look answering spelling header_spelling
-look_valid history moment s m = by (path_in m)
+look_valid history moment s m = by (sought_in m)
   where
-    now : Answer
-    now = record { body = listing (query_of m) history moment; tag = tag history moment }
+    now : List ℕ → Answer
+    now whole = record { body = whole; tag = tag history moment }
 
-    long : (b : Bool)
-        → (code_sent (look_sent s m (Some (unless_long b m now))).sent == codes_of.valid) ≡ false
-    long true = refl
-    long false =
-        body_code (Some (tag history moment)) None (asked_block m)
-        (listing (query_of m) history moment)
+    long : (b : Bool) (whole : List ℕ)
+        → (code_sent (look_sent s m (Some (unless_long b m (now whole)))).sent == codes_of.valid)
+        ≡ false
+    long true whole = refl
+    long false whole = body_code (Some (tag history moment)) None (asked_block m) whole
 
-    valid : (b : Bool)
-        → (code_sent (look_sent s m (Some (unless_valid b m now))).sent == codes_of.valid) ≡ b
-    valid true = refl
-    valid false = long (is_long (asked_block m) (listing (query_of m) history moment))
+    valid : (b : Bool) (whole : List ℕ)
+        → (code_sent (look_sent s m (Some (unless_valid b m (now whole)))).sent == codes_of.valid)
+        ≡ b
+    valid true whole = refl
+    valid false whole = long (is_long (asked_block m) whole) whole
 
-    by : (p : Path)
+    of_source : (found : Option (List ℕ))
         → (code_sent (look_sent s m
-        (option_map (look_for history moment m) (sought_at p (query_of m)))).sent
+        (Some (found_or_not (Some (tag history moment)) m found))).sent
         == codes_of.valid)
-        ≡ (is_lookup p && names_tag (tag history moment) m)
-    by path.Core = body_code None None (asked_block m) (discovery (query_of m))
-    by path.SimpleRd = refl
-    by path.Rd = refl
-    by (path.Location number) = refl
-    by path.Res = valid (names_tag (tag history moment) m)
-    by path.Ep = valid (names_tag (tag history moment) m)
-    by path.Other = refl
+        ≡ (true && is_some found && names_tag (tag history moment) m)
+    of_source None = refl
+    of_source (Some whole) = valid (names_tag (tag history moment) m) whole
 
--- a request that is looked at asks for a listing or for discovery
-pub looks_either : (m : Message)
-    → only_looks m ≡ true
-    → is_lookup (path_in m) ≡ not (is_discovery (path_in m))
-looks_either m h = by (path_in m) h
-  where
-    by : (p : Path)
-        → (is_discovery p
-        || (is_lookup p && not (is_later_block m) && not (is_heeded (observe_in m))))
-        ≡ true
-        → is_lookup p ≡ not (is_discovery p)
-    by path.Core e = refl
-    by path.Res e = refl
-    by path.Ep e = refl
-    by path.SimpleRd e = absurd (false≢true e)
-    by path.Rd e = absurd (false≢true e)
-    by (path.Location number) e = absurd (false≢true e)
-    by path.Other e = absurd (false≢true e)
+    by : (o : Option Sought)
+        → (code_sent (look_sent s m (option_map (look_for history moment m) o)).sent
+        == codes_of.valid)
+        ≡ (has_tag o && is_found o history moment && names_tag (tag history moment) m)
+    by None = refl
+    by (Some (listing_of query)) =
+        valid (names_tag (tag history moment) m) (listing query history moment)
+    by (Some (source_of number)) = of_source (source number history moment)
+    by (Some (own_links query)) = body_code None None (asked_block m) (discovery query)
 
 -- ---- keeps and lookups
 
@@ -224,26 +227,58 @@ pub keep_not_valid : (s : Step) (m : Message) (body current : List ℕ)
 unfolding keep_effects answering spelling header_spelling
 keep_not_valid s m body current = (body_code (Some current) None (asked_block m) body, tt)
 
+-- a further block
+later_not_valid : (rows : List Row) (moment : ℕ) (s : Step) (m : Message)
+    → NoneValid (later_block rows moment s m).sent
+unfolding later_block answering spelling header_spelling
+later_not_valid rows moment s m =
+    by (found_now rows moment m) (kept_answer moment (s.peer, key_in m) (events rows))
+  where
+    now_block : (answer : Answer) (part : Option (List ℕ × Bool))
+        → NoneValid (block_now s m answer part).sent
+    now_block answer None = (refl, tt)
+    now_block answer (Some part) = (refl, tt)
+
+    fresh : (found : Option Answer) → NoneValid (block_of_found s m found).sent
+    fresh None = (refl, tt)
+    fresh (Some answer) =
+        now_block answer
+        (block_of answer.body (number_of (asked_block m)) (szx_of (asked_block m)))
+
+    by : (found kept : Option Answer) → NoneValid (block_of_kept s m found kept).sent
+    by found (Some answer) = (body_code (Some answer.tag) None (asked_block m) answer.body, tt)
+    by found None = fresh found
+
+-- a read of a registration that is no look
+pub read_not_valid : (rows : List Row) (moment : ℕ) (s : Step) (m : Message)
+    → reads_registration m ≡ true
+    → only_looks m ≡ false
+    → NoneValid (read_effects rows moment s m).sent
+unfolding read_effects
+read_not_valid rows moment s m reads other = by (is_later_block m) refl
+  where
+    only : (a b : Bool)
+        → is_later_block m ≡ false
+        → (a || b || (reads_registration m && not (is_later_block m))) ≡ true
+    only true b first = refl
+    only false true first = refl
+    only false false first = rw (reads, first) refl
+
+    by : (b : Bool) → is_later_block m ≡ b → NoneValid (read_block_effects b rows moment s m).sent
+    by true later_one = later_not_valid rows moment s m
+    by false first =
+        absurd (false≢true (sym other
+        ∙ only (is_discovery (path_in m))
+        (is_lookup (path_in m) && not (is_later_block m) && not (is_heeded (observe_in m))) first))
+
 -- a lookup that is no look
 pub lookup_not_valid : (rows : List Row) (moment : ℕ) (s : Step) (m : Message)
     → is_lookup (path_in m) ≡ true
     → only_looks m ≡ false
     → NoneValid (lookup_effects rows moment s m).sent
-unfolding lookup_effects later_block observed unobserved answering spelling header_spelling
+unfolding lookup_effects observed unobserved answering spelling header_spelling
 lookup_not_valid rows moment s m lookup other = by (is_later_block m) refl
   where
-    now_block : (part : Option (List ℕ × Bool))
-        → NoneValid (block_now s m (listing_now rows moment m) part).sent
-    now_block None = (refl, tt)
-    now_block (Some part) = (refl, tt)
-
-    later : (found : Option Answer)
-        → NoneValid (block_of_kept s m (listing_now rows moment m) found).sent
-    later (Some answer) = (body_code (Some answer.tag) None (asked_block m) answer.body, tt)
-    later None =
-        now_block (block_of (listing_now rows moment m).body (number_of (asked_block m))
-        (szx_of (asked_block m)))
-
     added : (b : Bool) → NoneValid (observed_if b rows s m (listing_now rows moment m)).sent
     added true = (
       body_code (Some (tag (entries rows) moment)) (Some (observe_value (events rows)))
@@ -258,16 +293,19 @@ lookup_not_valid rows moment s m lookup other = by (is_later_block m) refl
 
     -- it is a look
     a_look : is_later_block m ≡ false → is_heeded (observe_in m) ≡ false → false ≡ true
-    a_look first heeded = sym other ∙ only (is_discovery (path_in m))
+    a_look first heeded =
+        sym other
+        ∙ only (is_discovery (path_in m)) (reads_registration m && not (is_later_block m))
       where
-        only : (b : Bool)
+        only : (b c : Bool)
             → (b
             || (is_lookup (path_in m)
             && not (is_later_block m)
-            && not (is_heeded (observe_in m))))
+            && not (is_heeded (observe_in m)))
+            || c)
             ≡ true
-        only true = refl
-        only false = rw (lookup, first, heeded) refl
+        only true c = refl
+        only false c = rw (lookup, first, heeded) refl
 
     valued : (value : ℕ) (b c : Bool)
         → is_later_block m ≡ false
@@ -290,5 +328,5 @@ lookup_not_valid rows moment s m lookup other = by (is_later_block m) refl
         valued value (value == register) (value == deregister) first has refl refl
 
     by : (b : Bool) → is_later_block m ≡ b → NoneValid (block_effects b rows moment s m).sent
-    by true later_one = later (kept_answer moment (s.peer, key_in m) (events rows))
+    by true later_one = later_not_valid rows moment s m
     by false first = observe (observe_in m) first refl

@@ -2,12 +2,12 @@
 use Rattle.std.specs.Prelude.{◌≡◌, ℕ, List, [], ◌∷◌, ◌++◌, Some, None, codes, refl, replicate}
 use Rattle.message_model.specs.declared.requests.Path.TheVariants as path
 use Rattle.message_model.specs.declared.requests.Refusal.TheVariants as refusal
-use Rattle.message_model.specs.Codes.{get, post, put}
+use Rattle.message_model.specs.Codes.{get, post, put, delete}
 use Rattle.message_model.specs.Message.{Opt}
 use Rattle.message_model.specs.OptionTable as table
 use Rattle.message_model.specs.OptionTable.{recognized_options, first_bad_option, values}
 use Rattle.message_model.specs.Request.{path_of, observe_in, etags_in, accept_in}
-use Rattle.message_model.specs.Refusals.{refusal_of, refusal_code, refusal_word}
+use Rattle.message_model.specs.Refusals.{refusal_of, refusal_code, diagnostic_of}
 use Rattle.message_model.specs.RequestKey.{key_in}
 use Rattle.message_model.proofs.Notation.{hex, request}
 use Rattle.message_model.proofs.OnLiterals.{messages_on_literals}
@@ -109,7 +109,7 @@ long_block_is_refused :
 unfolding messages_on_literals
 long_block_is_refused = refl
 
--- elsewhere only the exponent of Block1 is looked at
+-- where no links come only the exponent of Block1 is looked at
 other_block_is_accepted :
     refusal_of
     (request post (to_two (codes "rd") (codes "1") ++ (table.block1, hex (codes "08")) ∷ [])
@@ -118,9 +118,77 @@ other_block_is_accepted :
 unfolding messages_on_literals
 other_block_is_accepted = refl
 
+-- ---- a registration by its location: each method of it, and no other
+
+method_of_location_is_refused :
+    refusal_of (request 5 (to_two (codes "rd") (codes "1")) []) ≡ Some refusal.Method
+unfolding messages_on_literals
+method_of_location_is_refused = refl
+
+read_is_accepted : refusal_of (request get (to_two (codes "rd") (codes "1")) []) ≡ None
+unfolding messages_on_literals
+read_is_accepted = refl
+
+removal_is_accepted : refusal_of (request delete (to_two (codes "rd") (codes "1")) []) ≡ None
+unfolding messages_on_literals
+removal_is_accepted = refl
+
+-- a read that accepts another format
+accept_of_read_is_refused :
+    refusal_of
+    (request get (to_two (codes "rd") (codes "1") ++ (table.accept, hex (codes "32")) ∷ []) [])
+    ≡ Some refusal.Accept
+unfolding messages_on_literals
+accept_of_read_is_refused = refl
+
+-- a replacement names the format of its links as a registration does; an update is no document, and
+-- what it names is passed over
+format_of_replacement_is_refused :
+    refusal_of
+    (request put (to_two (codes "rd") (codes "1") ++ (table.content_format, hex (codes "32")) ∷ [])
+    [])
+    ≡ Some refusal.Format
+unfolding messages_on_literals
+format_of_replacement_is_refused = refl
+
+format_of_update_is_passed_over :
+    refusal_of
+    (request post (to_two (codes "rd") (codes "1") ++ (table.content_format, hex (codes "32")) ∷ [])
+    [])
+    ≡ None
+unfolding messages_on_literals
+format_of_update_is_passed_over = refl
+
+-- a replacement's block fits its Block1 as that of a registration does
+full_block_of_replacement_is_accepted :
+    refusal_of
+    (request put (to_two (codes "rd") (codes "1") ++ (table.block1, hex (codes "08")) ∷ [])
+    (replicate 16 120))
+    ≡ None
+unfolding messages_on_literals
+full_block_of_replacement_is_accepted = refl
+
+short_block_of_replacement_is_refused :
+    refusal_of
+    (request put (to_two (codes "rd") (codes "1") ++ (table.block1, hex (codes "08")) ∷ [])
+    (replicate 15 120))
+    ≡ Some refusal.Block
+unfolding messages_on_literals
+short_block_of_replacement_is_refused = refl
+
+long_block_of_replacement_is_refused :
+    refusal_of
+    (request put (to_two (codes "rd") (codes "1") ++ (table.block1, hex (codes "10")) ∷ [])
+    (replicate 17 120))
+    ≡ Some refusal.Block
+unfolding messages_on_literals
+long_block_of_replacement_is_refused = refl
+
+-- ---- what is said
+
 -- the reply to the option of number 9
 refusal_is_said :
-    (refusal_code (refusal.BadOption 9) ∷ refusal_word (refusal.BadOption 9))
+    (refusal_code (refusal.BadOption 9) ∷ diagnostic_of (refusal.BadOption 9))
     ≡ hex (codes "826f7074696f6e")
 refusal_is_said = refl
 

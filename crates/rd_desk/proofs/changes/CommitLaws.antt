@@ -78,18 +78,25 @@ use Rattle.journal_model.specs.Changes.{
   created_at,
   registered_links,
   registration,
+  changed_with,
+  replaced_links,
+  replacement,
+  Purpose,
+  to_register,
+  to_replace,
+  body_used,
 }
 use Rattle.journal_model.specs.Commits.{
   settling,
   updating,
   removing,
-  on_location,
+  location_outcome,
   write_done,
   commit_effects,
 }
 use Rattle.journal_model.specs.Effects.{Effects, nothing, joined, noting, bare}
 use Rattle.journal_model.specs.Journal.{events, entries}
-use Rattle.journal_model.specs.Registrations.{registration_outcome, registering}
+use Rattle.journal_model.specs.Registrations.{links_outcome, registering, replacing}
 use Rattle.journal_model.specs.Requests.{
   sent_block,
   get,
@@ -98,11 +105,13 @@ use Rattle.journal_model.specs.Requests.{
   delete,
   other_method,
   method_of,
+  is_write,
   reading_of,
   refusal_of_request,
 }
 use Rattle.journal_model.specs.Rows.{row_moment, effects, done, row}
 use Rattle.coap_answers.specs.declared.mids.Mids.{Mids}
+use Rattle.rd_request.specs.WriteRequests.{writes_to_registrations}
 use Rattle.rd_request.proofs.AskedLaws.{good_request}
 use Rattle.rd_desk.specs.declared.write.outcomes.Entering.{Entering}
 use Rattle.rd_desk.specs.declared.write.outcomes.Outcome as planned
@@ -160,10 +169,33 @@ registration-at history moment s params body options further = by (body_read bod
           notes = further;
         }) moment refl made more h
 
-pub whole-at : (rows : List Row) (moment : ℕ) (s : Step) (m : Message)
-    → IsMadeAt moment (registration_outcome None rows moment s m)
-whole-at rows moment s m =
-    registration-at (entries rows) moment s (registration_values (queries_in m)) m.payload [] []
+-- and so is a replacement of links
+pub replacement-at : (history : List Entry) (moment : ℕ) (s : Step) (number : ℕ) (body : List ℕ)
+    (options : List Opt) (further : List Note)
+    → IsMadeAt moment (replacement history moment s number body options further)
+unfolding replacement
+replacement-at history moment s number body options further = by (body_read body)
+  where
+    by : (b : BodyRead)
+        → IsMadeAt moment (replaced_links history moment s number options further b)
+    by (bad_body word) made more h = absurd cc
+    by (good_body links) made more h =
+        change_made-at history (entry_of_step moment s (change.Replace number links))
+        (record { reply = changed_with options; notes = further }) moment refl made more h
+
+-- whatever the links of a body are for
+pub body_used-at : (purpose : Purpose) (history : List Entry) (moment : ℕ) (s : Step)
+    (body : List ℕ) (options : List Opt) (further : List Note)
+    → IsMadeAt moment (body_used purpose history moment s body options further)
+body_used-at (to_register params) history moment s body options further =
+    registration-at history moment s params body options further
+body_used-at (to_replace number) history moment s body options further =
+    replacement-at history moment s number body options further
+
+pub whole-at : (purpose : Purpose) (rows : List Row) (moment : ℕ) (s : Step) (m : Message)
+    → IsMadeAt moment (links_outcome None purpose rows moment s m)
+whole-at purpose rows moment s m =
+    body_used-at purpose (entries rows) moment s m.payload [] []
 
 -- and so are an update and a removal
 pub updating-at : (rows : List Row) (moment : ℕ) (s : Step) (m : Message) (number : ℕ)
@@ -318,44 +350,64 @@ update_faulty queries left fault all none read =
 
 -- ---- by the block
 
--- a registration is done, by the block that its request says
-pub way_registered : (rows : List Row) (s : Step) (starved : Bool) (place : ℕ) (m : Message)
-    (b : Option Block) (desk : Seen) (out : List (Peer × List ℕ)) (mids : Mids)
+-- links are used, by the block that their request says
+pub way_brought : (purpose : Purpose) (rows : List Row) (s : Step) (starved : Bool) (place : ℕ)
+    (m : Message) (b : Option Block) (desk : Seen) (out : List (Peer × List ℕ)) (mids : Mids)
     → b ≡ sent_block m
     → UnderWay rows s starved (unless_failing starved place s m
-    (settling place s m (registration_outcome b rows (row_moment rows s) s m))) desk out
+    (settling place s m (links_outcome b purpose rows (row_moment rows s) s m))) desk out
     mids
     → UnderWay rows s starved (unless_failing starved place s m
-    (settling place s m (registering rows (row_moment rows s) s m))) desk out mids
-unfolding registering
-way_registered rows s starved place m b desk out mids is way =
+    (settling place s m (links_outcome (sent_block m) purpose rows (row_moment rows s) s m))) desk
+    out mids
+way_brought purpose rows s starved place m b desk out mids is way =
     subst (λ (x : Option Block).
     UnderWay rows s starved (unless_failing starved place s m
-    (settling place s m (registration_outcome x rows (row_moment rows s) s m))) desk
+    (settling place s m (links_outcome x purpose rows (row_moment rows s) s m))) desk
     out mids) is way
+
+-- a registration is what comes of links that are to register
+pub registers_links : (rows : List Row) (moment : ℕ) (s : Step) (m : Message)
+    → links_outcome (sent_block m) (to_register (registration_values (queries_in m))) rows moment s m
+    ≡ registering rows moment s m
+unfolding registering
+registers_links rows moment s m = refl
 
 -- ---- by the method
 
 -- POST updates a registration
-pub location_updates : (rows : List Row) (moment place : ℕ) (s : Step) (m : Message) (number : ℕ)
+pub location_updates : (rows : List Row) (moment : ℕ) (s : Step) (m : Message) (number : ℕ)
     → m.code ≡ codes_of.post
-    → settling place s m (updating rows moment s m number)
-    ≡ on_location (method_of m.code) rows moment place s m number
-location_updates rows moment place s m number updates =
-    ap (λ (code : ℕ). on_location (method_of code) rows moment place s m number) (sym updates)
+    → updating rows moment s m number
+    ≡ location_outcome (method_of m.code) rows moment s m number
+location_updates rows moment s m number updates =
+    ap (λ (code : ℕ). location_outcome (method_of code) rows moment s m number) (sym updates)
 
--- any other method removes it
-pub location_removes : (rows : List Row) (moment place : ℕ) (s : Step) (m : Message) (number : ℕ)
+-- PUT replaces its links
+pub location_replaces : (rows : List Row) (moment : ℕ) (s : Step) (m : Message) (number : ℕ)
+    → m.code ≡ codes_of.put
+    → links_outcome (sent_block m) (to_replace number) rows moment s m
+    ≡ location_outcome (method_of m.code) rows moment s m number
+unfolding replacing
+location_replaces rows moment s m number replaces =
+    ap (λ (code : ℕ). location_outcome (method_of code) rows moment s m number) (sym replaces)
+
+-- and any other write removes it
+pub location_removes : (rows : List Row) (moment : ℕ) (s : Step) (m : Message) (number : ℕ)
+    → path_in m ≡ path.Location number
+    → writes_to_registrations m ≡ true
     → (m.code ≡ codes_of.post → ⊥)
-    → settling place s m (removing rows moment s number)
-    ≡ on_location (method_of m.code) rows moment place s m number
-location_removes rows moment place s m number other =
+    → (m.code ≡ codes_of.put → ⊥)
+    → removing rows moment s number
+    ≡ location_outcome (method_of m.code) rows moment s m number
+location_removes rows moment s m number is writes no_update no_replacement =
     by (m.code == codes_of.get) (m.code == codes_of.post) (m.code == codes_of.put)
-    (m.code == codes_of.delete) (λ e. other (eqb-true m.code codes_of.post e))
+    (m.code == codes_of.delete) (λ e. no_update (eqb-true m.code codes_of.post e))
+    (λ e. no_replacement (eqb-true m.code codes_of.put e))
+    (subst (λ (p : Path). is_write p (method_of m.code) ≡ true) is writes)
   where
-    by : (gets posts puts deletes : Bool) → (posts ≡ true → ⊥)
-        → settling place s m (removing rows moment s number)
-        ≡ on_location (if gets
+    by : (gets posts puts deletes : Bool) → (posts ≡ true → ⊥) → (puts ≡ true → ⊥)
+        → is_write (path.Location number) (if gets
         then get
         else if posts
         then post
@@ -363,12 +415,23 @@ location_removes rows moment place s m number other =
         then put
         else if deletes
         then delete
-        else other_method) rows moment place s m number
-    by true posts puts deletes e = refl
-    by false true puts deletes e = absurd (e refl)
-    by false false true deletes e = refl
-    by false false false true e = refl
-    by false false false false e = refl
+        else other_method)
+        ≡ true
+        → removing rows moment s number
+        ≡ location_outcome (if gets
+        then get
+        else if posts
+        then post
+        else if puts
+        then put
+        else if deletes
+        then delete
+        else other_method) rows moment s m number
+    by true posts puts deletes e f h = absurd (false≢true h)
+    by false true puts deletes e f h = absurd (e refl)
+    by false false true deletes e f h = absurd (f refl)
+    by false false false true e f h = refl
+    by false false false false e f h = absurd (false≢true h)
 
 -- ---- by the path
 

@@ -48,7 +48,7 @@ use Rattle.message_model.specs.Message.{Opt}
 use Rattle.rd_base.specs.declared.peers.Peer.{Peer}
 use Rattle.registration.specs.declared.drafts.Draft.{Draft}
 use Rattle.registration.specs.Drafts.{drafted}
-use Rattle.directory_core.specs.Changes.{IsRegistrationOf}
+use Rattle.directory_core.specs.Changes.{IsRegistrationOf, IsReplacementOf}
 use Rattle.journal_model.specs.declared.steps.Step.{Step}
 use Rattle.journal_model.specs.Changes as changes
 use Rattle.journal_model.specs.Changes.{
@@ -65,6 +65,10 @@ use Rattle.journal_model.specs.Changes.{
   created_at,
   registered_links,
   registration,
+  changed_with,
+  replaced_links,
+  replacement,
+  body_used,
 }
 use Rattle.observation.specs.declared.change_kinds.ChangeKind.TheVariants as kind_of_change
 use Rattle.observation.specs.ChangeKinds.{kind_of}
@@ -148,14 +152,30 @@ planned_bad history swept moment s params options further (bad_body payload) r s
 planned_bad history swept moment s params options further (good_body links) r said =
     absurd said
 
-pub planned-bad_body : (history : List Entry) (swept moment : ℕ) (s : Step) (params : RegParams)
-    (body : List ℕ) (options : List Opt) (further : List Note) (r : ShortReply)
-    → IsBadBody (body_read body) r
-    → IsPlanned history swept further (registration history moment s params body options further)
+-- one whose links were to replace others
+unreplaced : (history : List Entry) (swept moment : ℕ) (s : Step) (number : ℕ)
+    (options : List Opt) (further : List Note) (b : BodyRead) (r : ShortReply)
+    → IsBadBody b r
+    → IsPlanned history swept further (replaced_links history moment s number options further b)
     (record { reply = r; entering = None })
-unfolding registration
-planned-bad_body history swept moment s params body options further r said =
+unreplaced history swept moment s number options further (bad_body word) r said = record {
+  said = said;
+  notes = refl;
+}
+unreplaced history swept moment s number options further (good_body links) r said = absurd said
+
+-- whatever its links are for
+pub planned-bad_body : (history : List Entry) (swept moment : ℕ) (s : Step)
+    (purpose : changes.Purpose) (body : List ℕ) (options : List Opt) (further : List Note)
+    (r : ShortReply)
+    → IsBadBody (body_read body) r
+    → IsPlanned history swept further (body_used purpose history moment s body options further)
+    (record { reply = r; entering = None })
+unfolding registration replacement
+planned-bad_body history swept moment s (changes.to_register params) body options further r said =
     planned_bad history swept moment s params options further (body_read body) r said
+planned-bad_body history swept moment s (changes.to_replace number) body options further r said =
+    unreplaced history swept moment s number options further (body_read body) r said
 
 -- the entry that registers these links
 abbrev pub registering : Moment → Step → RegParams → List SubmittedLink → Entry
@@ -293,3 +313,46 @@ planned-registered history swept s peer params body draft now options further r 
     (ap (λ n. created_at n options)
     (number_after-registered history entry params of.links refl lasts
     ∙ ap (λ name. number_for name now.0 (replay history)) (sym of.name))))
+
+-- ---- other links
+
+-- the entry that gives the registration of a number these links
+abbrev replacing_by : Moment → Step → ℕ → List SubmittedLink → Entry
+replacing_by now s number links = entry_of_step now.0 s (change.Replace number links)
+
+-- the version that a replacement gave
+pub replacement-HasEntry : (history : List Entry) (swept number : ℕ) (now : Moment)
+    (links : List SubmittedLink) (entry : Entry) (v : Version)
+    → IsReplacementOf now number links entry
+    → VersionStandsFor 0 (history ++ entry ∷ []) v
+    → v.swept ≡ swept
+    → change_refusal 0 history entry ≡ None
+    → HasEntry history swept entry v number kind_of_change.Replacement
+replacement-HasEntry history swept number now links entry v is stands sweeps accepted = record {
+  stands = stands;
+  swept = sweeps;
+  accepted = accepted;
+  about = ap (number_about (replay history) entry.moment.0) (sym is.change);
+  is_of = ap kind_of (sym is.change);
+}
+
+-- a replacement whose body is not refused
+pub planned-replaced : (history : List Entry) (swept : ℕ) (s : Step) (number : ℕ) (body : List ℕ)
+    (now : Moment) (links : List SubmittedLink) (options : List Opt) (further : List Note)
+    (r : Result Outcome Starved)
+    → linked_references body ≡ Some links
+    → is_refused_as_limited body ≡ false
+    → ((entry : Entry) (meant : changes.Outcome)
+    → IsReplacementOf now number links entry
+    → meant.reply ≡ changed_with options
+    → IfOk r (IsPlanned history swept meant.notes (change_made history entry meant)))
+    → IfOk r
+    (IsPlanned history swept further (replacement history now.0 s number body options further))
+unfolding replacement
+planned-replaced history swept s number body now links options further r made limited planned =
+    subst (λ (o : changes.Outcome). IfOk r (IsPlanned history swept further o))
+    (sym (ap (replaced_links history now.0 s number options further)
+    (good_links body links made limited)))
+    (planned (replacing_by now s number links)
+    (record { reply = changed_with options; notes = further })
+    (record { moment = refl; change = refl }) refl)

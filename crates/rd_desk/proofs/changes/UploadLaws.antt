@@ -1,4 +1,4 @@
--- A block of a registration: what comes of it by how it is answered, and what its parts do (RFC
+-- A block of links: what comes of it by how it is answered, and what its parts do (RFC
 -- 7959 sections 2.5 and 2.9).
 use Rattle.std.proofs.Common.{
   ◌≡◌,
@@ -27,14 +27,11 @@ use Rattle.std.proofs.Common.{
   arith,
 }
 use Rattle.rd_base.specs.declared.peers.Peer.{Peer}
-use Rattle.rd_base.specs.declared.parameters.RegParams.{RegParams}
 use Rattle.message_model.specs.declared.blocks.Block.{Block}
 use Rattle.message_model.specs.Codes as codes_of
 use Rattle.message_model.specs.Message.{Message, Opt}
-use Rattle.message_model.specs.Request.{queries_in}
 use Rattle.message_model.specs.RequestKey.{key_in}
 use Rattle.message_model.specs.Uploads.{max_body, collected_before, is_one_too_many}
-use Rattle.record_model.specs.Parameters.{registration_values}
 use Rattle.history_model.specs.declared.entries.Entry.{Entry}
 use Rattle.history_model.specs.declared.refusals.Refusal.{Refusal}
 use Rattle.history_model.specs.declared.refusals.Refusal.TheVariants as refusal
@@ -60,6 +57,9 @@ use Rattle.journal_model.specs.Changes.{
   entered_unless,
   registered_links,
   registration,
+  replaced_links,
+  replacement,
+  body_used,
   body_read,
 }
 use Rattle.journal_model.specs.Commits.{settling}
@@ -96,51 +96,59 @@ use Rattle.rd_desk.proofs.parts.WayLaws.{noting_more, way_moment}
 -- ---- what comes of a block
 
 -- by how it is answered; no block is answered by want of memory
-abbrev pub outcome_of : BlockAnswer → List Row → ℕ → Step → Message → Block → changes.Outcome
-outcome_of answer.More rows moment s m b = record {
+abbrev pub outcome_of : BlockAnswer
+    → changes.Purpose
+    → List Row
+    → ℕ
+    → Step
+    → Message
+    → Block
+    → changes.Outcome
+outcome_of answer.More purpose rows moment s m b = record {
   reply = record { code = codes_of.continue; options = block1_option b; payload = [] };
   notes = note.Piece s.peer (key_in m) b.num m.payload ∷ [];
 }
-outcome_of (answer.Whole body) rows moment s m b =
-    registration (entries rows) moment s (registration_values (queries_in m)) body (block1_option b)
+outcome_of (answer.Whole body) purpose rows moment s m b =
+    body_used purpose (entries rows) moment s body (block1_option b)
     (note.Finished s.peer (key_in m) ∷ [])
-outcome_of answer.OutOfOrder rows moment s m b =
+outcome_of answer.OutOfOrder purpose rows moment s m b =
     refused codes_of.request_entity_incomplete (codes "order")
-outcome_of answer.TooLarge rows moment s m b =
+outcome_of answer.TooLarge purpose rows moment s m b =
     refused codes_of.request_entity_too_large (codes "size")
-outcome_of answer.FullUploads rows moment s m b =
+outcome_of answer.FullUploads purpose rows moment s m b =
     refused codes_of.service_unavailable (codes "uploads")
-outcome_of answer.Starved rows moment s m b = refused codes_of.internal_server_error []
+outcome_of answer.Starved purpose rows moment s m b = refused codes_of.internal_server_error []
 
-pub uploaded_by : (rows : List Row) (moment : ℕ) (s : Step) (m : Message) (b : Block)
+pub uploaded_by : (purpose : changes.Purpose) (rows : List Row) (moment : ℕ) (s : Step) (m : Message) (b : Block)
     (a : BlockAnswer)
     → a ≡ block_answer moment (s.peer, key_in m) b m.payload (events rows)
-    → block_uploaded rows moment s m b ≡ outcome_of a rows moment s m b
+    → block_uploaded purpose rows moment s m b ≡ outcome_of a purpose rows moment s m b
 unfolding block_uploaded block_answer answer_to
-uploaded_by rows moment s m b a is =
+uploaded_by purpose rows moment s m b a is =
     after (collected_before b (live_upload moment (s.peer, key_in m) (events rows)))
-    ∙ ap (λ (x : BlockAnswer). outcome_of x rows moment s m b) (sym is)
+    ∙ ap (λ (x : BlockAnswer). outcome_of x purpose rows moment s m b) (sym is)
   where
     taken : (more : Bool) (body : List ℕ)
-        → block_taken more rows moment s m b body
-        ≡ outcome_of (answer_taken more body) rows moment s m b
+        → block_taken more purpose rows moment s m b body
+        ≡ outcome_of (answer_taken more body) purpose rows moment s m b
     taken true body = refl
     taken false body = refl
 
     unless : (large many more : Bool) (body : List ℕ)
         → b.more ≡ more
-        → block_unless (block_room large many) rows moment s m b body
-        ≡ outcome_of (answer_unless large many more body) rows moment s m b
+        → block_unless (block_room large many) purpose rows moment s m b body
+        ≡ outcome_of (answer_unless large many more body) purpose rows moment s m b
     unless true many more body e = refl
     unless false true more body e = refl
     unless false false more body e =
-        ap (λ (c : Bool). block_taken c rows moment s m b body) e ∙ taken more body
+        ap (λ (c : Bool). block_taken c purpose rows moment s m b body) e ∙ taken more body
 
     after : (before : Option (List ℕ))
-        → block_after before (live_upload moment (s.peer, key_in m) (events rows)) rows moment s m b
+        → block_after before (live_upload moment (s.peer, key_in m) (events rows)) purpose rows
+        moment s m b
         ≡ outcome_of (answer_after before m.payload
         (is_one_too_many b (live_upload moment (s.peer, key_in m) (events rows))
-        (live_uploads moment (events rows))) b.more) rows moment s m b
+        (live_uploads moment (events rows))) b.more) purpose rows moment s m b
     after None = refl
     after (Some collected) =
         unless (nat_lt max_body (length collected + length m.payload))
@@ -148,14 +156,14 @@ uploaded_by rows moment s m b a is =
         (live_uploads moment (events rows))) b.more (collected ++ m.payload) refl
 
 -- so of a request with this key
-pub uploaded : (rows : List Row) (moment : ℕ) (s : Step) (m : Message) (b : Block)
+pub uploaded : (purpose : changes.Purpose) (rows : List Row) (moment : ℕ) (s : Step) (m : Message) (b : Block)
     (a is : BlockAnswer) (key : List ℕ)
     → key ≡ key_in m
     → a ≡ is
     → a ≡ block_answer moment (s.peer, key) b m.payload (events rows)
-    → block_uploaded rows moment s m b ≡ outcome_of is rows moment s m b
-uploaded rows moment s m b a is key same which answered =
-    uploaded_by rows moment s m b is (sym which
+    → block_uploaded purpose rows moment s m b ≡ outcome_of is purpose rows moment s m b
+uploaded purpose rows moment s m b a is key same which answered =
+    uploaded_by purpose rows moment s m b is (sym which
     ∙ (answered
     ∙ ap (λ (k : List ℕ). block_answer moment (s.peer, k) b m.payload (events rows)) same))
 
@@ -262,7 +270,7 @@ unchanged rows s starved d same out mids is way =
     subst (λ (y : Seen). UnderWay rows s starved nothing y out mids) (sym is) way
 
 -- one that more follow
-pub settled_piece : (rows : List Row) (s : Step) (place : ℕ) (m : Message) (b : Block)
+pub settled_piece : (purpose : changes.Purpose) (rows : List Row) (s : Step) (place : ℕ) (m : Message) (b : Block)
     (reply : Reply) (a : BlockAnswer) (key : List ℕ) (d : Seen) (out : List (Peer × List ℕ))
     (mids : Mids)
     → key ≡ key_in m
@@ -272,10 +280,10 @@ pub settled_piece : (rows : List Row) (s : Step) (place : ℕ) (m : Message) (b 
     → UnderWay rows s false
     (joined (joined nothing (noting (note.Piece s.peer key b.num m.payload ∷ [])))
     (answering_settled place s m reply)) d out mids
-    → UnderWay rows s false (settling place s m (block_uploaded rows (row_moment rows s) s m b)) d
+    → UnderWay rows s false (settling place s m (block_uploaded purpose rows (row_moment rows s) s m b)) d
     out mids
-settled_piece rows s place m b reply a key d out mids same which said answered way =
-    let meant : changes.Outcome = outcome_of answer.More rows (row_moment rows s) s m b in
+settled_piece purpose rows s place m b reply a key d out mids same which said answered way =
+    let meant : changes.Outcome = outcome_of answer.More purpose rows (row_moment rows s) s m b in
     let its : UnderWay rows s false
     (joined (joined nothing (noting meant.notes)) (answering_settled place s m reply)) d out
     mids =
@@ -286,51 +294,48 @@ settled_piece rows s place m b reply a key d out mids same which said answered w
     subst (λ (e : Effects). UnderWay rows s false e d out mids)
     (settling-taken place s m reply meant said
     ∙ ap (λ (o : changes.Outcome). settling place s m o)
-    (sym (uploaded rows (row_moment rows s) s m b a answer.More key same which answered))) its
+    (sym (uploaded purpose rows (row_moment rows s) s m b a answer.More key same which answered))) its
 
 -- any other
-pub settled_block : (rows : List Row) (s : Step) (place : ℕ) (m : Message) (b : Block)
+pub settled_block : (purpose : changes.Purpose) (rows : List Row) (s : Step) (place : ℕ) (m : Message) (b : Block)
     (a is : BlockAnswer) (key : List ℕ) (d : Seen) (out : List (Peer × List ℕ)) (mids : Mids)
     → key ≡ key_in m
     → a ≡ is
     → a ≡ block_answer (row_moment rows s) (s.peer, key) b m.payload (events rows)
-    → UnderWay rows s false (settling place s m (outcome_of is rows (row_moment rows s) s m b)) d
+    → UnderWay rows s false (settling place s m (outcome_of is purpose rows (row_moment rows s) s m b)) d
     out mids
-    → UnderWay rows s false (settling place s m (block_uploaded rows (row_moment rows s) s m b)) d
+    → UnderWay rows s false (settling place s m (block_uploaded purpose rows (row_moment rows s) s m b)) d
     out mids
-settled_block rows s place m b a is key d out mids same which answered way =
+settled_block purpose rows s place m b a is key d out mids same which answered way =
     subst (λ (o : changes.Outcome). UnderWay rows s false (settling place s m o) d out mids)
-    (sym (uploaded rows (row_moment rows s) s m b a is key same which answered)) way
+    (sym (uploaded purpose rows (row_moment rows s) s m b a is key same which answered)) way
 
 -- the last one, where its write does not fail
-pub settled_whole : (starved : Bool) (rows : List Row) (s : Step) (place : ℕ) (m : Message)
+pub settled_whole : (purpose : changes.Purpose) (starved : Bool) (rows : List Row) (s : Step) (place : ℕ) (m : Message)
     (b : Block) (a : BlockAnswer) (body octets key : List ℕ) (d : Seen) (out : List (Peer × List ℕ))
     (mids : Mids)
     → key ≡ key_in m
     → a ≡ answer.Whole body
     → octets ≡ body → a ≡ block_answer (row_moment rows s) (s.peer, key) b m.payload (events rows)
     → UnderWay rows s starved (unless_failing starved place s m (settling place s m
-    (registration (entries rows) (row_moment rows s) s (registration_values (queries_in m)) octets
-    (block1_option b) (note.Finished s.peer key ∷ [])))) d out mids
+    (body_used purpose (entries rows) (row_moment rows s) s octets (block1_option b) (note.Finished s.peer key ∷ [])))) d out mids
     → UnderWay rows s starved (unless_failing starved place s m
-    (settling place s m (block_uploaded rows (row_moment rows s) s m b))) d out mids
-settled_whole starved rows s place m b a body octets key d out mids same which whole answered way =
+    (settling place s m (block_uploaded purpose rows (row_moment rows s) s m b))) d out mids
+settled_whole purpose starved rows s place m b a body octets key d out mids same which whole answered way =
     subst (λ (o : changes.Outcome).
     UnderWay rows s starved (unless_failing starved place s m (settling place s m o)) d out
     mids)
-    (sym (uploaded rows (row_moment rows s) s m b a (answer.Whole body) key same which answered))
+    (sym (uploaded purpose rows (row_moment rows s) s m b a (answer.Whole body) key same which answered))
     (subst (λ (k : List ℕ). UnderWay rows s starved
     (unless_failing starved place s m (settling place s m
-    (registration (entries rows) (row_moment rows s) s (registration_values (queries_in m)) body
-    (block1_option b) (note.Finished s.peer k ∷ [])))) d out mids) same
+    (body_used purpose (entries rows) (row_moment rows s) s body (block1_option b) (note.Finished s.peer k ∷ [])))) d out mids) same
     (subst (λ (os : List ℕ). UnderWay rows s starved
     (unless_failing starved place s m (settling place s m
-    (registration (entries rows) (row_moment rows s) s (registration_values (queries_in m)) os
-    (block1_option b) (note.Finished s.peer key ∷ [])))) d out mids) whole way))
+    (body_used purpose (entries rows) (row_moment rows s) s os (block1_option b) (note.Finished s.peer key ∷ [])))) d out mids) whole way))
 
 -- ---- a body that is whole
 
--- what a registration enters is of its moment
+-- what a body enters is of its moment
 entered_it : (why : Option Refusal) (it entry : Entry) (done : changes.Outcome) (more : List Note)
     → (entered_unless why it done).notes ≡ note.Entered entry ∷ more
     → it ≡ entry
@@ -340,12 +345,13 @@ entered_it (Some refusal.Registrations) it entry done more h = absurd cc
 entered_it (Some refusal.Text) it entry done more h = absurd cc
 entered_it (Some refusal.Entries) it entry done more h = absurd cc
 
-pub registration_enters : (history : List Entry) (moment : ℕ) (s : Step) (params : RegParams)
+-- nor does a refused body
+pub links_enter : (purpose : changes.Purpose) (history : List Entry) (moment : ℕ) (s : Step)
     (body : List ℕ) (options : List Opt) (further : List Note) (entry : Entry) (more : List Note)
-    → (registration history moment s params body options further).notes ≡ note.Entered entry ∷ more
+    → (body_used purpose history moment s body options further).notes ≡ note.Entered entry ∷ more
     → entry.moment.0 ≡ moment
-unfolding registration
-registration_enters history moment s params body options further entry more h =
+unfolding registration replacement
+links_enter (changes.to_register params) history moment s body options further entry more h =
     by (body_read body) h
   where
     by : (read : BodyRead)
@@ -362,21 +368,33 @@ registration_enters history moment s params body options further entry more h =
           notes =
               further;
         }) more g))
+links_enter (changes.to_replace number) history moment s body options further entry more h =
+    by (body_read body) h
+  where
+    by : (read : BodyRead)
+        → (replaced_links history moment s number options further read).notes
+        ≡ note.Entered entry ∷ more
+        → entry.moment.0 ≡ moment
+    by (bad_body word) g = absurd cc
+    by (good_body links) g =
+        let it : Entry = entry_of_step moment s (change.Replace number links) in
+        sym (ap (λ (e : Entry). e.moment.0) (entered_it (change_refusal 0 history it) it entry
+        (record { reply = changes.changed_with options; notes = further }) more g))
 
 -- it is planned so in the step, where it is planned so of the version that the desk shows
 pub planned_here : (rows : List Row) (s : Step) (starved : Bool) (x d : Seen) (v : Version)
-    (out : List (Peer × List ℕ)) (mids : Mids) (params : RegParams) (body : List ℕ)
+    (out : List (Peer × List ℕ)) (mids : Mids) (purpose : changes.Purpose) (body : List ℕ)
     (options : List Opt) (further : List Note) (o : Outcome)
     → x ≡ d
     → v ≡ x.version
     → ((history : List Entry)
     → VersionStandsFor 0 history v
     → IsPlanned history v.swept further
-    (registration history x.moment s params body options further) o)
+    (body_used purpose history x.moment s body options further) o)
     → UnderWay rows s starved nothing d out mids
     → IsPlanned (entries rows) d.version.swept further
-    (registration (entries rows) (row_moment rows s) s params body options further) o
-planned_here rows s starved x d v out mids params body options further o seen same planned way =
+    (body_used purpose (entries rows) (row_moment rows s) s body options further) o
+planned_here rows s starved x d v out mids purpose body options further o seen same planned way =
     let here : UnderWay rows s starved nothing x out mids =
     subst (λ (y : Seen). UnderWay rows s starved nothing y out mids) (sym seen) way in
     let moment : x.moment ≡ row_moment rows s = way_moment rows s starved nothing x out mids here in
@@ -384,19 +402,19 @@ planned_here rows s starved x d v out mids params body options further o seen sa
     subst (λ (es : List Entry). VersionStandsFor 0 es x.version)
     (entries-making_nothing rows s starved) here.stands.directory.history in
     let its : IsPlanned (entries rows) x.version.swept further
-    (registration (entries rows) x.moment s params body options further) o =
+    (body_used purpose (entries rows) x.moment s body options further) o =
     subst (λ (w : Version).
     VersionStandsFor 0 (entries rows) w
     → IsPlanned (entries rows) w.swept further
-    (registration (entries rows) x.moment s params body options further) o) same
+    (body_used purpose (entries rows) x.moment s body options further) o) same
     (planned (entries rows)) history in
     subst (λ (n : ℕ).
     IsPlanned (entries rows) n further
-    (registration (entries rows) (row_moment rows s) s params body options further) o)
+    (body_used purpose (entries rows) (row_moment rows s) s body options further) o)
     (ap (λ (y : Seen). y.version.swept) seen)
     (subst (λ (n : ℕ).
     IsPlanned (entries rows) x.version.swept further
-    (registration (entries rows) n s params body options further) o) moment its)
+    (body_used purpose (entries rows) n s body options further) o) moment its)
 
 -- what is planned without an entry is a refusal
 pub refused_notes : (history : List Entry) (swept : ℕ) (further : List Note)

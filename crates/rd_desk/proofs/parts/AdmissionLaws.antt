@@ -14,8 +14,19 @@ use Rattle.journal_model.specs.declared.steps.StepKind.TheVariants as step
 use Rattle.journal_model.specs.declared.rows.Row.{Row}
 use Rattle.journal_model.specs.Effects.{Reply}
 use Rattle.journal_model.specs.Journal.{events}
-use Rattle.journal_model.specs.Requests.{refusal_of_request}
+use Rattle.journal_model.specs.Requests.{
+  Method,
+  get,
+  post,
+  put,
+  delete,
+  other_method,
+  method_of,
+  is_write,
+  refusal_of_request,
+}
 use Rattle.journal_model.specs.Rows.{
+  served_on_location,
   served,
   refusal_answered,
   message_effects,
@@ -24,7 +35,7 @@ use Rattle.journal_model.specs.Rows.{
   row_moment,
 }
 use Rattle.journal_model.specs.Writes.{write_effects}
-use Rattle.rd_request.specs.WriteRequests.{is_write_path}
+use Rattle.rd_request.specs.WriteRequests.{writes_to_registrations}
 use Rattle.rd_desk.specs.parts.Hearing.{write_heard}
 
 -- an admission hears what is read of its datagram
@@ -46,18 +57,31 @@ request_refused rows s m refusal is = rw is refl
 -- a write
 pub request_writes : (rows : List Row) (s : Step) (starved : Bool) (m : Message)
     → refusal_of_request m ≡ None
-    → is_write_path (path_in m) ≡ true
+    → writes_to_registrations m ≡ true
     → write_heard starved rows s m
     ≡ message_effects role.Request starved rows (row_moment rows s) s m
 unfolding served
 request_writes rows s true m none writes = refl
 request_writes rows s false m none writes = rw none (by (path_in m) writes)
   where
+    on_location : (method : Method) (number : ℕ)
+        → is_write (path.Location number) method ≡ true
+        → write_effects (events rows) (row_moment rows s) s m
+        ≡ served_on_location method rows (row_moment rows s) s m
+    on_location get number h = absurd (false≢true h)
+    on_location post number h = refl
+    on_location put number h = refl
+    on_location delete number h = refl
+    on_location other_method number h = absurd (false≢true h)
+
     by : (p : Path)
-        → is_write_path p ≡ true
+        → is_write p (method_of m.code) ≡ true
         → write_effects (events rows) (row_moment rows s) s m
         ≡ served p rows (row_moment rows s) s m
-    by path.Rd h = refl
+    by path.Core h = absurd (false≢true h)
     by path.SimpleRd h = refl
-    by (path.Location number) h = refl
-    by _ h = absurd (false≢true h)
+    by path.Rd h = refl
+    by (path.Location number) h = on_location (method_of m.code) number h
+    by path.Res h = absurd (false≢true h)
+    by path.Ep h = absurd (false≢true h)
+    by path.Other h = absurd (false≢true h)

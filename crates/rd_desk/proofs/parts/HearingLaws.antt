@@ -38,18 +38,38 @@ use Rattle.journal_model.specs.declared.steps.StepKind.TheVariants as step
 use Rattle.journal_model.specs.declared.rows.Row.{Row}
 use Rattle.journal_model.specs.Effects.{Effects, Reply, nothing}
 use Rattle.journal_model.specs.Journal.{events}
-use Rattle.journal_model.specs.Lookups.{lookup_effects}
+use Rattle.journal_model.specs.Lookups.{
+  later_block,
+  lookup_effects,
+  block_effects,
+  read_effects,
+  read_block_effects,
+}
 use Rattle.journal_model.specs.Requests.{
+  Method,
+  get,
+  post,
+  put,
+  delete,
+  other_method,
+  method_of,
+  query_of,
   refusal_of_request,
   is_lookup,
   is_discovery,
+  is_location,
+  is_get,
   is_later_block,
   is_heeded,
+  is_write,
+  reads_registration,
   only_looks,
 }
 use Rattle.journal_model.specs.Responses.{response_effects}
+use Rattle.journal_model.specs.Sought.{sought_in, sought_at, sought_of, has_tag}
 use Rattle.journal_model.specs.Rows.{
   served,
+  served_on_location,
   refusal_answered,
   unread_answered,
   message_effects,
@@ -63,7 +83,7 @@ use Rattle.journal_model.proofs.RowEquations.{row-notes}
 use Rattle.journal_model.proofs.notes.ChangeNotes.{response_effects-notes}
 use Rattle.journal_model.proofs.notes.SilentSteps.{refusal_notes, unread_notes}
 use Rattle.coap_answers.specs.declared.mids.Mids.{Mids}
-use Rattle.rd_request.specs.WriteRequests.{is_write_path}
+use Rattle.rd_request.specs.WriteRequests.{writes_to_registrations}
 use Rattle.rd_desk.specs.declared.admissions.Admitted.{Admitted}
 use Rattle.rd_desk.specs.declared.steps.Stepped.{Stepped}
 use Rattle.rd_desk.specs.declared.steps.Stepped.TheVariants as stepped
@@ -71,13 +91,14 @@ use Rattle.rd_desk.specs.calls.Admitting.{
   is_starved_admission,
   IsHeldFor,
   write_takes,
+  served_on_location_takes,
   served_takes,
   request_takes,
   message_takes,
 }
 use Rattle.rd_desk.specs.parts.Hearing.{jobless}
 use Rattle.rd_desk.specs.calls.Desks.{Seen}
-use Rattle.rd_desk.specs.parts.Lookups.{lookup_heard}
+use Rattle.rd_desk.specs.parts.Lookups.{later_heard, lookup_heard}
 use Rattle.rd_desk.specs.parts.Responding.{response_heard}
 use Rattle.rd_desk.specs.calls.Stepping.{is_starved_step}
 use Rattle.rd_desk.specs.parts.UnderWay.{UnderWay}
@@ -96,18 +117,108 @@ pub heeded-other : (m : Message)
     → is_heeded (observe_in m) ≡ true
 heeded-other m lookup other first =
     by (is_discovery (path_in m)) (is_lookup (path_in m)) (is_later_block m)
-    (is_heeded (observe_in m)) lookup other first
+    (is_heeded (observe_in m)) (reads_registration m) lookup other first
   where
-    by : (d l later heeded : Bool)
+    by : (d l later heeded reads : Bool)
         → l ≡ true
-        → (d || (l && not later && not heeded)) ≡ false
+        → (d || (l && not later && not heeded) || (reads && not later)) ≡ false
         → later ≡ false
         → heeded ≡ true
-    by d l later true h g f = refl
-    by true l later false h g f = absurd (false≢true (sym g))
-    by false false later false h g f = absurd (false≢true h)
-    by false true true false h g f = absurd (false≢true (sym f))
-    by false true false false h g f = absurd (false≢true (sym g))
+    by d l later true reads h g f = refl
+    by true l later false reads h g f = absurd (false≢true (sym g))
+    by false false later false reads h g f = absurd (false≢true h)
+    by false true true false reads h g f = absurd (false≢true (sym f))
+    by false true false false reads h g f = absurd (false≢true (sym g))
+
+-- ---- a read that does not only look
+
+-- it is of a further block
+pub later-read : (m : Message)
+    → reads_registration m ≡ true
+    → only_looks m ≡ false
+    → is_later_block m ≡ true
+later-read m reads other =
+    by (is_discovery (path_in m)) (is_lookup (path_in m)) (is_later_block m)
+    (is_heeded (observe_in m)) (reads_registration m) reads other
+  where
+    by : (d l later heeded reads : Bool)
+        → reads ≡ true
+        → (d || (l && not later && not heeded) || (reads && not later)) ≡ false
+        → later ≡ true
+    by d l true heeded reads h g = refl
+    by true l false heeded reads h g = absurd (false≢true (sym g))
+    by false l false heeded false h g = absurd (false≢true h)
+    by false false false heeded true h g = absurd (false≢true (sym g))
+    by false true false true true h g = absurd (false≢true (sym g))
+    by false true false false true h g = absurd (false≢true (sym g))
+
+-- the location of a registration and a GET, of which such a read is
+reads_by : (p : Path) (method : Method) (A : Type 0)
+    → (is_location p && is_get method) ≡ true
+    → ((number : ℕ) → p ≡ path.Location number → method ≡ get → A)
+    → A
+reads_by path.Core method A h goes = absurd (false≢true h)
+reads_by path.SimpleRd method A h goes = absurd (false≢true h)
+reads_by path.Rd method A h goes = absurd (false≢true h)
+reads_by (path.Location number) get A h goes = goes number refl refl
+reads_by (path.Location number) post A h goes = absurd (false≢true h)
+reads_by (path.Location number) put A h goes = absurd (false≢true h)
+reads_by (path.Location number) delete A h goes = absurd (false≢true h)
+reads_by (path.Location number) other_method A h goes = absurd (false≢true h)
+reads_by path.Res method A h goes = absurd (false≢true h)
+reads_by path.Ep method A h goes = absurd (false≢true h)
+reads_by path.Other method A h goes = absurd (false≢true h)
+
+-- what it seeks has a tag
+pub read_has_tag : (m : Message)
+    → reads_registration m ≡ true
+    → has_tag (sought_in m) ≡ true
+read_has_tag m reads =
+    reads_by (path_in m) (method_of m.code) (has_tag (sought_in m) ≡ true) reads
+    (λ number at gets.
+    ap (λ (p : Path). has_tag (sought_at p (method_of m.code) (query_of m))) at
+    ∙ ap (λ (method : Method). has_tag (sought_of number method)) gets)
+
+-- and of a lookup
+pub lookup_has_tag : (m : Message)
+    → is_lookup (path_in m) ≡ true
+    → has_tag (sought_in m) ≡ true
+lookup_has_tag m lookup = by (path_in m) lookup
+  where
+    by : (p : Path)
+        → is_lookup p ≡ true
+        → has_tag (sought_at p (method_of m.code) (query_of m)) ≡ true
+    by path.Res h = refl
+    by path.Ep h = refl
+    by _ h = absurd (false≢true h)
+
+-- a further block is what a read does
+pub served_read : (rows : List Row) (s : Step) (starved : Bool) (m : Message)
+    → refusal_of_request m ≡ None
+    → reads_registration m ≡ true
+    → is_later_block m ≡ true
+    → later_heard starved rows s m
+    ≡ message_effects role.Request starved rows (row_moment rows s) s m
+unfolding served read_effects
+served_read rows s true m none reads later = refl
+served_read rows s false m none reads later =
+    rw none
+    (sym (reads_by (path_in m) (method_of m.code)
+    (served (path_in m) rows (row_moment rows s) s m ≡ later_block rows (row_moment rows s) s m)
+    reads
+    (λ number at gets.
+    ap (λ (p : Path). served p rows (row_moment rows s) s m) at
+    ∙ (ap (λ (method : Method). served_on_location method rows (row_moment rows s) s m) gets
+    ∙ ap (λ (b : Bool). read_block_effects b rows (row_moment rows s) s m) later))))
+
+-- and of a lookup, beside which Observe is ignored
+pub later_lookup : (rows : List Row) (s : Step) (starved : Bool) (m : Message)
+    → is_later_block m ≡ true
+    → later_heard starved rows s m ≡ lookup_heard starved rows s m
+unfolding lookup_effects
+later_lookup rows s true m later = refl
+later_lookup rows s false m later =
+    sym (ap (λ (b : Bool). block_effects b rows (row_moment rows s) s m) later)
 
 pub served_lookup : (rows : List Row) (s : Step) (starved : Bool) (m : Message)
     → refusal_of_request m ≡ None
@@ -128,7 +239,7 @@ served_lookup rows s false m none lookup = rw none (by (path_in m) lookup)
 -- what takes memory
 pub takes_write : (rows : List Row) (s : Step) (m : Message)
     → refusal_of_request m ≡ None
-    → is_write_path (path_in m) ≡ true
+    → writes_to_registrations m ≡ true
     → message_takes role.Request rows (row_moment rows s) s m ≡ false
     → write_takes rows (row_moment rows s) s m ≡ false
 takes_write rows s m none writes silent =
@@ -136,14 +247,43 @@ takes_write rows s m none writes silent =
     (sym (ap (λ (o : Option Reply). request_takes o rows (row_moment rows s) s m) none)
     ∙ silent)
   where
+    on_location : (method : Method) (number : ℕ)
+        → is_write (path.Location number) method ≡ true
+        → served_on_location_takes method rows (row_moment rows s) s m ≡ false
+        → write_takes rows (row_moment rows s) s m ≡ false
+    on_location get number h g = absurd (false≢true h)
+    on_location post number h g = g
+    on_location put number h g = g
+    on_location delete number h g = g
+    on_location other_method number h g = absurd (false≢true h)
+
     by : (p : Path)
-        → is_write_path p ≡ true
+        → is_write p (method_of m.code) ≡ true
         → served_takes p rows (row_moment rows s) s m ≡ false
         → write_takes rows (row_moment rows s) s m ≡ false
-    by path.Rd h g = g
+    by path.Core h g = absurd (false≢true h)
     by path.SimpleRd h g = g
-    by (path.Location number) h g = g
-    by _ h g = absurd (false≢true h)
+    by path.Rd h g = g
+    by (path.Location number) h g = on_location (method_of m.code) number h g
+    by path.Res h g = absurd (false≢true h)
+    by path.Ep h g = absurd (false≢true h)
+    by path.Other h g = absurd (false≢true h)
+
+-- a read does
+pub takes_read : (rows : List Row) (s : Step) (m : Message) (starved : Bool)
+    → refusal_of_request m ≡ None
+    → reads_registration m ≡ true
+    → message_takes role.Request rows (row_moment rows s) s m ≡ false
+    → starved ≡ false
+takes_read rows s m starved none reads silent =
+    reads_by (path_in m) (method_of m.code) (starved ≡ false) reads
+    (λ number at gets.
+    absurd (false≢true (sym
+    (sym (ap (λ (o : Option Reply). request_takes o rows (row_moment rows s) s m) none)
+    ∙ silent)
+    ∙ (ap (λ (p : Path). served_takes p rows (row_moment rows s) s m) at
+    ∙ ap (λ (method : Method). served_on_location_takes method rows (row_moment rows s) s m)
+    gets))))
 
 pub takes_lookup : (rows : List Row) (s : Step) (m : Message) (starved : Bool)
     → refusal_of_request m ≡ None
@@ -191,6 +331,14 @@ lookup_admits rows s true m = ap (list_any is_admitting) (without_memory-notes s
 lookup_admits rows s false m =
     none_admitted of_lookup lookup_admits_none (lookup_effects rows (row_moment rows s) s m).notes
     (lookup_effects-notes rows (row_moment rows s) s m)
+
+-- nor by a further block
+pub later_admits : (rows : List Row) (s : Step) (starved : Bool) (m : Message)
+    → is_later_block m ≡ true
+    → list_any is_admitting (later_heard starved rows s m).notes ≡ false
+later_admits rows s starved m later =
+    ap (λ (e : Effects). list_any is_admitting e.notes) (later_lookup rows s starved m later)
+    ∙ lookup_admits rows s starved m
 
 pub response_admits : (rows : List Row) (s : Step) (starved : Bool) (m : Message)
     → list_any is_admitting
@@ -277,6 +425,19 @@ served_admits rows s starved m none lookup =
     ap (λ (e : Effects). list_any is_admitting e.notes)
     (sym (served_lookup rows s starved m none lookup))
     ∙ lookup_admits rows s starved m
+
+-- and of a read
+pub read_admits : (rows : List Row) (s : Step) (starved : Bool) (m : Message)
+    → refusal_of_request m ≡ None
+    → reads_registration m ≡ true
+    → is_later_block m ≡ true
+    → list_any is_admitting
+    (message_effects role.Request starved rows (row_moment rows s) s m).notes
+    ≡ false
+read_admits rows s starved m none reads later =
+    ap (λ (e : Effects). list_any is_admitting e.notes)
+    (sym (served_read rows s starved m none reads later))
+    ∙ later_admits rows s starved m later
 
 -- ---- a response
 

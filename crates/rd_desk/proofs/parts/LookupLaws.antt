@@ -23,6 +23,8 @@ use Rattle.std.proofs.Common.{
   Result,
   IfOk,
   IfSome,
+  option_map,
+  option_and_then,
   refl,
   sym,
   ap,
@@ -33,6 +35,9 @@ use Rattle.std.proofs.Common.{
   if◌then◌else◌,
 }
 use Rattle.std.specs.Prelude.{count_by}
+use Rattle.history_model.specs.Listing.{tag}
+use Rattle.journal_model.specs.Looks.{not_live}
+use Rattle.journal_model.specs.Sought.{Sought, sought_in, body, answer_of, answer_for}
 use Rattle.std.specs.Arc.{arc_value}
 use Rattle.std.specs.List.{list_any}
 use Rattle.std.proofs.lemmas.Bool.{false≢true}
@@ -79,6 +84,8 @@ use Rattle.journal_model.specs.Journal.{events, entries}
 use Rattle.journal_model.specs.Lookups.{
   block_now,
   block_of_kept,
+  block_of_found,
+  found_now,
   later_block,
   removal,
   addition,
@@ -104,7 +111,6 @@ use Rattle.journal_model.specs.Requests.{
   is_heeded,
 }
 use Rattle.journal_model.specs.Rows.{row_moment}
-use Rattle.journal_model.specs.Sought.{body}
 use Rattle.journal_model.specs.UnfinishedRow.{making}
 use Rattle.journal_model.proofs.UnfinishedRowLaws.{now-making, events-making_nothing}
 use Rattle.transfers.specs.TransferEvents.{
@@ -128,13 +134,16 @@ use Rattle.rd_desk.specs.calls.Desks.{Seen}
 use Rattle.rd_desk.specs.parts.Lookups.{
   answer_listed,
   answer_at,
+  answer_found,
   AreWith,
   IsFormed,
+  IsFormedOf,
   IsJoining,
   IsUsed,
   kept_if,
   giving,
   value_given,
+  later_heard,
   lookup_heard,
 }
 use Rattle.rd_desk.specs.parts.UnderWay.{UnderWay}
@@ -157,6 +166,41 @@ pub answer_same : (one other : Answer) → one.body ≡ other.body → one.tag �
 answer_same one other whole current =
     let made = λ (b t : List ℕ). let a : Answer = record { body = b; tag = t } in a in
     ap (λ (b : List ℕ). made b one.tag) whole ∙ ap (λ (t : List ℕ). made other.body t) current
+
+-- what is found is the body that is found, under the tag
+found_as : (m : Message) (history : List Entry) (moment : ℕ)
+    → answer_found history moment m
+    ≡ option_map (λ (b : List ℕ). answer_of b (tag history moment))
+    (option_and_then (λ sought. body sought history moment) (sought_in m))
+found_as m history moment = by (sought_in m)
+  where
+    by : (o : Option Sought)
+        → option_and_then (λ sought. answer_for sought history moment) o
+        ≡ option_map (λ (b : List ℕ). answer_of b (tag history moment))
+        (option_and_then (λ sought. body sought history moment) o)
+    by None = refl
+    by (Some sought) = refl
+
+pub found_nowhere : (m : Message) (history : List Entry) (moment : ℕ) (r : Option (List ℕ))
+    → r ≡ None
+    → r ≡ option_and_then (λ sought. body sought history moment) (sought_in m)
+    → None ≡ answer_found history moment m
+found_nowhere m history moment r none is =
+    sym (found_as m history moment
+    ∙ ap (option_map (λ (b : List ℕ). answer_of b (tag history moment))) (sym is ∙ none))
+
+pub found_here : (m : Message) (history : List Entry) (moment : ℕ) (r : Option (List ℕ))
+    (octets shown current : List ℕ)
+    → r ≡ Some octets
+    → shown ≡ octets
+    → current ≡ tag history moment
+    → r ≡ option_and_then (λ sought. body sought history moment) (sought_in m)
+    → Some (answer_of shown current) ≡ answer_found history moment m
+found_here m history moment r octets shown current some whole named is =
+    ap (λ (a : Answer). Some a)
+    (answer_same (answer_of shown current) (answer_of octets (tag history moment)) whole named)
+    ∙ sym (found_as m history moment
+    ∙ ap (option_map (λ (b : List ℕ). answer_of b (tag history moment))) (sym is ∙ some))
 
 -- ---- a body is given
 
@@ -305,6 +349,55 @@ formed_now test keep asked shown l m r history x d v query meant tested block wh
           (whole ∙ ap (λ (a : Answer). a.body) same)));
     })
 
+-- what was formed of a further block is what is found now, to be kept where it has that block
+pub formed_found : (keep : Bool) (asked : Option Block) (shown : List ℕ) (l : Listed) (m : Message)
+    (f : Formed) (history : List Entry) (x d : Seen) (v : Version) (found : Option Listed)
+    → keep ≡ has_asked_block asked shown
+    → asked ≡ asked_block m
+    → shown ≡ arc_value l.body
+    → x ≡ d
+    → v ≡ x.version
+    → found ≡ Some l
+    → (VersionStandsFor 0 history v
+    → option_map answer_listed found ≡ answer_found history x.moment m)
+    → VersionStandsFor 0 history d.version
+    → IsFormed keep (answer_listed l) f
+    → IsFormedOf m (answer_found history d.moment m) (Some f)
+formed_found keep asked shown l m f history x d v found tested block whole seen version some finds
+    stands h =
+    let same : Some (answer_listed l) ≡ answer_found history d.moment m =
+    ap (option_map answer_listed) (sym some)
+    ∙ (finds (subst (VersionStandsFor 0 history)
+    (sym (version ∙ ap (λ (y : Seen). y.version) seen)) stands)
+    ∙ ap (λ (y : Seen). answer_found history y.moment m) seen) in
+    subst (λ (o : Option Answer). IsFormedOf m o (Some f)) same
+    (record {
+      listed = h.listed;
+      kept =
+          h.kept
+          ∙ (tested
+          ∙ (ap (λ (b : Option Block). has_asked_block b shown) block
+          ∙ ap (λ (b : List ℕ). has_asked_block (asked_block m) b) whole));
+    })
+
+-- nothing is where nothing is found
+pub formed_nothing : (m : Message) (history : List Entry) (x d : Seen) (v : Version)
+    (found : Option Listed)
+    → x ≡ d
+    → v ≡ x.version
+    → found ≡ None
+    → (VersionStandsFor 0 history v
+    → option_map answer_listed found ≡ answer_found history x.moment m)
+    → VersionStandsFor 0 history d.version
+    → IsFormedOf m (answer_found history d.moment m) None
+formed_nothing m history x d v found seen version none finds stands =
+    let same : None ≡ answer_found history d.moment m =
+    ap (option_map answer_listed) (sym none)
+    ∙ (finds (subst (VersionStandsFor 0 history)
+    (sym (version ∙ ap (λ (y : Seen). y.version) seen)) stands)
+    ∙ ap (λ (y : Seen). answer_found history y.moment m) seen) in
+    subst (λ (o : Option Answer). IsFormedOf m o None) same tt
+
 -- ---- what is done first, and then given
 
 noted_first : (notes more : List Note) (s : Step) (m : Message) (reply : Reply)
@@ -347,18 +440,16 @@ formed-giving keep observe s m answer f formed =
 
 -- of the kept answer
 pub later_used : (rows : List Row) (s : Step) (m : Message) (answer : Answer)
-    → is_later_block m ≡ true
     → kept_answer (row_moment rows s) (s.peer, key_in m) (events rows) ≡ Some answer
     → answering s m (body_reply (Some answer.tag) None (asked_block m) answer.body)
     (note.Used s.peer (key_in m) ∷ [])
-    ≡ lookup_effects rows (row_moment rows s) s m
-unfolding lookup_effects later_block
-later_used rows s m answer later kept =
-    sym (ap (λ b. block_effects b rows (row_moment rows s) s m) later
-    ∙ ap (λ (o : Option Answer). block_of_kept s m (listing_now rows (row_moment rows s) m) o)
+    ≡ later_block rows (row_moment rows s) s m
+unfolding later_block
+later_used rows s m answer kept =
+    sym (ap (λ (o : Option Answer). block_of_kept s m (found_now rows (row_moment rows s) m) o)
     kept)
 
--- or else of the listing now
+-- or else of what is found now
 block-now : (s : Step) (m : Message) (answer : Answer)
     → giving (has_asked_block (asked_block m) answer.body) None s m answer
     ≡ block_now s m answer
@@ -374,19 +465,53 @@ block-now s m answer =
     by None = refl
     by (Some part) = refl
 
-pub later_fresh : (rows : List Row) (s : Step) (m : Message)
-    → is_later_block m ≡ true
+pub later_fresh : (rows : List Row) (s : Step) (m : Message) (answer : Answer)
+    → answer_found (entries rows) (row_moment rows s) m ≡ Some answer
     → kept_answer (row_moment rows s) (s.peer, key_in m) (events rows) ≡ None
-    → giving (has_asked_block (asked_block m)
-    (answer_at (entries rows) (row_moment rows s) (query_of m)).body) None s m
-    (answer_at (entries rows) (row_moment rows s) (query_of m))
-    ≡ lookup_effects rows (row_moment rows s) s m
-unfolding lookup_effects later_block
-later_fresh rows s m later none =
-    block-now s m (answer_at (entries rows) (row_moment rows s) (query_of m))
-    ∙ sym (ap (λ b. block_effects b rows (row_moment rows s) s m) later
-    ∙ ap (λ (o : Option Answer). block_of_kept s m (listing_now rows (row_moment rows s) m) o)
-    none)
+    → giving (has_asked_block (asked_block m) answer.body) None s m answer
+    ≡ later_block rows (row_moment rows s) s m
+unfolding later_block
+later_fresh rows s m answer found none =
+    block-now s m answer
+    ∙ sym (ap (λ (o : Option Answer). block_of_kept s m (found_now rows (row_moment rows s) m) o)
+    none
+    ∙ ap (λ (o : Option Answer). block_of_found s m o) found)
+
+-- or 4.04, where the registration is not live
+pub later_missing : (rows : List Row) (s : Step) (m : Message)
+    → answer_found (entries rows) (row_moment rows s) m ≡ None
+    → kept_answer (row_moment rows s) (s.peer, key_in m) (events rows) ≡ None
+    → answering s m not_live [] ≡ later_block rows (row_moment rows s) s m
+unfolding later_block
+later_missing rows s m missing none =
+    sym (ap (λ (o : Option Answer). block_of_kept s m (found_now rows (row_moment rows s) m) o)
+    none
+    ∙ ap (λ (o : Option Answer). block_of_found s m o) missing)
+
+-- what is formed is of what is found, or nothing is
+pub formed_of : (m : Message) (found : Option Answer) (formed : Option Formed) (f : Formed)
+    → formed ≡ Some f
+    → IsFormedOf m found formed
+    → (answer : Answer)
+    × (found ≡ Some answer)
+    × IsFormed (has_asked_block (asked_block m) answer.body) answer f
+formed_of m None None f is h = absurd cc
+formed_of m None (Some other) f is h = absurd h
+formed_of m (Some answer) None f is h = absurd h
+formed_of m (Some answer) (Some other) f is h = (
+  answer,
+  refl,
+  subst (IsFormed (has_asked_block (asked_block m) answer.body) answer)
+      (let same : other ≡ f = cc in same) h,
+)
+
+pub nothing_formed : (m : Message) (found : Option Answer) (formed : Option Formed)
+    → formed ≡ None
+    → IsFormedOf m found formed
+    → found ≡ None
+nothing_formed m None formed is h = refl
+nothing_formed m (Some answer) None is h = absurd h
+nothing_formed m (Some answer) (Some other) is h = absurd cc
 
 -- ---- observation
 
@@ -690,15 +815,14 @@ pub used_way : (rows : List Row) (s : Step) (x d : Seen) (t : Table)
     → x ≡ d
     → s.peer ≡ sender
     → key ≡ key_in m
-    → is_later_block m ≡ true
     → ((at : ℕ) (events : List Event)
     → TransfersStandFor at events x.transfers
     → IsUsed at x.moment sender key m events t out sent mids_before mids)
     → UnderWay rows s false nothing d out mids_before
-    → UnderWay rows s false (lookup_heard false rows s m) (record x { transfers = t }) sent mids
-used_way rows s x d t out sent mids_before mids sender m key seen of same later used way =
+    → UnderWay rows s false (later_heard false rows s m) (record x { transfers = t }) sent mids
+used_way rows s x d t out sent mids_before mids sender m key seen of same used way =
     subst (λ (e : Effects). UnderWay rows s false e (record x { transfers = t }) sent mids)
-    (later_used rows s m it.answer later kept)
+    (later_used rows s m it.answer kept)
     (only rows s false e (record x { transfers = t }) sent mids
     (more_transfers rows s false nothing e x d t out sent mids_before mids seen about stands
     (it.sends s (note.Used s.peer (key_in m) ∷ [])
@@ -752,32 +876,32 @@ used_way rows s x d t out sent mids_before mids sender m key seen of same later 
         (ap (λ (p : Peer). note.Used p (key_in m)) of
         ∙ ap (λ (k : List ℕ). note.Used sender k) (sym same)) (sym moment))
 
--- a further block of the listing now, where none is kept: what was given is all that the step does
+-- a further block of what is found now, where none is kept: what was given is all that the step
+-- does
 pub fresh_way : (rows : List Row) (s : Step) (x d after : Seen) (t : Table)
     (out out_then sent : List (Peer × List ℕ)) (mids_before mids_then mids : Mids) (sender : Peer)
-    (m : Message) (key : List ℕ) (f : Formed)
+    (m : Message) (key : List ℕ) (found : Option Formed) (f : Formed)
     → x ≡ d
     → s.peer ≡ sender
     → key ≡ key_in m
-    → is_later_block m ≡ true
     → ((at : ℕ) (events : List Event)
     → TransfersStandFor at events x.transfers
     → kept_answer x.moment (sender, key) events ≡ None)
     → t ≡ x.transfers
     → out_then ≡ out
     → mids_then ≡ mids_before
+    → found ≡ Some f
     → ((history : List Entry)
     → VersionStandsFor 0 history x.version
-    → IsFormed (has_asked_block (asked_block m) (answer_at history x.moment (query_of m)).body)
-    (answer_at history x.moment (query_of m)) f)
+    → IsFormedOf m (answer_found history x.moment m) found)
     → (UnderWay rows s false nothing (record x { transfers = t }) out_then mids_then
     → UnderWay rows s false
     (joined nothing (giving (is_some f.ready) None s m (answer_listed f.listed))) after sent
     mids)
     → UnderWay rows s false nothing d out mids_before
-    → UnderWay rows s false (lookup_heard false rows s m) after sent mids
-fresh_way rows s x d after t out out_then sent mids_before mids_then mids sender m key f seen of
-    same later none kept_on unsent undrawn formed given way =
+    → UnderWay rows s false (later_heard false rows s m) after sent mids
+fresh_way rows s x d after t out out_then sent mids_before mids_then mids sender m key found f seen
+    of same none kept_on unsent undrawn some formed given way =
     let here =
     subst (λ (y : Seen). UnderWay rows s false nothing y out mids_before) (sym seen) way in
     let moment : x.moment ≡ row_moment rows s =
@@ -793,26 +917,79 @@ fresh_way rows s x d after t out out_then sent mids_before mids_then mids sender
     ∙ (ap (λ (k : List ℕ). kept_answer (row_moment rows s) (sender, k) past) (sym same) ∙ (ap (λ (at
     : ℕ). kept_answer at (sender, key) past) (sym moment) ∙ none (row_moment rows s) past
     begun))) in
-    let now_formed : IsFormed (has_asked_block (asked_block m)
-    (answer_at (entries rows) (row_moment rows s) (query_of m)).body)
-    (answer_at (entries rows) (row_moment rows s) (query_of m)) f =
-    subst (λ (at : ℕ).
-    IsFormed
-    (has_asked_block (asked_block m) (answer_at (entries rows) at (query_of m)).body)
-    (answer_at (entries rows) at (query_of m)) f) moment
-    (formed (entries rows) (history_begun rows s false x out mids_before here)) in
+    let now_formed =
+    formed_of m (answer_found (entries rows) (row_moment rows s) m) found f some
+    (subst (λ (at : ℕ). IsFormedOf m (answer_found (entries rows) at m) found) moment
+    (formed (entries rows) (history_begun rows s false x out mids_before here))) in
     subst (λ (e : Effects). UnderWay rows s false e after sent mids)
     (joined-nothing_first (giving (is_some f.ready) None s m (answer_listed f.listed))
-    ∙ (formed-giving (has_asked_block (asked_block m)
-    (answer_at (entries rows) (row_moment rows s) (query_of m)).body) None s m
-    (answer_at (entries rows) (row_moment rows s) (query_of m)) f now_formed
-    ∙ later_fresh rows s m later unkept))
+    ∙ (formed-giving (has_asked_block (asked_block m) now_formed.0.body) None s m now_formed.0 f
+    now_formed.2
+    ∙ later_fresh rows s m now_formed.0 now_formed.1 unkept))
     (given (subst (λ (table : Table).
     UnderWay rows s false nothing (record x { transfers = table }) out_then mids_then)
     (sym kept_on)
     (subst (λ (sends : List (Peer × List ℕ)). UnderWay rows s false nothing x sends mids_then)
     (sym unsent)
     (subst (λ (ids : Mids). UnderWay rows s false nothing x out ids) (sym undrawn) here))))
+
+-- where nothing is found, it is answered 4.04
+pub missing_way : (rows : List Row) (s : Step) (x d : Seen) (t : Table)
+    (out out_then sent : List (Peer × List ℕ)) (mids_before mids_then mids : Mids) (sender : Peer)
+    (m : Message) (key : List ℕ) (found : Option Formed)
+    → x ≡ d
+    → s.peer ≡ sender
+    → key ≡ key_in m
+    → ((at : ℕ) (events : List Event)
+    → TransfersStandFor at events x.transfers
+    → kept_answer x.moment (sender, key) events ≡ None)
+    → t ≡ x.transfers
+    → out_then ≡ out
+    → mids_then ≡ mids_before
+    → found ≡ None
+    → ((history : List Entry)
+    → VersionStandsFor 0 history x.version
+    → IsFormedOf m (answer_found history x.moment m) found)
+    → ((step : Step) (notes : List Note)
+    → IsStepOf step sender mids_then
+    → Sends (answering step m not_live notes) out_then sent mids_then mids)
+    → UnderWay rows s false nothing d out mids_before
+    → UnderWay rows s false (later_heard false rows s m) (record x { transfers = t }) sent mids
+missing_way rows s x d t out out_then sent mids_before mids_then mids sender m key found seen of
+    same none kept_on unsent undrawn nothing_there formed sends way =
+    let here =
+    subst (λ (y : Seen). UnderWay rows s false nothing y out mids_before) (sym seen) way in
+    let moment : x.moment ≡ row_moment rows s =
+    way_moment rows s false nothing x out mids_before here in
+    let past = events (making rows s false nothing) in
+    let begun : TransfersStandFor (row_moment rows s) past x.transfers =
+    subst (λ (at : ℕ). TransfersStandFor at past x.transfers)
+    (now-making rows s false nothing here.no_look) here.stands.transfers in
+    let unkept : kept_answer (row_moment rows s) (s.peer, key_in m) (events rows) ≡ None =
+    ap (λ (es : List Event). kept_answer (row_moment rows s) (s.peer, key_in m) es)
+    (sym (events-making_nothing rows s false))
+    ∙ (ap (λ (p : Peer). kept_answer (row_moment rows s) (p, key_in m) past) of
+    ∙ (ap (λ (k : List ℕ). kept_answer (row_moment rows s) (sender, k) past) (sym same) ∙ (ap (λ (at
+    : ℕ). kept_answer at (sender, key) past) (sym moment) ∙ none (row_moment rows s) past
+    begun))) in
+    let missing : answer_found (entries rows) (row_moment rows s) m ≡ None =
+    nothing_formed m (answer_found (entries rows) (row_moment rows s) m) found nothing_there
+    (subst (λ (at : ℕ). IsFormedOf m (answer_found (entries rows) at m) found) moment
+    (formed (entries rows) (history_begun rows s false x out mids_before here))) in
+    let begins : UnderWay rows s false nothing (record x { transfers = t }) out_then mids_then =
+    subst (λ (table : Table).
+    UnderWay rows s false nothing (record x { transfers = table }) out_then mids_then)
+    (sym kept_on)
+    (subst (λ (o : List (Peer × List ℕ)). UnderWay rows s false nothing x o mids_then)
+    (sym unsent)
+    (subst (λ (ids : Mids). UnderWay rows s false nothing x out ids) (sym undrawn) here)) in
+    subst (λ (e : Effects). UnderWay rows s false e (record x { transfers = t }) sent mids)
+    (later_missing rows s m missing unkept)
+    (only_silent rows s false (answering s m not_live []) (record x { transfers = t }) out_then sent
+    mids_then mids (answering-notes [] s m not_live)
+    (sends s []
+    (step_of rows s false nothing (record x { transfers = t }) out_then mids_then sender of refl
+    begins)) begins)
 
 -- where memory ran out then, it is answered 5.00
 pub fresh_starved : (rows : List Row) (s : Step) (x d : Seen) (t : Table)
@@ -827,7 +1004,7 @@ pub fresh_starved : (rows : List Row) (s : Step) (x d : Seen) (t : Table)
     → IsStepOf step sender mids_then
     → Sends (without_memory step m) out_then sent mids_then mids)
     → UnderWay rows s true nothing d out mids_before
-    → UnderWay rows s true (lookup_heard true rows s m) (record x { transfers = t }) sent mids
+    → UnderWay rows s true (later_heard true rows s m) (record x { transfers = t }) sent mids
 fresh_starved rows s x d t out out_then sent mids_before mids_then mids sender m seen of kept_on
     unsent undrawn sends way =
     lookup_starved rows s (record x { transfers = t }) out_then sent mids_then mids sender m of

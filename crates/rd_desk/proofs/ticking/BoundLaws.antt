@@ -125,18 +125,14 @@ use Rattle.journal_model.specs.Changes.{
 use Rattle.journal_model.specs.Registrations.{registering}
 use Rattle.journal_model.specs.Commits.{
   settling,
-  updating,
-  removing,
+  location_outcome,
   simple_unless,
-  on_location,
   write_done,
   commit_effects,
   fetch_room,
 }
 use Rattle.journal_model.specs.Lookups.{
   listing_now,
-  block_now,
-  block_of_kept,
   later_block,
   removal,
   without,
@@ -168,6 +164,7 @@ use Rattle.journal_model.specs.Responses.{
 }
 use Rattle.journal_model.proofs.NoteKinds.{
   of_lookup,
+  of_read,
   of_write,
   of_empty,
   of_tick,
@@ -179,7 +176,10 @@ use Rattle.journal_model.proofs.NoteKinds.{
 }
 use Rattle.journal_model.proofs.StepNotes.{
   look_effects-notes,
+  later_block-kept,
   lookup_effects-notes,
+  read_effects-kept,
+  read_effects-notes,
   keep_effects-notes,
   write_effects-notes,
   tick_effects-notes,
@@ -187,6 +187,7 @@ use Rattle.journal_model.proofs.StepNotes.{
 use Rattle.journal_model.proofs.notes.ChangeNotes.{
   change_made-notes,
   registering-notes,
+  location-notes,
   commit_effects-notes,
   response_effects-notes,
 }
@@ -324,13 +325,18 @@ one_joins place moment word stood long o body key kept_body current before room 
     by false true = kept (Formed ∷ Watched ∷ before) (added before first)
     by false false = added before first
 
+-- a read adds none
+read_adds : (n : Note) → of_read n ≡ true → is_watching n ≡ false
+read_adds (note.Watched o) h = absurd (false≢true h)
+read_adds _ h = refl
+
 -- a lookup
 lookup_few : (rows : List Row) (moment place at : ℕ) (s : Step) (m : Message)
     → length (observers (events rows)) ≤ 1_024
     → length
     (observers (noted place at s.word (lookup_effects rows moment s m).notes (events rows)))
     ≤ 1_024
-unfolding lookup_effects later_block observed unobserved answering has_room_for joined_notes
+unfolding lookup_effects observed unobserved answering has_room_for joined_notes
 lookup_few rows moment place at s m few = by (is_later_block m)
   where
     quiet : (notes : List Note)
@@ -344,27 +350,6 @@ lookup_few rows moment place at s m few = by (is_later_block m)
         → notes ≡ []
         → length (observers (noted place at s.word notes (events rows))) ≤ 1_024
     silent notes is = quiet notes (ap (list_any is_watching) is)
-
-    now_block : (part : Option (List ℕ × Bool))
-        → length (observers
-        (noted place at s.word (block_now s m (listing_now rows moment m) part).notes
-        (events rows)))
-        ≤ 1_024
-    now_block None = quiet [] refl
-    now_block (Some part) =
-        quiet (note.Kept s.peer (key_in m) (listing_now rows moment m).body
-        (listing_now rows moment m).tag
-        ∷ []) refl
-
-    later : (found : Option Answer)
-        → length (observers
-        (noted place at s.word (block_of_kept s m (listing_now rows moment m) found).notes
-        (events rows)))
-        ≤ 1_024
-    later (Some found) = quiet (note.Used s.peer (key_in m) ∷ []) refl
-    later None =
-        now_block (block_of (listing_now rows moment m).body (number_of (asked_block m))
-        (szx_of (asked_block m)))
 
     left : (stood long : Bool)
         → length
@@ -427,7 +412,10 @@ lookup_few rows moment place at s m few = by (is_later_block m)
         → length (observers
         (noted place at s.word (block_effects b rows moment s m).notes (events rows)))
         ≤ 1_024
-    by true = later (kept_answer moment (s.peer, key_in m) (events rows))
+    by true =
+        quiet (later_block rows moment s m).notes
+        (none_of of_read is_watching read_adds (later_block rows moment s m).notes
+        (later_block-kept rows moment s m))
     by false = observe (observe_in m)
 
 -- kinds of notes that add no observer
@@ -469,6 +457,9 @@ adds_by kind starved rows moment s notes (write m of read asks is) =
     adds_none (none_of of_write is_watching write_adds notes
     (ap (are of_write) is ∙ write_effects-notes (events rows) moment s m))
 adds_by kind starved rows moment s notes (lookup m of read asks is) = looks m read asks is
+adds_by kind starved rows moment s notes (source m of read asks is) =
+    adds_none (none_of of_read is_watching read_adds notes
+    (ap (are of_read) is ∙ read_effects-kept rows moment s m))
 adds_by kind starved rows moment s notes (empty of all) =
     adds_none (none_of of_empty is_watching empty_adds notes all)
 adds_by kind starved rows moment s notes (response m of read asks is) =
@@ -695,25 +686,13 @@ commit_few rows moment place at s m few = by (path_in m)
         (never_start (settling place s m done).notes (are-append not_start done.notes _ h refl))
 
     location : (w : Method) (number : ℕ)
-        → length (fetches
-        (noted (length rows) at s.word (on_location w rows moment place s m number).notes
-        (events rows)))
+        → length (fetches (noted (length rows) at s.word
+        (settling place s m (location_outcome w rows moment s m number)).notes (events rows)))
         ≤ 64
-    location get number =
-        settled (removing rows moment s number)
-        (change_made-notes not_start (λ entry. refl) (entries rows) _ _ refl)
-    location post number =
-        settled (updating rows moment s m number)
-        (change_made-notes not_start (λ entry. refl) (entries rows) _ _ refl)
-    location put number =
-        settled (removing rows moment s number)
-        (change_made-notes not_start (λ entry. refl) (entries rows) _ _ refl)
-    location delete number =
-        settled (removing rows moment s number)
-        (change_made-notes not_start (λ entry. refl) (entries rows) _ _ refl)
-    location other_method number =
-        settled (removing rows moment s number)
-        (change_made-notes not_start (λ entry. refl) (entries rows) _ _ refl)
+    location w number =
+        settled (location_outcome w rows moment s m number)
+        (location-notes not_start (λ entry. refl) (λ peer key number octets. refl)
+        (λ peer key. refl) w rows moment s m number)
 
     starts : (x : Event) (past : List Event)
         → length (fetches past) < 64
@@ -812,6 +791,9 @@ few_fetches (r ∷ before) (made {rows} s starved journal may) =
     by notes few (lookup m of read asks is) =
         quiet notes few (none_of of_lookup is_start lookup_starts notes
         (ap (are of_lookup) is ∙ lookup_effects-notes before (row_moment before s) s m))
+    by notes few (source m of read asks is) =
+        quiet notes few (none_of of_lookup is_start lookup_starts notes
+        (ap (are of_lookup) is ∙ read_effects-notes before (row_moment before s) s m))
     by notes few (empty of all) = quiet notes few (none_of of_empty is_start empty_starts notes all)
     by notes few (response m of read asks is) =
         quiet notes few (never_start notes

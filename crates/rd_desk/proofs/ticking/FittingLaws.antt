@@ -95,6 +95,7 @@ use Rattle.journal_model.specs.Effects.{
 use Rattle.journal_model.specs.Journal.{events, entries, row_at}
 use Rattle.journal_model.specs.Rows.{
   served,
+  served_on_location,
   refusal_answered,
   unread_answered,
   request_answered,
@@ -127,10 +128,8 @@ use Rattle.journal_model.specs.Changes.{Outcome, refused}
 use Rattle.journal_model.specs.Registrations.{registering}
 use Rattle.journal_model.specs.Commits.{
   settling,
-  updating,
-  removing,
   simple_unless,
-  on_location,
+  location_outcome,
   write_done,
   commit_effects,
   fetch_room,
@@ -140,6 +139,7 @@ use Rattle.journal_model.specs.Looks.{
   Look,
   answered,
   held,
+  not_live,
   look,
   look_sent,
   look_effects,
@@ -150,7 +150,11 @@ use Rattle.journal_model.specs.Lookups.{
   listing_now,
   block_now,
   block_of_kept,
+  block_of_found,
+  found_now,
   later_block,
+  read_effects,
+  read_block_effects,
   without,
   observed_if,
   observed,
@@ -192,6 +196,7 @@ use Rattle.journal_model.proofs.NoteKinds.{
 use Rattle.journal_model.proofs.StepNotes.{
   keep_effects-notes,
   lookup_effects-notes,
+  read_effects-notes,
   write_effects-notes,
   tick_effects-notes,
 }
@@ -199,6 +204,7 @@ use Rattle.journal_model.proofs.flights.NoticesAgain.{stood}
 use Rattle.journal_model.proofs.notes.ChangeNotes.{
   change_made-notes,
   registering-notes,
+  location-notes,
   response_effects-notes,
 }
 use Rattle.journal_model.proofs.notes.LookupNotes.{IsAsking}
@@ -366,23 +372,31 @@ look_sends history moment s m = by (look history moment m)
     by (Some (answered reply)) = one_answer s m reply []
     by (Some (held found)) = tt
 
+later_sends : (rows : List Row) (moment : ℕ) (s : Step) (m : Message)
+    → AreResendable (later_block rows moment s m).sent
+unfolding later_block
+later_sends rows moment s m =
+    by (found_now rows moment m) (kept_answer moment (s.peer, key_in m) (events rows))
+  where
+    part_of : (answer : Answer) (part : Option (List ℕ × Bool))
+        → AreResendable (block_now s m answer part).sent
+    part_of answer None = one_answer s m _ _
+    part_of answer (Some part) = one_answer s m _ _
+
+    fresh : (found : Option Answer) → AreResendable (block_of_found s m found).sent
+    fresh None = one_answer s m not_live []
+    fresh (Some answer) =
+        part_of answer (block_of answer.body (number_of (asked_block m)) (szx_of (asked_block m)))
+
+    by : (found kept : Option Answer) → AreResendable (block_of_kept s m found kept).sent
+    by found (Some kept) = one_answer s m _ _
+    by found None = fresh found
+
 lookup_sends : (rows : List Row) (moment : ℕ) (s : Step) (m : Message)
     → AreResendable (lookup_effects rows moment s m).sent
-unfolding lookup_effects later_block observed unobserved
+unfolding lookup_effects observed unobserved
 lookup_sends rows moment s m = by (is_later_block m)
   where
-    now_block : (part : Option (List ℕ × Bool))
-        → AreResendable (block_now s m (listing_now rows moment m) part).sent
-    now_block None = one_answer s m _ _
-    now_block (Some part) = one_answer s m _ _
-
-    later : (found : Option Answer)
-        → AreResendable (block_of_kept s m (listing_now rows moment m) found).sent
-    later (Some found) = one_answer s m _ _
-    later None =
-        now_block (block_of (listing_now rows moment m).body (number_of (asked_block m))
-        (szx_of (asked_block m)))
-
     with_value : (b : Bool)
         → AreResendable (observed_if b rows s m (listing_now rows moment m)).sent
     with_value true = one_answer s m _ _
@@ -400,8 +414,17 @@ lookup_sends rows moment s m = by (is_later_block m)
     observe (Some value) = valued (value == register) (value == deregister)
 
     by : (b : Bool) → AreResendable (block_effects b rows moment s m).sent
-    by true = later (kept_answer moment (s.peer, key_in m) (events rows))
+    by true = later_sends rows moment s m
     by false = observe (observe_in m)
+
+read_sends : (rows : List Row) (moment : ℕ) (s : Step) (m : Message)
+    → AreResendable (read_effects rows moment s m).sent
+unfolding read_effects
+read_sends rows moment s m = by (is_later_block m)
+  where
+    by : (b : Bool) → AreResendable (read_block_effects b rows moment s m).sent
+    by true = later_sends rows moment s m
+    by false = look_sends (entries rows) moment s m
 
 write_sends : (past : List Event) (moment : ℕ) (s : Step) (m : Message)
     → AllSettledNever past
@@ -437,13 +460,20 @@ request_sends rows moment s m all = by (refusal_of_request m)
     refused Ack bad reply = one_answer s m reply []
     refused Rst bad reply = one_answer s m reply []
 
+    located : (w : Method) → AreResendable (served_on_location w rows moment s m).sent
+    located get = read_sends rows moment s m
+    located post = write_sends (events rows) moment s m all
+    located put = write_sends (events rows) moment s m all
+    located delete = write_sends (events rows) moment s m all
+    located other_method = tt
+
     on : (p : Path) → AreResendable (served p rows moment s m).sent
     on path.Core = look_sends (entries rows) moment s m
     on path.Res = lookup_sends rows moment s m
     on path.Ep = lookup_sends rows moment s m
     on path.SimpleRd = write_sends (events rows) moment s m all
     on path.Rd = write_sends (events rows) moment s m all
-    on (path.Location number) = write_sends (events rows) moment s m all
+    on (path.Location number) = located (method_of m.code)
     on path.Other = tt
 
     by : (refusal : Option Reply) → AreResendable (request_answered refusal rows moment s m).sent
@@ -481,21 +511,14 @@ commit_sends rows moment place s m = by (path_in m)
           tt,
         )
 
-    location : (w : Method) (number : ℕ)
-        → AreResendable (on_location w rows moment place s m number).sent
-    location get number = settles (removing rows moment s number)
-    location post number = settles (updating rows moment s m number)
-    location put number = settles (removing rows moment s number)
-    location delete number = settles (removing rows moment s number)
-    location other_method number = settles (removing rows moment s number)
-
     by : (p : Path) → AreResendable (write_done p rows moment place s m).sent
     by path.Core = tt
     by path.SimpleRd =
         simple (is_fetching s.peer (events rows))
         (nat_le max_fetches (length (fetches (events rows))))
     by path.Rd = settles (registering rows moment s m)
-    by (path.Location number) = location (method_of m.code) number
+    by (path.Location number) =
+        settles (location_outcome (method_of m.code) rows moment s m number)
     by path.Res = tt
     by path.Ep = tt
     by path.Other = tt
@@ -687,22 +710,12 @@ commit_settles rows moment place s m = by (path_in m)
     simple false false = (answers_apart s m (bare codes_of.changed), (tt, tt))
 
     location : (w : Method) (number : ℕ)
-        → AllByRecursion SettledNever (on_location w rows moment place s m number).notes
-    location get number =
-        settles (removing rows moment s number)
-        (change_made-notes not_settling (λ entry. refl) (entries rows) _ _ refl)
-    location post number =
-        settles (updating rows moment s m number)
-        (change_made-notes not_settling (λ entry. refl) (entries rows) _ _ refl)
-    location put number =
-        settles (removing rows moment s number)
-        (change_made-notes not_settling (λ entry. refl) (entries rows) _ _ refl)
-    location delete number =
-        settles (removing rows moment s number)
-        (change_made-notes not_settling (λ entry. refl) (entries rows) _ _ refl)
-    location other_method number =
-        settles (removing rows moment s number)
-        (change_made-notes not_settling (λ entry. refl) (entries rows) _ _ refl)
+        → AllByRecursion SettledNever
+        (settling place s m (location_outcome w rows moment s m number)).notes
+    location w number =
+        settles (location_outcome w rows moment s m number)
+        (location-notes not_settling (λ entry. refl) (λ peer key number octets. refl)
+        (λ peer key. refl) w rows moment s m number)
 
     by : (p : Path) → AllByRecursion SettledNever (write_done p rows moment place s m).notes
     by path.Core = tt
@@ -755,6 +768,9 @@ step_settles kind starved rows moment s notes (write m of read asks is) =
 step_settles kind starved rows moment s notes (lookup m of read asks is) =
     of_kind of_lookup of_lookup_other notes
     (ap (are of_lookup) is ∙ lookup_effects-notes rows moment s m)
+step_settles kind starved rows moment s notes (source m of read asks is) =
+    of_kind of_lookup of_lookup_other notes
+    (ap (are of_lookup) is ∙ read_effects-notes rows moment s m)
 step_settles kind starved rows moment s notes (empty of all) =
     of_kind of_empty of_empty_other notes all
 step_settles kind starved rows moment s notes (response m of read asks is) =

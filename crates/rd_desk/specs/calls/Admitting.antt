@@ -31,7 +31,16 @@ use Rattle.journal_model.specs.declared.steps.Step.{Step}
 use Rattle.journal_model.specs.declared.rows.Row.{Row}
 use Rattle.journal_model.specs.Effects.{Reply}
 use Rattle.journal_model.specs.Journal.{events}
-use Rattle.journal_model.specs.Requests.{refusal_of_request}
+use Rattle.journal_model.specs.Requests.{
+  Method,
+  get,
+  post,
+  put,
+  delete,
+  other_method,
+  method_of,
+  refusal_of_request,
+}
 use Rattle.journal_model.specs.Responses.{fetch_of}
 use Rattle.journal_model.specs.Writes.{write_effects}
 use Rattle.rd_desk.specs.declared.admissions.Admitted.{Admitted}
@@ -57,6 +66,14 @@ IsHeldFor admitted.Starved notes s moment = list_any is_admitting notes ≡ fals
 abbrev pub write_takes : List Row → ℕ → Step → Message → Bool
 write_takes rows moment s m = list_any is_admitting (write_effects (events rows) moment s m).notes
 
+-- a request on a registration takes memory, by its method: a read does
+abbrev pub served_on_location_takes : Method → List Row → ℕ → Step → Message → Bool
+served_on_location_takes get rows moment s m = true
+served_on_location_takes post rows moment s m = write_takes rows moment s m
+served_on_location_takes put rows moment s m = write_takes rows moment s m
+served_on_location_takes delete rows moment s m = write_takes rows moment s m
+served_on_location_takes other_method rows moment s m = false
+
 -- a request that nothing refuses takes memory, by its path
 abbrev pub served_takes : Path → List Row → ℕ → Step → Message → Bool
 served_takes path.Core rows moment s m = true
@@ -64,7 +81,8 @@ served_takes path.Res rows moment s m = true
 served_takes path.Ep rows moment s m = true
 served_takes path.SimpleRd rows moment s m = write_takes rows moment s m
 served_takes path.Rd rows moment s m = write_takes rows moment s m
-served_takes (path.Location number) rows moment s m = write_takes rows moment s m
+served_takes (path.Location number) rows moment s m =
+    served_on_location_takes (method_of m.code) rows moment s m
 served_takes path.Other rows moment s m = false
 
 -- a request takes memory; none that is refused for itself does

@@ -1,5 +1,5 @@
--- Lookups that the journal takes part in: what takes memory for them, and what is noted of them
--- (RFC 7959 section 2.4, RFC 7641 sections 3 and 4.1).
+-- Lookups and reads that the journal takes part in: what takes memory for them, and what is noted
+-- of them (RFC 7959 section 2.4, RFC 7641 sections 3 and 4.1).
 use Rattle.std.specs.Prelude.{
   ◌≡◌,
   ℕ,
@@ -14,6 +14,7 @@ use Rattle.std.specs.Prelude.{
   None,
   IfSome,
   is_some,
+  option_and_then,
   if◌then◌else◌,
 }
 use Rattle.std.specs.Arc.{arc_value}
@@ -32,17 +33,19 @@ use Rattle.journal_model.specs.declared.steps.Step.{Step}
 use Rattle.journal_model.specs.declared.rows.Row.{Row}
 use Rattle.journal_model.specs.Bodies.{body_reply}
 use Rattle.journal_model.specs.Effects.{Effects, answering, without_memory}
-use Rattle.journal_model.specs.Lookups.{lookup_effects}
+use Rattle.journal_model.specs.Lookups.{later_block, lookup_effects}
 use Rattle.journal_model.specs.Requests.{asked_block, szx_of}
 use Rattle.journal_model.specs.Rows.{row_moment}
+use Rattle.journal_model.specs.Sought.{answer_for, sought_in}
 use Rattle.transfers.specs.TransferEvents.{Table, AnswersStandFor, TransfersStandFor}
 use Rattle.coap_answers.specs.declared.mids.Mids.{Mids}
+use Rattle.coap_answers.specs.AskedBlocks.{has_asked_block}
 use Rattle.coap_answers.specs.Sendings.{IsStepOf, Sends}
 use Rattle.observation.specs.declared.joining.Joining.{Joining}
 use Rattle.rd_desk.specs.declared.lookup.listings.Formed.{Formed}
 use Rattle.rd_desk.specs.declared.lookup.listings.Listed.{Listed}
 
--- a listing as an answer
+-- a listing or a source as an answer
 abbrev pub answer_listed : Listed → Answer
 answer_listed l = record { body = arc_value l.body; tag = l.tag.0 }
 
@@ -52,6 +55,12 @@ answer_at history moment query = record {
   body = listing query history moment;
   tag = tag history moment;
 }
+
+-- what is found in a history at a moment of what a request seeks, under its tag; none where a
+-- registration is not live
+abbrev pub answer_found : List Entry → ℕ → Message → Option Answer
+answer_found history moment m =
+    option_and_then (λ sought. answer_for sought history moment) (sought_in m)
 
 -- these kept answers are others with an answer kept after them at a moment, under a peer and a key
 abbrev pub AreWith : ℕ → Peer → List ℕ → Answer → List KeptAnswer → List KeptAnswer → Type 0
@@ -65,6 +74,15 @@ AreWith moment peer key answer before after =
 pub record IsFormed (keep : Bool) (answer : Answer) (f : Formed) : Type 0 where
   pub listed : answer_listed f.listed ≡ answer
   pub kept : is_some f.ready ≡ keep
+
+-- what is formed of a further block: what is found, to be kept where it has that block, and nothing
+-- where nothing is found
+abbrev pub IsFormedOf : Message → Option Answer → Option Formed → Type 0
+IsFormedOf m None None = Unit {0}
+IsFormedOf m None (Some f) = ⊥
+IsFormedOf m (Some answer) None = ⊥
+IsFormedOf m (Some answer) (Some f) =
+    IsFormed (has_asked_block (asked_block m) answer.body) answer f
 
 -- the kept answers that are ready are others with it after them
 abbrev pub IsReadied : ℕ → Peer → List ℕ → List KeptAnswer → Formed → Type 0
@@ -107,6 +125,11 @@ pub record IsUsed (at moment : ℕ) (peer : Peer) (key : List ℕ) (m : Message)
       → e.note ≡ note.Used peer key
       → e.moment ≡ moment
       → TransfersStandFor at (e ∷ events) after
+
+-- a further block of what a request seeks; out of memory it is answered 5.00
+abbrev pub later_heard : Bool → List Row → Step → Message → Effects
+later_heard true rows s m = without_memory s m
+later_heard false rows s m = later_block rows (row_moment rows s) s m
 
 -- a lookup that the journal takes part in; out of memory it is answered 5.00
 abbrev pub lookup_heard : Bool → List Row → Step → Message → Effects

@@ -101,6 +101,7 @@ impl Tables {
             Incoming::Lookup(request) => {
                 without_job(self.hear_lookup(mids, peer, &request, out))
             }
+            Incoming::Read(request) => { without_job(self.answer_later(mids, peer, &request, out)) }
             Incoming::Write(request) => { self.hear_write(mids, peer, &request, out) }
             Incoming::Nothing => Admitted::Done,
             Incoming::Look(_) => unreachable!(),

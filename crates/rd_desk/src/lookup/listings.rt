@@ -1,7 +1,7 @@
-//! Listings that are formed for lookups in which the journal takes part, and the kept answers with
-//! them (RFC 7959 section 2.4).
+//! Listings and sources that are formed for requests in which the journal takes part, and the kept
+//! answers with them (RFC 7959 section 2.4).
 ghost use Rattle.std.specs.Prelude.{◌≡◌, ◌<◌, ◌≤◌, ℕ, true, false, List, length, None};
-ghost use Rattle.std.specs.Prelude.{IfOk};
+ghost use Rattle.std.specs.Prelude.{IfOk, option_map};
 ghost use Rattle.std.specs.Arc.{arc_value};
 ghost use Rattle.message_model.specs.RequestKey.{key_in};
 ghost use Rattle.history_model.specs.declared.entries.Entry.{Entry};
@@ -9,10 +9,12 @@ ghost use Rattle.history_model.specs.Versions.{VersionStandsFor};
 ghost use Rattle.event_model.specs.Events.{Event};
 ghost use Rattle.event_model.specs.KeptAnswers.{kept_answer};
 ghost use Rattle.transfers.specs.TransferEvents.{TransfersStandFor};
+ghost use Rattle.journal_model.specs.Sought.{has_tag, sought_in};
 ghost use Rattle.coap_answers.specs.Outboxes.{most_datagrams};
 ghost use Rattle.coap_answers.specs.Sendings.{IsStepOf, Sends};
 ghost use Rattle.rd_request.specs.Accepted.{message_of};
-ghost use Rattle.rd_desk.specs.parts.Lookups.{answer_listed, answer_at, IsFormed, IsReadied};
+ghost use Rattle.rd_desk.specs.parts.Lookups.{answer_listed, answer_at, answer_found, IsFormed};
+ghost use Rattle.rd_desk.specs.parts.Lookups.{IsReadied};
 ghost use Rattle.rd_desk.specs.parts.Lookups.{IsJoining};
 ghost use Rattle.rd_desk.specs.parts.Lookups.{IsUsed};
 
@@ -24,7 +26,7 @@ use directory_core::Directory;
 use exchange_core::Token;
 use observation::Joining;
 use rd_base::{Bytes, Key, Moment, Peer, Query, Starved, Tag};
-use rd_look::{listing_at, send_block};
+use rd_look::{links_at, listing_at, send_block};
 use rd_request::Request;
 use std::alloc::Global;
 use std::marker::Brand;
@@ -32,19 +34,19 @@ use std::sync::Arc;
 use std::sync::ledger::Blank;
 use transfers::{Ready, Transfers};
 
-/// A listing under its entity tag, which is shared and never copied.
+/// A listing or a source under its entity tag, which is shared and never copied.
 #[derive(Drop)]
 pub(crate) struct Listed {
-    /// The listing.
+    /// The listing or the source.
     pub body: Arc<Bytes>,
     /// Its entity tag.
     pub tag: Tag,
 }
 
-/// A listing that is formed for a request, with all that it takes to keep it.
+/// A listing or a source that is formed for a request, with all that it takes to keep it.
 #[derive(Drop)]
 pub(crate) struct Formed {
-    /// The listing.
+    /// The listing or the source.
     pub listed: Listed,
     /// The kept answers with it after them, where it is to be kept for its further blocks.
     pub ready: Option<Ready>,
@@ -70,7 +72,32 @@ pub(crate) fn listed_at(
     Ok(Listed { body, tag })
 }
 
-/// What it takes to keep a listing, where it is to be kept. `Starved`: out of memory.
+/// The listing of a lookup, or the source of a read, in a version at a moment, which is not before
+/// its last entry and its last sweep; none where the registration that is read is not live.
+/// `Starved`: out of memory.
+pub(crate) fn found_at(
+    alloc: Global,
+    version: &Directory,
+    now: Moment,
+    request: &Request<'_>,
+) -> Result<Option<Listed>, Starved>
+    requires seeks { has_tag (sought_in (message_of request.now)) ≡ true }
+    requires after_at { version.now.at ≤ now.0 }
+    requires after_sweep { version.now.swept ≤ now.0 }
+    ensures { (history : List Entry)
+        → VersionStandsFor 0 history version.now
+        → IfOk result (λ found. option_map answer_listed found
+        ≡ answer_found history now.0 (message_of request.now)) }
+{
+    let Some(octets) = links_at(alloc, version, now, request)? else {
+        return Ok(None);
+    };
+    let body = Arc::new(alloc, octets)?;
+    let current = version.tag(now);
+    Ok(Some(Listed { body, tag: current }))
+}
+
+/// What it takes to keep a listing or a source, where it is to be kept. `Starved`: out of memory.
 pub(crate) fn form(
     transfers: &Transfers,
     alloc: Global,

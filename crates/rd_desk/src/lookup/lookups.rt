@@ -1,7 +1,7 @@
-//! Lookups that the journal takes part in: further blocks of a listing, and observation (RFC 7959
-//! section 2.4, RFC 7641 sections 3 and 4.1).
+//! Lookups and reads that the journal takes part in: further blocks of a listing or a source, and
+//! observation (RFC 7959 section 2.4, RFC 7641 sections 3 and 4.1).
 ghost use Rattle.std.specs.Prelude.{◌≡◌, ◌<◌, ◌^◌, ℕ, Bool, true, false, List, length, Some};
-ghost use Rattle.std.specs.Prelude.{None, IfOk, OnErr, is_some};
+ghost use Rattle.std.specs.Prelude.{None, IfOk, IfSome, OnErr, is_some};
 ghost use Rattle.std.specs.Arc.{arc_value};
 ghost use Rattle.std.specs.Option.{ForSome};
 ghost use Rattle.rd_base.specs.declared.peers.Peer.{Peer as Endpoint};
@@ -17,19 +17,19 @@ ghost use Rattle.journal_model.specs.Effects.{Effects, nothing, joined, noting};
 ghost use Rattle.journal_model.specs.Journal.{events};
 ghost use Rattle.journal_model.specs.Lookups.{without};
 ghost use Rattle.journal_model.specs.Requests as requests_of;
+ghost use Rattle.journal_model.specs.Sought.{has_tag, sought_in};
 ghost use Rattle.coap_answers.specs.declared.mids.Mids.{Mids as MidsSeen};
-ghost use Rattle.coap_answers.specs.AskedBlocks.{has_asked_block};
 ghost use Rattle.coap_answers.specs.Outboxes.{most_datagrams};
 ghost use Rattle.rd_request.specs.Accepted.{message_of};
 ghost use Rattle.rd_request.specs.Asking.{seeks_links, begins_observation};
 ghost use Rattle.rd_desk.specs.parts.Lookups.{answer_listed, answer_at, IsFormed};
 ghost use Rattle.observation.specs.Joining.{observer_joining, joining_notes};
 ghost use Rattle.rd_desk.specs.parts.Lookups.{IsReadied, IsJoining, giving, value_given};
-ghost use Rattle.rd_desk.specs.parts.Lookups.{lookup_heard};
+ghost use Rattle.rd_desk.specs.parts.Lookups.{answer_found, IsFormedOf, later_heard, lookup_heard};
 ghost use Rattle.rd_desk.specs.calls.Stepping.{is_starved_step};
 ghost use Rattle.rd_desk.specs.parts.UnderWay.{UnderWay};
 
-use crate::lookup::listings::{Formed, form, joining_by, listed_at, send_kept};
+use crate::lookup::listings::{Formed, form, found_at, joining_by, listed_at, send_kept};
 use crate::tables::Tables;
 use crate::{Mids, Outbox, Stepped};
 use coap_answers::{answer_starved, has_asked_block, is_long};
@@ -37,7 +37,7 @@ use coap_options::request_key;
 use exchange_core::Token;
 use observation::Joining;
 use rd_base::{Peer, Query, Starved};
-use rd_look::send_block;
+use rd_look::{answer_not_live, send_block};
 use rd_request::{Request, begins_observation, is_later_block, query_of};
 
 /// How many Observe values there are: they have 24 bits (RFC 7641 section 3.4).
@@ -55,8 +55,8 @@ struct Observing {
 }
 
 impl Tables {
-    /// The block of a listing that is asked for is sent, and the listing is kept where that is
-    /// ready. Takes no memory.
+    /// The block that is asked for of a listing or a source is sent, and the whole of it is kept
+    /// where that is ready. Takes no memory.
     fn give_formed(
         &mut self,
         mids: &mut Mids,
@@ -98,25 +98,23 @@ impl Tables {
         }
     }
 
-    /// The listing of a lookup of a further block now, to be kept where it has that block.
-    /// `Starved`: out of memory.
-    fn form_later(&self, peer: Peer, request: &Request<'_>) -> Result<Formed, Starved>
-        requires seeks { seeks_links (path_in (message_of request.now)) ≡ true }
+    /// What a request for a further block finds now, to be kept where it has that block; none where
+    /// the registration that it reads is not live. `Starved`: out of memory.
+    fn form_later(&self, peer: Peer, request: &Request<'_>) -> Result<Option<Formed>, Starved>
+        requires seeks { has_tag (sought_in (message_of request.now)) ≡ true }
         ensures formed { (history : List Entry)
             → VersionStandsFor 0 history self.now.version
-            → IfOk result (IsFormed (has_asked_block
-            (requests_of.asked_block (message_of request.now))
-            (answer_at history self.now.moment
-            (requests_of.query_of (message_of request.now))).body)
-            (answer_at history self.now.moment
-            (requests_of.query_of (message_of request.now)))) }
-        ensures ready { IfOk result (IsReadied self.now.moment peer
-            (key_in (message_of request.now)) self.now.transfers.answers) }
+            → IfOk result (IsFormedOf (message_of request.now)
+            (answer_found history self.now.moment (message_of request.now))) }
+        ensures ready { IfOk result (λ found. IfSome found (IsReadied self.now.moment peer
+            (key_in (message_of request.now)) self.now.transfers.answers)) }
     {
-        let query = query_of(self.alloc, request)?;
-        let listed = listed_at(self.alloc, &*self.version, self.moment, &query)?;
+        let found = found_at(self.alloc, &*self.version, self.moment, request)?;
+        let Some(listed) = found else {
+            return Ok(None);
+        };
         let keep = has_asked_block(&request.asked, listed.body.as_slice());
-        form(
+        let formed = form(
             &self.transfers,
             self.alloc,
             self.moment,
@@ -124,7 +122,8 @@ impl Tables {
             request,
             keep,
             listed,
-        )
+        )?;
+        Ok(Some(formed))
     }
 
     /// The listing of a query now, by which a lookup of a first block is answered, to be kept where
@@ -234,22 +233,22 @@ impl Tables {
         Ok(Some((self.observed % OBSERVE_VALUES) as u32))
     }
 
-    /// A lookup of a further block: it is a block of the kept answer, or else of the listing now.
-    fn answer_later(
+    /// A lookup or a read, of a further block: it is a block of the kept answer, or else of what is
+    /// found now; 4.04 where the registration that is read is not live.
+    pub(crate) fn answer_later(
         &mut self,
         mids: &mut Mids,
         peer: Peer,
         request: &Request<'_>,
         out: &mut Outbox,
     ) -> Stepped
-        requires seeks { seeks_links (path_in (message_of request.now)) ≡ true }
-        requires later { requests_of.is_later_block (message_of request.now) ≡ true }
+        requires seeks { has_tag (sought_in (message_of request.now)) ≡ true }
         requires room { length out.old < most_datagrams }
         ensures way { (rows : List Row) (s : Step)
             → s.peer ≡ peer
             → UnderWay rows s (is_starved_step result) nothing self.old out.old mids.old
             → UnderWay rows s (is_starved_step result)
-            (lookup_heard (is_starved_step result) rows s (message_of request.now))
+            (later_heard (is_starved_step result) rows s (message_of request.now))
             self.new out.new mids.new }
         ensures version { self.new.version ≡ self.old.version }
     {
@@ -268,9 +267,13 @@ impl Tables {
         ) {
             return Stepped::Done;
         }
-        let Ok(formed) = self.form_later(peer, request) else {
+        let Ok(found) = self.form_later(peer, request) else {
             answer_starved(mids, peer, &request.meaning.view, out);
             return Stepped::Starved;
+        };
+        let Some(formed) = found else {
+            answer_not_live(mids, peer, request, out);
+            return Stepped::Done;
         };
         self.give_formed(mids, peer, request, None, formed, out);
         Stepped::Done

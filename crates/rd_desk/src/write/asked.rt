@@ -4,6 +4,7 @@ ghost use Rattle.message_model.specs.Request.{queries_in};
 ghost use Rattle.record_model.specs.declared.readings.Reading.TheVariants as reading;
 ghost use Rattle.record_model.specs.Criteria.{fault_of};
 ghost use Rattle.rd_request.specs.Accepted.{message_of};
+ghost use Rattle.rd_desk.specs.parts.Purposes.{has_good_params};
 
 use rd_base::{Moment, Peer};
 use rd_request::Request;
@@ -19,13 +20,24 @@ pub(crate) struct Write<'a> {
     pub request: Request<'a>,
 }
 
-/// A registration (RFC 9176 section 5). Its query options are not refused.
+/// What the links of a body are for.
 #[derive(Clone, Copy)]
-pub(crate) struct Registering<'a> {
+pub(crate) enum Purpose {
+    /// A registration with the parameters that its request gives (RFC 9176 section 5).
+    Register,
+    /// Other links for the registration of this number (RFC 9176 section 5.3.3).
+    Replace(u64),
+}
+
+/// A write that brings links, whole or in blocks, and what they are for. The query options of a
+/// registration are not refused.
+#[derive(Clone, Copy)]
+pub(crate) struct BringingLinks<'a> {
     /// The write.
     pub write: Write<'a>,
-    pub ghost good: { is_none (fault_of reading.Register (queries_in (message_of write.request)))
-        ≡ true },
+    /// What its links are for.
+    pub purpose: Purpose,
+    pub ghost good: { has_good_params purpose (message_of write.request) ≡ true },
 }
 
 /// A simple registration (RFC 9176 section 5.1). Its query options are not refused.

@@ -26,12 +26,11 @@ ghost use Rattle.history_model.specs.Versions.{VersionStandsFor};
 ghost use Rattle.rd_desk.specs.parts.Laying.{IsLaid, IsLeftBy, IsNextOf};
 
 use crate::tables::Tables;
-use crate::write::asked::{Registering, RegisteringSimply, Updating, Write};
+use crate::write::asked::{BringingLinks, Purpose, RegisteringSimply, Write};
 use crate::write::outcomes::Outcome;
 use crate::write::staging::staged;
 use crate::{Mids, Outbox, Stepped, WriteJob};
 use directory_core::Board;
-use message_model::codes::POST;
 use rd_base::{Moment, Starved};
 use rd_request::Resource;
 
@@ -140,17 +139,14 @@ impl Tables {
         };
         match request.resource {
             Resource::Registration => {
-                return self.commit_registration(board, mids, &Registering { write }, out);
+                let purpose = Purpose::Register;
+                return self.commit_links(board, mids, &BringingLinks { write, purpose }, out);
             }
             Resource::SimpleRegistration => {
                 return self.commit_simple(0, mids, &RegisteringSimply { write }, out);
             }
             Resource::Location(number) => {
-                if request.meaning.view.code == POST {
-                    let updating = Updating { write, number };
-                    return self.commit_update(board, mids, &updating, out);
-                }
-                return self.commit_removal(board, mids, &write, number, out);
+                return self.commit_location(board, mids, &write, number, out);
             }
             Resource::Core | Resource::Lookup(_) => unreachable!(),
         }

@@ -1,9 +1,8 @@
 //! The job that an admitted write leaves its worker with.
 ghost use Rattle.std.specs.Prelude.{◌≡◌, true, Ok};
 ghost use Rattle.message_model.specs.Reading.{reading};
-ghost use Rattle.message_model.specs.Request.{path_in};
 ghost use Rattle.rd_request.specs.Accepted.{message_of};
-ghost use Rattle.rd_request.specs.WriteRequests.{is_write_path, is_write_datagram};
+ghost use Rattle.rd_request.specs.WriteRequests.{is_write_datagram, writes_to_registrations};
 
 use rd_base::{Moment, Peer};
 use rd_request::{KeptRequest, Request};
@@ -44,7 +43,7 @@ impl WriteJob {
     /// Its request.
     pub(crate) fn request(&self) -> Request<'_>
         ensures read { reading self.now.datagram ≡ Ok (message_of result) }
-        ensures writes { is_write_path (path_in (message_of result)) ≡ true }
+        ensures writes { writes_to_registrations (message_of result) ≡ true }
     {
         self.request.request()
     }

@@ -1,7 +1,9 @@
-//! Writes on a registration: updates and removals (RFC 9176 sections 5.3.1 and 5.3.2).
+//! Writes on a registration: updates, removals and replacements of its links (RFC 9176 sections
+//! 5.3.1, 5.3.2 and 5.3.3).
 ghost use Rattle.std.specs.Prelude.{◌≡◌, ◌<◌, ◌≤◌, ◌^◌, ℕ, [], List, length, IfOk};
-ghost use Rattle.std.specs.Prelude.{false};
-ghost use Rattle.message_model.specs.Request.{queries_in};
+ghost use Rattle.std.specs.Prelude.{true, false};
+ghost use Rattle.message_model.specs.Request.{path_in, queries_in};
+ghost use Rattle.message_model.specs.declared.requests.Path.TheVariants as path;
 ghost use Rattle.record_model.specs.AllowedParameters.{IsAllowedChange};
 ghost use Rattle.record_model.specs.Parameters.{update_values};
 ghost use Rattle.history_model.specs.Versions.{VersionStandsFor};
@@ -11,9 +13,11 @@ ghost use Rattle.journal_model.specs.declared.rows.Row.{Row};
 ghost use Rattle.journal_model.specs.Commits as commits_of;
 ghost use Rattle.journal_model.specs.Effects.{nothing};
 ghost use Rattle.journal_model.specs.Journal.{events, entries};
+ghost use Rattle.journal_model.specs.Requests.{method_of};
 ghost use Rattle.journal_model.specs.Rows.{row_moment};
 ghost use Rattle.coap_answers.specs.Outboxes.{most_datagrams};
 ghost use Rattle.rd_request.specs.Accepted.{message_of};
+ghost use Rattle.rd_request.specs.WriteRequests.{writes_to_registrations};
 ghost use Rattle.rd_desk.specs.parts.Committing.{unless_failing};
 ghost use Rattle.rd_desk.specs.parts.Outcomes.{IsTimely, IsPlanned};
 ghost use Rattle.rd_desk.specs.calls.Stepping.{is_starved_step};
@@ -23,11 +27,12 @@ ghost use Rattle.history_model.specs.declared.entries.Entry.{Entry};
 ghost use Rattle.rd_desk.specs.parts.Laying.{IsLaid, IsNextOf};
 
 use crate::tables::Tables;
-use crate::write::asked::{Updating, Write};
+use crate::write::asked::{BringingLinks, Purpose, Updating, Write};
 use crate::write::outcomes::{Outcome, removed, updated};
 use crate::{Mids, Outbox, Stepped};
 use coap_options::queries;
 use directory_core::{Board, Directory};
+use message_model::codes::{POST, PUT};
 use query_text::{QueryBad, update_params};
 use rd_base::{Moment, Starved, UpdateParams};
 use std::alloc::Global;
@@ -80,7 +85,7 @@ fn update_outcome(
 impl Tables {
     /// An update of the registration of a number that was admitted is done, or fails where memory
     /// runs out.
-    pub(crate) fn commit_update<B: Board>(
+    fn commit_update<B: Board>(
         &mut self,
         board: &mut B,
         mids: &mut Mids,
@@ -112,7 +117,7 @@ impl Tables {
 
     /// A removal of the registration of a number that was admitted is done, or fails where memory
     /// runs out.
-    pub(crate) fn commit_removal<B: Board>(
+    fn commit_removal<B: Board>(
         &mut self,
         board: &mut B,
         mids: &mut Mids,
@@ -139,5 +144,48 @@ impl Tables {
     {
         let planned = removed(self.alloc, &*self.version, self.moment, number);
         self.finish(board, mids, write, planned, out)
+    }
+
+    /// A write on the registration of a number that was admitted is done, by its method: POST
+    /// updates it, PUT replaces its links, and DELETE removes it.
+    pub(crate) fn commit_location<B: Board>(
+        &mut self,
+        board: &mut B,
+        mids: &mut Mids,
+        write: &Write<'_>,
+        number: u64,
+        out: &mut Outbox,
+    ) -> Stepped
+        requires at { path_in (message_of write.now.request) ≡ path.Location number }
+        requires writes { writes_to_registrations (message_of write.now.request) ≡ true }
+        requires room { length out.old < most_datagrams }
+        requires free { B.has_staged board.old ≡ false }
+        requires told { AreToldOf self.old.version (B.told board.old) }
+        ensures way { (rows : List Row) (s : Step) (place : ℕ)
+            → s.peer ≡ write.now.peer
+            → IsOpen place s.peer (message_of write.now.request).mid write.now.admitted.0
+            (events rows)
+            → UnderWay rows s (is_starved_step result) nothing self.old out.old mids.old
+            → UnderWay rows s (is_starved_step result)
+            (unless_failing (is_starved_step result) place s (message_of write.now.request)
+            (commits_of.settling place s (message_of write.now.request)
+            (commits_of.location_outcome (method_of (message_of write.now.request).code) rows
+            (row_moment rows s) s (message_of write.now.request) number)))
+            self.new out.new mids.new }
+        ensures laid { IsLaid self.old.version self.new.version (B.staged board.old)
+            (B.staged board.new) (B.has_staged board.new) }
+        ensures name { B.name board.new ≡ B.name board.old }
+        ensures told { B.told board.new ≡ B.told board.old }
+    {
+        let write = *write;
+        let code = write.request.meaning.view.code;
+        if code == POST {
+            return self.commit_update(board, mids, &Updating { write, number }, out);
+        }
+        if code == PUT {
+            let purpose = Purpose::Replace(number);
+            return self.commit_links(board, mids, &BringingLinks { write, purpose }, out);
+        }
+        self.commit_removal(board, mids, &write, number, out)
     }
 }

@@ -1,5 +1,5 @@
 //! What is planned of a write before anything is changed: its answer, and the version with the
-//! entry that it makes (RFC 9176 sections 5, 5.3.1 and 5.3.2).
+//! entry that it makes (RFC 9176 sections 5, 5.3.1, 5.3.2 and 5.3.3).
 ghost use Rattle.std.specs.Prelude.{◌≡◌, ◌≤◌, ◌^◌, ℕ, [], List, IfOk};
 ghost use Rattle.std.specs.Option.{ForSome};
 ghost use Rattle.message_model.specs.Blocks.{IsBlock};
@@ -14,12 +14,12 @@ ghost use Rattle.event_model.specs.declared.notes.Note.{Note};
 ghost use Rattle.journal_model.specs.declared.steps.Step.{Step};
 ghost use Rattle.journal_model.specs.Changes as changes;
 ghost use Rattle.journal_model.specs.Changes.{body_read, change_made, created_at, entry_of_step};
-ghost use Rattle.journal_model.specs.Changes.{registration};
+ghost use Rattle.journal_model.specs.Changes.{body_used, changed_with, registration, replacement};
 ghost use Rattle.journal_model.specs.Effects.{bare};
 ghost use Rattle.message_model.specs.Codes as codes_of;
 ghost use Rattle.history_model.specs.Replay.{replay, number_for};
 ghost use Rattle.directory_core.specs.Answers.{IsRefusalOf};
-ghost use Rattle.directory_core.specs.Changes.{IsRegistrationOf};
+ghost use Rattle.directory_core.specs.Changes.{IsRegistrationOf, IsReplacementOf};
 ghost use Rattle.registration.specs.Drafts.{IsDraft, IsFaultOf};
 ghost use Rattle.coap_answers.specs.Replies.{block1_options};
 ghost use Rattle.rd_desk.specs.parts.Replies.{short_said};
@@ -35,7 +35,7 @@ use message_model::codes::{
 };
 use observation::ChangeKind;
 use rd_base::{Moment, Peer, RegParams, Starved, UpdateParams};
-use registration::{Draft, DraftFault, build};
+use registration::{Draft, DraftFault, Submitted, build, submitted};
 use std::alloc::Global;
 use std::sync::Arc;
 
@@ -75,7 +75,7 @@ fn refused_reply(refusal: Refusal) -> Result<ShortReply, Starved>
     }
 }
 
-/// What is answered to a body that gives no draft (RFC 6690 section 2, RFC 9176 appendix C);
+/// What is answered to a body that gives no links (RFC 6690 section 2, RFC 9176 appendix C);
 /// `Starved` where memory ran out.
 fn bad_body_reply(fault: DraftFault) -> Result<ShortReply, Starved>
     ensures { (body : List ℕ)
@@ -99,6 +99,20 @@ fn created(number: u64, block1: Option<Block>) -> ShortReply
     ShortReply {
         code: CREATED,
         location: Some(number),
+        block1,
+        diagnostic: b"",
+    }
+}
+
+/// 2.04 where a registration has other links (RFC 9176 section 5.3.3), and the block of the request
+/// that it answers, where it is one.
+fn replaced_reply(block1: Option<Block>) -> ShortReply
+    requires { ForSome block1 IsBlock }
+    ensures { short_said result ≡ changed_with (block1_options block1) }
+{
+    ShortReply {
+        code: CHANGED,
+        location: None,
         block1,
         diagnostic: b"",
     }
@@ -148,14 +162,14 @@ fn refused(refusal: Refusal) -> Result<Outcome, Starved>
     })
 }
 
-/// What comes of a body that gives no draft. `Starved`: out of memory.
+/// What comes of a body that gives no links, whatever they are for. `Starved`: out of memory.
 fn refused_body(fault: DraftFault) -> Result<Outcome, Starved>
     ensures moments { (moment : ℕ) → IfOk result (IsTimely moment) }
-    ensures planned { (history : List Entry) (swept moment : ℕ) (s : Step) (params : RegParams)
-        (body : List ℕ) (options : List Opt) (further : List Note)
+    ensures planned { (history : List Entry) (swept moment : ℕ) (s : Step)
+        (purpose : changes.Purpose) (body : List ℕ) (options : List Opt) (further : List Note)
         → IsFaultOf body fault
         → IfOk result (IsPlanned history swept further
-        (registration history moment s params body options further)) }
+        (body_used purpose history moment s body options further)) }
 {
     let reply = bad_body_reply(fault)?;
     Ok(Outcome {
@@ -224,6 +238,66 @@ pub(crate) fn registered(
 {
     match build(alloc, params, peer, body) {
         Ok(draft) => draft_registered(alloc, version, now, draft, block1),
+        Err(fault) => refused_body(fault),
+    }
+}
+
+/// What comes of other links for the registration of a number (RFC 9176 section 5.3.3), which end a
+/// block of a request where one is named. `Starved`: out of memory.
+fn links_replaced(
+    alloc: Global,
+    version: &Directory,
+    now: Moment,
+    number: u64,
+    links: Submitted,
+    block1: Option<Block>,
+) -> Result<Outcome, Starved>
+    requires after_at { version.now.at ≤ now.0 }
+    requires after_sweep { version.now.swept ≤ now.0 }
+    requires moment { now.0 ≤ 10 ^ 15 }
+    requires block1 { ForSome block1 IsBlock }
+    ensures moments { IfOk result (IsTimely now.0) }
+    ensures planned { (history : List Entry) (entry : Entry) (meant : changes.Outcome)
+        → VersionStandsFor 0 history version.now
+        → IsReplacementOf now number links entry
+        → meant.reply ≡ changed_with (block1_options block1)
+        → IfOk result (IsPlanned history version.now.swept meant.notes
+        (change_made history entry meant)) }
+{
+    match version.replace(now, number, links) {
+        Ok(version) => {
+            let reply = replaced_reply(block1);
+            entered(alloc, version, number, ChangeKind::Replacement, reply)
+        }
+        Err(refusal) => refused(refusal),
+    }
+}
+
+/// What comes of a body with other links for the registration of a number (RFC 9176 section 5.3.3),
+/// which ends a block of a request where one is named. `Starved`: out of memory.
+pub(crate) fn replaced(
+    alloc: Global,
+    version: &Directory,
+    now: Moment,
+    number: u64,
+    body: &[u8],
+    block1: Option<Block>,
+) -> Result<Outcome, Starved>
+    requires after_at { version.now.at ≤ now.0 }
+    requires after_sweep { version.now.swept ≤ now.0 }
+    requires moment { now.0 ≤ 10 ^ 15 }
+    requires block1 { ForSome block1 IsBlock }
+    ensures moments { IfOk result (IsTimely now.0) }
+    ensures next { (history : List Entry)
+        → VersionStandsFor 0 history version.now
+        → IfOk result (IsNextOf history) }
+    ensures planned { (history : List Entry) (s : Step) (further : List Note)
+        → VersionStandsFor 0 history version.now
+        → IfOk result (IsPlanned history version.now.swept further
+        (replacement history now.0 s number body.now (block1_options block1) further)) }
+{
+    match submitted(alloc, body) {
+        Ok(links) => links_replaced(alloc, version, now, number, links, block1),
         Err(fault) => refused_body(fault),
     }
 }

@@ -1,11 +1,9 @@
-//! Registrations whose body comes in blocks (RFC 7959 sections 2.3, 2.5 and 2.9).
+//! Links whose body comes in blocks (RFC 7959 sections 2.3, 2.5 and 2.9).
 ghost use Rattle.std.specs.Prelude.{◌≡◌, ◌≢◌, ◌<◌, ◌≤◌, ◌^◌, ℕ, Bool, [], ◌∷◌, List, length};
 ghost use Rattle.std.specs.Prelude.{None, IfOk, false};
 ghost use Rattle.rd_base.specs.declared.peers.Peer.{Peer};
 ghost use Rattle.message_model.specs.Blocks.{IsBlock};
 ghost use Rattle.message_model.specs.Codes as codes_of;
-ghost use Rattle.message_model.specs.Request.{queries_in};
-ghost use Rattle.record_model.specs.Parameters.{registration_values};
 ghost use Rattle.history_model.specs.declared.entries.Entry.{Entry};
 ghost use Rattle.history_model.specs.Versions.{VersionStandsFor};
 ghost use Rattle.event_model.specs.declared.notes.Note.{Note};
@@ -14,7 +12,7 @@ ghost use Rattle.event_model.specs.AdmissionOrder.{IsOpen};
 ghost use Rattle.journal_model.specs.declared.steps.Step.{Step};
 ghost use Rattle.journal_model.specs.declared.rows.Row.{Row};
 ghost use Rattle.journal_model.specs.Changes as changes;
-ghost use Rattle.journal_model.specs.Changes.{registration};
+ghost use Rattle.journal_model.specs.Changes.{body_used};
 ghost use Rattle.journal_model.specs.Commits.{settling};
 ghost use Rattle.journal_model.specs.Effects.{Effects, nothing, joined, noting};
 ghost use Rattle.journal_model.specs.Journal.{events, entries};
@@ -27,15 +25,16 @@ ghost use Rattle.rd_request.specs.Accepted.{message_of};
 ghost use Rattle.rd_desk.specs.parts.Committing.{unless_failing};
 ghost use Rattle.rd_desk.specs.parts.Replies.{short_said};
 ghost use Rattle.rd_desk.specs.parts.Outcomes.{IsTimely, IsPlanned, IsMadeAt};
+ghost use Rattle.rd_desk.specs.parts.Purposes.{purpose_of};
 ghost use Rattle.rd_desk.specs.calls.Stepping.{is_starved_step};
 ghost use Rattle.rd_desk.specs.parts.UnderWay.{UnderWay};
 ghost use Rattle.rd_desk.specs.calls.Shown.{AreToldOf};
 ghost use Rattle.rd_desk.specs.parts.Laying.{IsLaid, IsLeftBy, IsNextOf};
 
 use crate::tables::Tables;
-use crate::write::asked::{Registering, Write};
+use crate::write::asked::{BringingLinks, Write};
+use crate::write::links::whole_outcome;
 use crate::write::outcomes::Outcome;
-use crate::write::registrations::whole_outcome;
 use crate::write::replies::ShortReply;
 use crate::write::staging::staged;
 use crate::{Mids, Outbox, Stepped};
@@ -63,7 +62,7 @@ fn continued(block: Block) -> ShortReply
     }
 }
 
-/// The body of a registration whose last block came.
+/// A body of links whose last block came.
 #[derive(Clone, Copy)]
 pub(crate) struct WholeBody<'a> {
     /// The key of the requests that its blocks came by (RFC 7959 section 2.5).
@@ -101,7 +100,7 @@ impl Tables {
             .upload(self.alloc, self.moment, peer, key, block, piece)
     }
 
-    /// The upload of a registration that is accepted ends. Takes no memory.
+    /// The upload of a body whose links are accepted ends. Takes no memory.
     fn end_upload(&mut self, peer: Peer, key: &Key)
         ensures way { (rows : List Row) (s : Step) (starved : Bool) (done : Effects)
             (out : List (Peer
@@ -115,8 +114,8 @@ impl Tables {
         self.transfers.end_upload(peer, key);
     }
 
-    /// What is planned of a registration by the last of its blocks is done: where it is accepted,
-    /// its entry is made and its upload ends; else its upload stays, so that the block can come
+    /// What is planned of links by the last of their blocks is done: where they are accepted, their
+    /// entry is made and their upload ends; else its upload stays, so that the block can come
     /// again. In both cases the write is answered, and settled by that. Takes no memory.
     fn settle_upload(
         &mut self,
@@ -152,13 +151,13 @@ impl Tables {
         self.settle(mids, write, &reply, out);
     }
 
-    /// A registration whose last block came is done with its whole body. What takes memory comes
+    /// Links whose last block came are used with their whole body. What takes memory comes
     /// before anything changes; where it runs out, the write fails.
     fn commit_body<B: Board>(
         &mut self,
         board: &mut B,
         mids: &mut Mids,
-        registering: &Registering<'_>,
+        bringing: &BringingLinks<'_>,
         body: &WholeBody<'_>,
         out: &mut Outbox,
     ) -> Stepped
@@ -167,17 +166,17 @@ impl Tables {
         requires free { B.has_staged board.old ≡ false }
         requires told { AreToldOf self.old.version (B.told board.old) }
         ensures way { (rows : List Row) (s : Step) (place : ℕ)
-            → s.peer ≡ registering.now.write.peer
-            → IsOpen place registering.now.write.peer (message_of registering.now.write.request).mid
-            registering.now.write.admitted.0 (events rows)
+            → s.peer ≡ bringing.now.write.peer
+            → IsOpen place bringing.now.write.peer (message_of bringing.now.write.request).mid
+            bringing.now.write.admitted.0 (events rows)
             → UnderWay rows s (is_starved_step result) nothing self.old out.old mids.old
             → UnderWay rows s (is_starved_step result)
             (unless_failing (is_starved_step result) place s
-            (message_of registering.now.write.request)
-            (settling place s (message_of registering.now.write.request)
-            (registration (entries rows) (row_moment rows s) s
-            (registration_values (queries_in (message_of registering.now.write.request)))
-            body.now.octets.now (block1_option body.now.last)
+            (message_of bringing.now.write.request)
+            (settling place s (message_of bringing.now.write.request)
+            (body_used (purpose_of bringing.now.purpose (message_of bringing.now.write.request))
+            (entries rows) (row_moment rows s) s body.now.octets.now
+            (block1_option body.now.last)
             (note.Finished s.peer body.now.key.now ∷ [])))) self.new out.new mids.new }
         ensures laid { IsLaid self.old.version self.new.version (B.staged board.old)
             (B.staged board.new) (B.has_staged board.new) }
@@ -188,29 +187,29 @@ impl Tables {
             self.alloc,
             &*self.version,
             self.moment,
-            registering,
+            bringing,
             body.octets,
             Some(body.last),
         );
         match staged(board, planned) {
             Ok(outcome) => {
-                self.settle_upload(mids, &registering.write, body.key, outcome, out);
+                self.settle_upload(mids, &bringing.write, body.key, outcome, out);
                 return Stepped::Done;
             }
             Err(_) => {
-                self.fail(mids, &registering.write, out);
+                self.fail(mids, &bringing.write, out);
                 return Stepped::Starved;
             }
         }
     }
 
-    /// A block of a registration that was admitted is done (RFC 7959 sections 2.5 and 2.9). What
+    /// A block of links that was admitted is done (RFC 7959 sections 2.5 and 2.9). What
     /// takes memory comes before anything changes; where it runs out, the write fails.
     pub(crate) fn commit_block<B: Board>(
         &mut self,
         board: &mut B,
         mids: &mut Mids,
-        registering: &Registering<'_>,
+        bringing: &BringingLinks<'_>,
         block: &Block,
         out: &mut Outbox,
     ) -> Stepped
@@ -219,22 +218,24 @@ impl Tables {
         requires free { B.has_staged board.old ≡ false }
         requires told { AreToldOf self.old.version (B.told board.old) }
         ensures way { (rows : List Row) (s : Step) (place : ℕ)
-            → s.peer ≡ registering.now.write.peer
-            → IsOpen place s.peer (message_of registering.now.write.request).mid
-            registering.now.write.admitted.0 (events rows)
+            → s.peer ≡ bringing.now.write.peer
+            → IsOpen place s.peer (message_of bringing.now.write.request).mid
+            bringing.now.write.admitted.0 (events rows)
             → UnderWay rows s (is_starved_step result) nothing self.old out.old mids.old
             → UnderWay rows s (is_starved_step result)
             (unless_failing (is_starved_step result) place s
-            (message_of registering.now.write.request)
-            (settling place s (message_of registering.now.write.request)
-            (block_uploaded rows (row_moment rows s) s (message_of registering.now.write.request)
-            block.now))) self.new out.new mids.new }
+            (message_of bringing.now.write.request)
+            (settling place s (message_of bringing.now.write.request)
+            (block_uploaded
+            (purpose_of bringing.now.purpose (message_of bringing.now.write.request)) rows
+            (row_moment rows s) s (message_of bringing.now.write.request) block.now)))
+            self.new out.new mids.new }
         ensures laid { IsLaid self.old.version self.new.version (B.staged board.old)
             (B.staged board.new) (B.has_staged board.new) }
         ensures name { B.name board.new ≡ B.name board.old }
         ensures told { B.told board.new ≡ B.told board.old }
     {
-        let write = &registering.write;
+        let write = &bringing.write;
         let Ok(key) = request_key(self.alloc, &write.request.meaning) else {
             self.fail(mids, write, out);
             return Stepped::Starved;
@@ -250,7 +251,7 @@ impl Tables {
                     last: *block,
                     octets: octets.as_slice(),
                 };
-                return self.commit_body(board, mids, registering, &body, out);
+                return self.commit_body(board, mids, bringing, &body, out);
             }
             Upload::OutOfOrder => {
                 self.refuse_write(mids, write, REQUEST_ENTITY_INCOMPLETE, b"order", out);

@@ -67,3 +67,32 @@ due_by_time :
     ≡ true ∷ []
 unfolding output_on_literals
 due_by_time = refl
+
+-- ---- after the notice: links are replaced, and a registration is read
+
+-- the device replaces its link by another: CON 0.03 m=0003 t=a3 [11 rd][11 1] | </t>
+due_by_replacement :
+    due_after (noticed ++ (codes "in 0 1400 192.0.2.10:5683 41030003a3b272640131ff3c2f743e"
+    ∷ codes "go 0 1400"
+    ∷ []))
+    ≡ true ∷ []
+unfolding output_on_literals
+due_by_replacement = refl
+
+-- and by the same: CON 0.03 m=0003 t=a3 [11 rd][11 1] | </l>;rt="light-lux"
+not_due_by_same_links :
+    due_after (noticed
+    ++ (codes
+    "in 0 1400 192.0.2.10:5683 41030003a3b272640131ff3c2f6c3e3b72743d226c696768742d6c757822"
+    ∷ codes "go 0 1400"
+    ∷ []))
+    ≡ false ∷ []
+unfolding output_on_literals
+not_due_by_same_links = refl
+
+-- its registration is read: CON 0.01 m=0003 t=a3 [11 rd][11 1]
+not_due_by_read :
+    due_after (noticed ++ codes "in 0 1400 192.0.2.30:40000 41010003a3b272640131" ∷ [])
+    ≡ false ∷ []
+unfolding output_on_literals
+not_due_by_read = refl

@@ -30,7 +30,7 @@ returns-in-Some-clause-done g c =
     (said_done c.args.post.now.peer asked message c.in-Some.why caller before after dropped
     dropped
     (Speaks-as before after _ _ message.token _ _ c.unasked_code.ensures
-    c.unasked_word-word.ensures.word c.say_plain-tally.ensures) refl)
+    c.unasked_diagnostic-word.ensures.word c.say_plain-tally.ensures) refl)
 
 pub returns-in-None-clause-done : goal.returns-in-None-clause-done
 returns-in-None-clause-done g c =

@@ -3,39 +3,69 @@ use Rattle.std.proofs.lemmas.Result.{IfOk-weaker}
 use Rattle.rd_base.specs.declared.queries.Query.{Query}
 use Rattle.coap_message.specs.Views.{message_in}
 use Rattle.history_model.specs.Listing.{listing, tag}
+use Rattle.history_model.specs.Sources.{source}
 use Rattle.record_model.specs.Discovery.{discovery}
-use Rattle.journal_model.specs.Requests.{is_discovery}
-use Rattle.journal_model.specs.Looks.{Look, found_under, look}
-use Rattle.rd_request.proofs.ResourceLaws.{core_there}
+use Rattle.journal_model.specs.Looks.{Look, found_under, found_or_not, look}
+use Rattle.rd_request.proofs.ResourceLaws.{
+  core_path,
+  lookup_path,
+  location_path,
+  registration_path,
+  simple_path,
+}
 use Rattle.rd_look.specs.declared.looks.Found.{Found}
 use Rattle.rd_look.specs.Looking.{look_found}
-use Rattle.rd_look.proofs.LookLaws.{discovered, looked_up}
+use Rattle.rd_look.proofs.LookLaws.{
+  discovered,
+  looked_up,
+  read_at,
+  no_look_at_rd,
+  no_look_at_simple,
+}
 use Rattle.rd_look.proofs.looks.find.Goals as goal
 
-pub returns-then-is_core : goal.returns-then-is_core
-returns-then-is_core c history stands =
-    let m = message_in c.args.request.now.meaning.view in
-    discovered history c.args.now.0 m c.in_ok-octets.octets (sym (c.is_core.ensures
-    ∙ (core_there c.args.request.now.resource c.args.request.now.meaning.path
-    c.args.request.now.here
-    ∙ ap is_discovery c.args.request.now.meaning.path_said))
-    ∙ c.if-is_core.true) (c.in_ok-octets.ensures ∙ ap discovery c.in_ok-query.ensures)
+pub returns-in-Core : goal.returns-in-Core
+returns-in-Core c history stands =
+    discovered history c.args.now.0 (message_in c.args.request.now.meaning.view)
+    c.in_ok-octets.octets (core_path c.args.request.now c.in-Core.is)
+    (c.in_ok-octets.ensures ∙ ap discovery c.in_ok-query.ensures)
 
-pub returns : goal.returns
-returns c history stands =
+pub returns-in-Lookup : goal.returns-in-Lookup
+returns-in-Lookup c history stands =
     let m = message_in c.args.request.now.meaning.view in
     let at = c.args.now.0 in
     let sought =
-    looked_up history at m c.requires.looks
-    (sym (c.is_core.ensures ∙ (core_there c.args.request.now.resource
-    c.args.request.now.meaning.path c.args.request.now.here ∙ ap is_discovery
-    c.args.request.now.meaning.path_said)) ∙ c.if-is_core.false) in
+    looked_up history at m (lookup_path c.args.request.now c.in-Lookup.field-0 c.in-Lookup.is) in
     IfOk-weaker c.find_listing.result (λ (f : Found).
-    found_under (Some (tag history at)) m (listing c.in_ok-query.query history at)
+    found_under (Some (tag history at)) m (listing c.in_ok-query-in-Lookup.query history at)
     ≡ look_found m f) (λ (f : Found). look history at m ≡ Some (look_found m f))
     (λ f e. sought
     ∙ ap (λ (given : Look). Some given)
     (ap (λ (query : Query). found_under (Some (tag history at)) m (listing query history at))
-    (sym c.in_ok-query.ensures)
+    (sym c.in_ok-query-in-Lookup.ensures)
     ∙ e))
     (c.find_listing.ensures history stands)
+
+pub returns-in-Location : goal.returns-in-Location
+returns-in-Location c history stands =
+    let m = message_in c.args.request.now.meaning.view in
+    let at = c.args.now.0 in
+    let number = c.in-Location.number in
+    let sought =
+    read_at history at m number c.requires.looks
+    (location_path c.args.request.now number c.in-Location.is) in
+    IfOk-weaker c.find_source.result (λ (f : Found).
+    found_or_not (Some (tag history at)) m (source number history at) ≡ look_found m f)
+    (λ (f : Found). look history at m ≡ Some (look_found m f))
+    (λ f e. sought ∙ ap (λ (given : Look). Some given) e)
+    (c.find_source.ensures history stands)
+
+pub unreachable-requires : goal.unreachable-requires
+unreachable-requires c =
+    no_look_at_simple (message_in c.args.request.now.meaning.view) c.requires.looks
+    (simple_path c.args.request.now c.in-SimpleRegistration.is)
+
+pub unreachable-in-Registration-requires : goal.unreachable-in-Registration-requires
+unreachable-in-Registration-requires c =
+    no_look_at_rd (message_in c.args.request.now.meaning.view) c.requires.looks
+    (registration_path c.args.request.now c.in-Registration.is)

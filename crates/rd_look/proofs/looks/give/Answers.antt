@@ -19,14 +19,14 @@ returns-in-Valid-clause-sends c s of =
     Sends (answering s m reply []) c.args.out.now c.answer.new.out c.args.mids.now
     c.answer.new.mids) c.still_valid.ensures.said (c.answer.ensures.sends s [] of))
 
-pub returns-in-Listing-clause-sends : goal.returns-in-Listing-clause-sends
-returns-in-Listing-clause-sends c s of =
+pub returns-in-Links-clause-sends : goal.returns-in-Links-clause-sends
+returns-in-Links-clause-sends c s of =
     let m = message_in c.args.request.now.meaning.view in
     subst (λ (f : Found).
-    Sends (look_done (is_starved_look c.give_listing.result) s m (look_found m f))
-    c.args.out.now c.give_listing.new.out c.args.mids.now c.give_listing.new.mids)
-    (sym c.in-Listing.is)
-    (c.give_listing.ensures.sends s of)
+    Sends (look_done (is_starved_look c.give_links.result) s m (look_found m f))
+    c.args.out.now c.give_links.new.out c.args.mids.now c.give_links.new.mids)
+    (sym c.in-Links.is)
+    (c.give_links.ensures.sends s of)
 
 pub returns-in-OwnLinks-clause-sends : goal.returns-in-OwnLinks-clause-sends
 returns-in-OwnLinks-clause-sends c s of =
@@ -39,3 +39,11 @@ returns-in-OwnLinks-clause-sends c s of =
     Sends (answering s m (body_reply None None (asked_block m) body) []) c.args.out.now
     c.send_block.new.out c.args.mids.now c.send_block.new.mids) c.as_slice.ensures.value
     (c.send_block.ensures s [] of))
+
+pub returns-in-NotLive-clause-sends : goal.returns-in-NotLive-clause-sends
+returns-in-NotLive-clause-sends c s of =
+    let m = message_in c.args.request.now.meaning.view in
+    subst (λ (f : Found).
+    Sends (look_sent s m (Some (look_found m f))) c.args.out.now c.answer_not_live.new.out
+    c.args.mids.now c.answer_not_live.new.mids)
+    (sym c.in-NotLive.is) (c.answer_not_live.ensures s [] of)

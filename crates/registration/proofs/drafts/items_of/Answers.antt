@@ -1,12 +1,12 @@
 use Rattle.std.proofs.Common.{ℕ, Some, sym, ap, ◌∙◌, arith}
 use Rattle.record_model.specs.BodyFaults.{no_document}
-use Rattle.registration.proofs.ReferenceLaws.{base_reads}
+use Rattle.registration.proofs.SubmissionLaws.{reference_reads}
 use Rattle.registration.proofs.LinksLaws.{document_room, fault_of_no_document, body_reads}
 use Rattle.registration.proofs.drafts.items_of.Goals as goal
 
 pub unreachable-requires : goal.unreachable-requires
 unreachable-requires c =
-    base_reads c.args.base.now c.requires (λ k h. c.in_default.ensures.only k h)
+    reference_reads c.args.base.now c.requires (λ k h. c.in_default.ensures.only k h)
 
 pub read_links-requires-clause-room : goal.read_links-requires-clause-room
 read_links-requires-clause-room c =

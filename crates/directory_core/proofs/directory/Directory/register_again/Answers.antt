@@ -2,10 +2,15 @@ use Rattle.std.proofs.Common.{subst}
 use Rattle.directory_core.specs.Shown.{IsKept}
 use Rattle.directory_core.proofs.AnswerLaws.{again_answers}
 use Rattle.directory_core.proofs.FitLaws.{draft_sound}
+use Rattle.directory_core.proofs.RenewLaws.{begins}
 use Rattle.directory_core.proofs.directory.Directory.register_again.Goals as goal
 
 pub renewed-requires-clause-sound : goal.renewed-requires-clause-sound
 renewed-requires-clause-sound c = draft_sound c.args.draft c.requires.draft
+
+pub renewed-requires-clause-unlapsed : goal.renewed-requires-clause-unlapsed
+renewed-requires-clause-unlapsed c =
+    begins c.args.now c.args.draft (draft_sound c.args.draft c.requires.draft)
 
 pub returns-clause-answers : goal.returns-clause-answers
 returns-clause-answers c first history entry stands h =

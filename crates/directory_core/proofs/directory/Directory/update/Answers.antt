@@ -5,6 +5,7 @@ use Rattle.registration.specs.Drafts.{recorded}
 use Rattle.directory_core.specs.LinksAgainst.{AreAfter, AreAgainst}
 use Rattle.directory_core.specs.Shown.{IsKept}
 use Rattle.directory_core.proofs.AnswerLaws.{update_gone, update_answers}
+use Rattle.directory_core.proofs.RenewLaws.{begins}
 use Rattle.directory_core.proofs.directory.Directory.update.Goals as goal
 
 pub updated_draft-requires-clause-against : goal.updated_draft-requires-clause-against
@@ -16,6 +17,10 @@ pub renewed-requires-clause-links : goal.renewed-requires-clause-links
 renewed-requires-clause-links c =
     subst (λ (r : Record). AreAfter c.in_ok-draft.links r.items c.in_ok-draft.draft.items)
     c.as_record.ensures c.in_ok-draft.ensures.links
+
+pub renewed-requires-clause-unlapsed : goal.renewed-requires-clause-unlapsed
+renewed-requires-clause-unlapsed c =
+    begins c.args.now c.in_ok-draft.draft c.in_ok-draft.ensures.sound
 
 pub returns-in_default-clause-refused : goal.returns-in_default-clause-refused
 returns-in_default-clause-refused c first history entry stands h =

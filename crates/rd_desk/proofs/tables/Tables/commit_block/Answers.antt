@@ -6,6 +6,7 @@ use Rattle.journal_model.specs.Effects.{nothing, joined, noting}
 use Rattle.transfers.specs.declared.collecting.Upload.{Upload}
 use Rattle.transfers.specs.declared.collecting.Upload.TheVariants as answer
 use Rattle.rd_desk.specs.parts.Replies.{short_said}
+use Rattle.rd_desk.specs.parts.Purposes.{purpose_of}
 use Rattle.rd_desk.specs.calls.Stepping.{is_starved_step}
 use Rattle.history_model.specs.Versions.{Version}
 use Rattle.rd_desk.specs.calls.Shown.{AreToldOf}
@@ -24,36 +25,37 @@ pub returns-in_default-clause-way : goal.returns-in_default-clause-way
 returns-in_default-clause-way g c =
     λ rows s place of opened way.
     c.fail.ensures.way rows s true place of
-    (opened_by rows s place (message_in c.args.registering.now.write.request.meaning.view)
-    c.args.registering.now.write.peer
-    c.args.registering.now.write.admitted.0 of opened) way
+    (opened_by rows s place (message_in c.args.bringing.now.write.request.meaning.view)
+    c.args.bringing.now.write.peer
+    c.args.bringing.now.write.admitted.0 of opened) way
 
 pub returns-in-More-clause-way : goal.returns-in-More-clause-way
 returns-in-More-clause-way g c =
     λ rows s place of opened way.
-    let m = message_in c.args.registering.now.write.request.meaning.view in
+    let m = message_in c.args.bringing.now.write.request.meaning.view in
     let b = c.args.block.now in
     let piece = joined nothing (noting (note.Piece s.peer c.in-Ok.key b.num m.payload ∷ [])) in
     let fed : c.take_block.result ≢ answer.Starved =
     λ e.
     (let other : ◌≡◌ {A = Upload} answer.More answer.Starved = sym c.in-More.is ∙ e in cc)
     in
-    settled_piece rows s place m b (short_said c.continued.result) c.take_block.result c.in-Ok.key
+    settled_piece (purpose_of c.args.bringing.now.purpose m) rows s place m b
+    (short_said c.continued.result) c.take_block.result c.in-Ok.key
     c.settle.new.self c.settle.new.out c.settle.new.mids
-    (c.in-Ok.ensures.key m (is_meaning c.args.registering.now.write.request.meaning)) c.in-More.is
+    (c.in-Ok.ensures.key m (is_meaning c.args.bringing.now.write.request.meaning)) c.in-More.is
     c.continued.ensures
     (c.take_block.ensures.answer rows s false c.args.out.now c.args.mids.now of way fed)
     (c.settle.ensures.way rows s false piece place of refl
-    (open_more rows s false piece place c.args.registering.now.write.peer m.mid
-    c.args.registering.now.write.admitted.0 refl
-    (opened_by rows s place m c.args.registering.now.write.peer
-    c.args.registering.now.write.admitted.0 of opened))
+    (open_more rows s false piece place c.args.bringing.now.write.peer m.mid
+    c.args.bringing.now.write.admitted.0 refl
+    (opened_by rows s place m c.args.bringing.now.write.peer
+    c.args.bringing.now.write.admitted.0 of opened))
     (c.take_block.ensures.more rows s false c.args.out.now c.args.mids.now of c.in-More.is way))
 
 pub returns-in-Whole-clause-way : goal.returns-in-Whole-clause-way
 returns-in-Whole-clause-way g c =
     λ rows s place of opened way.
-    let m = message_in c.args.registering.now.write.request.meaning.view in
+    let m = message_in c.args.bringing.now.write.request.meaning.view in
     let b = c.args.block.now in
     let fed : c.take_block.result ≢ answer.Starved =
     λ e.
@@ -67,21 +69,22 @@ returns-in-Whole-clause-way g c =
     unchanged rows s (is_starved_step c.commit_body.result) c.args.self.now
     c.take_block.new.self c.args.out.now c.args.mids.now (c.take_block.ensures.other still)
     way in
-    settled_whole (is_starved_step c.commit_body.result) rows s place m b c.take_block.result
+    settled_whole (purpose_of c.args.bringing.now.purpose m)
+    (is_starved_step c.commit_body.result) rows s place m b c.take_block.result
     c.in-Whole.octets c.as_slice.result.now c.in-Ok.key c.commit_body.new.self
     c.commit_body.new.out c.commit_body.new.mids
-    (c.in-Ok.ensures.key m (is_meaning c.args.registering.now.write.request.meaning)) c.in-Whole.is
+    (c.in-Ok.ensures.key m (is_meaning c.args.bringing.now.write.request.meaning)) c.in-Whole.is
     c.as_slice.ensures.value
     (c.take_block.ensures.answer rows s (is_starved_step c.commit_body.result) c.args.out.now
     c.args.mids.now of way fed)
     (c.commit_body.ensures.way rows s place of
-    (opened_by rows s place m c.args.registering.now.write.peer
-    c.args.registering.now.write.admitted.0 of opened) begun)
+    (opened_by rows s place m c.args.bringing.now.write.peer
+    c.args.bringing.now.write.admitted.0 of opened) begun)
 
 pub returns-in-OutOfOrder-clause-way : goal.returns-in-OutOfOrder-clause-way
 returns-in-OutOfOrder-clause-way g c =
     λ rows s place of opened way.
-    let m = message_in c.args.registering.now.write.request.meaning.view in
+    let m = message_in c.args.bringing.now.write.request.meaning.view in
     let b = c.args.block.now in
     let fed : c.take_block.result ≢ answer.Starved =
     λ e.
@@ -91,21 +94,22 @@ returns-in-OutOfOrder-clause-way g c =
     λ e.
     (let other : ◌≡◌ {A = Upload} answer.OutOfOrder answer.More = sym c.in-OutOfOrder.is ∙ e
     in cc) in
-    settled_block rows s place m b c.take_block.result answer.OutOfOrder c.in-Ok.key
+    settled_block (purpose_of c.args.bringing.now.purpose m) rows s place m b
+    c.take_block.result answer.OutOfOrder c.in-Ok.key
     c.refuse_write.new.self c.refuse_write.new.out c.refuse_write.new.mids
-    (c.in-Ok.ensures.key m (is_meaning c.args.registering.now.write.request.meaning))
+    (c.in-Ok.ensures.key m (is_meaning c.args.bringing.now.write.request.meaning))
     c.in-OutOfOrder.is
     (c.take_block.ensures.answer rows s false c.args.out.now c.args.mids.now of way fed)
     (c.refuse_write.ensures.way rows s false place of
-    (opened_by rows s place m c.args.registering.now.write.peer
-    c.args.registering.now.write.admitted.0 of opened)
+    (opened_by rows s place m c.args.bringing.now.write.peer
+    c.args.bringing.now.write.admitted.0 of opened)
     (unchanged rows s false c.args.self.now c.take_block.new.self c.args.out.now c.args.mids.now
     (c.take_block.ensures.other still) way))
 
 pub returns-in-TooLarge-clause-way : goal.returns-in-TooLarge-clause-way
 returns-in-TooLarge-clause-way g c =
     λ rows s place of opened way.
-    let m = message_in c.args.registering.now.write.request.meaning.view in
+    let m = message_in c.args.bringing.now.write.request.meaning.view in
     let b = c.args.block.now in
     let fed : c.take_block.result ≢ answer.Starved =
     λ e.
@@ -115,22 +119,23 @@ returns-in-TooLarge-clause-way g c =
     λ e.
     (let other : ◌≡◌ {A = Upload} answer.TooLarge answer.More = sym c.in-TooLarge.is ∙ e in
     cc) in
-    settled_block rows s place m b c.take_block.result answer.TooLarge c.in-Ok.key
+    settled_block (purpose_of c.args.bringing.now.purpose m) rows s place m b
+    c.take_block.result answer.TooLarge c.in-Ok.key
     c.refuse_write-in-TooLarge.new.self c.refuse_write-in-TooLarge.new.out
     c.refuse_write-in-TooLarge.new.mids
-    (c.in-Ok.ensures.key m (is_meaning c.args.registering.now.write.request.meaning))
+    (c.in-Ok.ensures.key m (is_meaning c.args.bringing.now.write.request.meaning))
     c.in-TooLarge.is
     (c.take_block.ensures.answer rows s false c.args.out.now c.args.mids.now of way fed)
     (c.refuse_write-in-TooLarge.ensures.way rows s false place of
-    (opened_by rows s place m c.args.registering.now.write.peer
-    c.args.registering.now.write.admitted.0 of opened)
+    (opened_by rows s place m c.args.bringing.now.write.peer
+    c.args.bringing.now.write.admitted.0 of opened)
     (unchanged rows s false c.args.self.now c.take_block.new.self c.args.out.now c.args.mids.now
     (c.take_block.ensures.other still) way))
 
 pub returns-in-FullUploads-clause-way : goal.returns-in-FullUploads-clause-way
 returns-in-FullUploads-clause-way g c =
     λ rows s place of opened way.
-    let m = message_in c.args.registering.now.write.request.meaning.view in
+    let m = message_in c.args.bringing.now.write.request.meaning.view in
     let b = c.args.block.now in
     let fed : c.take_block.result ≢ answer.Starved =
     λ e.
@@ -140,29 +145,30 @@ returns-in-FullUploads-clause-way g c =
     λ e.
     (let other : ◌≡◌ {A = Upload} answer.FullUploads answer.More = sym c.in-FullUploads.is ∙
     e in cc) in
-    settled_block rows s place m b c.take_block.result answer.FullUploads c.in-Ok.key
+    settled_block (purpose_of c.args.bringing.now.purpose m) rows s place m b
+    c.take_block.result answer.FullUploads c.in-Ok.key
     c.refuse_write-in-FullUploads.new.self c.refuse_write-in-FullUploads.new.out
     c.refuse_write-in-FullUploads.new.mids
-    (c.in-Ok.ensures.key m (is_meaning c.args.registering.now.write.request.meaning))
+    (c.in-Ok.ensures.key m (is_meaning c.args.bringing.now.write.request.meaning))
     c.in-FullUploads.is
     (c.take_block.ensures.answer rows s false c.args.out.now c.args.mids.now of way fed)
     (c.refuse_write-in-FullUploads.ensures.way rows s false place of
-    (opened_by rows s place m c.args.registering.now.write.peer
-    c.args.registering.now.write.admitted.0 of opened)
+    (opened_by rows s place m c.args.bringing.now.write.peer
+    c.args.bringing.now.write.admitted.0 of opened)
     (unchanged rows s false c.args.self.now c.take_block.new.self c.args.out.now c.args.mids.now
     (c.take_block.ensures.other still) way))
 
 pub returns-in-Starved-clause-way : goal.returns-in-Starved-clause-way
 returns-in-Starved-clause-way g c =
     λ rows s place of opened way.
-    let m = message_in c.args.registering.now.write.request.meaning.view in
+    let m = message_in c.args.bringing.now.write.request.meaning.view in
     let still : c.take_block.result ≢ answer.More =
     λ e.
     (let other : ◌≡◌ {A = Upload} answer.Starved answer.More = sym c.in-Starved.is ∙ e in
     cc) in
     c.fail-in-Starved.ensures.way rows s true place of
-    (opened_by rows s place m c.args.registering.now.write.peer
-    c.args.registering.now.write.admitted.0 of opened)
+    (opened_by rows s place m c.args.bringing.now.write.peer
+    c.args.bringing.now.write.admitted.0 of opened)
     (unchanged rows s true c.args.self.now c.take_block.new.self c.args.out.now c.args.mids.now
     (c.take_block.ensures.other still) way)
 

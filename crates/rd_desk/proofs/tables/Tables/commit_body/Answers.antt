@@ -1,16 +1,15 @@
 use Rattle.std.proofs.Common.{true, false, [], ◌∷◌, sym, ap, subst, ◌∙◌}
 use Rattle.coap_message.specs.Views.{message_in}
-use Rattle.message_model.specs.Request.{queries_in}
-use Rattle.record_model.specs.Parameters.{registration_values}
 use Rattle.history_model.specs.Versions.{VersionStandsFor}
 use Rattle.event_model.specs.declared.notes.Note.TheVariants as note
-use Rattle.journal_model.specs.Changes.{registration}
+use Rattle.journal_model.specs.Changes.{body_used}
 use Rattle.journal_model.specs.Journal.{entries}
 use Rattle.journal_model.specs.Registrations.{block1_option}
 use Rattle.journal_model.specs.Rows.{row_moment}
 use Rattle.rd_desk.specs.calls.Desks.{Seen}
 use Rattle.rd_desk.specs.parts.Outcomes.{IsPlanned, IsTimely}
 use Rattle.rd_desk.specs.parts.Laying.{IsNextOf}
+use Rattle.rd_desk.specs.parts.Purposes.{purpose_of}
 use Rattle.rd_desk.proofs.changes.StagingLaws.{
   next_told,
   swept_planned,
@@ -18,7 +17,7 @@ use Rattle.rd_desk.proofs.changes.StagingLaws.{
   laid_planned,
   laid_kept,
 }
-use Rattle.rd_desk.proofs.changes.UploadLaws.{registration_enters, planned_here}
+use Rattle.rd_desk.proofs.changes.UploadLaws.{links_enter, planned_here}
 use Rattle.rd_desk.proofs.tables.Tables.commit_body.Goals as goal
 
 pub staged-requires-clause-next : goal.staged-requires-clause-next
@@ -41,19 +40,19 @@ settle_upload-requires-clause-timely g c =
 pub returns-in-Ok-clause-way : goal.returns-in-Ok-clause-way
 returns-in-Ok-clause-way g c =
     λ rows s place of opened way.
-    let params =
-    registration_values
-    (queries_in (message_in c.args.registering.now.write.request.meaning.view)) in
+    let purpose =
+    purpose_of c.args.bringing.now.purpose
+    (message_in c.args.bringing.now.write.request.meaning.view) in
     let options = block1_option c.args.body.now.last in
     let further = note.Finished s.peer c.args.body.now.key.now ∷ [] in
     c.settle_upload.ensures.way rows s false place
-    (registration (entries rows) (row_moment rows s) s params c.args.body.now.octets.now options
+    (body_used purpose (entries rows) (row_moment rows s) s c.args.body.now.octets.now options
     further)
     of opened
-    (λ entry more noted. registration_enters (entries rows) (row_moment rows s) s params
+    (λ entry more noted. links_enter purpose (entries rows) (row_moment rows s) s
     c.args.body.now.octets.now options further entry more noted)
     (planned_here rows s false _ c.args.self.now c.deref.result.now c.args.out.now c.args.mids.now
-    params c.args.body.now.octets.now options further c.in-Ok.outcome c.self.view_is c.deref.ensures
+    purpose c.args.body.now.octets.now options further c.in-Ok.outcome c.self.view_is c.deref.ensures
     (λ history h.
     of_laid (λ o. IsPlanned history _ further _ o) c.whole_outcome-planned.result c.in-Ok.outcome
     c.in-Ok.ensures.same (c.whole_outcome-planned.ensures.planned history s further h of))

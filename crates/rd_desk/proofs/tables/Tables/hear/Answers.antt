@@ -24,14 +24,19 @@ use Rattle.rd_request.proofs.AskedLaws.{none_there}
 use Rattle.rd_request.proofs.IncomingLaws.{look_left}
 use Rattle.rd_request.proofs.WriteRequestLaws.{write_datagram}
 use Rattle.rd_desk.specs.calls.Admitting.{is_starved_admission, IsHeldFor}
-use Rattle.rd_desk.specs.parts.Lookups.{lookup_heard}
+use Rattle.rd_desk.specs.parts.Lookups.{later_heard, lookup_heard}
 use Rattle.rd_desk.specs.parts.Responding.{response_heard}
 use Rattle.rd_desk.specs.parts.UnderWay.{UnderWay}
 use Rattle.rd_desk.proofs.parts.AdmissionLaws.{request_refused, request_writes}
 use Rattle.rd_desk.proofs.parts.HearingLaws.{
   served_lookup,
   served_admits,
+  served_read,
+  read_admits,
+  read_has_tag,
+  later-read,
   takes_lookup,
+  takes_read,
   takes_write,
   response_is,
   response_admits,
@@ -239,6 +244,53 @@ returns-in-Lookup-clause-unstarved g c rows s of way silent =
 pub returns-in-Lookup-clause-laid : goal.returns-in-Lookup-clause-laid
 returns-in-Lookup-clause-laid g c =
     laid_none c.args.self.now.version _ _ _ c.hear_lookup.ensures.version c.requires.free
+
+pub answer_later-requires : goal.answer_later-requires
+answer_later-requires g c =
+    let is = (told_as c.args.arrival.datagram.now _ _ c.in-Read.is c.requires.read) in
+    read_has_tag (message_of c.in-Read.request) is.2
+
+pub returns-in-Read-clause-way : goal.returns-in-Read-clause-way
+returns-in-Read-clause-way g c rows s of worded way =
+    let m = message_of c.in-Read.request in
+    let is = (told_as c.args.arrival.datagram.now _ _ c.in-Read.is c.requires.read) in
+    let starved = is_starved_admission c.without_job-in-Read.result in
+    let none = none_there (refusal_of_request m) c.in-Read.request.accepted in
+    subst (λ (e : Effects).
+    UnderWay rows s starved e c.answer_later.new.self c.answer_later.new.out
+    c.answer_later.new.mids)
+    (heard_for rows s starved role.Request c.args.arrival.datagram.now m is.0)
+    (jobless_way rows s c.answer_later.result c.without_job-in-Read.result c.args.self.now
+    c.answer_later.new.self c.args.out.now c.answer_later.new.out c.args.mids.now
+    c.answer_later.new.mids
+    (λ b. later_heard b rows s m)
+    (λ b. message_effects role.Request b rows (row_moment rows s) s m)
+    c.without_job-in-Read.ensures
+    (λ b. served_read rows s b m none is.2 (later-read m is.2 is.1))
+    (c.answer_later.ensures.way rows s of) way)
+
+pub returns-in-Read-clause-held : goal.returns-in-Read-clause-held
+returns-in-Read-clause-held g c rows s of datagram way =
+    let m = message_of c.in-Read.request in
+    let is = (told_as c.args.arrival.datagram.now _ _ c.in-Read.is c.requires.read) in
+    let none = none_there (refusal_of_request m) c.in-Read.request.accepted in
+    jobless_held c.answer_later.result c.without_job-in-Read.result
+    (λ b. heard b rows (row_moment rows s) s (reading c.args.arrival.datagram.now)) s
+    (row_moment rows s) c.without_job-in-Read.ensures
+    (λ b. admits_for rows s b role.Request c.args.arrival.datagram.now m is.0
+    (read_admits rows s b m none is.2 (later-read m is.2 is.1)))
+
+pub returns-in-Read-clause-unstarved : goal.returns-in-Read-clause-unstarved
+returns-in-Read-clause-unstarved g c rows s of way silent =
+    let m = message_of c.in-Read.request in
+    let is = (told_as c.args.arrival.datagram.now _ _ c.in-Read.is c.requires.read) in
+    takes_read rows s m (is_starved_admission c.without_job-in-Read.result)
+    (none_there (refusal_of_request m) c.in-Read.request.accepted) is.2
+    (takes_for rows s role.Request c.args.arrival.datagram.now m is.0 silent)
+
+pub returns-in-Read-clause-laid : goal.returns-in-Read-clause-laid
+returns-in-Read-clause-laid g c =
+    laid_none c.args.self.now.version _ _ _ c.answer_later.ensures.version c.requires.free
 
 pub hear_write-requires-clause-write : goal.hear_write-requires-clause-write
 hear_write-requires-clause-write g c =

@@ -1,4 +1,5 @@
 use Rattle.std.proofs.Common.{[], refl}
+use Rattle.journal_model.specs.Changes.{to_register}
 use Rattle.coap_answers.specs.Replies.{block1_options}
 use Rattle.rd_desk.proofs.changes.OutcomeLaws.{planned-registered}
 use Rattle.rd_desk.proofs.changes.StagingLaws.{from_peer, next_planned}
@@ -15,8 +16,8 @@ returns-in-Ok-clause-planned c history s further stands from =
 
 pub returns-in-Err-clause-planned : goal.returns-in-Err-clause-planned
 returns-in-Err-clause-planned c history s further stands from =
-    c.refused_body.ensures.planned history c.args.version.now.swept c.args.now.0 s c.args.params
-    c.args.body.now (block1_options c.args.block1) further c.in-Err.ensures.refused
+    c.refused_body.ensures.planned history c.args.version.now.swept c.args.now.0 s
+    (to_register c.args.params) c.args.body.now (block1_options c.args.block1) further c.in-Err.ensures.refused
 
 pub returns-in-Ok-clause-next : goal.returns-in-Ok-clause-next
 returns-in-Ok-clause-next c history stands =

@@ -8,7 +8,7 @@ use Rattle.coap_answers.proofs.SendingLaws.{sends_nothing}
 use Rattle.rd_look.specs.declared.looks.Looked.TheVariants as ended
 use Rattle.rd_look.specs.Looking.{IsHeld}
 use Rattle.rd_look.proofs.LookLaws.{given_whole, given_held}
-use Rattle.rd_look.proofs.looks.give_listing.Goals as goal
+use Rattle.rd_look.proofs.looks.give_links.Goals as goal
 
 pub returns-then-not-is_long-clause-sends : goal.returns-then-not-is_long-clause-sends
 returns-then-not-is_long-clause-sends c s of =

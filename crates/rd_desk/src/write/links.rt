@@ -1,25 +1,27 @@
-//! Registrations: their body comes whole, or in blocks (RFC 9176 section 5, RFC 7959 section 2.5).
-ghost use Rattle.std.specs.Prelude.{◌≡◌, ◌<◌, ◌≤◌, ◌^◌, ℕ, [], List, length, None, IfOk, false};
+//! Links for a new registration, or other ones for one that is: the body comes whole, or in blocks
+//! (RFC 9176 sections 5 and 5.3.3, RFC 7959 section 2.5).
+ghost use Rattle.std.specs.Prelude.{◌≡◌, ◌<◌, ◌≤◌, ◌^◌, ℕ, []};
+ghost use Rattle.std.specs.Prelude.{List, length, None, IfOk, false};
 ghost use Rattle.std.specs.Option.{ForSome};
 ghost use Rattle.message_model.specs.Blocks.{IsBlock};
-ghost use Rattle.message_model.specs.Request.{queries_in};
-ghost use Rattle.record_model.specs.Parameters.{registration_values};
 ghost use Rattle.history_model.specs.Versions.{VersionStandsFor};
 ghost use Rattle.event_model.specs.declared.notes.Note.{Note};
 ghost use Rattle.event_model.specs.AdmissionOrder.{IsOpen};
 ghost use Rattle.journal_model.specs.declared.steps.Step.{Step};
 ghost use Rattle.journal_model.specs.declared.rows.Row.{Row};
-ghost use Rattle.journal_model.specs.Changes.{registration};
+ghost use Rattle.journal_model.specs.Changes.{body_used};
 ghost use Rattle.journal_model.specs.Commits.{settling};
 ghost use Rattle.journal_model.specs.Effects.{nothing};
 ghost use Rattle.journal_model.specs.Journal.{events, entries};
-ghost use Rattle.journal_model.specs.Registrations as registrations_of;
+ghost use Rattle.journal_model.specs.Registrations.{links_outcome};
+ghost use Rattle.journal_model.specs.Requests.{sent_block};
 ghost use Rattle.journal_model.specs.Rows.{row_moment};
 ghost use Rattle.coap_answers.specs.Outboxes.{most_datagrams};
 ghost use Rattle.coap_answers.specs.Replies.{block1_options};
 ghost use Rattle.rd_request.specs.Accepted.{message_of};
 ghost use Rattle.rd_desk.specs.parts.Committing.{unless_failing};
 ghost use Rattle.rd_desk.specs.parts.Outcomes.{IsTimely, IsPlanned};
+ghost use Rattle.rd_desk.specs.parts.Purposes.{purpose_of};
 ghost use Rattle.rd_desk.specs.calls.Stepping.{is_starved_step};
 ghost use Rattle.rd_desk.specs.parts.UnderWay.{UnderWay};
 ghost use Rattle.rd_desk.specs.calls.Shown.{AreToldOf};
@@ -27,8 +29,8 @@ ghost use Rattle.history_model.specs.declared.entries.Entry.{Entry};
 ghost use Rattle.rd_desk.specs.parts.Laying.{IsLaid, IsNextOf};
 
 use crate::tables::Tables;
-use crate::write::asked::Registering;
-use crate::write::outcomes::{Outcome, registered};
+use crate::write::asked::{BringingLinks, Purpose};
+use crate::write::outcomes::{Outcome, registered, replaced};
 use crate::{Mids, Outbox, Stepped};
 use directory_core::{Board, Directory};
 use message_model::Block;
@@ -36,13 +38,13 @@ use rd_base::{Moment, Starved};
 use rd_request::{Request, given_params};
 use std::alloc::Global;
 
-/// What comes of a registration with its whole body, which ends a block of a request where one is
-/// named. `Starved`: out of memory.
+/// What comes of links with their whole body, by what they are for; it ends a block of a request
+/// where one is named. `Starved`: out of memory.
 pub(crate) fn whole_outcome(
     alloc: Global,
     version: &Directory,
     now: Moment,
-    registering: &Registering<'_>,
+    bringing: &BringingLinks<'_>,
     body: &[u8],
     block1: Option<Block>,
 ) -> Result<Outcome, Starved>
@@ -56,40 +58,47 @@ pub(crate) fn whole_outcome(
         → IfOk result (IsNextOf history) }
     ensures planned { (history : List Entry) (s : Step) (further : List Note)
         → VersionStandsFor 0 history version.now
-        → s.peer ≡ registering.now.write.peer
+        → s.peer ≡ bringing.now.write.peer
         → IfOk result (IsPlanned history version.now.swept further
-        (registration history now.0 s (registration_values
-        (queries_in (message_of registering.now.write.request))) body.now
-        (block1_options block1) further)) }
+        (body_used (purpose_of bringing.now.purpose (message_of bringing.now.write.request)) history
+        now.0 s body.now (block1_options block1) further)) }
 {
-    let write = &registering.write;
-    let params = given_params(alloc, &write.request.meaning, false)?;
-    registered(alloc, version, now, write.peer, params, body, block1)
+    let write = &bringing.write;
+    match bringing.purpose {
+        Purpose::Register => {
+            let params = given_params(alloc, &write.request.meaning, false)?;
+            registered(alloc, version, now, write.peer, params, body, block1)
+        }
+        Purpose::Replace(number) => replaced(alloc, version, now, number, body, block1),
+    }
 }
 
 impl Tables {
-    /// A registration whose body came whole is done, or fails where memory runs out.
+    /// Links whose body came whole are used for what they are for, or the write fails where memory
+    /// runs out.
     fn commit_whole<B: Board>(
         &mut self,
         board: &mut B,
         mids: &mut Mids,
-        registering: &Registering<'_>,
+        bringing: &BringingLinks<'_>,
         out: &mut Outbox,
     ) -> Stepped
         requires room { length out.old < most_datagrams }
         requires free { B.has_staged board.old ≡ false }
         requires told { AreToldOf self.old.version (B.told board.old) }
         ensures way { (rows : List Row) (s : Step) (place : ℕ)
-            → s.peer ≡ registering.now.write.peer
-            → IsOpen place s.peer (message_of registering.now.write.request).mid
-            registering.now.write.admitted.0 (events rows)
+            → s.peer ≡ bringing.now.write.peer
+            → IsOpen place s.peer (message_of bringing.now.write.request).mid
+            bringing.now.write.admitted.0 (events rows)
             → UnderWay rows s (is_starved_step result) nothing self.old out.old mids.old
             → UnderWay rows s (is_starved_step result)
             (unless_failing (is_starved_step result) place s
-            (message_of registering.now.write.request)
-            (settling place s (message_of registering.now.write.request)
-            (registrations_of.registration_outcome None rows (row_moment rows s) s
-            (message_of registering.now.write.request)))) self.new out.new mids.new }
+            (message_of bringing.now.write.request)
+            (settling place s (message_of bringing.now.write.request)
+            (links_outcome None
+            (purpose_of bringing.now.purpose (message_of bringing.now.write.request)) rows
+            (row_moment rows s) s (message_of bringing.now.write.request))))
+            self.new out.new mids.new }
         ensures laid { IsLaid self.old.version self.new.version (B.staged board.old)
             (B.staged board.new) (B.has_staged board.new) }
         ensures name { B.name board.new ≡ B.name board.old }
@@ -99,44 +108,46 @@ impl Tables {
             self.alloc,
             &*self.version,
             self.moment,
-            registering,
-            registering.write.request.meaning.view.payload,
+            bringing,
+            bringing.write.request.meaning.view.payload,
             None,
         );
-        self.finish(board, mids, &registering.write, planned, out)
+        self.finish(board, mids, &bringing.write, planned, out)
     }
 
-    /// A registration that was admitted is done: with its whole body, or as a block of it.
-    pub(crate) fn commit_registration<B: Board>(
+    /// A write that brings links and was admitted is done: with its whole body, or as a block.
+    pub(crate) fn commit_links<B: Board>(
         &mut self,
         board: &mut B,
         mids: &mut Mids,
-        registering: &Registering<'_>,
+        bringing: &BringingLinks<'_>,
         out: &mut Outbox,
     ) -> Stepped
         requires room { length out.old < most_datagrams }
         requires free { B.has_staged board.old ≡ false }
         requires told { AreToldOf self.old.version (B.told board.old) }
         ensures way { (rows : List Row) (s : Step) (place : ℕ)
-            → s.peer ≡ registering.now.write.peer
-            → IsOpen place s.peer (message_of registering.now.write.request).mid
-            registering.now.write.admitted.0 (events rows)
+            → s.peer ≡ bringing.now.write.peer
+            → IsOpen place s.peer (message_of bringing.now.write.request).mid
+            bringing.now.write.admitted.0 (events rows)
             → UnderWay rows s (is_starved_step result) nothing self.old out.old mids.old
             → UnderWay rows s (is_starved_step result)
             (unless_failing (is_starved_step result) place s
-            (message_of registering.now.write.request)
-            (settling place s (message_of registering.now.write.request)
-            (registrations_of.registering rows (row_moment rows s) s
-            (message_of registering.now.write.request)))) self.new out.new mids.new }
+            (message_of bringing.now.write.request)
+            (settling place s (message_of bringing.now.write.request)
+            (links_outcome (sent_block (message_of bringing.now.write.request))
+            (purpose_of bringing.now.purpose (message_of bringing.now.write.request)) rows
+            (row_moment rows s) s (message_of bringing.now.write.request))))
+            self.new out.new mids.new }
         ensures laid { IsLaid self.old.version self.new.version (B.staged board.old)
             (B.staged board.new) (B.has_staged board.new) }
         ensures name { B.name board.new ≡ B.name board.old }
         ensures told { B.told board.new ≡ B.told board.old }
     {
-        match registering.write.request.sent {
-            None => return self.commit_whole(board, mids, registering, out),
+        match bringing.write.request.sent {
+            None => return self.commit_whole(board, mids, bringing, out),
             Some(block) => {
-                return self.commit_block(board, mids, registering, &block, out);
+                return self.commit_block(board, mids, bringing, &block, out);
             }
         }
     }

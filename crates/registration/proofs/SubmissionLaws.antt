@@ -1,0 +1,92 @@
+-- Links of a body before there is a base: whatever base they were read against.
+use Rattle.std.proofs.Common.{
+  ◌≡◌,
+  ℕ,
+  true,
+  List,
+  [],
+  ◌∷◌,
+  map,
+  Option,
+  Some,
+  None,
+  option_map,
+  is_some,
+  refl,
+  sym,
+  ap,
+  ap₂,
+  ◌∙◌,
+}
+use Rattle.rd_base.specs.declared.records.Item.{Item}
+use Rattle.rd_base.specs.declared.submitted_links.SubmittedLink.{SubmittedLink}
+use Rattle.reference_model.specs.References.{Components, IsReference, reference}
+use Rattle.reference_model.proofs.OnLiterals.{reference_on_literals}
+use Rattle.reference_model.proofs.ReferenceLaws.{reference_found}
+use Rattle.record_model.specs.Bodies.{is_reference}
+use Rattle.record_model.specs.Parameters.{is_base, is_base_of}
+use Rattle.record_model.specs.Records.{item_of, items_of, rebased}
+use Rattle.registration.specs.Submissions.{submitted_of, all_submitted}
+
+-- ---- what bases are
+
+-- a text that is a reference is read
+pub reference_reads : (text : List ℕ)
+    → is_reference text ≡ true
+    → ((c : Components) → IsReference text c → ⊥)
+    → ⊥
+reference_reads text h none = by_read (reference text) refl h
+  where
+    by_read : (o : Option Components) → reference text ≡ o → is_some o ≡ true → ⊥
+    by_read None e h = cc
+    by_read (Some c) e h = none c (reference_found text c e)
+
+-- a base is a reference
+pub base_is_reference : (text : List ℕ) → is_base text ≡ true → is_reference text ≡ true
+unfolding is_base
+base_is_reference text h = by_read (reference text) h
+  where
+    by_read : (o : Option Components) → is_base_of o ≡ true → is_some o ≡ true
+    by_read None h = cc
+    by_read (Some c) h = refl
+
+-- the empty text is a reference
+pub nothing_is_reference : is_reference [] ≡ true
+unfolding reference_on_literals
+nothing_is_reference = refl
+
+-- ---- links
+
+against_item : (base : List ℕ) (item : Item) → rebased base item ≡ item_of base (submitted_of item)
+unfolding rebased item_of
+against_item base item = refl
+
+-- resolved against another base, they are the links that were submitted against that base
+pub against_submitted : (base : List ℕ) (items : List Item)
+    → map (rebased base) items ≡ items_of base (all_submitted items)
+against_submitted base [] = refl
+against_submitted base (item ∷ items) =
+    ap₂ (λ (x : Item) (xs : List Item). x ∷ xs) (against_item base item)
+    (against_submitted base items)
+
+submitted_item : (base : List ℕ) (link : SubmittedLink) → submitted_of (item_of base link) ≡ link
+unfolding item_of
+submitted_item base link = refl
+
+-- links against a base are submitted as they were
+pub submitted_items : (base : List ℕ) (links : List SubmittedLink)
+    → all_submitted (items_of base links) ≡ links
+submitted_items base [] = refl
+submitted_items base (link ∷ links) =
+    ap₂ (λ (x : SubmittedLink) (xs : List SubmittedLink). x ∷ xs) (submitted_item base link)
+    (submitted_items base links)
+
+-- so the links of a body are known from those that were read against any base
+pub submitted_body : (base : List ℕ) (linked : Option (List SubmittedLink)) (items : List Item)
+    → option_map (items_of base) linked ≡ Some items
+    → linked ≡ Some (all_submitted items)
+submitted_body base None items h = cc
+submitted_body base (Some links) items h =
+    let same : items_of base links ≡ items = cc in
+    ap (λ (ls : List SubmittedLink). Some ls)
+    (sym (submitted_items base links) ∙ ap all_submitted same)

@@ -1,0 +1,18 @@
+use Rattle.std.proofs.Common.{List, [], Some, sym, ap, ◌∙◌}
+use Rattle.rd_base.specs.declared.submitted_links.SubmittedLink.{SubmittedLink}
+use Rattle.record_model.specs.Bodies.{linked_references}
+use Rattle.registration.proofs.DraftLaws.{not_limited}
+use Rattle.registration.proofs.SubmissionLaws.{nothing_is_reference, submitted_body}
+use Rattle.registration.proofs.drafts.submitted.Goals as goal
+
+pub items_of-requires : goal.items_of-requires
+items_of-requires c = nothing_is_reference
+
+pub returns-clause-links : goal.returns-clause-links
+returns-clause-links c =
+    submitted_body [] (linked_references c.args.body.now) c.in_ok-items.items
+    c.in_ok-items.ensures.items
+    ∙ ap (λ (ls : List SubmittedLink). Some ls) (sym c.of.ensures)
+
+pub returns-clause-limited : goal.returns-clause-limited
+returns-clause-limited c = not_limited c.args.body.now c.in_ok-items.ensures.good

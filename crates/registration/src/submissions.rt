@@ -1,0 +1,55 @@
+//! The links of a body before there is a base (RFC 9176 section 5.3).
+ghost use Rattle.std.specs.Prelude.{◌≡◌, true, IfOk};
+ghost use Rattle.std.specs.List.{list_all};
+ghost use Rattle.record_model.specs.Parameters.{is_base};
+ghost use Rattle.record_model.specs.Records as records;
+ghost use Rattle.registration.specs.Drafts.{has_references};
+ghost use Rattle.registration.specs.Submissions.{all_submitted};
+
+use crate::other_bases::rebased;
+use rd_base::{Items, Starved, Text};
+use std::alloc::Global;
+use std::marker::Model;
+
+/// The links of a body that has no fault, in its order, before there is a base. A contract sees
+/// them as the list of links that were submitted.
+#[derive(Debug, Drop)]
+pub struct Submitted {
+    /// The links against no base.
+    items: Items,
+}
+
+impl Model for Submitted {
+    ghost use Rattle.std.specs.Prelude.{◌≡◌, List, true};
+    ghost use Rattle.std.specs.List.{list_all};
+    ghost use Rattle.rd_base.specs.declared.submitted_links.SubmittedLink.{SubmittedLink};
+    ghost use Rattle.registration.specs.Drafts.{has_references};
+    ghost use Rattle.registration.specs.Submissions.{all_submitted};
+
+    ghost Value = { List SubmittedLink };
+
+    ghost view = { λ s. all_submitted s.items };
+
+    ghost invariant = { λ s. list_all has_references s.items ≡ true };
+}
+
+impl Submitted {
+    /// The links of a body without a fault, which were read against any base.
+    pub(crate) fn of(items: Items) -> Submitted
+        requires { list_all has_references items ≡ true }
+        ensures { result ≡ all_submitted items }
+    {
+        Submitted { items }
+    }
+
+    /// The links against a base, which is one that may be given, or that of a peer: a target or an
+    /// anchor with a scheme stays as it was written; any other one is resolved (RFC 3986 section
+    /// 5.2). An error is running out of memory.
+    pub fn against(&self, alloc: Global, base: &Text) -> Result<Items, Starved>
+        requires base { is_base base.now ≡ true }
+        ensures items { IfOk result (λ items. items ≡ records.items_of base.now self.now) }
+        ensures references { IfOk result (λ items. list_all has_references items ≡ true) }
+    {
+        rebased(alloc, &self.items, base)
+    }
+}
