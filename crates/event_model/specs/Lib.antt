@@ -1,3 +1,7 @@
+-- Repeats, uploads, kept answers, observers, flights, due, fetches, and what each table shows of
+-- them; in which order admissions are (RFC 7252 sections 4.2 and 4.5, RFC 7641, RFC 7959, RFC
+-- 9176 section 5.1).
+
 pub mod Same
 pub mod Events
 pub mod Repeats

@@ -1,7 +1,10 @@
 -- Link documents as octets (RFC 6690): characters, UTF-8, the grammar, its reading as a function,
 -- and values in quotes.
-pub mod Characters
-pub mod Utf8Prefix
+
+-- link documents, values, quoted text (RFC 6690 section 2)
 pub mod Documents
 pub mod DocumentReading
 pub mod Quoting
+-- what these are made of
+pub mod Characters
+pub mod Utf8Prefix

@@ -3,9 +3,14 @@ pub mod Pieces
 pub mod ListedLinks
 pub mod OwnLinks
 pub mod ValueParts
+
+-- what a criterion seeks in links, through which sieve they pass (RFC 6690 section 4.1, RFC 9176
+-- section 6.2)
 pub mod Patterns
 pub mod SoughtLinks
 pub mod Sieves
+-- links that are alike in two states of a registration (RFC 9176 section 6.2)
+pub mod AlikeLinks
+-- what these are made of
 pub mod JudgedEndpoints
 pub mod Views
-pub mod AlikeLinks

@@ -2,12 +2,19 @@
 -- (Desks, Shown), a call as a step (Steps), how a step ends (Stepping), what comes of a datagram
 -- and what a tick needs (Admitting, Ticking), the job of a write (WriteJobs), what is left on the
 -- board (Staging), and an observer as it is shown (ShownObservers).
+
+-- what a desk shows and the journal that it stands for, a call as a step, how a step ends
 pub mod Desks
-pub mod Shown
 pub mod Steps
 pub mod Stepping
-pub mod WriteJobs
-pub mod Admitting
-pub mod Ticking
+-- what a desk shows with its board, what a step leaves staged there, an observer as it is shown
+-- (this project's profile, RFC 7641)
+pub mod Shown
 pub mod Staging
 pub mod ShownObservers
+-- what the job of a write shows (RFC 7252 section 4.5)
+pub mod WriteJobs
+-- what an admission leaves and when it takes memory (RFC 7252 section 4)
+pub mod Admitting
+-- when a tick takes memory (RFC 7641 section 4.2, RFC 7252 section 4.7)
+pub mod Ticking

@@ -1,7 +1,11 @@
+-- drafts, and the records that they become (RFC 9176 section 5)
 pub mod Drafts
+
+-- links as they were submitted (RFC 6690 section 2)
+pub mod Submissions
+-- what these are made of
 pub mod LinkParameters
 pub mod References
 pub mod Links
 pub mod OtherBases
 pub mod Weights
-pub mod Submissions

@@ -1,4 +1,10 @@
+-- a message, its one spelling (RFC 8323 section 3.2)
 pub mod Messages
+
+-- why it is bad, by which octets that is known (RFC 8323 sections 3.2, 5.2, 5.3 and 5.3.1, RFC
+-- 7252 section 3)
 pub mod Faults
+-- what octets are (RFC 8323 section 3.2)
 pub mod Judging
+-- the stream as a relation, and octet by octet (RFC 8323 sections 3.2 and 3.3)
 pub mod Streams

@@ -1,6 +1,10 @@
+-- histories of a lock, the rule of the turn, its steps
 pub mod Histories
 pub mod Rule
 pub mod Steps
+
+-- what contracts read of a pass and of a lock
+pub mod Shown
+-- what these are made of
 pub mod Passes
 pub mod Endings
-pub mod Shown
