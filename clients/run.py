@@ -2,7 +2,7 @@
 """Runs real clients against the server: `clients/run.py [--workers N].. [--answers] [PROGRAM]`.
 
 For each number of workers rd_serve is started on a free port of 127.0.0.1 and driven by libcoap's
-coap-client, case after case (clients/cases.py). Each case prints one line: whether it passed, what
+coap-client, case after case (clients/cases.py), and at last over TCP (clients/streams.py). Each case prints one line: whether it passed, what
 it shows, and the command as it can be typed; it is run with `-v 7` besides, by which the client
 shows each datagram. --answers shows what came, too. The last line counts the cases. What is wanted
 of each was written down from the RFCs and from docs/, never from what the program printed. A few
@@ -25,6 +25,7 @@ from pathlib import Path
 
 import cases
 import messages
+import streams
 
 HOST = "127.0.0.1"
 FIRST_PORT = 20_000
@@ -179,7 +180,7 @@ class Run:
             self.tell_each("wanted", wanted)
         if not is_right or self.with_answers:
             self.tell_each("came", came)
-        if self.server.poll() is not None:
+        if self.server is not None and self.server.poll() is not None:
             raise ServerEnded
 
     @staticmethod
@@ -311,6 +312,19 @@ class Run:
         words = self.words([], f"{self.base(device)}/.well-known/core", "")
         return "".join(each.partition("] ")[2] for each in messages.came(self.output(words)))
 
+    def end_ungreeted(self):
+        """Ends a server that no client reached."""
+        end(self.server)
+        raise ServerEnded
+
+    def said_at_end(self) -> str:
+        """What the server says, once it has ended by itself with status 0."""
+        try:
+            said = b"".join(self.server.communicate(timeout=RUN_LIMIT)).decode().strip()
+        except subprocess.TimeoutExpired:
+            return "no end"
+        return said if self.server.returncode == 0 else f"status {self.server.returncode} {said}"
+
     def end(self):
         """Ends all that was started."""
         for process in self.started:
@@ -323,13 +337,18 @@ def shortened(datagram: bytes) -> str:
     return text if len(text) <= 160 else f"{text[:32]}.. ({len(datagram)} octets)"
 
 
-def run_all(program: str, workers: int, with_answers: bool) -> int:
-    """Runs all cases against a server of so many workers; how many failed."""
+def over_udp(run: Run):
+    """Runs all cases against a server of so many workers."""
+    run.serve()
+    cases.run(run)
+
+
+def run_all(program: str, workers: int, with_answers: bool, run_cases=over_udp) -> int:
+    """Runs cases against a server, of so many workers where it is over UDP; how many failed."""
     with tempfile.TemporaryDirectory() as folder:
         run = Run(program, workers, folder, with_answers)
         try:
-            run.serve()
-            cases.run(run)
+            run_cases(run)
         except ServerEnded:
             run.failed += 1
             said = b"".join(run.server.communicate()).decode().strip()
@@ -356,6 +375,7 @@ def main():
     failed = 0
     for workers in words.workers or [1, 4]:
         failed += run_all(str(program), workers, words.answers)
+    failed += run_all(str(program), 1, words.answers, streams.run)
     sys.exit(failed > 0)
 
 

@@ -1,16 +1,18 @@
-//! `rd_serve`: a directory that serves clients over UDP on loopback, by many workers.
+//! `rd_serve`: a directory that serves clients on loopback: over UDP by many workers, or over TCP.
 #![tactic(auto)]
 
-ghost use Rattle.std.specs.Prelude.{◌≡◌, ◌≤◌, ◌^◌, IfOk, vec_len};
+ghost use Rattle.std.specs.Prelude.{◌≡◌, ◌≤◌, IfOk, IfSome, vec_len};
 ghost use Rattle.rd_server.specs.serving.Plans.{IsPlan};
 
+use coap_stream::{StreamsStatus, TcpAccept, serve_streams};
 use rd_base::StdSink;
 use rd_seat::OpenGate;
 use rd_server::{End, ServePlan, ServeStatus, WordsFault, given_words, serve, serve_words};
 use std::alloc::AllocError;
-use std::net::{Ipv4Addr, UdpSocket};
+use std::net::{Ipv4Addr, TcpListener, UdpSocket};
 use std::process::ExitCode;
-use std::sync::Arc;
+use std::sync::{Arc, Wait};
+use std::thread::Threads;
 use udp_link::{UdpClock, UdpLink};
 
 /// The ends of the server, all over one socket.
@@ -94,22 +96,83 @@ fn ends_of(rt: &HostRuntime, plan: ServePlan) -> Result<Ends<'_>, Ending>
     Ok(ends)
 }
 
-/// The ends that the words of the command line ask for, and how many turns each has.
-fn prepared(rt: &HostRuntime) -> Result<(Ends<'_>, u64), Ending>
-    ensures ends { IfOk result (λ made. (1 ≤ vec_len made.0) × (vec_len made.0 ≤ 16)) }
-    ensures turns { IfOk result (λ made. made.1 ≤ 10 ^ 12) }
+/// A listener on a port of loopback.
+fn door_of(rt: &HostRuntime, port: u16) -> Result<TcpAccept, Ending> {
+    let Ok(listener) = TcpListener::bind(rt, (Ipv4Addr::LOCALHOST, port)) else {
+        return Err(Ending::Socket);
+    };
+    Ok(TcpAccept::of(listener))
+}
+
+/// Serves over UDP as the plan says.
+fn over_udp<R: Threads + Wait + Sync + AllocGlobal>(
+    rt: &HostRuntime,
+    handles: &R,
+    plan: ServePlan,
+) -> Ending
+    requires { IsPlan plan }
 {
-    let plan = plan_of(rt)?;
-    let ends = ends_of(rt, plan)?;
-    Ok((ends, plan.turns))
+    match ends_of(rt, plan) {
+        Ok(ends) => {
+            let mut ends = ends;
+            let mut out = StdSink::of(rt.stdout());
+            Ending::Served(serve(handles, &mut ends, &OpenGate, plan.turns, &mut out))
+        }
+        Err(ending) => ending,
+    }
+}
+
+/// The status of the same name.
+fn status_of(status: StreamsStatus) -> ServeStatus {
+    match status {
+        StreamsStatus::Done => ServeStatus::Done,
+        StreamsStatus::Link => ServeStatus::Link,
+        StreamsStatus::Write => ServeStatus::Write,
+        StreamsStatus::Memory => ServeStatus::Memory,
+    }
+}
+
+/// Serves so many connections over TCP.
+fn over_tcp<R: Wait + AllocGlobal>(rt: &HostRuntime, handles: &R, port: u16, count: u64) -> Ending
+    requires { count ≤ 1_000_000 }
+{
+    match door_of(rt, port) {
+        Ok(door) => {
+            let mut door = door;
+            let mut clock = UdpClock::new(rt);
+            let mut out = StdSink::of(rt.stdout());
+            let status = serve_streams(handles, &mut door, &mut clock, &OpenGate, count, &mut out);
+            Ending::Served(status_of(status))
+        }
+        Err(ending) => ending,
+    }
+}
+
+/// How many connections over TCP a plan asks for, where it asks for any.
+fn streams_of(plan: ServePlan) -> Option<u64>
+    requires { IsPlan plan }
+    ensures { IfSome result (λ count. count ≤ 1_000_000) }
+{
+    plan.tcp
+}
+
+/// Serves as a plan says.
+fn served<R: Threads + Wait + Sync + AllocGlobal>(
+    rt: &HostRuntime,
+    handles: &R,
+    plan: ServePlan,
+) -> Ending
+    requires { IsPlan plan }
+{
+    match streams_of(plan) {
+        Some(count) => over_tcp(rt, handles, plan.port, count),
+        None => over_udp(rt, handles, plan),
+    }
 }
 
 fn main(rt: HostRuntime) -> ExitCode {
-    let ending = match prepared(&rt) {
-        Ok((mut ends, turns)) => {
-            let mut out = StdSink::of(rt.stdout());
-            Ending::Served(serve(&rt, &mut ends, &OpenGate, turns, &mut out))
-        }
+    let ending = match plan_of(&rt) {
+        Ok(plan) => served(&rt, &rt, plan),
         Err(ending) => ending,
     };
     let _ = rt.stderr().write_all(ending.text().as_bytes());

@@ -18,12 +18,14 @@ fn words_are_read_in_any_order(rt: HostRuntime) -> Result<(), Fail> {
         port: 5683,
         workers: 4,
         turns: 1_000_000_000_000,
+        tcp: None,
     };
     assert_eq!(rt; asked(rt.alloc(), "")?, Ok(by_default));
     let all = ServePlan {
         port: 65_535,
         workers: 16,
         turns: 1,
+        tcp: None,
     };
     for line in [
         "--port=65535 --workers=16 --turns=1",
@@ -32,6 +34,11 @@ fn words_are_read_in_any_order(rt: HostRuntime) -> Result<(), Fail> {
     ] {
         assert_eq!(rt; asked(rt.alloc(), line)?, Ok(all), "{line}");
     }
+    let over_tcp = ServePlan {
+        tcp: Some(1_000_000),
+        ..by_default
+    };
+    assert_eq!(rt; asked(rt.alloc(), "--tcp=1000000")?, Ok(over_tcp));
     Ok(())
 }
 
@@ -47,6 +54,11 @@ fn other_words_are_refused(rt: HostRuntime) -> Result<(), Fail> {
         "--workers=17",
         "--turns=1000000000001",
         "--turns=",
+        "--tcp=0",
+        "--tcp=1000001",
+        "--tcp=1 --tcp=1",
+        "--tcp=1 --workers=1",
+        "--turns=1 --tcp=1",
         "--",
         "--help",
         "1",

@@ -90,14 +90,37 @@ line = refl
 -- ---- words
 
 by_default : plan_said []
-    ≡ Some (record { port = 5_683; workers = 4; turns = 1_000_000_000_000 })
+    ≡ Some (record { port = 5_683; workers = 4; turns = 1_000_000_000_000; tcp = None })
 unfolding on_literals
 by_default = refl
 
 all_three : plan_said (codes "--turns" ∷ codes "1" ∷ codes "--port=65535" ∷ codes "--workers"
-    ∷ codes "16" ∷ []) ≡ Some (record { port = 65_535; workers = 16; turns = 1 })
+    ∷ codes "16" ∷ []) ≡ Some (record { port = 65_535; workers = 16; turns = 1; tcp = None })
 unfolding on_literals
 all_three = refl
+
+over_tcp : plan_said (codes "--tcp" ∷ codes "1000000" ∷ codes "--port=1" ∷ [])
+    ≡ Some (record {
+      port = 1;
+      workers = 4;
+      turns = 1_000_000_000_000;
+      tcp = Some 1_000_000;
+    })
+unfolding on_literals
+over_tcp = refl
+
+-- beside connections over TCP nothing but a port is said
+with_workers : plan_said (codes "--workers=1" ∷ codes "--tcp=1" ∷ []) ≡ None
+unfolding on_literals
+with_workers = refl
+
+with_turns : plan_said (codes "--tcp=1" ∷ codes "--turns=1" ∷ []) ≡ None
+unfolding on_literals
+with_turns = refl
+
+many_streams : plan_said (codes "--tcp=1000001" ∷ []) ≡ None
+unfolding on_literals
+many_streams = refl
 
 -- out of bounds, twice, another name, a name for its value
 no_port : plan_said (codes "--port" ∷ codes "0" ∷ []) ≡ None

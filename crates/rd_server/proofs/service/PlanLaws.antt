@@ -14,6 +14,7 @@ use Rattle.rd_server.specs.serving.Plans.{
   given_to,
   is_option,
   max_port,
+  max_streams,
   max_turns,
   nothing_asked,
   option_of,
@@ -26,6 +27,7 @@ record IsAsked (asked : ServeAsked) : Type 0 where
   port : IsWithin max_port asked.port
   workers : IsWithin max_workers asked.workers
   turns : IsWithin max_turns asked.turns
+  tcp : IsWithin max_streams asked.tcp
 
 -- an option more
 given_within : (o : Option ServeOption) (value : List ℕ) (asked more : ServeAsked)
@@ -36,34 +38,45 @@ given_within (Some serve_option.Port) value asked more is e =
     (once_within max_port asked.port value) e
   where
     by : (o : Option ℕ) → IsWithin max_port o → option_map
-        (λ n. record { port = Some n; workers = asked.workers; turns = asked.turns }) o
+        (λ n. record asked { port = Some n }) o
         ≡ Some more → IsAsked more
     by None h f = absurd (none-some more f)
     by (Some n) h f = subst IsAsked (same_Some
-        (record { port = Some n; workers = asked.workers; turns = asked.turns }) more f)
-        (record { port = h; workers = is.workers; turns = is.turns })
+        (record asked { port = Some n }) more f)
+        (record { port = h; workers = is.workers; turns = is.turns; tcp = is.tcp })
 given_within (Some serve_option.Workers) value asked more is e =
     by (once asked.workers (count_of max_workers value))
     (once_within max_workers asked.workers value) e
   where
     by : (o : Option ℕ) → IsWithin max_workers o → option_map
-        (λ n. record { port = asked.port; workers = Some n; turns = asked.turns }) o
+        (λ n. record asked { workers = Some n }) o
         ≡ Some more → IsAsked more
     by None h f = absurd (none-some more f)
     by (Some n) h f = subst IsAsked (same_Some
-        (record { port = asked.port; workers = Some n; turns = asked.turns }) more f)
-        (record { port = is.port; workers = h; turns = is.turns })
+        (record asked { workers = Some n }) more f)
+        (record { port = is.port; workers = h; turns = is.turns; tcp = is.tcp })
 given_within (Some serve_option.Turns) value asked more is e =
     by (once asked.turns (count_of max_turns value))
     (once_within max_turns asked.turns value) e
   where
     by : (o : Option ℕ) → IsWithin max_turns o → option_map
-        (λ n. record { port = asked.port; workers = asked.workers; turns = Some n }) o
+        (λ n. record asked { turns = Some n }) o
         ≡ Some more → IsAsked more
     by None h f = absurd (none-some more f)
     by (Some n) h f = subst IsAsked (same_Some
-        (record { port = asked.port; workers = asked.workers; turns = Some n }) more f)
-        (record { port = is.port; workers = is.workers; turns = h })
+        (record asked { turns = Some n }) more f)
+        (record { port = is.port; workers = is.workers; turns = h; tcp = is.tcp })
+given_within (Some serve_option.Tcp) value asked more is e =
+    by (once asked.tcp (count_of max_streams value))
+    (once_within max_streams asked.tcp value) e
+  where
+    by : (o : Option ℕ) → IsWithin max_streams o → option_map
+        (λ n. record asked { tcp = Some n }) o
+        ≡ Some more → IsAsked more
+    by None h f = absurd (none-some more f)
+    by (Some n) h f = subst IsAsked (same_Some
+        (record asked { tcp = Some n }) more f)
+        (record { port = is.port; workers = is.workers; turns = is.turns; tcp = h })
 
 plan_within : (asked : ServeAsked) → IsAsked asked → IsPlan (plan_of asked)
 plan_within asked is =
@@ -79,6 +92,7 @@ plan_within asked is =
       most_workers = workers.1;
       some_turns = turns.0;
       most_turns = turns.1;
+      tcp = is.tcp;
     }
 
 -- of all words
@@ -88,4 +102,4 @@ pub said-IsPlan : (words : List (List ℕ)) (asked : ServeAsked)
 said-IsPlan words asked said = plan_within asked
     (kept is_option given IsAsked
     (λ name value before more is e. given_within (option_of name) value before more is e)
-    words nothing_asked asked (record { port = tt; workers = tt; turns = tt }) said)
+    words nothing_asked asked (record { port = tt; workers = tt; turns = tt; tcp = tt }) said)

@@ -93,7 +93,7 @@ reads_plan command words (Err error) e matches passes plan is =
 
 -- the plan is found
 pub plan_found-plan : (plan : ServePlan) (matches : ArgMatches) → IsPlan plan
-    → HasPlan plan matches → plan_found matches ≡ Some plan
+    → HasPlan plan matches → plan_found plan.tcp matches ≡ Some plan
 plan_found-plan plan matches is has = rw (
   found max_port (codes "port") matches (Some plan.port) (omega arith)
       (is.some_port, is.last_port) has.port,

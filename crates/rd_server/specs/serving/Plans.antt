@@ -1,5 +1,7 @@
--- The words of `rd_serve`: a port, a number of workers, and how many turns each has.
-use Rattle.std.specs.Prelude.{◌≡◌, ◌≤◌, ℕ, Bool, List, [], ◌∷◌, ◌++◌, codes, decimal, bytes_eq}
+-- The words of `rd_serve`: a port, and a number of workers and how many turns each has, or a number
+-- of connections over TCP.
+use Rattle.std.specs.Prelude.{◌≡◌, ◌≤◌, ℕ, Bool, ◌&&◌, ◌||◌, List, [], ◌∷◌, ◌++◌}
+use Rattle.std.specs.Prelude.{codes, decimal, bytes_eq}
 use Rattle.std.specs.Prelude.{
   Option,
   Some,
@@ -26,7 +28,7 @@ use Rattle.rd_server.specs.declared.serving.plans.ServeOption.{ServeOption}
 use Rattle.rd_server.specs.declared.serving.plans.ServeOption.TheVariants as serve_option
 use Rattle.rd_server.specs.Fields.{◌>>=◌}
 use Rattle.rd_server.specs.Options.{words_after}
-use Rattle.rd_server.specs.Words.{count_of, number_found, once}
+use Rattle.rd_server.specs.Words.{IsWithin, count_of, number_found, once}
 
 -- the last port of UDP (RFC 768)
 abbrev pub max_port : ℕ
@@ -36,32 +38,40 @@ max_port = 65_535
 abbrev pub max_turns : ℕ
 max_turns = 1_000_000_000_000
 
+-- the most connections over TCP
+abbrev pub max_streams : ℕ
+max_streams = 1_000_000
+
 -- the option that a text names
 abbrev pub option_of : List ℕ → Option ServeOption
 option_of text =
     if bytes_eq text (codes "--port") then Some serve_option.Port
     else (if bytes_eq text (codes "--workers") then Some serve_option.Workers
-    else (if bytes_eq text (codes "--turns") then Some serve_option.Turns else None))
+    else (if bytes_eq text (codes "--turns") then Some serve_option.Turns
+    else (if bytes_eq text (codes "--tcp") then Some serve_option.Tcp else None)))
 
 abbrev pub is_option : List ℕ → Bool
 is_option text = is_some (option_of text)
 
 -- nothing is asked for
 abbrev pub nothing_asked : ServeAsked
-nothing_asked = record { port = None; workers = None; turns = None }
+nothing_asked = record { port = None; workers = None; turns = None; tcp = None }
 
 -- an option and its value more, each once at most
 abbrev pub given_to : Option ServeOption → List ℕ → ServeAsked → Option ServeAsked
 given_to None value asked = None
 given_to (Some serve_option.Port) value asked = option_map
-    (λ n. record { port = Some n; workers = asked.workers; turns = asked.turns })
+    (λ n. record asked { port = Some n })
     (once asked.port (count_of max_port value))
 given_to (Some serve_option.Workers) value asked = option_map
-    (λ n. record { port = asked.port; workers = Some n; turns = asked.turns })
+    (λ n. record asked { workers = Some n })
     (once asked.workers (count_of max_workers value))
 given_to (Some serve_option.Turns) value asked = option_map
-    (λ n. record { port = asked.port; workers = asked.workers; turns = Some n })
+    (λ n. record asked { turns = Some n })
     (once asked.turns (count_of max_turns value))
+given_to (Some serve_option.Tcp) value asked = option_map
+    (λ n. record asked { tcp = Some n })
+    (once asked.tcp (count_of max_streams value))
 
 abbrev pub given : List ℕ → List ℕ → ServeAsked → Option ServeAsked
 given name value asked = given_to (option_of name) value asked
@@ -74,11 +84,19 @@ plan_of asked = record {
   port = unwrap_or asked.port 5683;
   workers = unwrap_or asked.workers 4;
   turns = unwrap_or asked.turns max_turns;
+  tcp = asked.tcp;
 }
+
+-- beside connections over TCP nothing but a port is said
+abbrev pub is_mixed : ServeAsked → Bool
+is_mixed asked = is_some asked.tcp && (is_some asked.workers || is_some asked.turns)
+
+abbrev pub plan_by : ServeAsked → Option ServePlan
+plan_by asked = if is_mixed asked then None else Some (plan_of asked)
 
 -- what words ask for, where they are those of the program
 abbrev pub plan_said : List (List ℕ) → Option ServePlan
-plan_said words = option_map plan_of (words_after is_option given (Some nothing_asked) words)
+plan_said words = words_after is_option given (Some nothing_asked) words >>= plan_by
 
 -- the numbers of a plan
 pub record IsPlan (plan : ServePlan) : Type 0 where
@@ -88,6 +106,7 @@ pub record IsPlan (plan : ServePlan) : Type 0 where
   pub most_workers : plan.workers ≤ max_workers
   pub some_turns : 1 ≤ plan.turns
   pub most_turns : plan.turns ≤ max_turns
+  pub tcp : IsWithin max_streams plan.tcp
 
 -- what the words were read as: for want of memory alone words of the program are not read
 abbrev pub IsPlanRead : Option ServePlan → Result ServePlan WordsFault → Type 0
@@ -98,7 +117,8 @@ IsPlanRead _ _ = ⊥
 
 -- ---- as clap reads it
 
--- a plan in words, in one order, each option joined with its value
+-- a plan in words, in one order, each option joined with its value; the connections over TCP, which
+-- no default stands for, are read before
 abbrev pub words_of : ServePlan → List (List ℕ)
 words_of plan = (codes "--port=" ++ decimal plan.port)
     ∷ (codes "--workers=" ++ decimal plan.workers) ∷ (codes "--turns=" ++ decimal plan.turns) ∷ []
@@ -114,9 +134,10 @@ abbrev pub ReadsPlan : ServePlan → Result ArgMatches Error → Type 0
 ReadsPlan plan (Ok matches) = HasPlan plan matches
 ReadsPlan plan (Err error) = kind_of error ≡ OutOfMemory
 
--- the plan whose numbers were found
-abbrev pub plan_found : ArgMatches → Option ServePlan
-plan_found matches = number_found max_port (codes "port") matches
+-- the plan whose numbers were found, for so many connections over TCP
+abbrev pub plan_found : Option ℕ → ArgMatches → Option ServePlan
+plan_found tcp matches = number_found max_port (codes "port") matches
     >>= (λ port. number_found max_workers (codes "workers") matches
-    >>= (λ workers. option_map (λ turns. record { port = port; workers = workers; turns = turns })
+    >>= (λ workers. option_map
+    (λ turns. record { port = port; workers = workers; turns = turns; tcp = tcp })
     (number_found max_turns (codes "turns") matches)))

@@ -15,18 +15,23 @@ use std::alloc::Global;
 /// The last port of UDP (RFC 768).
 const MAX_PORT: u64 = 65_535;
 
+/// The most connections over TCP.
+const MAX_STREAMS: u64 = 1_000_000;
+
 /// The most turns of a worker.
 const MAX_TURNS: u64 = 1_000_000_000_000;
 
 /// What the words of `rd_serve` ask for.
 #[derive(Clone, Copy, Debug, PartialEq, Eq)]
 pub struct ServePlan {
-    /// The port of UDP, from 1 on: 5,683 where nothing is said (RFC 7252 section 12.6).
+    /// The port of UDP or TCP, from 1 on: 5,683 where nothing is said (RFC 7252 section 12.6).
     pub port: u16,
     /// How many workers serve, from 1 to 16: four where nothing is said.
     pub workers: u8,
     /// How many receives each worker makes, from 1 to 10^12: so many where nothing is said.
     pub turns: u64,
+    /// How many connections over TCP are served in their place, from 1 to 1,000,000.
+    pub tcp: Option<u64>,
 }
 
 /// An option of `rd_serve`.
@@ -38,6 +43,8 @@ enum ServeOption {
     Workers,
     /// `--turns`: how many turns each has.
     Turns,
+    /// `--tcp`: how many connections over TCP.
+    Tcp,
 }
 
 /// What words ask for, as far as they were read.
@@ -49,6 +56,8 @@ struct ServeAsked {
     workers: Option<u8>,
     /// How many turns, where it is said.
     turns: Option<u64>,
+    /// How many connections over TCP, where it is said.
+    tcp: Option<u64>,
 }
 
 /// The option that a text names.
@@ -63,6 +72,9 @@ fn option_of(text: &[u8]) -> Option<ServeOption>
     }
     if text == b"--turns".as_slice() {
         return Some(ServeOption::Turns);
+    }
+    if text == b"--tcp".as_slice() {
+        return Some(ServeOption::Tcp);
     }
     None
 }
@@ -110,6 +122,27 @@ impl ServeAsked {
         })
     }
 
+    /// With the number of connections over TCP, where it was not said.
+    fn with_tcp(self, value: &[u8]) -> Option<ServeAsked>
+        ensures { result ≡ spec.given_to (Some serve_option.Tcp) value.now self }
+    {
+        if self.tcp.is_some() {
+            return None;
+        }
+        let tcp = count_of(MAX_STREAMS, value)?;
+        Some(ServeAsked {
+            tcp: Some(tcp),
+            ..self
+        })
+    }
+
+    /// Whether more than a port is said beside connections over TCP.
+    fn is_mixed(self) -> bool
+        ensures { result ≡ spec.is_mixed self }
+    {
+        self.tcp.is_some() && (self.workers.is_some() || self.turns.is_some())
+    }
+
     /// The plan, with what is said by default.
     fn plan(self) -> ServePlan
         ensures { result ≡ spec.plan_of self }
@@ -118,6 +151,7 @@ impl ServeAsked {
             port: self.port.unwrap_or(5683),
             workers: self.workers.unwrap_or(4),
             turns: self.turns.unwrap_or(MAX_TURNS),
+            tcp: self.tcp,
         }
     }
 }
@@ -136,6 +170,7 @@ impl Asked for ServeAsked {
             ServeOption::Port => self.with_port(value),
             ServeOption::Workers => self.with_workers(value),
             ServeOption::Turns => self.with_turns(value),
+            ServeOption::Tcp => self.with_tcp(value),
         }
     }
 }
@@ -148,6 +183,7 @@ fn words_of(alloc: Global, plan: ServePlan) -> Result<Vec<String>, Starved>
         port,
         workers,
         turns,
+        ..
     } = plan;
     let mut words = Vec::with_capacity(alloc, 3)?;
     words.push_reserved(format!(in alloc; "--port={port}")?);
@@ -174,9 +210,9 @@ fn matches_of<'a>(alloc: Global, words: &'a [String]) -> Result<ArgMatches<'a>, 
     command.try_get_matches_from(words)
 }
 
-/// The plan whose numbers clap found.
-fn plan_in(matches: &ArgMatches) -> Option<ServePlan>
-    ensures { result ≡ spec.plan_found matches.now }
+/// The plan whose numbers clap found, for so many connections over TCP.
+fn plan_in(matches: &ArgMatches, tcp: Option<u64>) -> Option<ServePlan>
+    ensures { result ≡ spec.plan_found tcp matches.now }
 {
     let port = matches
         .get_str("port")
@@ -191,6 +227,7 @@ fn plan_in(matches: &ArgMatches) -> Option<ServePlan>
         port: port as u16,
         workers: workers as u8,
         turns,
+        tcp,
     })
 }
 
@@ -203,15 +240,15 @@ fn plan_read(alloc: Global, plan: ServePlan) -> Result<ServePlan, Starved>
     let Ok(matches) = matches_of(alloc, words.as_slice()) else {
         return Err(Starved);
     };
-    let Some(read) = plan_in(&matches) else {
+    let Some(read) = plan_in(&matches, plan.tcp) else {
         unreachable!()
     };
     Ok(read)
 }
 
 /// What the words of `rd_serve` ask for: `--port` with a number from 1 to 65,535, `--workers` with
-/// one from 1 to 16, and `--turns` with one from 1 to 10^12, each once at most, in any order, as
-/// two words or joined by `=`.
+/// one from 1 to 16, and `--turns` with one from 1 to 10^12, or in place of these two `--tcp` with
+/// one from 1 to 1,000,000, each once at most, in any order, as two words or joined by `=`.
 ///
 /// `Usage`: they are others. `Starved`: out of memory.
 pub fn serve_words(alloc: Global, words: &[String]) -> Result<ServePlan, WordsFault>
@@ -222,10 +259,14 @@ pub fn serve_words(alloc: Global, words: &[String]) -> Result<ServePlan, WordsFa
         port: None,
         workers: None,
         turns: None,
+        tcp: None,
     };
     let Some(asked) = words_ask(nothing, words) else {
         return Err(WordsFault::Usage);
     };
+    if asked.is_mixed() {
+        return Err(WordsFault::Usage);
+    }
     match plan_read(alloc, asked.plan()) {
         Ok(plan) => Ok(plan),
         Err(Starved) => Err(WordsFault::Starved),

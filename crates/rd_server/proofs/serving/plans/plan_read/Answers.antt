@@ -6,7 +6,7 @@ use Rattle.rd_server.proofs.serving.plans.plan_read.Goals as goal
 
 pub unreachable-requires : goal.unreachable-requires
 unreachable-requires c =
-    let found : plan_found c.in-Ok.matches ≡ Some c.args.plan =
+    let found : plan_found c.args.plan.tcp c.in-Ok.matches ≡ Some c.args.plan =
     plan_found-plan c.args.plan c.in-Ok.matches c.requires
     (c.in-Ok.ensures c.args.plan
     (search rules)) in
@@ -14,7 +14,7 @@ unreachable-requires c =
 
 pub returns : goal.returns
 returns c =
-    let found : plan_found c.in-Ok.matches ≡ Some c.args.plan =
+    let found : plan_found c.args.plan.tcp c.in-Ok.matches ≡ Some c.args.plan =
     plan_found-plan c.args.plan c.in-Ok.matches c.requires
     (c.in-Ok.ensures c.args.plan
     (search rules)) in

@@ -1,0 +1,11 @@
+//! Tests of connections: in memory, with ends that fail where that is planned, and over TCP.
+#![tactic(auto)]
+
+#[cfg(test)]
+mod connections;
+#[cfg(test)]
+mod doors;
+#[cfg(test)]
+mod failures;
+#[cfg(test)]
+mod loopback;
