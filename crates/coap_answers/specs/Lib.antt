@@ -1,7 +1,6 @@
 -- what an outbox shows, what a part of a step sends
 pub mod Outboxes
 pub mod Sendings
-
 -- what a reply says, a message that is being written (RFC 7252 sections 3.1 and 5.2, RFC 7641
 -- section 4.2)
 pub mod Replies

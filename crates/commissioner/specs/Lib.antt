@@ -1,6 +1,5 @@
 -- shares, which talk begins, what is sent (RFC 9176 sections 1 and 5.1, RFC 7252 section 4.7)
 pub mod Shares
-
 -- what is kept of an ask, and what it stands for (RFC 7252 section 4.2)
 pub mod Lines
 -- steps over a link and a clock (RFC 7252 section 4.2)

@@ -1,6 +1,5 @@
 pub mod Numbers
 pub mod Datagrams
-
 -- lines of a trace (this project's trace format)
 pub mod Lines
 pub mod Texts

@@ -3,7 +3,6 @@ pub mod Pieces
 pub mod ListedLinks
 pub mod OwnLinks
 pub mod ValueParts
-
 -- what a criterion seeks in links, through which sieve they pass (RFC 6690 section 4.1, RFC 9176
 -- section 6.2)
 pub mod Patterns

@@ -1,6 +1,5 @@
 pub mod Numbers
 pub mod Codes
-
 -- a message, its one spelling, its reading (RFC 7252 section 3)
 pub mod Message
 pub mod Spelling

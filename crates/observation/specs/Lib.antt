@@ -1,6 +1,5 @@
 -- kinds of changes, an update that leaves the base and the attributes (RFC 9176 section 5.3)
 pub mod ChangeKinds
-
 -- the version that a journal has come to
 pub mod Directories
 -- marks that are handed on, an entry and the registration that it is about (RFC 7641 section 4.2,

@@ -2,5 +2,4 @@
 -- sections 4.2 and 4.7)
 pub mod Standing
 pub mod ObserverEvents
-
 pub mod AwaitedPeers

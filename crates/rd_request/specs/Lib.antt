@@ -2,7 +2,6 @@
 -- 6)
 pub mod Resources
 pub mod Accepted
-
 -- what a request asks, and the refusals that it alone decides (RFC 7252 sections 5.4.1 and 5.5.2)
 pub mod Asking
 -- which requests write (RFC 9176 sections 5, 5.1 and 5.3)

@@ -1,6 +1,5 @@
 -- drafts, and the records that they become (RFC 9176 section 5)
 pub mod Drafts
-
 -- links as they were submitted (RFC 6690 section 2)
 pub mod Submissions
 -- what these are made of

@@ -1,6 +1,5 @@
 -- a message, its one spelling (RFC 8323 section 3.2)
 pub mod Messages
-
 -- why it is bad, by which octets that is known (RFC 8323 sections 3.2, 5.2, 5.3 and 5.3.1, RFC
 -- 7252 section 3)
 pub mod Faults

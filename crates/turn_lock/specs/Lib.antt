@@ -2,7 +2,6 @@
 pub mod Histories
 pub mod Rule
 pub mod Steps
-
 -- what contracts read of a pass and of a lock
 pub mod Shown
 -- what these are made of

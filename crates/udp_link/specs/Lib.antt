@@ -3,7 +3,6 @@
 pub mod Clocks
 pub mod Told
 pub mod Addresses
-
 -- what a receive and a send answer, and what is then known of a link (RFC 768, this project's
 -- profile)
 pub mod Links

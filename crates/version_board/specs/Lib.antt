@@ -4,5 +4,4 @@ pub mod Books
 pub mod Names
 pub mod Contents
 pub mod Ends
-
 pub mod Samples

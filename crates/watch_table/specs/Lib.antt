@@ -3,5 +3,4 @@
 pub mod WatchedQueries
 pub mod Outcomes
 pub mod ObserverCounts
-
 pub mod Slots
