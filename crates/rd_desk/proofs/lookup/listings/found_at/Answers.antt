@@ -1,6 +1,4 @@
-use Rattle.std.proofs.Common.{List, ℕ, Option, Some, sym, ap, ◌∙◌}
 use Rattle.std.specs.Arc.{arc_value}
-use Rattle.history_model.specs.Listing.{tag}
 use Rattle.coap_message.specs.Views.{message_in}
 use Rattle.rd_desk.proofs.parts.LookupLaws.{found_here, found_nowhere}
 use Rattle.rd_desk.proofs.lookup.listings.found_at.Goals as goal
