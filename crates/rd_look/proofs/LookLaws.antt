@@ -78,6 +78,7 @@ use Rattle.message_model.specs.declared.messages.Role.{Role}
 use Rattle.message_model.specs.declared.messages.Role.TheVariants as role
 use Rattle.message_model.specs.Reading.{reading}
 use Rattle.journal_model.specs.Machine.{is_look_message, is_look_reading, is_look_datagram}
+use Rattle.rd_request.specs.Asking.{seeks_links}
 use Rattle.rd_request.proofs.AskedLaws.{none_there}
 
 -- discovery finds the links of the directory itself
@@ -174,7 +175,7 @@ looks_by p m =
     || (is_lookup p && not (is_later_block m) && not (is_heeded (observe_in m)))
     || ((is_location p && is_get (method_of m.code)) && not (is_later_block m))
 
--- what writes to no registration that is there is no look
+-- a registration that is made, and a simple one, is no look
 pub no_look_at_rd : (m : Message) → only_looks m ≡ true → path_in m ≡ path.Rd → ⊥
 no_look_at_rd m looks is =
     false≢true (ap (λ (p : Path). looks_by p m) (sym is) ∙ looks)
@@ -182,6 +183,33 @@ no_look_at_rd m looks is =
 pub no_look_at_simple : (m : Message) → only_looks m ≡ true → path_in m ≡ path.SimpleRd → ⊥
 no_look_at_simple m looks is =
     false≢true (ap (λ (p : Path). looks_by p m) (sym is) ∙ looks)
+
+-- what is sought at a path by a message stands under a tag
+abbrev tagged_by : Path → Message → Bool
+tagged_by p m = has_tag (sought_at p (method_of m.code) (query_of m))
+
+-- the directory's own links stand under none, and where registrations are made nothing is sought
+pub no_tag_at_core : (m : Message) → has_tag (sought_in m) ≡ true → path_in m ≡ path.Core → ⊥
+no_tag_at_core m tagged is =
+    false≢true (ap (λ (p : Path). tagged_by p m) (sym is) ∙ tagged)
+
+pub no_tag_at_rd : (m : Message) → has_tag (sought_in m) ≡ true → path_in m ≡ path.Rd → ⊥
+no_tag_at_rd m tagged is =
+    false≢true (ap (λ (p : Path). tagged_by p m) (sym is) ∙ tagged)
+
+pub no_tag_at_simple : (m : Message)
+    → has_tag (sought_in m) ≡ true
+    → path_in m ≡ path.SimpleRd
+    → ⊥
+no_tag_at_simple m tagged is =
+    false≢true (ap (λ (p : Path). tagged_by p m) (sym is) ∙ tagged)
+
+-- links are sought by a lookup
+pub lookup_seeks_links : (p : Path) → is_lookup p ≡ true → seeks_links p ≡ true
+lookup_seeks_links p lookup = by (is_discovery p) (is_lookup p) lookup where
+  by : (d l : Bool) → l ≡ true → (d || l) ≡ true
+  by true l h = refl
+  by false l h = h
 
 -- the client has it, where it names the tag
 pub found_valid : (m : Message) (given current what : List ℕ)

@@ -170,8 +170,8 @@ registration-at history moment s params body options further = by (body_read bod
         }) moment refl made more h
 
 -- and so is a replacement of links
-pub replacement-at : (history : List Entry) (moment : ℕ) (s : Step) (number : ℕ) (body : List ℕ)
-    (options : List Opt) (further : List Note)
+pub replacement-at : (history : List Entry) (moment : ℕ) (s : Step) (number : ℕ)
+    (body : List ℕ) (options : List Opt) (further : List Note)
     → IsMadeAt moment (replacement history moment s number body options further)
 unfolding replacement
 replacement-at history moment s number body options further = by (body_read body)
@@ -368,7 +368,8 @@ way_brought purpose rows s starved place m b desk out mids is way =
 
 -- a registration is what comes of links that are to register
 pub registers_links : (rows : List Row) (moment : ℕ) (s : Step) (m : Message)
-    → links_outcome (sent_block m) (to_register (registration_values (queries_in m))) rows moment s m
+    → links_outcome (sent_block m) (to_register (registration_values (queries_in m))) rows
+    moment s m
     ≡ registering rows moment s m
 unfolding registering
 registers_links rows moment s m = refl

@@ -337,9 +337,9 @@ replacement-HasEntry history swept number now links entry v is stands sweeps acc
 }
 
 -- a replacement whose body is not refused
-pub planned-replaced : (history : List Entry) (swept : ℕ) (s : Step) (number : ℕ) (body : List ℕ)
-    (now : Moment) (links : List SubmittedLink) (options : List Opt) (further : List Note)
-    (r : Result Outcome Starved)
+pub planned-replaced : (history : List Entry) (swept : ℕ) (s : Step) (number : ℕ)
+    (body : List ℕ) (now : Moment) (links : List SubmittedLink) (options : List Opt)
+    (further : List Note) (r : Result Outcome Starved)
     → linked_references body ≡ Some links
     → is_refused_as_limited body ≡ false
     → ((entry : Entry) (meant : changes.Outcome)

@@ -1,5 +1,5 @@
--- A block of links: what comes of it by how it is answered, and what its parts do (RFC
--- 7959 sections 2.5 and 2.9).
+-- A block of links: what comes of it by how it is answered, and what its parts do (RFC 7959
+-- sections 2.5 and 2.9).
 use Rattle.std.proofs.Common.{
   ◌≡◌,
   ◌≢◌,
@@ -119,8 +119,8 @@ outcome_of answer.FullUploads purpose rows moment s m b =
     refused codes_of.service_unavailable (codes "uploads")
 outcome_of answer.Starved purpose rows moment s m b = refused codes_of.internal_server_error []
 
-pub uploaded_by : (purpose : changes.Purpose) (rows : List Row) (moment : ℕ) (s : Step) (m : Message) (b : Block)
-    (a : BlockAnswer)
+pub uploaded_by : (purpose : changes.Purpose) (rows : List Row) (moment : ℕ) (s : Step)
+    (m : Message) (b : Block) (a : BlockAnswer)
     → a ≡ block_answer moment (s.peer, key_in m) b m.payload (events rows)
     → block_uploaded purpose rows moment s m b ≡ outcome_of a purpose rows moment s m b
 unfolding block_uploaded block_answer answer_to
@@ -156,8 +156,8 @@ uploaded_by purpose rows moment s m b a is =
         (live_uploads moment (events rows))) b.more (collected ++ m.payload) refl
 
 -- so of a request with this key
-pub uploaded : (purpose : changes.Purpose) (rows : List Row) (moment : ℕ) (s : Step) (m : Message) (b : Block)
-    (a is : BlockAnswer) (key : List ℕ)
+pub uploaded : (purpose : changes.Purpose) (rows : List Row) (moment : ℕ) (s : Step)
+    (m : Message) (b : Block) (a is : BlockAnswer) (key : List ℕ)
     → key ≡ key_in m
     → a ≡ is
     → a ≡ block_answer moment (s.peer, key) b m.payload (events rows)
@@ -270,9 +270,9 @@ unchanged rows s starved d same out mids is way =
     subst (λ (y : Seen). UnderWay rows s starved nothing y out mids) (sym is) way
 
 -- one that more follow
-pub settled_piece : (purpose : changes.Purpose) (rows : List Row) (s : Step) (place : ℕ) (m : Message) (b : Block)
-    (reply : Reply) (a : BlockAnswer) (key : List ℕ) (d : Seen) (out : List (Peer × List ℕ))
-    (mids : Mids)
+pub settled_piece : (purpose : changes.Purpose) (rows : List Row) (s : Step) (place : ℕ)
+    (m : Message) (b : Block) (reply : Reply) (a : BlockAnswer) (key : List ℕ) (d : Seen)
+    (out : List (Peer × List ℕ)) (mids : Mids)
     → key ≡ key_in m
     → a ≡ answer.More
     → reply ≡ record { code = codes_of.continue; options = block1_option b; payload = [] }
@@ -280,8 +280,8 @@ pub settled_piece : (purpose : changes.Purpose) (rows : List Row) (s : Step) (pl
     → UnderWay rows s false
     (joined (joined nothing (noting (note.Piece s.peer key b.num m.payload ∷ [])))
     (answering_settled place s m reply)) d out mids
-    → UnderWay rows s false (settling place s m (block_uploaded purpose rows (row_moment rows s) s m b)) d
-    out mids
+    → UnderWay rows s false
+    (settling place s m (block_uploaded purpose rows (row_moment rows s) s m b)) d out mids
 settled_piece purpose rows s place m b reply a key d out mids same which said answered way =
     let meant : changes.Outcome = outcome_of answer.More purpose rows (row_moment rows s) s m b in
     let its : UnderWay rows s false
@@ -294,44 +294,52 @@ settled_piece purpose rows s place m b reply a key d out mids same which said an
     subst (λ (e : Effects). UnderWay rows s false e d out mids)
     (settling-taken place s m reply meant said
     ∙ ap (λ (o : changes.Outcome). settling place s m o)
-    (sym (uploaded purpose rows (row_moment rows s) s m b a answer.More key same which answered))) its
+    (sym (uploaded purpose rows (row_moment rows s) s m b a answer.More key same which
+    answered))) its
 
 -- any other
-pub settled_block : (purpose : changes.Purpose) (rows : List Row) (s : Step) (place : ℕ) (m : Message) (b : Block)
-    (a is : BlockAnswer) (key : List ℕ) (d : Seen) (out : List (Peer × List ℕ)) (mids : Mids)
+pub settled_block : (purpose : changes.Purpose) (rows : List Row) (s : Step) (place : ℕ)
+    (m : Message) (b : Block) (a is : BlockAnswer) (key : List ℕ) (d : Seen)
+    (out : List (Peer × List ℕ)) (mids : Mids)
     → key ≡ key_in m
     → a ≡ is
     → a ≡ block_answer (row_moment rows s) (s.peer, key) b m.payload (events rows)
-    → UnderWay rows s false (settling place s m (outcome_of is purpose rows (row_moment rows s) s m b)) d
-    out mids
-    → UnderWay rows s false (settling place s m (block_uploaded purpose rows (row_moment rows s) s m b)) d
-    out mids
+    → UnderWay rows s false
+    (settling place s m (outcome_of is purpose rows (row_moment rows s) s m b)) d out mids
+    → UnderWay rows s false
+    (settling place s m (block_uploaded purpose rows (row_moment rows s) s m b)) d out mids
 settled_block purpose rows s place m b a is key d out mids same which answered way =
     subst (λ (o : changes.Outcome). UnderWay rows s false (settling place s m o) d out mids)
     (sym (uploaded purpose rows (row_moment rows s) s m b a is key same which answered)) way
 
 -- the last one, where its write does not fail
-pub settled_whole : (purpose : changes.Purpose) (starved : Bool) (rows : List Row) (s : Step) (place : ℕ) (m : Message)
-    (b : Block) (a : BlockAnswer) (body octets key : List ℕ) (d : Seen) (out : List (Peer × List ℕ))
-    (mids : Mids)
+pub settled_whole : (purpose : changes.Purpose) (starved : Bool) (rows : List Row) (s : Step)
+    (place : ℕ) (m : Message) (b : Block) (a : BlockAnswer) (body octets key : List ℕ) (d : Seen)
+    (out : List (Peer × List ℕ)) (mids : Mids)
     → key ≡ key_in m
     → a ≡ answer.Whole body
-    → octets ≡ body → a ≡ block_answer (row_moment rows s) (s.peer, key) b m.payload (events rows)
+    → octets ≡ body
+    → a ≡ block_answer (row_moment rows s) (s.peer, key) b m.payload (events rows)
     → UnderWay rows s starved (unless_failing starved place s m (settling place s m
-    (body_used purpose (entries rows) (row_moment rows s) s octets (block1_option b) (note.Finished s.peer key ∷ [])))) d out mids
+    (body_used purpose (entries rows) (row_moment rows s) s octets (block1_option b)
+    (note.Finished s.peer key ∷ [])))) d out mids
     → UnderWay rows s starved (unless_failing starved place s m
     (settling place s m (block_uploaded purpose rows (row_moment rows s) s m b))) d out mids
-settled_whole purpose starved rows s place m b a body octets key d out mids same which whole answered way =
+settled_whole purpose starved rows s place m b a body octets key d out mids same which whole
+    answered way =
     subst (λ (o : changes.Outcome).
     UnderWay rows s starved (unless_failing starved place s m (settling place s m o)) d out
     mids)
-    (sym (uploaded purpose rows (row_moment rows s) s m b a (answer.Whole body) key same which answered))
+    (sym (uploaded purpose rows (row_moment rows s) s m b a (answer.Whole body) key same which
+    answered))
     (subst (λ (k : List ℕ). UnderWay rows s starved
     (unless_failing starved place s m (settling place s m
-    (body_used purpose (entries rows) (row_moment rows s) s body (block1_option b) (note.Finished s.peer k ∷ [])))) d out mids) same
+    (body_used purpose (entries rows) (row_moment rows s) s body (block1_option b)
+    (note.Finished s.peer k ∷ [])))) d out mids) same
     (subst (λ (os : List ℕ). UnderWay rows s starved
     (unless_failing starved place s m (settling place s m
-    (body_used purpose (entries rows) (row_moment rows s) s os (block1_option b) (note.Finished s.peer key ∷ [])))) d out mids) whole way))
+    (body_used purpose (entries rows) (row_moment rows s) s os (block1_option b)
+    (note.Finished s.peer key ∷ [])))) d out mids) whole way))
 
 -- ---- a body that is whole
 
@@ -348,7 +356,8 @@ entered_it (Some refusal.Entries) it entry done more h = absurd cc
 -- nor does a refused body
 pub links_enter : (purpose : changes.Purpose) (history : List Entry) (moment : ℕ) (s : Step)
     (body : List ℕ) (options : List Opt) (further : List Note) (entry : Entry) (more : List Note)
-    → (body_used purpose history moment s body options further).notes ≡ note.Entered entry ∷ more
+    → (body_used purpose history moment s body options further).notes
+    ≡ note.Entered entry ∷ more
     → entry.moment.0 ≡ moment
 unfolding registration replacement
 links_enter (changes.to_register params) history moment s body options further entry more h =

@@ -1,5 +1,5 @@
 -- What an admission does, by what it hears (RFC 7252 section 4).
-use Rattle.std.proofs.Common.{◌≡◌, Bool, true, false, List, Some, None, Result, refl}
+use Rattle.std.proofs.Common.{◌≡◌, ℕ, Bool, true, false, List, Some, None, Result, refl}
 use Rattle.std.proofs.lemmas.Bool.{false≢true}
 use Rattle.message_model.specs.declared.messages.Role.TheVariants as role
 use Rattle.message_model.specs.declared.messages.Unread.{Unread}

@@ -99,7 +99,6 @@ use Rattle.journal_model.specs.Lookups.{
   observation_effects,
   block_effects,
   lookup_effects,
-  listing_now,
   observing_by,
 }
 use Rattle.journal_model.specs.Requests.{
@@ -350,8 +349,9 @@ formed_now test keep asked shown l m r history x d v query meant tested block wh
     })
 
 -- what was formed of a further block is what is found now, to be kept where it has that block
-pub formed_found : (keep : Bool) (asked : Option Block) (shown : List ℕ) (l : Listed) (m : Message)
-    (f : Formed) (history : List Entry) (x d : Seen) (v : Version) (found : Option Listed)
+pub formed_found : (keep : Bool) (asked : Option Block) (shown : List ℕ) (l : Listed)
+    (m : Message) (f : Formed) (history : List Entry) (x d : Seen) (v : Version)
+    (found : Option Listed)
     → keep ≡ has_asked_block asked shown
     → asked ≡ asked_block m
     → shown ≡ arc_value l.body
@@ -876,6 +876,32 @@ used_way rows s x d t out sent mids_before mids sender m key seen of same used w
         (ap (λ (p : Peer). note.Used p (key_in m)) of
         ∙ ap (λ (k : List ℕ). note.Used sender k) (sym same)) (sym moment))
 
+-- no answer is kept under the key of its request, as a step begins
+none_kept : (rows : List Row) (s : Step) (x d : Seen) (out : List (Peer × List ℕ)) (mids : Mids)
+    (sender : Peer) (m : Message) (key : List ℕ)
+    → x ≡ d
+    → s.peer ≡ sender
+    → key ≡ key_in m
+    → ((at : ℕ) (events : List Event)
+    → TransfersStandFor at events x.transfers
+    → kept_answer x.moment (sender, key) events ≡ None)
+    → UnderWay rows s false nothing d out mids
+    → kept_answer (row_moment rows s) (s.peer, key_in m) (events rows) ≡ None
+none_kept rows s x d out mids sender m key seen of same none way =
+    let here = subst (λ (y : Seen). UnderWay rows s false nothing y out mids) (sym seen) way in
+    let moment : x.moment ≡ row_moment rows s =
+    way_moment rows s false nothing x out mids here in
+    let past = events (making rows s false nothing) in
+    let begun : TransfersStandFor (row_moment rows s) past x.transfers =
+    subst (λ (at : ℕ). TransfersStandFor at past x.transfers)
+    (now-making rows s false nothing here.no_look) here.stands.transfers in
+    ap (λ (es : List Event). kept_answer (row_moment rows s) (s.peer, key_in m) es)
+    (sym (events-making_nothing rows s false))
+    ∙ (ap (λ (p : Peer). kept_answer (row_moment rows s) (p, key_in m) past) of
+    ∙ (ap (λ (k : List ℕ). kept_answer (row_moment rows s) (sender, k) past) (sym same)
+    ∙ (ap (λ (at : ℕ). kept_answer at (sender, key) past) (sym moment)
+    ∙ none (row_moment rows s) past begun)))
+
 -- a further block of what is found now, where none is kept: what was given is all that the step
 -- does
 pub fresh_way : (rows : List Row) (s : Step) (x d after : Seen) (t : Table)
@@ -906,17 +932,8 @@ fresh_way rows s x d after t out out_then sent mids_before mids_then mids sender
     subst (λ (y : Seen). UnderWay rows s false nothing y out mids_before) (sym seen) way in
     let moment : x.moment ≡ row_moment rows s =
     way_moment rows s false nothing x out mids_before here in
-    let past = events (making rows s false nothing) in
-    let begun : TransfersStandFor (row_moment rows s) past x.transfers =
-    subst (λ (at : ℕ). TransfersStandFor at past x.transfers)
-    (now-making rows s false nothing here.no_look) here.stands.transfers in
     let unkept : kept_answer (row_moment rows s) (s.peer, key_in m) (events rows) ≡ None =
-    ap (λ (es : List Event). kept_answer (row_moment rows s) (s.peer, key_in m) es)
-    (sym (events-making_nothing rows s false))
-    ∙ (ap (λ (p : Peer). kept_answer (row_moment rows s) (p, key_in m) past) of
-    ∙ (ap (λ (k : List ℕ). kept_answer (row_moment rows s) (sender, k) past) (sym same) ∙ (ap (λ (at
-    : ℕ). kept_answer at (sender, key) past) (sym moment) ∙ none (row_moment rows s) past
-    begun))) in
+    none_kept rows s x d out mids_before sender m key seen of same none way in
     let now_formed =
     formed_of m (answer_found (entries rows) (row_moment rows s) m) found f some
     (subst (λ (at : ℕ). IsFormedOf m (answer_found (entries rows) at m) found) moment
@@ -935,8 +952,8 @@ fresh_way rows s x d after t out out_then sent mids_before mids_then mids sender
 
 -- where nothing is found, it is answered 4.04
 pub missing_way : (rows : List Row) (s : Step) (x d : Seen) (t : Table)
-    (out out_then sent : List (Peer × List ℕ)) (mids_before mids_then mids : Mids) (sender : Peer)
-    (m : Message) (key : List ℕ) (found : Option Formed)
+    (out out_then sent : List (Peer × List ℕ)) (mids_before mids_then mids : Mids)
+    (sender : Peer) (m : Message) (key : List ℕ) (found : Option Formed)
     → x ≡ d
     → s.peer ≡ sender
     → key ≡ key_in m
@@ -961,17 +978,8 @@ missing_way rows s x d t out out_then sent mids_before mids_then mids sender m k
     subst (λ (y : Seen). UnderWay rows s false nothing y out mids_before) (sym seen) way in
     let moment : x.moment ≡ row_moment rows s =
     way_moment rows s false nothing x out mids_before here in
-    let past = events (making rows s false nothing) in
-    let begun : TransfersStandFor (row_moment rows s) past x.transfers =
-    subst (λ (at : ℕ). TransfersStandFor at past x.transfers)
-    (now-making rows s false nothing here.no_look) here.stands.transfers in
     let unkept : kept_answer (row_moment rows s) (s.peer, key_in m) (events rows) ≡ None =
-    ap (λ (es : List Event). kept_answer (row_moment rows s) (s.peer, key_in m) es)
-    (sym (events-making_nothing rows s false))
-    ∙ (ap (λ (p : Peer). kept_answer (row_moment rows s) (p, key_in m) past) of
-    ∙ (ap (λ (k : List ℕ). kept_answer (row_moment rows s) (sender, k) past) (sym same) ∙ (ap (λ (at
-    : ℕ). kept_answer at (sender, key) past) (sym moment) ∙ none (row_moment rows s) past
-    begun))) in
+    none_kept rows s x d out mids_before sender m key seen of same none way in
     let missing : answer_found (entries rows) (row_moment rows s) m ≡ None =
     nothing_formed m (answer_found (entries rows) (row_moment rows s) m) found nothing_there
     (subst (λ (at : ℕ). IsFormedOf m (answer_found (entries rows) at m) found) moment

@@ -46,7 +46,6 @@ use Rattle.message_model.specs.declared.messages.Kind4.{Kind4}
 use Rattle.message_model.specs.declared.messages.Kind4.TheVariants.{Con, Non, Ack, Rst}
 use Rattle.message_model.specs.declared.requests.Path.{Path}
 use Rattle.message_model.specs.declared.requests.Path.TheVariants as path
-use Rattle.message_model.specs.Blocks.{block_of}
 use Rattle.message_model.specs.Codes as codes_of
 use Rattle.message_model.specs.Message.{Message, Opt}
 use Rattle.message_model.specs.Reading.{reading}
@@ -63,7 +62,6 @@ use Rattle.event_model.specs.declared.notes.Note.TheVariants as note
 use Rattle.event_model.specs.declared.notes.Observer.{Observer}
 use Rattle.event_model.specs.Same.{RequestName, is_same_request}
 use Rattle.event_model.specs.Events.{Event, noted}
-use Rattle.event_model.specs.KeptAnswers.{Answer, kept_answer}
 use Rattle.event_model.specs.Observers.{name_of, observers, is_observer, has_room_for}
 use Rattle.event_model.specs.Fetches.{
   Request,
@@ -95,18 +93,11 @@ use Rattle.journal_model.specs.Rows.{row_moment, effects, row}
 use Rattle.journal_model.specs.Requests.{
   query_of,
   asked_block,
-  number_of,
-  szx_of,
   is_lookup,
   is_later_block,
   register,
   deregister,
   Method,
-  get,
-  post,
-  put,
-  delete,
-  other_method,
   method_of,
 }
 use Rattle.journal_model.specs.Changes.{
@@ -203,6 +194,7 @@ use Rattle.journal_model.proofs.notes.StepTable.{
   nothing,
   write,
   lookup,
+  source,
   empty,
   response,
   commit,

@@ -202,7 +202,6 @@ use Rattle.journal_model.proofs.StepNotes.{
 }
 use Rattle.journal_model.proofs.flights.NoticesAgain.{stood}
 use Rattle.journal_model.proofs.notes.ChangeNotes.{
-  change_made-notes,
   registering-notes,
   location-notes,
   response_effects-notes,
@@ -213,6 +212,7 @@ use Rattle.journal_model.proofs.notes.StepTable.{
   nothing,
   write,
   lookup,
+  source,
   empty,
   response,
   commit,

@@ -2,7 +2,6 @@ use Rattle.std.proofs.Common.{[], Some, subst}
 use Rattle.message_model.specs.Spelling.{spelling}
 use Rattle.coap_message.specs.Views.{message_in}
 use Rattle.journal_model.specs.Looks.{Look, look_sent, body_held}
-use Rattle.coap_answers.specs.Replies.{reply_said}
 use Rattle.coap_answers.specs.Sendings.{Sends}
 use Rattle.coap_answers.proofs.SendingLaws.{sends_nothing}
 use Rattle.rd_look.specs.declared.looks.Looked.TheVariants as ended

@@ -52,7 +52,8 @@ returns-in-Ok-clause-way g c =
     (λ entry more noted. links_enter purpose (entries rows) (row_moment rows s) s
     c.args.body.now.octets.now options further entry more noted)
     (planned_here rows s false _ c.args.self.now c.deref.result.now c.args.out.now c.args.mids.now
-    purpose c.args.body.now.octets.now options further c.in-Ok.outcome c.self.view_is c.deref.ensures
+    purpose c.args.body.now.octets.now options further c.in-Ok.outcome c.self.view_is
+    c.deref.ensures
     (λ history h.
     of_laid (λ o. IsPlanned history _ further _ o) c.whole_outcome-planned.result c.in-Ok.outcome
     c.in-Ok.ensures.same (c.whole_outcome-planned.ensures.planned history s further h of))

@@ -1,4 +1,4 @@
-use Rattle.std.proofs.Common.{sym, ap, subst, ◌∙◌, is_none}
+use Rattle.std.proofs.Common.{ap, subst, is_none}
 use Rattle.coap_message.specs.Views.{message_in}
 use Rattle.journal_model.specs.Changes as changes
 use Rattle.journal_model.specs.Commits.{settling}

@@ -245,8 +245,8 @@ pub returns-in-Lookup-clause-laid : goal.returns-in-Lookup-clause-laid
 returns-in-Lookup-clause-laid g c =
     laid_none c.args.self.now.version _ _ _ c.hear_lookup.ensures.version c.requires.free
 
-pub answer_later-requires : goal.answer_later-requires
-answer_later-requires g c =
+pub answer_later-requires-clause-seeks : goal.answer_later-requires-clause-seeks
+answer_later-requires-clause-seeks g c =
     let is = (told_as c.args.arrival.datagram.now _ _ c.in-Read.is c.requires.read) in
     read_has_tag (message_of c.in-Read.request) is.2
 

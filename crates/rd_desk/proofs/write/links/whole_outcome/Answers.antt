@@ -1,4 +1,4 @@
-use Rattle.std.proofs.Common.{true, ◌≡◌, sym, ap, subst, IfOk, ◌∙◌}
+use Rattle.std.proofs.Common.{true, ◌≡◌, sym, subst, IfOk}
 use Rattle.message_model.specs.Request.{queries_in}
 use Rattle.coap_message.specs.Views.{message_in}
 use Rattle.record_model.specs.declared.readings.Reading.TheVariants as reading
@@ -20,8 +20,9 @@ given_params-requires c =
     has_good_params p (message_in c.args.bringing.now.write.request.meaning.view) ≡ true)
     c.in-Register.is c.args.bringing.now.good)
 
-pub returns-in-Register-clause-planned : goal.returns-in-Register-clause-planned
-returns-in-Register-clause-planned c history s further stands from =
+pub returns-in_ok-params-in-Register-clause-planned :
+    goal.returns-in_ok-params-in-Register-clause-planned
+returns-in_ok-params-in-Register-clause-planned c history s further stands from =
     let m = message_in c.args.bringing.now.write.request.meaning.view in
     subst (λ (p : Purpose).
     IfOk c.registered.result (IsPlanned history c.args.version.now.swept further
@@ -32,7 +33,8 @@ returns-in-Register-clause-planned c history s further stands from =
     IfOk c.registered.result (IsPlanned history c.args.version.now.swept further
     (registration history c.args.now.0 s params c.args.body.now (block1_options c.args.block1)
     further)))
-    c.in_ok-params.ensures.value (c.registered.ensures.planned history s further stands from))
+    c.in_ok-params-in-Register.ensures.value
+    (c.registered.ensures.planned history s further stands from))
 
 pub returns-in-Replace-clause-planned : goal.returns-in-Replace-clause-planned
 returns-in-Replace-clause-planned c history s further stands from =

@@ -17,7 +17,8 @@ returns-in-Ok-clause-planned c history s further stands from =
 pub returns-in-Err-clause-planned : goal.returns-in-Err-clause-planned
 returns-in-Err-clause-planned c history s further stands from =
     c.refused_body.ensures.planned history c.args.version.now.swept c.args.now.0 s
-    (to_register c.args.params) c.args.body.now (block1_options c.args.block1) further c.in-Err.ensures.refused
+    (to_register c.args.params) c.args.body.now (block1_options c.args.block1) further
+    c.in-Err.ensures.refused
 
 pub returns-in-Ok-clause-next : goal.returns-in-Ok-clause-next
 returns-in-Ok-clause-next c history stands =
