@@ -20,7 +20,7 @@ fn asks(client: TcpStream) -> io::Result<bool> {
     'readings: for _ in 0..256 {
         let n = client.read(&mut room[count..])?;
         if n == 0 {
-            return Ok(room[..count] == *DISCOVERED);
+            return Ok(&room[..count] == DISCOVERED);
         }
         count += n;
     }
