@@ -109,6 +109,9 @@ use Rattle.journal_model.specs.Requests.{
   only_looks,
   is_discovery,
   is_lookup,
+  is_location,
+  is_get,
+  method_of,
   is_later_block,
   is_heeded,
 }
@@ -385,11 +388,13 @@ observation-looks : (i : ℕ) → only_looks (observation i) ≡ false
 observation-looks i =
     ap₂ (λ (p : Path) (seen : Option ℕ).
     is_discovery p
-    || (is_lookup p && not (is_later_block (observation i)) && not (is_heeded seen)))
+    || (is_lookup p && not (is_later_block (observation i)) && not (is_heeded seen))
+    || ((is_location p && is_get (method_of (observation i).code))
+    && not (is_later_block (observation i))))
     (observation-path i) (observation-observes i)
     ∙ by (is_later_block (observation i))
   where
-    by : (b : Bool) → (false || (true && not b && not true)) ≡ false
+    by : (b : Bool) → (false || (true && not b && not true) || (false && not b)) ≡ false
     by true = refl
     by false = refl
 
