@@ -19,7 +19,7 @@ use udp_link::{Clock, Link};
 
 /// What a poll came to.
 #[derive(Clone, Copy, Debug, PartialEq, Eq)]
-pub(crate) enum Polled {
+pub enum Polled {
     /// An ask is not decided yet.
     Going,
     /// Each ask is decided, or there is a fault.
@@ -47,19 +47,34 @@ fn put_aside(lines: &mut Vec<Line>, outcomes: &mut Outcomes)
 
 /// A list of asks that are being made.
 #[derive(Drop)]
-pub(crate) struct Going<L: Link + Drop, C: Clock + Drop> {
+pub struct Going<L: Link + Drop, C: Clock + Drop> {
     /// The link.
-    pub(crate) link: L,
+    pub link: L,
     /// The clock.
-    pub(crate) clock: C,
+    pub clock: C,
     /// Those that are not decided.
     pub(crate) lines: Vec<Line>,
     /// What became of each.
-    pub(crate) outcomes: Outcomes,
+    pub outcomes: Outcomes,
+}
+
+impl<L: Link + Drop, C: Clock + Drop> Going<L, C> {
+    /// The link and the clock.
+    pub fn into_ends(self) -> (L, C)
+        ensures { result ≡ (self.link, self.clock) }
+    {
+        let Going {
+            link,
+            clock,
+            lines: _lines,
+            outcomes: _outcomes,
+        } = self;
+        (link, clock)
+    }
 }
 
 /// One poll. The room has 4,096 octets.
-pub(crate) fn poll_once<L: Link + Drop, C: Clock + Drop>(
+pub fn poll_once<L: Link + Drop, C: Clock + Drop>(
     alloc: Global,
     going: &mut Going<L, C>,
     room: &mut [u8],

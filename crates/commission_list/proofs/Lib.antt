@@ -1,0 +1,2 @@
+-- ListLaws: lines of a text, judged one after the other.
+pub mod ListLaws
