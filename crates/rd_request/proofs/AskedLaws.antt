@@ -5,9 +5,6 @@ use Rattle.std.proofs.Common.{
   Bool,
   true,
   false,
-  not,
-  ◌&&◌,
-  ◌||◌,
   Option,
   Some,
   None,
@@ -19,20 +16,13 @@ use Rattle.message_model.specs.Codes as codes_of
 use Rattle.message_model.specs.declared.requests.Refusal.{Refusal}
 use Rattle.message_model.specs.Message.{Message}
 use Rattle.message_model.specs.Refusals.{refusal_of}
-use Rattle.message_model.specs.Request.{path_in, observe_in}
 use Rattle.journal_model.specs.Effects.{diagnostic}
 use Rattle.journal_model.specs.Requests.{
   refusal_of_request,
   refusal_or_next,
   has_bad_query,
   has_bad_payload,
-  is_discovery,
-  is_lookup,
-  is_later_block,
-  is_heeded,
-  only_looks,
 }
-use Rattle.rd_request.specs.Asking.{seeks_links}
 
 -- none before the query, and the query is refused
 pub query_refused : (m : Message)

@@ -314,5 +314,3 @@ pub look_left : (datagram : List ℕ) (request : Request)
     → ⊥
 look_left datagram request is other =
     false≢true (sym other ∙ looks_is datagram (incoming.Look request) is)
-
--- ---- what writes

@@ -1,7 +1,6 @@
 -- A request that is kept: what is read of the datagram that it spells.
-use Rattle.std.proofs.Common.{◌≡◌, ℕ, true, List, Result, Ok, ap, sym, subst, ◌∙◌}
+use Rattle.std.proofs.Common.{◌≡◌, ℕ, true, List, Ok, ap, sym, subst, ◌∙◌}
 use Rattle.message_model.specs.declared.messages.Role.{Role}
-use Rattle.message_model.specs.declared.messages.Unread.{Unread}
 use Rattle.message_model.specs.Message.{Message}
 use Rattle.message_model.specs.Reading.{reading}
 use Rattle.message_model.specs.Spelling.{spelling}

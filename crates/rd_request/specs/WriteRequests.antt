@@ -1,5 +1,5 @@
 -- The requests that write to the registrations, or to one of them.
-use Rattle.std.specs.Prelude.{ℕ, Bool, true, false, ◌&&◌, List, Result, Ok, Err, is_none}
+use Rattle.std.specs.Prelude.{ℕ, Bool, false, ◌&&◌, List, Result, Ok, Err, is_none}
 use Rattle.message_model.specs.declared.messages.Role.{Role}
 use Rattle.message_model.specs.declared.messages.Role.TheVariants as role
 use Rattle.message_model.specs.declared.messages.Unread.{Unread}

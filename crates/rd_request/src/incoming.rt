@@ -60,7 +60,7 @@ fn is_plain(request: &Request<'_>) -> bool
 
 /// A read of a registration, which only looks where it is of a first block.
 fn read(request: Request<'_>) -> Incoming<'_>
-    requires { reads_registration (message_of request.entry) ≡ true }
+    requires { reads_registration (message_of request) ≡ true }
     ensures { (datagram : List ℕ)
         → IsFor role.Request datagram (message_of request.entry)
         → IsIncoming datagram result }
@@ -74,7 +74,7 @@ fn read(request: Request<'_>) -> Incoming<'_>
 /// A request on a registration, by its method: GET reads the links (RFC 9176 section 5.3.3), and
 /// whatever else it may ask is a write.
 fn on_location(request: Request<'_>) -> Incoming<'_>
-    requires { is_location (path_in (message_of request.entry)) ≡ true }
+    requires { is_location (path_in (message_of request)) ≡ true }
     ensures { (datagram : List ℕ)
         → IsFor role.Request datagram (message_of request.entry)
         → IsIncoming datagram result }
