@@ -5,8 +5,9 @@ ghost use Rattle.client_model.specs.declared.asks.Ask.{Ask};
 ghost use Rattle.client_model.specs.declared.outcomes.Outcome.{Outcome};
 ghost use Rattle.registrant.specs.Turns.{seen};
 ghost use Rattle.commissioner.specs.declared.steps.Step.{Step};
-ghost use Rattle.commissioner.specs.Happening.{AreOpen, AreLines};
+ghost use Rattle.commissioner.specs.Happening.{AreOpen, AreLines, KeepsDecided};
 ghost use Rattle.commissioner.specs.Commissioning.{StandsFor, StandForSome, IsPolled, CountsPoll};
+ghost use Rattle.commissioner.specs.Commissioning.{KeepsPolled};
 
 use crate::Outcomes;
 use crate::beginnings::begin_all;
@@ -30,9 +31,10 @@ pub enum Polled {
 fn put_aside(lines: &mut Vec<Line>, outcomes: &mut Outcomes)
     requires { (asks : List Ask) × (past : List Step)
         × AreLines past asks 0 lines.old.items outcomes.old }
-    ensures { (asks : List Ask) (past : List Step)
+    ensures aside { (asks : List Ask) (past : List Step)
         → AreLines past asks 0 lines.old.items outcomes.old
         → AreOpen past asks 0 lines.new.items outcomes.new }
+    ensures keeps { KeepsDecided outcomes.old outcomes.new }
 {
     let mut at = 0;
     'lines: while at < lines.len() {
@@ -90,6 +92,7 @@ pub fn poll_once<L: Link + Drop, C: Clock + Drop>(
         going.new.clock) }
     ensures counts { CountsPoll (L.recv_faults going.old.link) (L.recv_faults going.new.link)
         result }
+    ensures keeps { KeepsPolled result going.old.outcomes going.new.outcomes }
 {
     let begun = begin_all(alloc, &mut going.link, &mut going.clock, &mut going.lines);
     if let Err(Starved) = begun {
