@@ -148,3 +148,9 @@ CountsText before now (Err stop.Unread) = (before ≤ now) × Rose before now
 CountsText before now (Err stop.Starved) = now ≡ before
 CountsText before now (Err (stop.Bad n why)) = now ≡ before
 CountsText before now (Ok text) = now ≡ before
+
+-- no line is bad of what could not be read
+abbrev pub IsUnread : ListFault → Type 0
+IsUnread stop.Unread = ⊤
+IsUnread stop.Starved = ⊤
+IsUnread (stop.Bad n why) = ⊥

@@ -53,7 +53,7 @@ abbrev pub path_text : List (List ℕ) → List ℕ
 path_text path = flat_map segment_text path
 
 -- a code by its class and its detail, in two digits (RFC 7252 section 3)
-abbrev pub code_text : ℕ → List ℕ
+unfoldable pub code_text : ℕ → List ℕ
 code_text code =
     (48 + code / 32) ∷ 46 ∷ (48 + code % 32 / 10) ∷ (48 + code % 32 % 10) ∷ []
 
@@ -70,8 +70,8 @@ outcome_text outcome.Silent = codes "silent"
 abbrev pub line_text : ℕ → Outcome → List ℕ
 line_text n o = decimal n ++ (32 ∷ (outcome_text o ++ 10 ∷ []))
 
--- the lines of outcomes from a number on; one that is not there has none
-abbrev pub lines_text : ℕ → List (Option Outcome) → List ℕ
-lines_text n [] = []
-lines_text n (None ∷ outcomes) = lines_text (n + 1) outcomes
-lines_text n (Some o ∷ outcomes) = line_text n o ++ lines_text (n + 1) outcomes
+-- the lines of outcomes from a number on, up to the first that is not there
+abbrev pub front_text : ℕ → List (Option Outcome) → List ℕ
+front_text n [] = []
+front_text n (None ∷ outcomes) = []
+front_text n (Some o ∷ outcomes) = line_text n o ++ front_text (n + 1) outcomes

@@ -1,13 +1,14 @@
 //! One line of a list: what it asks for, or why it is bad.
-ghost use Rattle.std.specs.Prelude.{◌≡◌, Ok, IfOk, option_map};
+ghost use Rattle.std.specs.Prelude.{◌≡◌, ◌≤◌, Ok, IfOk, option_map};
 ghost use Rattle.trace_text.specs.Fields.{fields_of_cut};
 ghost use Rattle.line_model.specs.Lines.{fields};
 ghost use Rattle.client_model.specs.Requests.{CanBeSent};
+ghost use Rattle.commission_list.specs.declared.judging.TheConstants.{MAX_LINES};
 ghost use Rattle.commission_list.specs.Lists as lists;
 ghost use Rattle.commission_list.specs.Lists.{IsJudged, IsBody, has_base};
 
 use message_model::options::URI_QUERY;
-use rd_base::{Bytes, Starved};
+use rd_base::Bytes;
 use registrant::{Ask, AskBad, register_ask};
 use std::alloc::Global;
 use std::str;
@@ -39,12 +40,6 @@ pub(crate) enum LineFault {
     Bad(AskLine),
     /// Memory ran out.
     Starved,
-}
-
-impl From<Starved> for LineFault {
-    fn from(_: Starved) -> LineFault {
-        LineFault::Starved
-    }
 }
 
 /// What stands before the first space of a text, and what stands after it.
@@ -154,6 +149,7 @@ fn fields_read(alloc: Global, line: &[u8]) -> Result<Ask, LineFault>
 pub(crate) fn line_read(alloc: Global, number: u64, line: &[u8]) -> Result<Ask, LineFault>
     ensures exact { IsJudged result (lists.judged number line.now) }
     ensures sent { IfOk result CanBeSent }
+    ensures few { IfOk result (λ ask. number ≤ MAX_LINES) }
 {
     if number > MAX_LINES {
         return Err(LineFault::Bad(AskLine::Many));

@@ -2,6 +2,7 @@
 //! printed (RFC 9176 sections 1 and 5.1).
 #![tactic(auto)]
 
+mod commissioning;
 mod judging;
 mod listing;
 mod making;
@@ -10,6 +11,7 @@ mod reports;
 mod statuses;
 
 pub use commissioner::{Ask, Asks, Outcome, Outcomes};
+pub use commissioning::commission;
 pub use judging::AskLine;
-pub use making::{CommissionEnd, commission};
+pub use making::CommissionEnd;
 pub use statuses::CommissionStatus;

@@ -1,15 +1,16 @@
 //! A whole list: the lines of a text, each judged.
-ghost use Rattle.std.specs.Prelude.{◌≡◌, ◌<◌, ◌≢◌, ◌∷◌, [], IfOk, length};
+ghost use Rattle.std.specs.Prelude.{◌≡◌, ◌<◌, ◌≤◌, ◌≢◌, ◌∷◌, [], IfOk, IfErr, length};
 ghost use Rattle.std.specs.List.{All};
 ghost use Rattle.line_model.specs.Texts.{lines_of};
 ghost use Rattle.client_model.specs.Requests.{CanBeSent};
+ghost use Rattle.commission_list.specs.declared.judging.TheConstants.{MAX_LINES};
 ghost use Rattle.commission_list.specs.Lists as lists;
 ghost use Rattle.std.specs.Io.KnownBytes.{Consumes, IsAtEnd};
-ghost use Rattle.commission_list.specs.Lists.{IsListed, CountsText};
+ghost use Rattle.commission_list.specs.Lists.{IsListed, IsUnread, CountsText};
 
 use crate::AskLine;
 use crate::judging::{LineFault, line_read};
-use rd_base::{Bytes, Got, List, Source, Starved};
+use rd_base::{Bytes, Got, List, Source};
 use registrant::Ask;
 use std::alloc::Global;
 use trace_text::offset_of;
@@ -23,12 +24,6 @@ pub(crate) enum ListFault {
     Bad(u64, AskLine),
     /// Memory ran out.
     Starved,
-}
-
-impl From<Starved> for ListFault {
-    fn from(_: Starved) -> ListFault {
-        ListFault::Starved
-    }
 }
 
 /// The first line of a text that is not empty, without its line feed, and what stands after it.
@@ -47,6 +42,7 @@ fn first_line(text: &[u8]) -> (&[u8], &[u8])
 pub(crate) fn list_read(alloc: Global, text: &[u8]) -> Result<List<Ask>, ListFault>
     ensures exact { IsListed result (lists.listed text.now) }
     ensures sent { IfOk result (All CanBeSent) }
+    ensures few { IfOk result (λ asks. length asks ≤ MAX_LINES) }
 {
     let mut asks = List::new(alloc);
     let mut left = text;
@@ -54,7 +50,11 @@ pub(crate) fn list_read(alloc: Global, text: &[u8]) -> Result<List<Ask>, ListFau
     'lines: while !left.is_empty() {
         let (line, more) = first_line(left);
         match line_read(alloc, number, line) {
-            Ok(ask) => asks.push(ask)?,
+            Ok(ask) => {
+                if asks.push(ask).is_err() {
+                    return Err(ListFault::Starved);
+                }
+            }
             Err(LineFault::Bad(why)) => return Err(ListFault::Bad(number, why)),
             Err(LineFault::Starved) => return Err(ListFault::Starved),
         }
@@ -72,6 +72,7 @@ pub(crate) fn text_read<S: Source>(alloc: Global, source: &mut S) -> Result<Byte
     ensures read { IfOk result (λ text. Consumes (S.left source.old) (S.left source.new) text
         × IsAtEnd (S.left source.new)) }
     ensures counts { CountsText (S.faults source.old) (S.faults source.new) result }
+    ensures stops { IfErr result IsUnread }
 {
     let mut text = Bytes::new(alloc);
     let mut buffer = [0u8; 4096];
@@ -82,7 +83,9 @@ pub(crate) fn text_read<S: Source>(alloc: Global, source: &mut S) -> Result<Byte
                 if n == 0 {
                     return Ok(text);
                 }
-                text.append(&buffer[..n])?;
+                if text.append(&buffer[..n]).is_err() {
+                    return Err(ListFault::Starved);
+                }
             }
         }
     }

@@ -1,10 +1,25 @@
-//! A list of devices, from its octets to the lines of its outcomes and a status.
-use crate::listing::{ListFault, list_read, text_read};
-use crate::printing::push_line;
-use crate::reports::{say_status, write_all};
+//! A list of asks that is made, and what became of each written as soon as that of all before it is.
+ghost use Rattle.std.specs.Prelude.{◌≡◌, ◌≤◌, ℕ, List, [], IfOk, length};
+ghost use Rattle.std.specs.List.{All};
+ghost use Rattle.udp_link.specs.declared.links.TheConstants.{MAX_DATAGRAM};
+ghost use Rattle.client_model.specs.declared.asks.Ask.{Ask};
+ghost use Rattle.client_model.specs.Requests.{CanBeSent};
+ghost use Rattle.registrant.specs.Turns.{seen};
+ghost use Rattle.commissioner.specs.declared.commissioning.TheConstants.{MAX_ASKS};
+ghost use Rattle.commissioner.specs.declared.steps.Step.{Step};
+ghost use Rattle.commissioner.specs.Commissioning.{StandsFor, StandForSome};
+ghost use Rattle.commission_list.specs.Endings.{CountsWrites};
+ghost use Rattle.commission_list.specs.Printing.{line_text};
+ghost use Rattle.commission_list.specs.Makings as makings;
+ghost use Rattle.commission_list.specs.Makings.{Printed, IsWrittenOn, CountsPrint, Prints};
+ghost use Rattle.commission_list.specs.Makings.{IsStepped, CountsStep, WritesStep, MakesOut};
+ghost use Rattle.commission_list.specs.Makings.{CountsStatus, CountsBack, MakesBack};
+
 use crate::CommissionStatus;
+use crate::printing::push_line;
+use crate::reports::write_all;
 use commissioner::{Asks, Going, Polled, TellFault, poll_once, start};
-use rd_base::{Bytes, Sink, Source, Starved};
+use rd_base::{Bytes, Sink, Starved};
 use registrant::Outcome;
 use std::alloc::{AllocGlobal, Global};
 use std::sync::Wait;
@@ -21,17 +36,20 @@ pub struct CommissionEnd<L: Link + Drop, C: Clock + Drop> {
 
 /// Why outcomes were not written.
 #[derive(Clone, Copy, Debug, PartialEq, Eq)]
-enum PrintFault {
+pub(crate) enum PrintFault {
     /// The output failed.
     Unwritten,
     /// Memory ran out.
     Starved,
 }
 
-impl From<Starved> for PrintFault {
-    fn from(_: Starved) -> PrintFault {
-        PrintFault::Starved
-    }
+/// The line of an outcome, by the number of its line in the list.
+fn line_of(alloc: Global, number: u64, outcome: &Outcome) -> Result<Bytes, Starved>
+    ensures { IfOk result (λ line. line ≡ line_text number outcome.now) }
+{
+    let mut line = Bytes::new(alloc);
+    push_line(&mut line, number, outcome)?;
+    Ok(line)
 }
 
 /// Writes the line of each outcome that is there, from the first that was not written on, up to one
@@ -41,10 +59,16 @@ fn print_front<K: Sink>(
     out: &mut K,
     outcomes: &[Option<Outcome>],
     printed: &mut usize,
-) -> Result<(), PrintFault> {
+) -> Result<(), PrintFault>
+    ensures written { (text : List ℕ)
+        → Printed 1 outcomes.now printed.old text
+        → IsWrittenOn outcomes.now text result printed.new (K.holds out.old) (K.holds out.new) }
+    ensures counts { CountsPrint (K.faults out.old) (K.faults out.new) result }
+{
     'outcomes: while let Some(Some(outcome)) = outcomes.get(*printed) {
-        let mut line = Bytes::new(alloc);
-        push_line(&mut line, *printed as u64 + 1, outcome)?;
+        let Ok(line) = line_of(alloc, *printed as u64 + 1, outcome) else {
+            return Err(PrintFault::Starved);
+        };
         if !write_all(out, line.as_slice()) {
             return Err(PrintFault::Unwritten);
         }
@@ -53,12 +77,60 @@ fn print_front<K: Sink>(
     Ok(())
 }
 
-/// The status of a list that is made, or whose making failed.
-fn status_of(fault: Option<TellFault>) -> CommissionStatus {
+/// The status of a list whose making failed.
+fn status_of(fault: TellFault) -> CommissionStatus
+    ensures { result ≡ makings.status_of fault }
+{
     match fault {
-        None => CommissionStatus::Done,
-        Some(TellFault::Link) => CommissionStatus::Link,
-        Some(TellFault::Starved) => CommissionStatus::Memory,
+        TellFault::Link => CommissionStatus::Link,
+        TellFault::Starved => CommissionStatus::Memory,
+    }
+}
+
+/// The status of a list whose outcomes were not written.
+fn print_status(fault: PrintFault) -> CommissionStatus
+    ensures { result ≡ makings.print_status fault }
+{
+    match fault {
+        PrintFault::Unwritten => CommissionStatus::WriteFault,
+        PrintFault::Starved => CommissionStatus::Memory,
+    }
+}
+
+/// One poll, and the lines of what is decided by it. The room has 4,096 octets. None: an ask is not
+/// decided yet.
+fn step<K: Sink, L: Link + Drop, C: Clock + Drop>(
+    alloc: Global,
+    going: &mut Going<L, C>,
+    room: &mut [u8],
+    out: &mut K,
+    printed: &mut usize,
+) -> Option<CommissionStatus>
+    requires room { MAX_DATAGRAM ≤ length room.old }
+    requires stands { StandForSome going.old.lines.items going.old.outcomes }
+    ensures stepped { (asks : List Ask) (past : List Step) (text : List ℕ)
+        → Prints asks past going.old.lines.items going.old.outcomes printed.old text
+        → IsStepped asks past text result printed.new
+        going.new.lines.items going.new.outcomes
+        (seen L.coming L.gone L.recv_faults L.send_faults C.times C.words going.old.link
+        going.old.clock)
+        (seen L.coming L.gone L.recv_faults L.send_faults C.times C.words going.new.link
+        going.new.clock)
+        (K.holds out.old) (K.holds out.new) }
+    ensures receives { CountsStep (L.recv_faults going.old.link) (L.recv_faults going.new.link)
+        result }
+    ensures writes { WritesStep (K.faults out.old) (K.faults out.new) result }
+{
+    match poll_once(alloc, going, room) {
+        Polled::Going => match print_front(alloc, out, going.outcomes.as_slice(), printed) {
+            Ok(()) => None,
+            Err(fault) => Some(print_status(fault)),
+        },
+        Polled::Over(None) => match print_front(alloc, out, going.outcomes.as_slice(), printed) {
+            Ok(()) => Some(CommissionStatus::Done),
+            Err(fault) => Some(print_status(fault)),
+        },
+        Polled::Over(Some(fault)) => Some(status_of(fault)),
     }
 }
 
@@ -69,53 +141,46 @@ fn make_all<R: Wait, K: Sink, L: Link + Drop, C: Clock + Drop>(
     alloc: Global,
     going: &mut Going<L, C>,
     out: &mut K,
-) -> CommissionStatus {
+) -> CommissionStatus
+    requires { (asks : List Ask) × StandsFor asks [] going.old.lines.items going.old.outcomes }
+    ensures made { (asks : List Ask)
+        → StandsFor asks [] going.old.lines.items going.old.outcomes
+        → MakesOut asks result
+        (seen L.coming L.gone L.recv_faults L.send_faults C.times C.words going.old.link
+        going.old.clock)
+        (seen L.coming L.gone L.recv_faults L.send_faults C.times C.words going.new.link
+        going.new.clock)
+        (K.holds out.old) (K.holds out.new) }
+    ensures receives { CountsStatus (L.recv_faults going.old.link) (L.recv_faults going.new.link)
+        result }
+    ensures writes { CountsWrites (K.faults out.old) (K.faults out.new) result }
+{
     let mut room = [0u8; MAX_DATAGRAM];
     let mut printed = 0;
     'polls: for _ in rt.forever() {
-        let polled = poll_once(alloc, going, &mut room);
-        match print_front(alloc, out, going.outcomes.as_slice(), &mut printed) {
-            Ok(()) => {}
-            Err(PrintFault::Unwritten) => return CommissionStatus::WriteFault,
-            Err(PrintFault::Starved) => return CommissionStatus::Memory,
-        }
-        if let Polled::Over(fault) = polled {
-            return status_of(fault);
+        if let Some(status) = step(alloc, going, &mut room, out, &mut printed) {
+            return status;
         }
     }
     unreachable!()
 }
 
-/// The asks of a source.
-fn asks_of<S: Source>(alloc: Global, source: &mut S) -> Result<Asks, CommissionStatus> {
-    let text = text_read(alloc, source)?;
-    Ok(list_read(alloc, text.as_slice())?)
-}
-
-impl From<ListFault> for CommissionStatus {
-    fn from(fault: ListFault) -> CommissionStatus {
-        match fault {
-            ListFault::Unread => CommissionStatus::ReadFault,
-            ListFault::Bad(number, why) => CommissionStatus::Line(number, why),
-            ListFault::Starved => CommissionStatus::Memory,
-        }
-    }
-}
-
-/// Makes a list of asks.
-fn make_asks<R, K, L, C>(rt: &R, out: &mut K, link: L, clock: C, asks: Asks) -> CommissionEnd<L, C>
+/// Makes a list of 1 to 1,024 asks.
+fn make_some<R, K, L, C>(rt: &R, out: &mut K, link: L, clock: C, asks: Asks) -> CommissionEnd<L, C>
 where
     R: Wait + AllocGlobal,
     K: Sink,
     L: Link + Drop,
     C: Clock + Drop,
+    requires some { 1 ≤ length asks }
+    requires few { length asks ≤ MAX_ASKS }
+    requires sent { All CanBeSent asks }
+    ensures made { MakesBack
+        (seen L.coming L.gone L.recv_faults L.send_faults C.times C.words) asks
+        result.status result.back link clock (K.holds out.old) (K.holds out.new) }
+    ensures receives { CountsBack L.recv_faults link result.status result.back }
+    ensures writes { CountsWrites (K.faults out.old) (K.faults out.new) result.status }
 {
-    if asks.is_empty() {
-        return CommissionEnd {
-            status: CommissionStatus::Done,
-            back: Some((link, clock)),
-        };
-    }
     match start(rt.alloc(), link, clock, asks) {
         Ok(mut going) => {
             let status = make_all(rt, rt.alloc(), &mut going, out);
@@ -131,59 +196,32 @@ where
     }
 }
 
-/// Does what the program does, but for what it says of its status.
-fn commission_said<R, S, K, L, C>(
+/// Makes a list of at most 1,024 asks.
+pub(crate) fn make_asks<R, K, L, C>(
     rt: &R,
-    words: &[String],
-    source: &mut S,
     out: &mut K,
-    ends: (L, C),
-) -> CommissionEnd<L, C>
-where
-    R: Wait + AllocGlobal,
-    S: Source,
-    K: Sink,
-    L: Link + Drop,
-    C: Clock + Drop,
-{
-    if !words.is_empty() {
-        return CommissionEnd {
-            status: CommissionStatus::Usage,
-            back: Some(ends),
-        };
-    }
-    match asks_of(rt.alloc(), source) {
-        Ok(asks) => {
-            let (link, clock) = ends;
-            make_asks(rt, out, link, clock, asks)
-        }
-        Err(status) => CommissionEnd {
-            status,
-            back: Some(ends),
-        },
-    }
-}
-
-/// Does all that `rd_commission` does over its link: reads a list of devices whole, makes the ask of
-/// each line, and writes what became of each (RFC 9176 section 5.1).
-pub fn commission<R, S, K, E, L, C>(
-    rt: &R,
-    words: &[String],
-    source: &mut S,
-    out: &mut K,
-    err: &mut E,
     link: L,
     clock: C,
+    asks: Asks,
 ) -> CommissionEnd<L, C>
 where
     R: Wait + AllocGlobal,
-    S: Source,
     K: Sink,
-    E: Sink,
     L: Link + Drop,
     C: Clock + Drop,
+    requires few { length asks ≤ MAX_ASKS }
+    requires sent { All CanBeSent asks }
+    ensures made { MakesBack
+        (seen L.coming L.gone L.recv_faults L.send_faults C.times C.words) asks
+        result.status result.back link clock (K.holds out.old) (K.holds out.new) }
+    ensures receives { CountsBack L.recv_faults link result.status result.back }
+    ensures writes { CountsWrites (K.faults out.old) (K.faults out.new) result.status }
 {
-    let end = commission_said(rt, words, source, out, (link, clock));
-    say_status(err, end.status);
-    end
+    if asks.is_empty() {
+        return CommissionEnd {
+            status: CommissionStatus::Done,
+            back: Some((link, clock)),
+        };
+    }
+    make_some(rt, out, link, clock, asks)
 }

@@ -68,6 +68,7 @@ fn push_path(into: &mut Bytes, path: &Texts) -> Result<(), Starved>
 }
 
 /// Adds a code, as `4.04` (RFC 7252 section 3).
+#[tactic(auto, unfolding(crate::specs::Printing::code_text))]
 fn push_code(into: &mut Bytes, code: u8) -> Result<(), Starved>
     ensures { OnOk result (into.new ≡ into.old ++ printing.code_text code) }
 {

@@ -1,5 +1,5 @@
 //! Octets that are written, and what is said of a status.
-ghost use Rattle.std.specs.Prelude.{◌≡◌, ◌≤◌, ℕ, true, take, drop, decimal};
+ghost use Rattle.std.specs.Prelude.{◌≡◌, ◌≤◌, ℕ, true, take, drop, decimal, flat_map};
 ghost use Rattle.std.specs.Io.KnownBytes.{Appends};
 ghost use Rattle.commission_list.specs.Endings as ends;
 
@@ -39,7 +39,10 @@ fn reason_name(why: AskLine) -> &'static [u8]
 }
 
 /// Writes texts one after the other, or a front of them where the sink fails.
-fn say<E: Sink>(err: &mut E, texts: &[&[u8]]) {
+fn say<E: Sink>(err: &mut E, texts: &[&[u8]])
+    ensures { ends.Says (E.holds err.old) (E.holds err.new) (E.faults err.old) (E.faults err.new)
+        (flat_map (λ text. text.now) texts.now) }
+{
     'texts: for text in texts {
         if !write_all(err, text) {
             return;
@@ -47,15 +50,30 @@ fn say<E: Sink>(err: &mut E, texts: &[&[u8]]) {
     }
 }
 
+/// Writes the digits of a number to the end of the octets, and answers where they begin.
+fn write_number(number: u64, into: &mut [u8; DIGITS]) -> usize
+    ensures digits { drop result into.new ≡ decimal number }
+    ensures within { result ≤ 20 }
+{
+    write_digits(number, into, DIGITS)
+}
+
 /// Says which line is bad, and why. Takes no memory.
-fn say_line<E: Sink>(err: &mut E, line: u64, why: AskLine) {
-    let mut digits = [0u8; DIGITS];
-    let start = write_digits(line, &mut digits, DIGITS);
-    say(err, &[b"line ", &digits[start..], b": ", reason_name(why), b"\n"]);
+fn say_line<E: Sink>(err: &mut E, line: u64, why: AskLine)
+    ensures { ends.Says (E.holds err.old) (E.holds err.new) (E.faults err.old) (E.faults err.new)
+        (ends.line_text line why) }
+{
+    let mut digits = [0; DIGITS];
+    let start = write_number(line, &mut digits);
+    let why = reason_name(why);
+    say(err, &[b"line ", &digits[start..], b": ", why, b"\n"]);
 }
 
 /// Says a status. Takes no memory.
-pub(crate) fn say_status<E: Sink>(err: &mut E, status: CommissionStatus) {
+pub(crate) fn say_status<E: Sink>(err: &mut E, status: CommissionStatus)
+    ensures { ends.IsReported (E.holds err.old) (E.holds err.new) (E.faults err.old)
+        (E.faults err.new) status }
+{
     match status {
         CommissionStatus::Done => {}
         CommissionStatus::ReadFault => say(err, &[b"read failed\n"]),

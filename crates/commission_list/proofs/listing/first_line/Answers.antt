@@ -12,4 +12,6 @@ returns-in-Some-clause-lines c =
     (sym (take_all _ left (omega (arith, length-drop (c.in-Some.at + 1) c.args.text.now))))
 
 pub returns-in-None-clause-lines : goal.returns-in-None-clause-lines
-returns-in-None-clause-lines c = ?
+unfolding lines_of
+returns-in-None-clause-lines c =
+    found_none c.args.text.now c.requires c.in-None.ensures.value
