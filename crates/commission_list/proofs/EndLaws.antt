@@ -162,12 +162,12 @@ module _ {L C : Type 0} (told : L → C → Outside) (asks : List Ask) (link : L
 
   -- memory ran out before
   pub starved_none : (l : L) (c : C) (xs : List Ask)
-      → ◌≡◌ {A = L × (C × List Ask)} (l, c, xs) (link, clock, asks)
+      → ◌≡◌ {A = L × C × List Ask} (l, c, xs) (link, clock, asks)
       → now ≡ holds
       → MakesBack told asks status.Memory (Some (l, c)) link clock holds now
   starved_none l c xs e same =
-      let first : l ≡ link = ap (λ (x : L × (C × List Ask)). x.0) e in
-      let second : c ≡ clock = ap (λ (x : L × (C × List Ask)). x.1) e in
+      let first : l ≡ link = ap (λ (x : L × C × List Ask). x.0) e in
+      let second : c ≡ clock = ap (λ (x : L × C × List Ask). x.1) e in
       subst (λ (o : Option (List ℕ)). MakesBack told asks status.Memory (Some (l, c)) link clock
       holds o) (sym same) (
         [],

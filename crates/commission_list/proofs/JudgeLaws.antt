@@ -5,6 +5,7 @@ use Rattle.std.proofs.Common.{
   false,
   true,
   is_some,
+  Bor,
   List,
   [],
   ◌∷◌,
@@ -20,7 +21,7 @@ use Rattle.std.proofs.Common.{
   subst,
   ◌∙◌,
 }
-use Rattle.std.specs.Prelude.{◌==◌, position, ⊥}
+use Rattle.std.specs.Prelude.{◌==◌, position, option_map}
 use Rattle.std.specs.Str.{is_utf8, IsUtf8}
 use Rattle.std.proofs.lemmas.Bool.{false_from_ne_true}
 use Rattle.std.proofs.lemmas.Str.{IsUtf8-from_is_utf8, is_utf8-from_IsUtf8}
@@ -39,10 +40,10 @@ use Rattle.commission_list.specs.Lists.{IsJudged, if_based, asked, asked_of, two
 
 pub text_other : (uri body : List ℕ) → (IsUtf8 uri → ⊥) → asked uri body ≡ Err bad.Ask
 unfolding asked
-text_other uri body no =
-    let not : is_utf8 uri ≡ false =
-    false_from_ne_true (is_utf8 uri) (λ t. no (IsUtf8-from_is_utf8 uri t)) in
-    rw not refl
+text_other uri body never =
+    let other : is_utf8 uri ≡ false =
+    false_from_ne_true (is_utf8 uri) (λ t. never (IsUtf8-from_is_utf8 uri t)) in
+    rw other refl
 
 asked_text : (uri body : List ℕ)
     → IsUtf8 uri
@@ -76,7 +77,7 @@ fields_first text = by (position (λ b. b == space) text) refl
     by None e = (text, [], one_field text e)
     by (Some at) e = (_, _, first_field text at e)
 
-pub too_many : (line uri body : List ℕ) (r : Option (List ℕ × List ℕ))
+too_many : (line uri body : List ℕ) (r : Option (List ℕ × List ℕ))
     → fields line ≡ uri ∷ fields body
     → fields body ≡ fields_of_cut body r
     → is_some r ≡ true
@@ -87,3 +88,22 @@ too_many line uri body (Some p) first second more =
     ap (λ (l : List (List ℕ)). asked_of (two_of l))
     (first ∙ ap (λ (l : List (List ℕ)). uri ∷ l) (second
     ∙ ap (λ (l : List (List ℕ)). p.0 ∷ l) third.2))
+
+-- what is cut, by what is lent of it
+abbrev pub cut_parts : Option (Bor (List ℕ) × Bor (List ℕ)) → Option (List ℕ × List ℕ)
+cut_parts r = option_map (λ p. (p.0.now, p.1.now)) r
+
+is_cut : (r : Option (Bor (List ℕ) × Bor (List ℕ)))
+    → is_some r ≡ true
+    → is_some (cut_parts r) ≡ true
+is_cut None e = e
+is_cut (Some p) e = refl
+
+-- a line of more than two fields
+pub more_fields : (line uri body : List ℕ) (r : Option (Bor (List ℕ) × Bor (List ℕ)))
+    → fields line ≡ uri ∷ fields body
+    → fields body ≡ fields_of_cut body (cut_parts r)
+    → is_some r ≡ true
+    → asked_of (two_of (fields line)) ≡ Err bad.Form
+more_fields line uri body r first second more =
+    too_many line uri body (cut_parts r) first second (is_cut r more)

@@ -37,8 +37,10 @@ use Rattle.std.proofs.Common.{
   add-one,
 }
 use Rattle.std.specs.Prelude.{nat_lt, position}
+use Rattle.std.specs.Result.{OnOk, is_err}
+use Rattle.std.proofs.lemmas.List.{length-append}
 use Rattle.std.specs.List.{position_or_len, onto_first}
-use Rattle.std.proofs.lemmas.Bool.{ltb-true, ltb-false}
+use Rattle.std.proofs.lemmas.Bool.{eqb-true, ltb-true, ltb-false}
 use Rattle.line_model.specs.Texts.{lines_of}
 use Rattle.client_model.specs.declared.asks.Ask.{Ask}
 use Rattle.commission_list.specs.declared.judging.AskLine.{AskLine}
@@ -188,3 +190,23 @@ pub judged_all : (before : List Ask) (n : ℕ) (text : List ℕ) (whole : Result
     → whole ≡ Ok before
 judged_all before n text whole none same =
     same ∙ rw (none, lines_none) (ap (λ (xs : List Ask). Ok xs) (append-nil before))
+
+-- ---- the loop
+
+pub was_pushed : {A E : Type 0} (P : Type 0) (r : Result A E)
+    → OnOk r P
+    → is_err r ≡ false
+    → P
+was_pushed P (Ok x) p e = p
+was_pushed P (Err x) p e = absurd cc
+
+pub one_more : (before after : List Ask) (ask : Ask)
+    → after ≡ before ++ ask ∷ []
+    → length after ≡ length before + 1
+one_more before after ask e = ap length e ∙ length-append before (ask ∷ [])
+
+pub none_left : (text : List ℕ) → true ≡ (length text == 0) → text ≡ []
+none_left [] e = refl
+none_left (byte ∷ text) e =
+    let none : length (byte ∷ text) ≡ 0 = eqb-true (length (byte ∷ text)) 0 (sym e) in
+    absurd (omega (arith, none))

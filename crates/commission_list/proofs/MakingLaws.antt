@@ -9,6 +9,7 @@ use Rattle.std.proofs.Common.{
   ℕ,
   zero,
   suc,
+  Bor,
   Bool,
   true,
   false,
@@ -33,7 +34,9 @@ use Rattle.std.proofs.Common.{
   append_assoc,
   append-nil,
 }
-use Rattle.std.specs.Prelude.{⊤}
+use Rattle.std.specs.Prelude.{⊤, MatchOption}
+use Rattle.std.specs.Slice.{IsItemAt}
+use Rattle.std.proofs.lemmas.Option.{slice_get_past}
 use Rattle.std.specs.List.{slice_get}
 use Rattle.std.specs.Io.KnownBytes.{Appends}
 use Rattle.std.proofs.KnownBytes.{Appends-nil, Appends-trans}
@@ -47,7 +50,8 @@ use Rattle.commissioner.specs.declared.polls.Polled.TheVariants as polled
 use Rattle.commissioner.specs.declared.steps.Step.{Step}
 use Rattle.commissioner.specs.Shares.{share, said, said_all}
 use Rattle.commissioner.specs.Happening.{HappensAll, AreOpen, is_unsaid, KeepsDecided}
-use Rattle.commissioner.specs.Commissioning.{StandsFor, IsPolled}
+use Rattle.commissioner.specs.Commissioning.{StandsFor, IsPolled, KeepsPolled}
+use Rattle.commissioner.proofs.AsideLaws.{there_at}
 use Rattle.commissioner.proofs.BeginLaws.{kept_said}
 use Rattle.commissioner.proofs.MadeLaws.{happens_both}
 use Rattle.commission_list.specs.declared.making.PrintFault.{PrintFault}
@@ -151,6 +155,44 @@ printed_kept n (Some o ∷ os) (x ∷ after) (suc k) text p keeps =
 
 -- ---- the loop over outcomes
 
+-- what a look at an index gives
+pub outcome_none : (os : List (Option Outcome)) (k : ℕ) (r : Option (Bor (Option Outcome)))
+    → IsItemAt os k r
+    → r ≡ None
+    → is_there (slice_get os k) ≡ false
+outcome_none os k r item e =
+    let past = (subst (λ (x : Option (Bor (Option Outcome))). IsItemAt os k x) e item).3 in
+    subst (λ (x : Option (Option Outcome)). is_there x ≡ false)
+    (sym (slice_get_past os k past)) refl
+
+pub outcome_some : (os : List (Option Outcome)) (k : ℕ) (r : Option (Bor (Option Outcome)))
+    (x : Bor (Option Outcome)) (y : Option Outcome)
+    → IsItemAt os k r
+    → r ≡ Some x
+    → x.now ≡ y
+    → slice_get os k ≡ Some y
+outcome_some os k r x y item e same =
+    let own = subst (λ (o : Option (Bor (Option Outcome))). IsItemAt os k o) e item in
+    there_at os k x.now own.3.0 own.1 ∙ ap (λ (z : Option Outcome). Some z) same
+
+pub outcome_end : (os : List (Option Outcome)) (k : ℕ) (r : Option (Bor Outcome))
+    → MatchOption r (is_there (slice_get os k) ≡ false)
+    (λ o. slice_get os k ≡ Some (Some o.now))
+    → r ≡ None
+    → is_there (slice_get os k) ≡ false
+outcome_end os k None h e = h
+outcome_end os k (Some o) h e = absurd cc
+
+pub outcome_here : (os : List (Option Outcome)) (k : ℕ) (r : Option (Bor Outcome))
+    (o : Bor Outcome)
+    → MatchOption r (is_there (slice_get os k) ≡ false)
+    (λ x. slice_get os k ≡ Some (Some x.now))
+    → r ≡ Some o
+    → slice_get os k ≡ Some (Some o.now)
+outcome_here os k r o h e =
+    subst (λ (x : Option (Bor Outcome)). MatchOption x (is_there (slice_get os k) ≡ false)
+    (λ y. slice_get os k ≡ Some (Some y.now))) e h
+
 -- the lines so far were written
 pub record Fronted
     (outcomes : List (Option Outcome))
@@ -225,16 +267,29 @@ fronted_last A x outcomes text k holds now f end = (f.more, f.appends, f.printed
 
 -- ---- a poll
 
+-- what was written of the same outcomes
+pub wrote_as : (A : Type 0) (r : Result A PrintFault) (seen same : List (Option Outcome))
+    (k next : ℕ) (holds now : Option (List ℕ))
+    → seen ≡ same
+    → ((t : List ℕ) → Printed 1 seen k t → IsWrittenOn seen t r next holds now)
+    → (t : List ℕ)
+    → Printed 1 same k t
+    → IsWrittenOn same t r next holds now
+wrote_as A r seen same k next holds now e wrote =
+    subst (λ (os : List (Option Outcome)). (t : List ℕ)
+    → Printed 1 os k t
+    → IsWrittenOn os t r next holds now) e wrote
+
 module _ (asks : List Ask) (past : List Step) (text : List ℕ) (lines after : List Line)
     (outcomes later : List (Option Outcome)) (k : ℕ) (a b : Outside)
     (prints : Prints asks past lines outcomes k text) where
   -- a poll that failed
-  pub step_failed : (f : TellFault) (s : CommissionStatus) (holds : Option (List ℕ))
+  failed : (f : TellFault) (s : CommissionStatus) (holds : Option (List ℕ))
       → s ≡ status_of f
       → IsPolled asks past (polled.Over (Some f)) after later a b
       → later ≡ outcomes
       → IsStepped asks past text (Some s) k after later a b holds holds
-  step_failed fault.Link s holds e made same =
+  failed fault.Link s holds e made same =
       subst (λ (t : CommissionStatus). IsStepped asks past text (Some t) k after later a b holds
       holds) (sym e) (
         [],
@@ -249,7 +304,7 @@ module _ (asks : List Ask) (past : List Step) (text : List ℕ) (lines after : L
               ∙ ap (front_text 1) (sym same ∙ made.said),
         ),
       )
-  step_failed fault.Starved s holds e made same =
+  failed fault.Starved s holds e made same =
       subst (λ (t : CommissionStatus). IsStepped asks past text (Some t) k after later a b holds
       holds) (sym e) (
         [],
@@ -265,6 +320,18 @@ module _ (asks : List Ask) (past : List Step) (text : List ℕ) (lines after : L
               (front_self (lines_after asks (made.more ++ past))),
         ),
       )
+
+  pub step_failed : (r : Option TellFault) (f : TellFault) (s : CommissionStatus)
+      (holds : Option (List ℕ))
+      → r ≡ Some f
+      → s ≡ status_of f
+      → IsPolled asks past (polled.Over r) after later a b
+      → KeepsPolled (polled.Over r) outcomes later
+      → IsStepped asks past text (Some s) k after later a b holds holds
+  step_failed r f s holds is e made keeps =
+      failed f s holds e
+      (subst (λ (x : Option TellFault). IsPolled asks past (polled.Over x) after later a b) is made)
+      (subst (λ (x : Option TellFault). KeepsPolled (polled.Over x) outcomes later) is keeps)
 
   -- a poll after which an ask is undecided
   pub step_going : (A : Type 0) (x : A) (next : ℕ) (holds now : Option (List ℕ))
@@ -284,14 +351,14 @@ module _ (asks : List Ask) (past : List Step) (text : List ℕ) (lines after : L
       )
 
   -- one after which all are decided
-  pub step_done : (A : Type 0) (x : A) (next : ℕ) (holds now : Option (List ℕ))
+  done : (A : Type 0) (x : A) (next : ℕ) (holds now : Option (List ℕ))
       → IsPolled asks past (polled.Over None) after later a b
       → KeepsDecided outcomes later
       → ((t : List ℕ)
       → Printed 1 later k t
       → IsWrittenOn {A = A} later t (Ok x) next holds now)
       → IsStepped asks past text (Some status.Done) next after later a b holds now
-  step_done A x next holds now made keeps wrote =
+  done A x next holds now made keeps wrote =
       let w = wrote text (printed_kept 1 outcomes later k text prints.printed keeps) in (
         w.0,
         w.1,
@@ -304,6 +371,21 @@ module _ (asks : List Ask) (past : List Step) (text : List ℕ) (lines after : L
               ∙ ap (front_text 1) made.said,
         ),
       )
+
+  pub step_done : (r : Option TellFault) (A : Type 0) (x : A) (next : ℕ)
+      (holds now : Option (List ℕ))
+      → r ≡ None
+      → IsPolled asks past (polled.Over r) after later a b
+      → KeepsPolled (polled.Over r) outcomes later
+      → ((t : List ℕ)
+      → Printed 1 later k t
+      → IsWrittenOn {A = A} later t (Ok x) next holds now)
+      → IsStepped asks past text (Some status.Done) next after later a b holds now
+  step_done r A x next holds now is made keeps wrote =
+      done A x next holds now
+      (subst (λ (y : Option TellFault). IsPolled asks past (polled.Over y) after later a b) is made)
+      (subst (λ (y : Option TellFault). KeepsPolled (polled.Over y) outcomes later) is keeps)
+      wrote
 
   -- what was not written
   stopped : (more : List Step) (f : PrintFault) (next : ℕ) (holds now : Option (List ℕ))
@@ -351,7 +433,7 @@ module _ (asks : List Ask) (past : List Step) (text : List ℕ) (lines after : L
       (kept_said asks 0 (going.0 ++ past) after later going.2.kept)
       (wrote text (printed_kept 1 outcomes later k text prints.printed keeps)))
 
-  pub step_cut : (A : Type 0) (f : PrintFault) (s : CommissionStatus) (next : ℕ)
+  cut : (A : Type 0) (f : PrintFault) (s : CommissionStatus) (next : ℕ)
       (holds now : Option (List ℕ))
       → s ≡ print_status f
       → IsPolled asks past (polled.Over None) after later a b
@@ -360,7 +442,7 @@ module _ (asks : List Ask) (past : List Step) (text : List ℕ) (lines after : L
       → Printed 1 later k t
       → IsWrittenOn {A = A} later t (Err f) next holds now)
       → IsStepped asks past text (Some s) next after later a b holds now
-  step_cut A f s next holds now e made keeps wrote =
+  cut A f s next holds now e made keeps wrote =
       subst (λ (t : CommissionStatus). IsStepped asks past text (Some t) next after later a b
       holds now) (sym e)
       (stopped made.more f next holds now
@@ -368,6 +450,22 @@ module _ (asks : List Ask) (past : List Step) (text : List ℕ) (lines after : L
       made.happens)
       made.said
       (wrote text (printed_kept 1 outcomes later k text prints.printed keeps)))
+
+  pub step_cut : (r : Option TellFault) (A : Type 0) (f : PrintFault) (s : CommissionStatus)
+      (next : ℕ) (holds now : Option (List ℕ))
+      → r ≡ None
+      → s ≡ print_status f
+      → IsPolled asks past (polled.Over r) after later a b
+      → KeepsPolled (polled.Over r) outcomes later
+      → ((t : List ℕ)
+      → Printed 1 later k t
+      → IsWrittenOn {A = A} later t (Err f) next holds now)
+      → IsStepped asks past text (Some s) next after later a b holds now
+  step_cut r A f s next holds now is e made keeps wrote =
+      cut A f s next holds now e
+      (subst (λ (y : Option TellFault). IsPolled asks past (polled.Over y) after later a b) is made)
+      (subst (λ (y : Option TellFault). KeepsPolled (polled.Over y) outcomes later) is keeps)
+      wrote
 
 -- ---- one poll after the other
 

@@ -1,6 +1,6 @@
 //! A list of asks that is made, and what became of each written as soon as that of all before it is.
-ghost use Rattle.std.specs.Prelude.{◌≡◌, ◌≤◌, ℕ, List, [], IfOk, length};
-ghost use Rattle.std.specs.List.{All};
+ghost use Rattle.std.specs.Prelude.{◌≡◌, ◌≤◌, ℕ, false, List, [], Some, IfOk, MatchOption, length};
+ghost use Rattle.std.specs.List.{All, slice_get};
 ghost use Rattle.udp_link.specs.declared.links.TheConstants.{MAX_DATAGRAM};
 ghost use Rattle.client_model.specs.declared.asks.Ask.{Ask};
 ghost use Rattle.client_model.specs.Requests.{CanBeSent};
@@ -11,7 +11,7 @@ ghost use Rattle.commissioner.specs.Commissioning.{StandsFor, StandForSome};
 ghost use Rattle.commission_list.specs.Endings.{CountsWrites};
 ghost use Rattle.commission_list.specs.Printing.{line_text};
 ghost use Rattle.commission_list.specs.Makings as makings;
-ghost use Rattle.commission_list.specs.Makings.{Printed, IsWrittenOn, CountsPrint, Prints};
+ghost use Rattle.commission_list.specs.Makings.{Printed, is_there, IsWrittenOn, CountsPrint, Prints};
 ghost use Rattle.commission_list.specs.Makings.{IsStepped, CountsStep, WritesStep, MakesOut};
 ghost use Rattle.commission_list.specs.Makings.{CountsStatus, CountsBack, MakesBack};
 
@@ -52,6 +52,18 @@ fn line_of(alloc: Global, number: u64, outcome: &Outcome) -> Result<Bytes, Starv
     Ok(line)
 }
 
+/// The outcome at an index, where it is there.
+fn outcome_at(outcomes: &[Option<Outcome>], at: usize) -> Option<&Outcome>
+    ensures { MatchOption result (is_there (slice_get outcomes.now at) ≡ false)
+        (λ o. slice_get outcomes.now at ≡ Some (Some o.now)) }
+{
+    match outcomes.get(at) {
+        Some(Some(outcome)) => Some(outcome),
+        Some(None) => None,
+        None => None,
+    }
+}
+
 /// Writes the line of each outcome that is there, from the first that was not written on, up to one
 /// that is not.
 fn print_front<K: Sink>(
@@ -65,7 +77,7 @@ fn print_front<K: Sink>(
         → IsWrittenOn outcomes.now text result printed.new (K.holds out.old) (K.holds out.new) }
     ensures counts { CountsPrint (K.faults out.old) (K.faults out.new) result }
 {
-    'outcomes: while let Some(Some(outcome)) = outcomes.get(*printed) {
+    'outcomes: while let Some(outcome) = outcome_at(outcomes, *printed) {
         let Ok(line) = line_of(alloc, *printed as u64 + 1, outcome) else {
             return Err(PrintFault::Starved);
         };
