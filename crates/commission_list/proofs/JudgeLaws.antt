@@ -29,7 +29,6 @@ use Rattle.line_model.specs.Lines.{space, fields}
 use Rattle.trace_text.specs.Fields.{fields_of_cut}
 use Rattle.trace_text.proofs.FieldCuts.{one_field, first_field}
 use Rattle.client_model.specs.declared.asks.Ask.{Ask}
-use Rattle.client_model.specs.declared.asks.AskBad.{AskBad}
 use Rattle.client_model.specs.Asks.{registration}
 use Rattle.commission_list.specs.declared.judging.AskLine.{AskLine}
 use Rattle.commission_list.specs.declared.judging.AskLine.TheVariants as bad

@@ -1,40 +1,6 @@
 -- What was printed, poll after poll, and what the making of a list comes to.
-use Rattle.std.proofs.Common.{
-  ◌≡◌,
-  ◌≢◌,
-  ◌+◌,
-  ◌≤◌,
-  inl,
-  inr,
-  ℕ,
-  zero,
-  suc,
-  Bor,
-  Bool,
-  true,
-  false,
-  List,
-  [],
-  ◌∷◌,
-  ◌++◌,
-  length,
-  take,
-  Option,
-  Some,
-  None,
-  Result,
-  Ok,
-  Err,
-  refl,
-  sym,
-  ap,
-  subst,
-  ◌∙◌,
-  arith,
-  append_assoc,
-  append-nil,
-}
-use Rattle.std.specs.Prelude.{⊤, MatchOption}
+use Rattle.std.proofs.Common.{◌≡◌, ◌+◌, inl, inr, ℕ, zero, suc, Bor, false, List, [], ◌∷◌, ◌++◌, take, Option, Some, None, Result, Ok, Err, refl, sym, ap, subst, ◌∙◌, arith, append_assoc, append-nil}
+use Rattle.std.specs.Prelude.{MatchOption}
 use Rattle.std.specs.Slice.{IsItemAt}
 use Rattle.std.proofs.lemmas.Option.{slice_get_past}
 use Rattle.std.specs.List.{slice_get}
@@ -44,7 +10,7 @@ use Rattle.client_model.specs.declared.asks.Ask.{Ask}
 use Rattle.client_model.specs.declared.outcomes.Outcome.{Outcome}
 use Rattle.registrant.specs.declared.turns.TellFault.{TellFault}
 use Rattle.registrant.specs.declared.turns.TellFault.TheVariants as fault
-use Rattle.registrant.specs.Turns.{Outside, Fails}
+use Rattle.registrant.specs.Turns.{Outside}
 use Rattle.commissioner.specs.declared.lines.Line.{Line}
 use Rattle.commissioner.specs.declared.polls.Polled.TheVariants as polled
 use Rattle.commissioner.specs.declared.steps.Step.{Step}
@@ -64,6 +30,7 @@ use Rattle.commission_list.specs.Makings.{
   lines_after,
   Makes,
   MakesOut,
+  MakesBack,
   Printed,
   is_there,
   IsWrittenOn,
@@ -347,7 +314,7 @@ module _ (asks : List Ask) (past : List Step) (text : List ℕ) (lines after : L
         w.0,
         going.1,
         w.1,
-        record { stands = going.2; printed = w.2; front = w.3; },
+        record { stands = going.2; printed = w.2; front = w.3 },
       )
 
   -- one after which all are decided
@@ -578,3 +545,28 @@ pub made_out : (asks : List Ask) (s : CommissionStatus) (k : ℕ) (lines : List 
     → IsStepped asks [] [] (Some s) k lines outcomes a b holds now
     → MakesOut asks s a b holds now
 made_out asks s k lines outcomes a b holds now stepped = (stepped.0, stepped.1, stepped.2)
+
+-- ---- nothing was made
+
+module _ {L C : Type 0} (told : L → C → Outside) (asks : List Ask) (link : L) (clock : C)
+    (holds now : Option (List ℕ)) where
+  -- memory ran out before
+  pub starved_none : (l : L) (c : C) (xs : List Ask)
+      → ◌≡◌ {A = L × C × List Ask} (l, c, xs) (link, clock, asks)
+      → now ≡ holds
+      → MakesBack told asks status.Memory (Some (l, c)) link clock holds now
+  starved_none l c xs e same =
+      let first : l ≡ link = ap (λ (x : L × C × List Ask). x.0) e in
+      let second : c ≡ clock = ap (λ (x : L × C × List Ask). x.1) e in
+      subst (λ (o : Option (List ℕ)). MakesBack told asks status.Memory (Some (l, c)) link clock
+      holds o) (sym same) (
+        [],
+        Appends-nil holds,
+        (
+          [],
+          told link clock,
+          refl,
+          inl (rw (first, second) refl),
+          (lines_after asks [], refl),
+        ),
+      )

@@ -1,29 +1,5 @@
 -- What is said of a status.
-use Rattle.std.proofs.Common.{
-  ◌≡◌,
-  ℕ,
-  ◌<◌,
-  ◌≤◌,
-  List,
-  [],
-  ◌∷◌,
-  ◌++◌,
-  length,
-  take,
-  drop,
-  flat_map,
-  Bor,
-  Option,
-  refl,
-  ap,
-  subst,
-  sym,
-  ◌∙◌,
-  arith,
-  inl,
-  inr,
-  take-append-drop,
-}
+use Rattle.std.proofs.Common.{◌≡◌, ℕ, ◌≤◌, List, ◌∷◌, ◌++◌, length, take, drop, flat_map, Bor, Option, refl, ap, subst, sym, ◌∙◌, inl, inr, take-append-drop}
 use Rattle.std.proofs.lemmas.Grind.{flat_map-append}
 use Rattle.std.proofs.lemmas.List.{take_all}
 use Rattle.std.proofs.KnownBytes.{Appends-trans}

@@ -43,7 +43,7 @@ use Rattle.commission_list.specs.declared.making.PrintFault.TheVariants as unpri
 use Rattle.commission_list.specs.declared.statuses.CommissionStatus.{CommissionStatus}
 use Rattle.commission_list.specs.declared.statuses.CommissionStatus.TheVariants as status
 use Rattle.commission_list.specs.Endings.{IsFrontOf, CountsWrites}
-use Rattle.commission_list.specs.Lists.{LineBad, IsListed}
+use Rattle.commission_list.specs.Lists.{LineBad}
 use Rattle.commission_list.specs.Printing.{line_text, front_text}
 
 -- ---- what came to pass

@@ -1,8 +1,7 @@
-use Rattle.std.proofs.Common.{◌≡◌, ◌++◌, ◌∷◌, [], ℕ, length, sym, ap, subst, ◌∙◌, arith}
+use Rattle.std.proofs.Common.{◌≡◌, ◌++◌, ◌∷◌, [], ℕ, sym, ap, subst, ◌∙◌, arith}
 use Rattle.std.specs.List.{All}
 use Rattle.std.proofs.lemmas.List.Elements.{All-push}
 use Rattle.line_model.specs.Texts.{lines_of}
-use Rattle.client_model.specs.declared.asks.Ask.{Ask}
 use Rattle.client_model.specs.Requests.{CanBeSent}
 use Rattle.commission_list.specs.Lists.{asks_from, listed}
 use Rattle.commission_list.proofs.ListLaws.{

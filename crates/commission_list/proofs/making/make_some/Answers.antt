@@ -1,6 +1,6 @@
 use Rattle.std.proofs.Common.{refl}
 use Rattle.registrant.specs.Turns.{seen}
-use Rattle.commission_list.proofs.EndLaws.{starved_none}
+use Rattle.commission_list.proofs.MakingLaws.{starved_none}
 use Rattle.commission_list.proofs.making.make_some.Goals as goal
 
 pub returns-in-Err-clause-made : goal.returns-in-Err-clause-made
