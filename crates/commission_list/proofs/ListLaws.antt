@@ -117,10 +117,6 @@ abbrev pub in_front : List Ask → Result (List Ask) LineBad → Result (List As
 in_front before (Err first) = Err first
 in_front before (Ok asks) = Ok (before ++ asks)
 
-pub front_first : (r : Result (List Ask) LineBad) → in_front [] r ≡ r
-front_first (Ok asks) = refl
-front_first (Err first) = refl
-
 front_more : (before : List Ask) (n : ℕ) (ask : Ask) (r : Result (List Ask) LineBad)
     → in_front before (behind n (Ok ask) r) ≡ in_front (before ++ ask ∷ []) r
 front_more before n ask (Ok asks) =
@@ -137,15 +133,6 @@ pub judged_next : (before after : List Ask) (n : ℕ) (line : List ℕ) (lines m
     → whole ≡ in_front after (asks_from (n + 1) more)
 judged_next before after n line lines more ask whole cut said added same =
     same ∙ rw (cut, said, added) (front_more before n ask (asks_from (n + 1) more))
-
--- one that is bad
-pub judged_bad : (before : List Ask) (n : ℕ) (line : List ℕ) (lines more : List (List ℕ))
-    (why : AskLine) (whole : Result (List Ask) LineBad)
-    → lines ≡ line ∷ more
-    → judged n line ≡ Err why
-    → whole ≡ in_front before (asks_from n lines)
-    → whole ≡ Err (record { line = n; why = why })
-judged_bad before n line lines more why whole cut said same = same ∙ rw (cut, said) refl
 
 -- all of them
 pub judged_all : (before : List Ask) (n : ℕ) (text : List ℕ) (whole : Result (List Ask) LineBad)

@@ -171,16 +171,6 @@ pub record Fronted
   pub appends : Appends holds now more
   pub printed : Printed 1 outcomes k (text ++ more)
 
-pub fronted_first : (outcomes : List (Option Outcome)) (text : List ℕ) (k : ℕ)
-    (holds : Option (List ℕ))
-    → Printed 1 outcomes k text
-    → Fronted outcomes text k holds holds
-fronted_first outcomes text k holds p = record {
-  more = [];
-  appends = Appends-nil holds;
-  printed = subst (λ (t : List ℕ). Printed 1 outcomes k t) (sym (append-nil text)) p;
-}
-
 module _ (outcomes : List (Option Outcome)) (text : List ℕ) (k number : ℕ) (line : List ℕ)
     (o : Outcome) (holds mid now : Option (List ℕ))
     (f : Fronted outcomes text k holds mid)

@@ -68,29 +68,23 @@ fn link_of(rt: &HostRuntime) -> Result<UdpLink, Ending> {
     }
 }
 
-/// Does what the words ask for.
-fn run(rt: &HostRuntime) -> Result<CommissionStatus, Ending> {
+/// The words of the command line, and the link.
+fn prepared(rt: &HostRuntime) -> Result<(Vec<String>, UdpLink), Ending> {
     let words = words_of(rt)?;
-    let link = link_of(rt)?;
-    let clock = UdpClock::new(rt);
-    let mut source = StdSource::of(rt.stdin());
-    let mut out = StdSink::of(rt.stdout());
-    let mut err = StdSink::of(rt.stderr());
-    let end = commission(
-        rt,
-        words.as_slice(),
-        &mut source,
-        &mut out,
-        &mut err,
-        link,
-        clock,
-    );
-    Ok(end.status)
+    Ok((words, link_of(rt)?))
 }
 
 fn main(rt: HostRuntime) -> ExitCode {
-    let ending = match run(&rt) {
-        Ok(status) => Ending::Said(status),
+    let ending = match prepared(&rt) {
+        Ok((words, link)) => {
+            let mut source = StdSource::of(rt.stdin());
+            let mut out = StdSink::of(rt.stdout());
+            let mut err = StdSink::of(rt.stderr());
+            let clock = UdpClock::new(&rt);
+            let words = words.as_slice();
+            let end = commission(&rt, words, &mut source, &mut out, &mut err, link, clock);
+            Ending::Said(end.status)
+        }
         Err(ending) => ending,
     };
     let _ = rt.stderr().write_all(ending.text().as_bytes());
