@@ -2,7 +2,7 @@
 # `make clients` runs real clients against the server, `make hostile` sends it hostile datagrams and refuses memory, `make soak` judges its answers
 # under mixed load, `make examples` runs all stored cases, the examples among them, `make bench` measures what calls, a replay and the server cost,
 # `make test` is the gate.
-PROGRAMS = rd_serve rd_host rd_replay rd_show rd_capture rd_rows
+PROGRAMS = rd_serve rd_host rd_replay rd_show rd_capture rd_commission rd_rows
 
 # The numbers of workers with which `make clients` runs the server.
 WORKERS = 1 4
@@ -34,7 +34,7 @@ build-%:
 		rt run -- $$(cat args 2>/dev/null) < $$input > /dev/null
 	@cp crates/$*/out/$* bin/ && echo "bin/$*"
 
-clients: build-rd_serve
+clients: build-rd_serve build-rd_commission
 	@python3 clients/run.py $(WORKERS:%=--workers %) bin/rd_serve
 
 hostile: build-rd_serve build-rd_replay build-rd_show

@@ -32,6 +32,10 @@ MOST_UPLOADED = 8_192
 # How many registrations are each looked up right after they were made.
 PAIRS = 200
 
+# How many devices a tool registers from one list, and the number of the first.
+DEVICES = 100
+FIRST_DEVICE = 17 + PAIRS
+
 # Receives of a server that ends by itself, each of at most 50 milliseconds.
 FEW_TURNS = "20"
 
@@ -521,6 +525,25 @@ def found_at_once(run):
              ["0 missing"], [f"{missing} missing"])
 
 
+def commissioning(run):
+    run.group("A list of devices (RFC 9176 section 5)")
+    directory, links = f"{run.base('server')}/rd", b"</x>".hex()
+    lines = [f"{directory}?ep=dev{place}&base=coap://dev{place}.example {links}"
+             for place in range(DEVICES)]
+    made = [f"{place + 1} created /rd/{FIRST_DEVICE + place}" for place in range(DEVICES)]
+    run.commission(f"a list of {DEVICES} devices", lines, ["status 0", *made])
+    run.ask("the links of one of them", [], "/rd-lookup/res?ep=dev57",
+            [content("<coap://dev57.example/x>")])
+    for name, page, listed in [
+            ("the last of them", DEVICES - 1, f"<coap://dev{DEVICES - 1}.example/x>"),
+            ("there are no more", DEVICES, "")]:
+        run.ask(name, [], f"/rd-lookup/res?ep=dev*&page={page}&count=1", [content(listed)])
+    run.commission("one that the directory refuses",
+                   [f"{directory}?base=coap://h -"], ["status 0", "1 refused 4.00"])
+    run.commission("a line without a base", [lines[0], f"{directory}?ep=late -"],
+                   ["status 4", "line 2: base"])
+
+
 def ends(run):
     run.group("The server's own words and its end")
     port = run.port("short")
@@ -536,5 +559,5 @@ def run(run_of_cases):
     """Runs all cases in order."""
     for group in (discovery, registration, resource_lookup, endpoint_lookup, update, removal,
                   block_wise, reading_and_replacing, observing, validation, simple_registration,
-                  non_confirmable, refusals, messages_as_octets, ends):
+                  non_confirmable, refusals, messages_as_octets, commissioning, ends):
         group(run_of_cases)

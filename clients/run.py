@@ -304,6 +304,19 @@ class Run:
             came = ["no end"]
         self.tell(name, f"rd_serve {shlex.join(words)}", wanted, came)
 
+    def commission(self, name: str, lines: list[str], wanted: list[str]):
+        """A case: a tool registers the devices of a list, with its status and all that it says."""
+        tool = Path(self.program).with_name("rd_commission")
+        try:
+            done = subprocess.run([tool], input="\n".join(lines).encode(), cwd=self.folder,
+                                  stdout=subprocess.PIPE, stderr=subprocess.STDOUT,
+                                  timeout=RUN_LIMIT, check=False)
+            came = [f"status {done.returncode}", *done.stdout.decode().splitlines()]
+        except subprocess.TimeoutExpired:
+            came = ["no end"]
+        first, more = shlex.quote(lines[0]), " .." if lines[1:] else ""
+        self.tell(name, f"echo {first}{more} | rd_commission", wanted, came)
+
     def serve_links(self, device: str) -> str:
         """Starts a device that serves links of its own at its port; those that it lists."""
         port = self.port(device)
@@ -367,9 +380,10 @@ def main():
     parser.add_argument("--answers", action="store_true", help="shows what came, too")
     words = parser.parse_args()
     program = Path(words.program).resolve()
-    if not os.access(program, os.X_OK):
-        print(f"{words.program} is not there: make build", file=sys.stderr)
-        sys.exit(2)
+    for each in (program, program.with_name("rd_commission")):
+        if not os.access(each, os.X_OK):
+            print(f"{each} is not there: make build", file=sys.stderr)
+            sys.exit(2)
     if not is_installed():
         install()
     signal.signal(signal.SIGTERM, lambda *_: sys.exit(1))

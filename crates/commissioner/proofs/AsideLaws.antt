@@ -37,7 +37,7 @@ use Rattle.commissioner.specs.declared.lines.Line.{Line}
 use Rattle.commissioner.specs.declared.steps.Step.{Step}
 use Rattle.commissioner.specs.Shares.{said, said_all}
 use Rattle.commissioner.specs.Lines.{IsOpen, IsOver, IsLine}
-use Rattle.commissioner.specs.Happening.{AreOpen, AreLines, is_unsaid}
+use Rattle.commissioner.specs.Happening.{AreOpen, AreLines, is_unsaid, KeepsDecided}
 use Rattle.commissioner.proofs.BeginLaws.{said_open}
 
 nothing : {A : Type 0} (lines : List A) (k : ℕ) (line : A)
@@ -295,3 +295,67 @@ pub one_there : (lines : List Line) (k : ℕ) (x y : Line)
     → slice_get lines k ≡ Some y
     → x ≡ y
 one_there lines k x y e f = let same : Some x ≡ Some y = sym e ∙ f in cc
+
+-- ---- what was decided is kept
+
+pub keeps_same : (os : List (Option Outcome)) → KeepsDecided os os
+keeps_same [] = refl
+keeps_same (None ∷ os) = keeps_same os
+keeps_same (Some o ∷ os) = (refl, keeps_same os)
+
+pub keeps_both : (a b c : List (Option Outcome))
+    → KeepsDecided a b
+    → KeepsDecided b c
+    → KeepsDecided a c
+keeps_both [] b c k m =
+    subst (λ (os : List (Option Outcome)). KeepsDecided os c) k m
+keeps_both (x ∷ a) [] c k m = absurd k
+keeps_both (x ∷ a) (y ∷ b) [] k m = absurd m
+keeps_both (None ∷ a) (None ∷ b) (z ∷ c) k m = keeps_both a b c k m
+keeps_both (None ∷ a) (Some y ∷ b) (z ∷ c) k m = keeps_both a b c k m.1
+keeps_both (Some o ∷ a) (None ∷ b) (z ∷ c) k m = let e = k.0 in absurd cc
+keeps_both (Some o ∷ a) (Some y ∷ b) (z ∷ c) k m = (m.0 ∙ k.0, keeps_both a b c k.1 m.1)
+
+-- the outcome of the ask that a line stands for was not there
+keeps_next : (asks : List Ask) (i : ℕ) (past : List Step) (lines : List Line)
+    (outcomes : List (Option Outcome)) (k d : ℕ) (line : Line) (x : Option Outcome)
+    → AreLines past asks i lines outcomes
+    → slice_get lines k ≡ Some line
+    → line.number ≡ d + i
+    → KeepsDecided outcomes (slice_set outcomes d x)
+keeps_next [] i past lines outcomes k d line x are there is =
+    absurd (nothing lines k line are.0 there)
+keeps_next (ask ∷ asks) i past lines [] k d line x are there is = absurd are
+keeps_next (ask ∷ asks) i past lines (Some p ∷ outcomes) k zero line x are there is =
+    let least : suc i ≤ line.number =
+    number_least asks (suc i) past lines outcomes k line are.1 there in
+    absurd (omega (arith, least, is))
+keeps_next (ask ∷ asks) i past lines (Some p ∷ outcomes) k (suc d) line x are there is = (
+  refl,
+  keeps_next asks (suc i) past lines outcomes k d line x are.1 there (omega (arith, is)),
+)
+keeps_next (ask ∷ asks) i past [] (None ∷ outcomes) k d line x are there is = absurd are
+keeps_next (ask ∷ asks) i past (y ∷ lines) (None ∷ outcomes) k zero line x are there is =
+    keeps_same outcomes
+keeps_next (ask ∷ asks) i past (y ∷ lines) (None ∷ outcomes) zero
+    (suc d) line x are there is =
+    let same : y ≡ line = cc in
+    let number : line.number ≡ i =
+    subst (λ (l : Line). l.number ≡ i) same (number_of past ask i y are.0) in
+    absurd (omega (arith, number, is))
+keeps_next (ask ∷ asks) i past (y ∷ lines) (None ∷ outcomes) (suc k)
+    (suc d) line x are there is =
+    keeps_next asks (suc i) past lines outcomes k d line x are.1 there (omega (arith, is))
+
+pub aside_keeps : (first : List (Option Outcome)) (asks : List Ask) (past : List Step)
+    (lines : List Line) (outcomes after : List (Option Outcome)) (k : ℕ) (line : Line)
+    → KeepsDecided first outcomes
+    → AreLines past asks 0 lines outcomes
+    → slice_get lines k ≡ Some line
+    → after ≡ slice_set outcomes line.number line.outcome
+    → KeepsDecided first after
+aside_keeps first asks past lines outcomes after k line before are there settled =
+    keeps_both first outcomes after before
+    (subst (λ (os : List (Option Outcome)). KeepsDecided outcomes os) (sym settled)
+    (keeps_next asks 0 past lines outcomes k line.number line line.outcome are there
+    (omega arith)))

@@ -32,7 +32,13 @@ use Rattle.commissioner.specs.declared.polls.Polled.TheVariants as polled
 use Rattle.commissioner.specs.declared.steps.Step.{Step}
 use Rattle.commissioner.specs.Shares.{said_all, first_due}
 use Rattle.commissioner.specs.Lines.{IsLost}
-use Rattle.commissioner.specs.Happening.{HappensAll, Unheard, AreOpen, is_unsaid}
+use Rattle.commissioner.specs.Happening.{
+  HappensAll,
+  Unheard,
+  AreOpen,
+  is_unsaid,
+  KeepsDecided,
+}
 
 -- how it ended after what happened: each ask was decided; or one was not, and a receive failed, or
 -- memory ran out
@@ -111,6 +117,12 @@ IsPolled asks past (polled.Over fault) lines outcomes before after =
 abbrev pub CountsPoll : ℕ → ℕ → Polled → Type 0
 CountsPoll before now polled.Going = now ≡ before
 CountsPoll before now (polled.Over fault) = CountsFault before now fault
+
+-- what was decided before a poll is so after it, and where it failed nothing more is
+abbrev pub KeepsPolled : Polled → List (Option Outcome) → List (Option Outcome) → Type 0
+KeepsPolled polled.Going old new = KeepsDecided old new
+KeepsPolled (polled.Over None) old new = KeepsDecided old new
+KeepsPolled (polled.Over (Some fault)) old new = new ≡ old
 
 -- ---- the future
 

@@ -230,3 +230,10 @@ IsTaken asks past outcomes (Err fault.Starved) lines before after = Unheard befo
 -- an ask is not decided
 abbrev pub is_unsaid : List (Option Outcome) → Bool
 is_unsaid outcomes = list_any is_none outcomes
+
+-- what was decided is so still, and no ask is more or less
+abbrev pub KeepsDecided : List (Option Outcome) → List (Option Outcome) → Type 0
+KeepsDecided [] new = new ≡ []
+KeepsDecided (o ∷ old) [] = ⊥
+KeepsDecided (None ∷ old) (x ∷ new) = KeepsDecided old new
+KeepsDecided (Some o ∷ old) (x ∷ new) = (x ≡ Some o) × KeepsDecided old new

@@ -1,10 +1,10 @@
 //! Many asks over one link, as a future.
-ghost use Rattle.std.specs.Prelude.{◌≡◌, ◌≤◌, [], IfOk, IfErr, length};
+ghost use Rattle.std.specs.Prelude.{◌≡◌, ◌≤◌, [], Some, IfOk, IfErr, length};
 ghost use Rattle.std.specs.List.{All};
 ghost use Rattle.client_model.specs.Requests.{CanBeSent};
 ghost use Rattle.commissioner.specs.declared.commissioning.TheConstants.{MAX_ASKS};
 ghost use Rattle.commissioner.specs.Happening.{AreOpen};
-ghost use Rattle.commissioner.specs.Commissioning.{IsStarted};
+ghost use Rattle.commissioner.specs.Commissioning.{IsStarted, IsStartedFrom};
 
 use crate::Outcomes;
 use crate::lines::Line;
@@ -71,8 +71,33 @@ fn lines_of(alloc: Global, asks: Asks) -> Result<(Vec<Line>, Outcomes), Asks>
     Ok((lines, Outcomes::of(outcomes)))
 }
 
-/// A list of 1 to 1,024 asks over a link and a clock. The Message ID of the ask of number i from 0
-/// is i, and its token is i + 1 in eight octets. `Err`: out of memory, and all is handed back.
+/// A list of 1 to 1,024 asks over a link and a clock, none of which has begun. The Message ID of the
+/// ask of number i from 0 is i, and its token is i + 1 in eight octets. `Err`: out of memory, and all
+/// is handed back.
+pub fn start<L: Link + Drop, C: Clock + Drop>(
+    alloc: Global,
+    link: L,
+    clock: C,
+    asks: Asks,
+) -> Result<Going<L, C>, (L, C, Asks)>
+    requires some { 1 ≤ length asks }
+    requires few { length asks ≤ MAX_ASKS }
+    requires sent { All CanBeSent asks }
+    ensures started { IfOk result (λ going. IsStartedFrom link clock asks (Some going)) }
+    ensures handed_back { IfErr result (λ back. back ≡ (link, clock, asks)) }
+{
+    match lines_of(alloc, asks) {
+        Ok((lines, outcomes)) => Ok(Going {
+            link,
+            clock,
+            lines,
+            outcomes,
+        }),
+        Err(asks) => Err((link, clock, asks)),
+    }
+}
+
+/// The same as a future. `Err`: out of memory, and all is handed back.
 pub fn commission_all<L: Link + Drop, C: Clock + Drop>(
     alloc: Global,
     link: L,
@@ -85,17 +110,12 @@ pub fn commission_all<L: Link + Drop, C: Clock + Drop>(
     ensures started { IfOk result (IsStarted link clock asks) }
     ensures handed_back { IfErr result (λ back. back ≡ (link, clock, asks)) }
 {
-    match lines_of(alloc, asks) {
-        Ok((lines, outcomes)) => Ok(Commission {
+    match start(alloc, link, clock, asks) {
+        Ok(going) => Ok(Commission {
             alloc,
-            going: Some(Going {
-                link,
-                clock,
-                lines,
-                outcomes,
-            }),
+            going: Some(going),
         }),
-        Err(asks) => Err((link, clock, asks)),
+        Err(back) => Err(back),
     }
 }
 

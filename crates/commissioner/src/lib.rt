@@ -10,7 +10,8 @@ mod polls;
 mod steps;
 mod turns;
 
-pub use commissioning::{Asks, Commission, Commissioned, MAX_ASKS, commission_all};
+pub use commissioning::{Asks, Commission, Commissioned, MAX_ASKS, commission_all, start};
 pub use outcomes::Outcomes;
+pub use polls::{Going, Polled, poll_once};
 pub use registrant::{Ask, AskBad, Location, Outcome, TellFault, register_ask};
 pub use steps::Step;

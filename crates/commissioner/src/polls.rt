@@ -5,8 +5,9 @@ ghost use Rattle.client_model.specs.declared.asks.Ask.{Ask};
 ghost use Rattle.client_model.specs.declared.outcomes.Outcome.{Outcome};
 ghost use Rattle.registrant.specs.Turns.{seen};
 ghost use Rattle.commissioner.specs.declared.steps.Step.{Step};
-ghost use Rattle.commissioner.specs.Happening.{AreOpen, AreLines};
+ghost use Rattle.commissioner.specs.Happening.{AreOpen, AreLines, KeepsDecided};
 ghost use Rattle.commissioner.specs.Commissioning.{StandsFor, StandForSome, IsPolled, CountsPoll};
+ghost use Rattle.commissioner.specs.Commissioning.{KeepsPolled};
 
 use crate::Outcomes;
 use crate::beginnings::begin_all;
@@ -19,7 +20,7 @@ use udp_link::{Clock, Link};
 
 /// What a poll came to.
 #[derive(Clone, Copy, Debug, PartialEq, Eq)]
-pub(crate) enum Polled {
+pub enum Polled {
     /// An ask is not decided yet.
     Going,
     /// Each ask is decided, or there is a fault.
@@ -30,9 +31,10 @@ pub(crate) enum Polled {
 fn put_aside(lines: &mut Vec<Line>, outcomes: &mut Outcomes)
     requires { (asks : List Ask) × (past : List Step)
         × AreLines past asks 0 lines.old.items outcomes.old }
-    ensures { (asks : List Ask) (past : List Step)
+    ensures aside { (asks : List Ask) (past : List Step)
         → AreLines past asks 0 lines.old.items outcomes.old
         → AreOpen past asks 0 lines.new.items outcomes.new }
+    ensures keeps { KeepsDecided outcomes.old outcomes.new }
 {
     let mut at = 0;
     'lines: while at < lines.len() {
@@ -47,19 +49,34 @@ fn put_aside(lines: &mut Vec<Line>, outcomes: &mut Outcomes)
 
 /// A list of asks that are being made.
 #[derive(Drop)]
-pub(crate) struct Going<L: Link + Drop, C: Clock + Drop> {
+pub struct Going<L: Link + Drop, C: Clock + Drop> {
     /// The link.
-    pub(crate) link: L,
+    pub link: L,
     /// The clock.
-    pub(crate) clock: C,
+    pub clock: C,
     /// Those that are not decided.
     pub(crate) lines: Vec<Line>,
     /// What became of each.
-    pub(crate) outcomes: Outcomes,
+    pub outcomes: Outcomes,
+}
+
+impl<L: Link + Drop, C: Clock + Drop> Going<L, C> {
+    /// The link and the clock.
+    pub fn into_ends(self) -> (L, C)
+        ensures { result ≡ (self.link, self.clock) }
+    {
+        let Going {
+            link,
+            clock,
+            lines: _lines,
+            outcomes: _outcomes,
+        } = self;
+        (link, clock)
+    }
 }
 
 /// One poll. The room has 4,096 octets.
-pub(crate) fn poll_once<L: Link + Drop, C: Clock + Drop>(
+pub fn poll_once<L: Link + Drop, C: Clock + Drop>(
     alloc: Global,
     going: &mut Going<L, C>,
     room: &mut [u8],
@@ -75,6 +92,7 @@ pub(crate) fn poll_once<L: Link + Drop, C: Clock + Drop>(
         going.new.clock) }
     ensures counts { CountsPoll (L.recv_faults going.old.link) (L.recv_faults going.new.link)
         result }
+    ensures keeps { KeepsPolled result going.old.outcomes going.new.outcomes }
 {
     let begun = begin_all(alloc, &mut going.link, &mut going.clock, &mut going.lines);
     if let Err(Starved) = begun {

@@ -7,3 +7,5 @@ mod asks;
 mod ends;
 #[cfg(test)]
 mod lists;
+#[cfg(test)]
+mod texts;

@@ -138,7 +138,7 @@ returns-then-is_empty-clause-polled g c = λ asks past stands.
     (told c.args.going.now.link c.args.going.now.clock)
     (told c.take_event-taken.new.link c.take_event-taken.new.clock)
     twice
-    c.put_aside.ensures
+    c.put_aside.ensures.aside
     (omega (arith, none, fits))
     (stepped asks past items c.deref_mut.result.now begun c.deref_mut-2.result.now
     c.take_event-taken.new.lines c.args.going.now.outcomes (Ok c.in_default-taken.field-0)
@@ -178,7 +178,7 @@ returns-clause-polled g c = λ asks past stands.
     (told c.args.going.now.link c.args.going.now.clock)
     (told c.take_event-taken.new.link c.take_event-taken.new.clock)
     twice
-    c.put_aside.ensures
+    c.put_aside.ensures.aside
     (omega (arith, some, fits))
     (stepped asks past items c.deref_mut.result.now begun c.deref_mut-2.result.now
     c.take_event-taken.new.lines c.args.going.now.outcomes (Ok c.in_default-taken.field-0)

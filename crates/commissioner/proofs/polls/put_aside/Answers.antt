@@ -18,9 +18,18 @@ use Rattle.commissioner.proofs.AsideLaws.{
   there_at,
   number_below,
   aside_put,
+  aside_keeps,
+  keeps_same,
   all_open,
 }
 use Rattle.commissioner.proofs.polls.put_aside.Goals as goal
+
+pub lines-init : goal.lines-init
+lines-init c = record {
+  none = tt;
+  kept = λ asks past are. are;
+  keeps = keeps_same c.args.outcomes.now;
+}
 
 pub lines-preserved-then-is_none : goal.lines-preserved-then-is_none
 lines-preserved-then-is_none c =
@@ -35,6 +44,7 @@ lines-preserved-then-is_none c =
           (none_here c.index.result.now.outcome c.if-is_none.ensures)
           c.lines.invariant.none;
       kept = c.lines.invariant.kept;
+      keeps = c.lines.invariant.keeps;
     }
 
 pub settle-requires : goal.settle-requires
@@ -76,6 +86,13 @@ lines-preserved-else-is_none c =
           ∙ c.if-is_none.ensures)
           c.remove-line.ensures.items
           c.settle.ensures;
+      keeps =
+          aside_keeps c.args.outcomes.now c.requires.0 c.requires.1 c.lines.lines.items
+          c.lines.outcomes c.settle.new.self c.lines.at c.remove-line.result
+          c.lines.invariant.keeps
+          (c.lines.invariant.kept c.requires.0 c.requires.1 c.requires.2)
+          there
+          c.settle.ensures;
     }
 
 pub lines-preserved : goal.lines-preserved
@@ -102,10 +119,17 @@ lines-preserved c =
           ∙ c.if-is_none.ensures)
           c.remove-line.ensures.items
           c.settle.ensures;
+      keeps =
+          aside_keeps c.args.outcomes.now c.requires.0 c.requires.1 c.lines.lines.items
+          c.lines.outcomes c.settle.new.self c.lines.at c.remove-line.result
+          c.lines.invariant.keeps
+          (c.lines.invariant.kept c.requires.0 c.requires.1 c.requires.2)
+          there
+          c.settle.ensures;
     }
 
-pub returns : goal.returns
-returns c = λ asks past are.
+pub returns-clause-aside : goal.returns-clause-aside
+returns-clause-aside c = λ asks past are.
     let fits = c.lines.lines.ok.0 in
     let size = c.len.ensures in
     let test = c.lines-test.false in

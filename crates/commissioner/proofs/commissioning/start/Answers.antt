@@ -1,6 +1,6 @@
 use Rattle.std.proofs.Common.{refl}
 use Rattle.commissioner.proofs.MadeLaws.{unsaid_first}
-use Rattle.commissioner.proofs.commissioning.commission_all.Goals as goal
+use Rattle.commissioner.proofs.commissioning.start.Goals as goal
 
 pub returns-in-Ok-clause-started : goal.returns-in-Ok-clause-started
 returns-in-Ok-clause-started g c = (

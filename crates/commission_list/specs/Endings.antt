@@ -1,0 +1,84 @@
+-- How the making of a list ends: its status, what is said of it, and what stands in the output.
+use Rattle.std.specs.Prelude.{
+  ◌≡◌,
+  ◌⊎◌,
+  ℕ,
+  ◌≤◌,
+  Bool,
+  true,
+  false,
+  List,
+  [],
+  ◌++◌,
+  codes,
+  decimal,
+  Option,
+}
+use Rattle.std.specs.Io.KnownBytes.{Appends}
+use Rattle.rd_base.specs.Outside.{Rose}
+use Rattle.commission_list.specs.declared.judging.AskLine.{AskLine}
+use Rattle.commission_list.specs.declared.judging.AskLine.TheVariants as bad
+use Rattle.commission_list.specs.declared.statuses.CommissionStatus.{CommissionStatus}
+use Rattle.commission_list.specs.declared.statuses.CommissionStatus.TheVariants as status
+
+-- the exit status of the program
+abbrev pub code_of : CommissionStatus → ℕ
+code_of status.Done = 0
+code_of status.ReadFault = 1
+code_of status.WriteFault = 2
+code_of status.Usage = 3
+code_of (status.Line n why) = 4
+code_of status.Memory = 5
+code_of status.Link = 6
+
+-- the name of a reason
+abbrev pub reason_text : AskLine → List ℕ
+reason_text bad.Many = codes "many"
+reason_text bad.Form = codes "form"
+reason_text bad.Ask = codes "ask"
+reason_text bad.Base = codes "base"
+
+-- what is said of a line that is bad
+abbrev pub line_text : ℕ → AskLine → List ℕ
+line_text n why =
+    codes "line " ++ (decimal n ++ (codes ": " ++ (reason_text why ++ codes "\n")))
+
+-- what is said of a status on the error sink
+abbrev pub status_text : CommissionStatus → List ℕ
+status_text status.Done = []
+status_text status.ReadFault = codes "read failed\n"
+status_text status.WriteFault = codes "write failed\n"
+status_text status.Usage = codes "usage: rd_commission\n"
+status_text (status.Line n why) = line_text n why
+status_text status.Memory = codes "memory\n"
+status_text status.Link = codes "link failed\n"
+
+-- a text is the beginning of another
+abbrev pub IsFrontOf : List ℕ → List ℕ → Type 0
+IsFrontOf front whole = (rest : List ℕ) × (whole ≡ front ++ rest)
+
+-- a text was said, or a front of it where a fault was counted
+pub record Says (before now : Option (List ℕ)) (counted counts : ℕ) (text : List ℕ) : Type 0 where
+  pub said : List ℕ
+  pub front : IsFrontOf said text
+  pub stands : Appends before now said
+  pub whole : (said ≡ text) ⊎ Rose counted counts
+
+-- what is said of a status stands on the error sink, or a front of it where a fault was counted
+abbrev pub IsReported : Option (List ℕ) → Option (List ℕ) → ℕ → ℕ → CommissionStatus → Type 0
+IsReported before now counted counts s = Says before now counted counts (status_text s)
+
+-- the count of the source rose exactly where the reading is at fault
+abbrev pub CountsReads : ℕ → ℕ → CommissionStatus → Type 0
+CountsReads before now status.ReadFault = (before ≤ now) × Rose before now
+CountsReads before now _ = now ≡ before
+
+-- the count of the output rose exactly where the writing is at fault
+abbrev pub CountsWrites : ℕ → ℕ → CommissionStatus → Type 0
+CountsWrites before now status.WriteFault = (before ≤ now) × Rose before now
+CountsWrites before now _ = now ≡ before
+
+-- not all was written only where the count rose, and otherwise it stands
+abbrev pub CountsAll : ℕ → ℕ → Bool → Type 0
+CountsAll before now true = now ≡ before
+CountsAll before now false = (before ≤ now) × Rose before now

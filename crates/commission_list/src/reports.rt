@@ -1,0 +1,86 @@
+//! Octets that are written, and what is said of a status.
+ghost use Rattle.std.specs.Prelude.{◌≡◌, ◌≤◌, ℕ, true, take, drop, decimal, flat_map};
+ghost use Rattle.std.specs.Io.KnownBytes.{Appends};
+ghost use Rattle.commission_list.specs.Endings as ends;
+
+use crate::{AskLine, CommissionStatus};
+use itoa::write_digits;
+use rd_base::{Put, Sink};
+
+/// The digits that a number of 64 bits has at most.
+const DIGITS: usize = 20;
+
+/// Writes all of some octets, in as many pieces as the sink takes them.
+pub(crate) fn write_all<K: Sink>(out: &mut K, bytes: &[u8]) -> bool
+    ensures all { result ≡ true → Appends (K.holds out.old) (K.holds out.new) bytes.now }
+    ensures front { (n : ℕ) × Appends (K.holds out.old) (K.holds out.new) (take n bytes.now) }
+    ensures cause { ends.CountsAll (K.faults out.old) (K.faults out.new) result }
+{
+    let mut at = 0;
+    'pieces: while at < bytes.len() {
+        match out.write(&bytes[at..]) {
+            Put::Took(n) => at += n,
+            Put::Failed => return false,
+        }
+    }
+    true
+}
+
+/// The name of a reason.
+fn reason_name(why: AskLine) -> &'static [u8]
+    ensures { result.now ≡ ends.reason_text why }
+{
+    match why {
+        AskLine::Many => b"many",
+        AskLine::Form => b"form",
+        AskLine::Ask => b"ask",
+        AskLine::Base => b"base",
+    }
+}
+
+/// Writes texts one after the other, or a front of them where the sink fails.
+fn say<E: Sink>(err: &mut E, texts: &[&[u8]])
+    ensures { ends.Says (E.holds err.old) (E.holds err.new) (E.faults err.old) (E.faults err.new)
+        (flat_map (λ text. text.now) texts.now) }
+{
+    'texts: for text in texts {
+        if !write_all(err, text) {
+            return;
+        }
+    }
+}
+
+/// Writes the digits of a number to the end of the octets, and answers where they begin.
+fn write_number(number: u64, into: &mut [u8; DIGITS]) -> usize
+    ensures digits { drop result into.new ≡ decimal number }
+    ensures within { result ≤ 20 }
+{
+    write_digits(number, into, DIGITS)
+}
+
+/// Says which line is bad, and why. Takes no memory.
+fn say_line<E: Sink>(err: &mut E, line: u64, why: AskLine)
+    ensures { ends.Says (E.holds err.old) (E.holds err.new) (E.faults err.old) (E.faults err.new)
+        (ends.line_text line why) }
+{
+    let mut digits = [0; DIGITS];
+    let start = write_number(line, &mut digits);
+    let why = reason_name(why);
+    say(err, &[b"line ", &digits[start..], b": ", why, b"\n"]);
+}
+
+/// Says a status. Takes no memory.
+pub(crate) fn say_status<E: Sink>(err: &mut E, status: CommissionStatus)
+    ensures { ends.IsReported (E.holds err.old) (E.holds err.new) (E.faults err.old)
+        (E.faults err.new) status }
+{
+    match status {
+        CommissionStatus::Done => {}
+        CommissionStatus::ReadFault => say(err, &[b"read failed\n"]),
+        CommissionStatus::WriteFault => say(err, &[b"write failed\n"]),
+        CommissionStatus::Usage => say(err, &[b"usage: rd_commission\n"]),
+        CommissionStatus::Line(line, why) => say_line(err, line, why),
+        CommissionStatus::Memory => say(err, &[b"memory\n"]),
+        CommissionStatus::Link => say(err, &[b"link failed\n"]),
+    }
+}
