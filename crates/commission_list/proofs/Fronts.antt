@@ -25,6 +25,8 @@ front_trans a b c p q =
 pub front_take : (n : ℕ) (xs : List ℕ) → IsFrontOf (take n xs) xs
 front_take n xs = (drop n xs, sym (take-append-drop n xs))
 
-pub front_behind : (before a b : List ℕ) → IsFrontOf a b → IsFrontOf (before ++ a) (before ++ b)
+pub front_behind : (before a b : List ℕ)
+    → IsFrontOf a b
+    → IsFrontOf (before ++ a) (before ++ b)
 front_behind before a b p =
     (p.0, ap (λ (l : List ℕ). before ++ l) p.1 ∙ sym (append_assoc before a p.0))

@@ -1,5 +1,39 @@
 -- Lines of a text, judged one after the other.
-use Rattle.std.proofs.Common.{◌≡◌, ◌<◌, ◌≤◌, ◌+◌, ◌==◌, ℕ, suc, Bool, true, false, cond, not, List, [], ◌∷◌, ◌++◌, length, take, drop, Option, Some, None, Result, Ok, Err, refl, sym, ap, ◌∙◌, arith, append_assoc, append-nil, add-one}
+use Rattle.std.proofs.Common.{
+  ◌≡◌,
+  ◌<◌,
+  ◌≤◌,
+  ◌+◌,
+  ◌==◌,
+  ℕ,
+  suc,
+  Bool,
+  true,
+  false,
+  cond,
+  not,
+  List,
+  [],
+  ◌∷◌,
+  ◌++◌,
+  length,
+  take,
+  drop,
+  Option,
+  Some,
+  None,
+  Result,
+  Ok,
+  Err,
+  refl,
+  sym,
+  ap,
+  ◌∙◌,
+  arith,
+  append_assoc,
+  append-nil,
+  add-one,
+}
 use Rattle.std.specs.Prelude.{nat_lt, position}
 use Rattle.std.specs.Result.{OnOk, is_err}
 use Rattle.std.proofs.lemmas.List.{length-append}
@@ -29,7 +63,9 @@ lines_none : lines_of [] ≡ []
 unfolding lines_of
 lines_none = refl
 
-lines_alone : (byte : ℕ) → (byte == 10) ≡ false → lines_of (byte ∷ []) ≡ (byte ∷ []) ∷ []
+lines_alone : (byte : ℕ)
+    → (byte == 10) ≡ false
+    → lines_of (byte ∷ []) ≡ (byte ∷ []) ∷ []
 unfolding lines_of
 lines_alone byte e = rw e refl
 
@@ -124,8 +160,8 @@ front_more before n ask (Ok asks) =
 front_more before n ask (Err first) = refl
 
 -- one line more
-pub judged_next : (before after : List Ask) (n : ℕ) (line : List ℕ) (lines more : List (List ℕ))
-    (ask : Ask) (whole : Result (List Ask) LineBad)
+pub judged_next : (before after : List Ask) (n : ℕ) (line : List ℕ)
+    (lines more : List (List ℕ)) (ask : Ask) (whole : Result (List Ask) LineBad)
     → lines ≡ line ∷ more
     → judged n line ≡ Ok ask
     → after ≡ before ++ ask ∷ []

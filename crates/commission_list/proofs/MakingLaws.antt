@@ -1,5 +1,34 @@
 -- What was printed, poll after poll, and what the making of a list comes to.
-use Rattle.std.proofs.Common.{◌≡◌, ◌+◌, inl, inr, ℕ, zero, suc, Bor, false, List, [], ◌∷◌, ◌++◌, take, Option, Some, None, Result, Ok, Err, refl, sym, ap, subst, ◌∙◌, arith, append_assoc, append-nil}
+use Rattle.std.proofs.Common.{
+  ◌≡◌,
+  ◌+◌,
+  inl,
+  inr,
+  ℕ,
+  zero,
+  suc,
+  Bor,
+  false,
+  List,
+  [],
+  ◌∷◌,
+  ◌++◌,
+  take,
+  Option,
+  Some,
+  None,
+  Result,
+  Ok,
+  Err,
+  refl,
+  sym,
+  ap,
+  subst,
+  ◌∙◌,
+  arith,
+  append_assoc,
+  append-nil,
+}
 use Rattle.std.specs.Prelude.{MatchOption}
 use Rattle.std.specs.Slice.{IsItemAt}
 use Rattle.std.proofs.lemmas.Option.{slice_get_past}
@@ -69,7 +98,8 @@ printed_more n (Some q ∷ os) (suc k) text o p there =
     )
 
 -- as the code numbers lines
-pub printed_next : (os : List (Option Outcome)) (k next number : ℕ) (text : List ℕ) (o : Outcome)
+pub printed_next : (os : List (Option Outcome)) (k next number : ℕ) (text : List ℕ)
+    (o : Outcome)
     → Printed 1 os k text
     → slice_get os k ≡ Some (Some o)
     → next ≡ k + 1
@@ -287,7 +317,8 @@ module _ (asks : List Ask) (past : List Step) (text : List ℕ) (lines after : L
       → IsStepped asks past text (Some s) k after later a b holds holds
   step_failed r f s holds is e made keeps =
       failed f s holds e
-      (subst (λ (x : Option TellFault). IsPolled asks past (polled.Over x) after later a b) is made)
+      (subst (λ (x : Option TellFault). IsPolled asks past (polled.Over x) after later a b) is
+      made)
       (subst (λ (x : Option TellFault). KeepsPolled (polled.Over x) outcomes later) is keeps)
 
   -- a poll after which an ask is undecided
@@ -340,7 +371,8 @@ module _ (asks : List Ask) (past : List Step) (text : List ℕ) (lines after : L
       → IsStepped asks past text (Some status.Done) next after later a b holds now
   step_done r A x next holds now is made keeps wrote =
       done A x next holds now
-      (subst (λ (y : Option TellFault). IsPolled asks past (polled.Over y) after later a b) is made)
+      (subst (λ (y : Option TellFault). IsPolled asks past (polled.Over y) after later a b) is
+      made)
       (subst (λ (y : Option TellFault). KeepsPolled (polled.Over y) outcomes later) is keeps)
       wrote
 
@@ -420,7 +452,8 @@ module _ (asks : List Ask) (past : List Step) (text : List ℕ) (lines after : L
       → IsStepped asks past text (Some s) next after later a b holds now
   step_cut r A f s next holds now is e made keeps wrote =
       cut A f s next holds now e
-      (subst (λ (y : Option TellFault). IsPolled asks past (polled.Over y) after later a b) is made)
+      (subst (λ (y : Option TellFault). IsPolled asks past (polled.Over y) after later a b) is
+      made)
       (subst (λ (y : Option TellFault). KeepsPolled (polled.Over y) outcomes later) is keeps)
       wrote
 

@@ -1,5 +1,26 @@
 -- What is said of a status.
-use Rattle.std.proofs.Common.{◌≡◌, ℕ, ◌≤◌, List, ◌∷◌, ◌++◌, length, take, drop, flat_map, Bor, Option, refl, ap, subst, sym, ◌∙◌, inl, inr, take-append-drop}
+use Rattle.std.proofs.Common.{
+  ◌≡◌,
+  ℕ,
+  ◌≤◌,
+  List,
+  ◌∷◌,
+  ◌++◌,
+  length,
+  take,
+  drop,
+  flat_map,
+  Bor,
+  Option,
+  refl,
+  ap,
+  subst,
+  sym,
+  ◌∙◌,
+  inl,
+  inr,
+  take-append-drop,
+}
 use Rattle.std.proofs.lemmas.Grind.{flat_map-append}
 use Rattle.std.proofs.lemmas.List.{take_all}
 use Rattle.std.proofs.KnownBytes.{Appends-trans}
@@ -23,7 +44,8 @@ joined_more i texts text rest left =
     ∙ flat_map-append (λ t. t.now) (take i texts) (drop i texts)
     ∙ ap (λ ts. joined (take i texts) ++ joined ts) left
 
-module _ (old mid : Option (List ℕ)) (counted counts : ℕ) (i : ℕ) (texts : List (Bor (List ℕ)))
+module _ (old mid : Option (List ℕ)) (counted counts : ℕ) (i : ℕ)
+    (texts : List (Bor (List ℕ)))
     (known : Appends old mid (joined (take i texts))) where
   -- after the last text all was said
   pub all_said : length texts ≤ i → Says old mid counted counts (joined texts)

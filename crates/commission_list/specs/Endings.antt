@@ -58,14 +58,23 @@ abbrev pub IsFrontOf : List ℕ → List ℕ → Type 0
 IsFrontOf front whole = (rest : List ℕ) × (whole ≡ front ++ rest)
 
 -- a text was said, or a front of it where a fault was counted
-pub record Says (before now : Option (List ℕ)) (counted counts : ℕ) (text : List ℕ) : Type 0 where
+pub record Says
+    (before now : Option (List ℕ))
+    (counted counts : ℕ)
+    (text : List ℕ)
+    : Type 0 where
   pub said : List ℕ
   pub front : IsFrontOf said text
   pub stands : Appends before now said
   pub whole : (said ≡ text) ⊎ Rose counted counts
 
 -- what is said of a status stands on the error sink, or a front of it where a fault was counted
-abbrev pub IsReported : Option (List ℕ) → Option (List ℕ) → ℕ → ℕ → CommissionStatus → Type 0
+abbrev pub IsReported : Option (List ℕ)
+    → Option (List ℕ)
+    → ℕ
+    → ℕ
+    → CommissionStatus
+    → Type 0
 IsReported before now counted counts s = Says before now counted counts (status_text s)
 
 -- the count of the source rose exactly where the reading is at fault

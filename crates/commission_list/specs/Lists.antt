@@ -102,7 +102,10 @@ pub record LineBad : Type 0 where
   pub why : AskLine
 
 -- the asks of lines behind one that was judged
-abbrev pub behind : ℕ → Result Ask AskLine → Result (List Ask) LineBad → Result (List Ask) LineBad
+abbrev pub behind : ℕ
+    → Result Ask AskLine
+    → Result (List Ask) LineBad
+    → Result (List Ask) LineBad
 behind n (Err why) more = Err (record { line = n; why = why })
 behind n (Ok ask) (Err first) = Err first
 behind n (Ok ask) (Ok asks) = Ok (ask ∷ asks)

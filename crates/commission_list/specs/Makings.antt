@@ -137,7 +137,12 @@ IsMadeOf told (Ok asks) s back link clock holds now =
     MakesBack told asks s back link clock holds now
 
 -- the statuses at which nothing was sent, since the list was not read whole, or is bad
-abbrev pub HandsBack : {L C : Type 0} → CommissionStatus → L → C → Option (L × C) → Type 0
+abbrev pub HandsBack : {L C : Type 0}
+    → CommissionStatus
+    → L
+    → C
+    → Option (L × C)
+    → Type 0
 HandsBack status.Usage link clock back = back ≡ Some (link, clock)
 HandsBack status.ReadFault link clock back = back ≡ Some (link, clock)
 HandsBack (status.Line n why) link clock back = back ≡ Some (link, clock)

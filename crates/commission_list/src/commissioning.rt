@@ -1,5 +1,6 @@
 //! A list of devices, from its octets to the lines of its outcomes and a status.
-ghost use Rattle.std.specs.Prelude.{◌≡◌, ◌≢◌, ◌↔◌, ◌≤◌, [], IfOk, IfSome, length};
+ghost use Rattle.std.specs.Prelude.{◌≡◌, ◌≢◌, ◌↔◌, ◌≤◌, []};
+ghost use Rattle.std.specs.Prelude.{IfOk, IfSome, length};
 ghost use Rattle.std.specs.List.{All};
 ghost use Rattle.std.specs.Io.KnownBytes.{IsAtEnd};
 ghost use Rattle.client_model.specs.Requests.{CanBeSent};
@@ -116,8 +117,8 @@ where
     make_list(rt, source, out, link, clock)
 }
 
-/// Does all that `rd_commission` does over its link: reads a list of devices whole, makes the ask of
-/// each line, and writes what became of each (RFC 9176 section 5.1).
+/// Does all that `rd_commission` does over its link: reads a list of devices whole, makes the ask
+/// of each line, and writes what became of each (RFC 9176 section 5.1).
 pub fn commission<R, S, K, E, L, C>(
     rt: &R,
     words: &[String],

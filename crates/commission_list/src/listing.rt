@@ -1,5 +1,6 @@
 //! A whole list: the lines of a text, each judged.
-ghost use Rattle.std.specs.Prelude.{◌≡◌, ◌<◌, ◌≤◌, ◌≢◌, ◌∷◌, [], IfOk, IfErr, length};
+ghost use Rattle.std.specs.Prelude.{◌≡◌, ◌<◌, ◌≤◌, ◌≢◌, ◌∷◌, []};
+ghost use Rattle.std.specs.Prelude.{IfOk, IfErr, length};
 ghost use Rattle.std.specs.List.{All};
 ghost use Rattle.line_model.specs.Texts.{lines_of};
 ghost use Rattle.client_model.specs.Requests.{CanBeSent};

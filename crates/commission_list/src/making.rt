@@ -1,5 +1,7 @@
-//! A list of asks that is made, and what became of each written as soon as that of all before it is.
-ghost use Rattle.std.specs.Prelude.{◌≡◌, ◌≤◌, ℕ, false, List, [], Some, IfOk, MatchOption, length};
+//! A list of asks that is made, and what became of each, written as soon as it and all before it
+//! are decided.
+ghost use Rattle.std.specs.Prelude.{◌≡◌, ◌≤◌, ℕ, false, List, [], Some};
+ghost use Rattle.std.specs.Prelude.{IfOk, MatchOption, length};
 ghost use Rattle.std.specs.List.{All, slice_get};
 ghost use Rattle.udp_link.specs.declared.links.TheConstants.{MAX_DATAGRAM};
 ghost use Rattle.client_model.specs.declared.asks.Ask.{Ask};
@@ -11,7 +13,8 @@ ghost use Rattle.commissioner.specs.Commissioning.{StandsFor, StandForSome};
 ghost use Rattle.commission_list.specs.Endings.{CountsWrites};
 ghost use Rattle.commission_list.specs.Printing.{line_text};
 ghost use Rattle.commission_list.specs.Makings as makings;
-ghost use Rattle.commission_list.specs.Makings.{Printed, is_there, IsWrittenOn, CountsPrint, Prints};
+ghost use Rattle.commission_list.specs.Makings.{Printed, is_there, IsWrittenOn, CountsPrint};
+ghost use Rattle.commission_list.specs.Makings.{Prints};
 ghost use Rattle.commission_list.specs.Makings.{IsStepped, CountsStep, WritesStep, MakesOut};
 ghost use Rattle.commission_list.specs.Makings.{CountsStatus, CountsBack, MakesBack};
 

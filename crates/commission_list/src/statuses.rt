@@ -6,7 +6,7 @@ use crate::AskLine;
 /// How the making of a list ends, with its exit status.
 #[derive(Clone, Copy, Debug, PartialEq, Eq)]
 pub enum CommissionStatus {
-    /// 0: the list was read to its end, no line is bad, each ask has an outcome and all was written.
+    /// 0: the list was read to its end, no line is bad, each ask has an outcome, all was written.
     Done,
     /// 1: the source failed.
     ReadFault,

@@ -71,9 +71,9 @@ fn lines_of(alloc: Global, asks: Asks) -> Result<(Vec<Line>, Outcomes), Asks>
     Ok((lines, Outcomes::of(outcomes)))
 }
 
-/// A list of 1 to 1,024 asks over a link and a clock, none of which has begun. The Message ID of the
-/// ask of number i from 0 is i, and its token is i + 1 in eight octets. `Err`: out of memory, and all
-/// is handed back.
+/// A list of 1 to 1,024 asks over a link and a clock, none of which has begun. The Message ID of
+/// the ask of number i from 0 is i, and its token is i + 1 in eight octets. `Err`: out of memory,
+/// and all is handed back.
 pub fn start<L: Link + Drop, C: Clock + Drop>(
     alloc: Global,
     link: L,

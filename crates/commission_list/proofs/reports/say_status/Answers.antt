@@ -16,4 +16,5 @@ pub returns-in-Memory : goal.returns-in-Memory
 returns-in-Memory g c = said _ status.Memory _ _ _ _ c.in-Memory.is c.say-in-Memory.ensures
 
 pub returns-in-Line : goal.returns-in-Line
-returns-in-Line g c = said _ (status.Line c.in-Line.line c.in-Line.why) _ _ _ _ c.in-Line.is c.say_line.ensures
+returns-in-Line g c =
+    said _ (status.Line c.in-Line.line c.in-Line.why) _ _ _ _ c.in-Line.is c.say_line.ensures
