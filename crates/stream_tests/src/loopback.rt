@@ -2,6 +2,7 @@
 use crate::connections::{DISCOVERED, DISCOVERY, sink_of};
 use coap_stream::{StreamsStatus, TcpAccept, serve_streams};
 use rd_seat::OpenGate;
+use std::alloc::Global;
 use std::io::{Read, Write};
 use std::net::{Shutdown, TcpListener, TcpStream};
 use std::test::Fail;
@@ -10,21 +11,14 @@ use std::{io, thread};
 use udp_link::UdpClock;
 
 /// Asks, says that nothing more comes, and reads to the end: whether it is answered as it is to be.
-fn asks(client: TcpStream) -> io::Result<bool> {
+fn asks(alloc: Global, client: TcpStream) -> io::Result<bool> {
     let mut client = client;
-    let mut room = [0u8; 256];
-    let mut count = 0;
+    let mut came = Vec::new(alloc);
     client.set_read_timeout(Some(Duration::from_secs(10)))?;
     client.write_all(DISCOVERY)?;
     client.shutdown(Shutdown::Write)?;
-    'readings: for _ in 0..256 {
-        let n = client.read(&mut room[count..])?;
-        if n == 0 {
-            return Ok(&room[..count] == DISCOVERED);
-        }
-        count += n;
-    }
-    Ok(false)
+    client.read_to_end(&mut came)?;
+    Ok(came.as_slice() == DISCOVERED)
 }
 
 #[test]
@@ -33,11 +27,12 @@ fn a_client_is_served_over_tcp(rt: HostRuntime) -> Result<(), Fail> {
     let client = TcpStream::connect(&rt, listener.local_addr()?)?;
     let mut door = TcpAccept::of(listener);
     let mut clock = UdpClock::new(&rt);
-    let mut out = sink_of(rt.alloc(), b"")?;
+    let alloc = rt.alloc();
+    let mut out = sink_of(alloc, b"")?;
     let (status, answered) = thread::join(
         &rt,
         || serve_streams(&rt, &mut door, &mut clock, &OpenGate, 1, &mut out),
-        || asks(client),
+        || asks(alloc, client),
     );
     assert_eq!(rt; status, StreamsStatus::Done);
     assert!(rt; answered?);
