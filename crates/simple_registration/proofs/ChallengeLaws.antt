@@ -103,7 +103,8 @@ unfolding next_challenge
 value_is word events t stands = ap (value_of word) stands.made
 
 -- the first of a list, cut off before one more is put in front or afterwards
-pub taken_more : {A : Type 0} (n : ℕ) (x : A) (xs : List A) → take n (x ∷ take n xs) ≡ take n (x ∷ xs)
+pub taken_more : {A : Type 0} (n : ℕ) (x : A) (xs : List A)
+    → take n (x ∷ take n xs) ≡ take n (x ∷ xs)
 taken_more zero x xs = refl
 taken_more (suc n) x xs = ap (λ ys. x ∷ ys) (again n xs)
   where
@@ -201,7 +202,8 @@ good_front now peer value (e ∷ events) n = by e.note n (good_front now peer va
     by _ n before = before n
 
 -- a value is good where it answers the latest challenge of the peer that is kept
-pub good_is : (now : ℕ) (peer : Peer) (value : List ℕ) (events : List Event) (t : ChallengeTable)
+pub good_is : (now : ℕ) (peer : Peer) (value : List ℕ) (events : List Event)
+    (t : ChallengeTable)
     → ChallengesStandFor events t
     → answers now value (find (is_to peer) t.challenges) ≡ is_good now peer value events
 unfolding is_good latest_challenges

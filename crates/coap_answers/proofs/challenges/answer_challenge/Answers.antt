@@ -18,8 +18,8 @@ pub unreachable-requires : goal.unreachable-requires
 unreachable-requires c =
     let short =
     with_payload_size c.put_echo.new.writer []
-    (ap (λ (m : Message). m.payload) c.put_echo.ensures.put ∙ c.begin_answer-writer.ensures.open_end)
-    in
+    (ap (λ (m : Message). m.payload) c.put_echo.ensures.put
+    ∙ c.begin_answer-writer.ensures.open_end) in
     absurd (omega (
       arith,
       short,

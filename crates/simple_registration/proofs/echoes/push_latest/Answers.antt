@@ -1,4 +1,5 @@
-use Rattle.std.proofs.Common.{◌≡◌, ◌-◌, ◌∷◌, take, sym, ap, ◌∙◌, take_all, arith}
+use Rattle.std.proofs.Common.{◌≡◌, ◌-◌, ◌∷◌, take, sym, ap, ◌∙◌, arith}
+use Rattle.std.proofs.lemmas.List.{take_all}
 use Rattle.simple_registration.proofs.echoes.push_latest.Goals.{
   then-len-eq-MAX_CHALLENGES,
   else-len-eq-MAX_CHALLENGES,

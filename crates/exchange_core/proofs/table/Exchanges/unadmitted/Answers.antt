@@ -27,7 +27,8 @@ returns-in-Some-clause-some c =
           c.in-Some.ensures fresh,
     )
 
-pub returns-then-len-eq-MAX_EXCHANGES-clause-some : goal.returns-then-len-eq-MAX_EXCHANGES-clause-some
+pub returns-then-len-eq-MAX_EXCHANGES-clause-some :
+    goal.returns-then-len-eq-MAX_EXCHANGES-clause-some
 returns-then-len-eq-MAX_EXCHANGES-clause-some c =
     let here : Table = record {
       moment = c.self.inside.moment.0;
@@ -58,7 +59,8 @@ returns-clause-none c =
     c.self.view_is
     (fresh-MayBeAdmitted c.args.now.0 c.args.peer c.args.mid here c.age.new.self c.self.invariant
     c.in_default.ensures
-    (c.age.ensures.left ∙ ap (λ (t : Table). young c.args.now.0 t.exchanges) (sym c.self.view_is))
+    (c.age.ensures.left
+    ∙ ap (λ (t : Table). young c.args.now.0 t.exchanges) (sym c.self.view_is))
     (let many = c.len.ensures.many in omega
     (arith, kept, many, c.if-len-eq-MAX_EXCHANGES.false, within))
     c.age.ensures.moment)
