@@ -8,9 +8,11 @@ ghost use Rattle.coap_message.specs.PartialMessages.{with_last_option};
 ghost use Rattle.coap_message.specs.Views.{message_in};
 ghost use Rattle.event_model.specs.declared.notes.Note.{Note};
 ghost use Rattle.journal_model.specs.declared.steps.Step.{Step};
+ghost use Rattle.journal_model.specs.Effects as effects;
 ghost use Rattle.journal_model.specs.Effects.{answering};
 ghost use Rattle.journal_model.specs.Writes.{challenge};
 ghost use Rattle.coap_answers.specs.Outboxes.{most_datagrams};
+ghost use Rattle.coap_answers.specs.Replies.{IsReply, reply_said};
 ghost use Rattle.coap_answers.specs.Sendings.{IsStepOf, Sends};
 
 use crate::replies::{Reply, begin_answer};
@@ -19,6 +21,14 @@ use coap_message::{View, Writer};
 use message_model::codes::UNAUTHORIZED;
 use message_model::options::ECHO;
 use rd_base::Peer;
+
+/// 4.01 alone.
+fn unauthorized() -> Reply<'static>
+    ensures said { reply_said result ≡ effects.bare codes_of.unauthorized }
+    ensures reply { IsReply result }
+{
+    Reply::plain(UNAUTHORIZED, b"")
+}
 
 /// The value that the client is to send back, in Echo (RFC 9175 section 2.2.1).
 fn put_echo(writer: &mut Writer, value: &[u8])
@@ -50,7 +60,7 @@ pub fn answer_challenge(
         → Sends (answering s (message_in view.now) (challenge value) notes) out.old out.new
         mids.old mids.new }
 {
-    let mut writer = begin_answer(mids, view, &Reply::plain(UNAUTHORIZED, b""));
+    let mut writer = begin_answer(mids, view, &unauthorized());
     put_echo(&mut writer, &value);
     let Ok(datagram) = writer.finish(b"") else {
         unreachable!()

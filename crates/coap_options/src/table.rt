@@ -1,5 +1,5 @@
-//! The table of options (RFC 7252 section 5.10, RFC 7641 section 2, RFC 7959 sections 2.1 and 4, RFC
-//! 9175 section 2.2.1).
+//! The table of options (RFC 7252 section 5.10, RFC 7641 section 2, RFC 7959 sections 2.1 and 4,
+//! RFC 9175 section 2.2.1).
 
 ghost use Rattle.std.specs.Prelude.{◌≡◌, ◌&&◌, nat_le};
 ghost use Rattle.std.specs.Option.{option_map};

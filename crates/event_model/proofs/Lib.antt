@@ -22,5 +22,6 @@ pub mod DueLaws
 pub mod FlightLaws
 pub mod ObserverEvents
 pub mod CounterLaws
+pub mod ChallengeLaws
 pub mod StandingLaws
 mod examples

@@ -94,7 +94,7 @@ pub fresh-MayBeAdmitted : (now : ℕ) (peer : Peer) (mid : ℕ) (t aged : Table)
     → None ≡ repeat_among now peer mid t.exchanges
     → aged.exchanges ≡ young now t.exchanges
     → length aged.exchanges < 4_096
-    → aged.moment ≤ now
+    → aged.moment ≡ now
     → MayBeAdmitted now peer mid t aged
 fresh-MayBeAdmitted now peer mid t aged order none left room moment = record {
   found = record {
@@ -105,9 +105,10 @@ fresh-MayBeAdmitted now peer mid t aged order none left room moment = record {
     aside =
         λ events stands. ExchangesStandFor-aged now now events t aged (omega arith) left stands;
     repeated = λ other full. absurd (other refl);
-    moment = moment;
+    moment = omega (arith, moment);
   };
   room = room;
+  moment = moment;
   admitted =
       λ more added same.
       fresh-IsKeyedAt now peer mid t aged more order none left room added

@@ -100,6 +100,8 @@ pub record IsKeyedAt (now : ℕ) (peer : Peer) (mid : ℕ) (before after : Table
 pub record MayBeAdmitted (now : ℕ) (peer : Peer) (mid : ℕ) (before after : Table) : Type 0 where
   pub found : IsFoundAt now peer mid before after keyed.Fresh
   pub room : length after.exchanges < max_exchanges
+  -- the table was changed now
+  pub moment : after.moment ≡ now
   pub admitted : (more : Table)
       → more.exchanges ≡ admitted_now peer mid now ∷ after.exchanges
       → more.moment ≡ after.moment

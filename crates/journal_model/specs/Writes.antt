@@ -1,6 +1,6 @@
--- Writes as they are heard: repeats are recognized, a simple registration whose peer did not show yet
--- that it receives at its address is challenged, and any other new write leaves the worker with a
--- job (RFC 7252 sections 4.2 and 4.5, RFC 9175 sections 2.3 and 2.6).
+-- Writes as they are heard: repeats are recognized, a simple registration whose peer did not show
+-- yet that it receives at its address is challenged, and any other new write leaves the worker with
+-- a job (RFC 7252 sections 4.2 and 4.5, RFC 9175 sections 2.3 and 2.6).
 use Rattle.std.specs.Prelude.{
   ℕ,
   Bool,

@@ -80,8 +80,8 @@ tick_of worker moment word = do
   x ← word
   Some (line.Tick w (record { 0 = m }) x)
 
--- what the fields of a line say, by its first word. A datagram that comes and a tick have the word 0
--- where none is written
+-- what the fields of a line say, by its first word. A datagram that comes and a tick have the word
+-- 0 where none is written
 unfoldable pub said_by : List (List ℕ) → Option Line
 said_by (verb ∷ worker ∷ moment ∷ []) =
     if bytes_eq verb (codes "go") then go_of worker moment

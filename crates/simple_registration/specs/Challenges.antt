@@ -6,8 +6,8 @@ use Rattle.event_model.specs.Same.{is_same_peer}
 use Rattle.event_model.specs.Events.{Event}
 use Rattle.event_model.specs.Challenges.{Challenge, challenges_made, latest_challenges}
 
--- what a table of challenges shows: the latest, the latest first, and how many were made, as 32 bits
--- count
+-- what a table of challenges shows: the latest, the latest first, and how many were made, as 32
+-- bits count
 pub record ChallengeTable : Type 0 where
   pub challenges : List Challenge
   pub made : ℕ
