@@ -5,13 +5,10 @@ use Rattle.std.proofs.Common.{
   ◌&&◌,
   Bool,
   true,
-  false,
   List,
   Option,
   Some,
-  None,
   option_map,
-  refl,
   sym,
   ap,
   subst,
@@ -55,15 +52,6 @@ good_here past at moment one other value time of =
     ap (λ (n : ℕ). is_good n one value past) time
     ∙ ap (λ (p : Peer). is_good moment p value past) (sym of)
 
-pub returns-then-not-is_fetched_for : goal.returns-then-not-is_fetched_for
-returns-then-not-is_fetched_for c rows s starved out mids of way =
-    let request = c.args.request.now in
-    let m = message_in request.meaning.view in
-    let here : is_at request.resource (path_in m) ≡ true =
-    subst (λ (p : Path). is_at request.resource p ≡ true) request.meaning.path_said request.here in
-    sym (unproved_by (events rows) (row_moment rows s) s m false (echo_in m)
-    (sym (c.is_fetched_for.ensures (path_in m) here) ∙ c.if-not-is_fetched_for.true) refl)
-
 pub returns-in-Some : goal.returns-in-Some
 returns-in-Some c rows s starved out mids of way =
     let request = c.args.request.now in
@@ -83,13 +71,3 @@ returns-in-Some c rows s starved out mids of way =
     ∙ sym (unproved_by past (row_moment rows s) s m true (Some value)
     (sym (c.is_fetched_for.ensures (path_in m) here) ∙ c.if-not-is_fetched_for.false)
     (sym request.meaning.echo_said ∙ ap (option_map (λ v. v.now)) c.in-Some.is))
-
-pub returns-in-None : goal.returns-in-None
-returns-in-None c rows s starved out mids of way =
-    let request = c.args.request.now in
-    let m = message_in request.meaning.view in
-    let here : is_at request.resource (path_in m) ≡ true =
-    subst (λ (p : Path). is_at request.resource p ≡ true) request.meaning.path_said request.here in
-    sym (unproved_by (events rows) (row_moment rows s) s m true None
-    (sym (c.is_fetched_for.ensures (path_in m) here) ∙ c.if-not-is_fetched_for.false)
-    (sym request.meaning.echo_said ∙ ap (option_map (λ v. v.now)) c.in-None.is))
