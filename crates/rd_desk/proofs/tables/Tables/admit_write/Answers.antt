@@ -30,8 +30,8 @@ returns-clause-way c rows s starved of proved way =
     c.args.mids.now c.answer_unadmitted.new.mids
     c.self.view_is
     (keyed-IsFoundAt _ c.args.peer c.args.view.now.mid _ c.admit_key-keyed.new.self
-    c.admit_key-keyed.result c.admit_key-keyed.ensures c.in_default.not-Fresh) c.in_default.not-Fresh
-    of
+    c.admit_key-keyed.result c.admit_key-keyed.ensures c.in_default.not-Fresh)
+    c.in_default.not-Fresh of
     (c.answer_unadmitted.ensures.sends s
     (step_of rows s starved nothing c.args.self.now c.args.out.now c.args.mids.now c.args.peer of
     refl way)) way
@@ -42,5 +42,5 @@ returns-clause-admitted c rows s starved of proved way =
     c.args.self.now c.admit_key-keyed.new.self c.admit_key-keyed.result c.args.out.now
     c.args.mids.now c.self.view_is
     (keyed-IsFoundAt _ c.args.peer c.args.view.now.mid _ c.admit_key-keyed.new.self
-    c.admit_key-keyed.result c.admit_key-keyed.ensures c.in_default.not-Fresh) c.in_default.not-Fresh
-    of way
+    c.admit_key-keyed.result c.admit_key-keyed.ensures c.in_default.not-Fresh)
+    c.in_default.not-Fresh of way
