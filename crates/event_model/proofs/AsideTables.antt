@@ -283,7 +283,8 @@ latest_challenges-event e events other = by e.note other
   where
     by : (n : Note)
         → is_challenge n ≡ false
-        → latest_challenges (event_at e.place e.moment e.word n ∷ events) ≡ latest_challenges events
+        → latest_challenges (event_at e.place e.moment e.word n ∷ events)
+        ≡ latest_challenges events
     by (note.Challenged peer value) h = absurd cc
     by _ h = refl
 
@@ -296,7 +297,8 @@ challenges_made-event e events other = by e.note other
   where
     by : (n : Note)
         → is_challenge n ≡ false
-        → challenges_made (event_at e.place e.moment e.word n ∷ events) ≡ challenges_made events
+        → challenges_made (event_at e.place e.moment e.word n ∷ events)
+        ≡ challenges_made events
     by (note.Challenged peer value) h = absurd cc
     by _ h = refl
 

@@ -9,6 +9,9 @@ use Rattle.std.proofs.Common.{
   ◌+◌,
   ◌%◌,
   ◌^◌,
+  ◌/◌,
+  ◌<◌,
+  ◌≢◌,
   Bool,
   true,
   false,
@@ -17,6 +20,8 @@ use Rattle.std.proofs.Common.{
   List,
   [],
   ◌∷◌,
+  ◌++◌,
+  drop,
   length,
   take,
   filter_map,
@@ -32,7 +37,10 @@ use Rattle.std.proofs.Common.{
   arith,
 }
 use Rattle.std.specs.Prelude.{nat_lt, find}
+use Rattle.std.specs.Int.{bytes_high_first}
 use Rattle.std.proofs.Common.{inl, inr}
+use Rattle.std.proofs.lemmas.List.{length-append}
+use Rattle.std.proofs.lemmas.List.Elements.{filter-append}
 use Rattle.std.proofs.lemmas.Bool.{cases_lt, lt-ltb, le-ltb}
 use Rattle.rd_base.specs.declared.peers.Peer.{Peer}
 use Rattle.event_model.specs.declared.notes.Note.{Note}
@@ -44,6 +52,7 @@ use Rattle.event_model.specs.Challenges.{
   is_challenge_of,
   challenges,
   challenges_made,
+  next_challenge,
   is_answered_by,
   is_good,
   Challenge,
@@ -117,6 +126,34 @@ challenges_made-Challenged e peer value before it =
     ∙ ap (λ n.
     cond (is_challenge n) ((challenges_made before + 1) % 2 ^ 32) (challenges_made before)) it
 
+-- ---- the next value
+
+-- four octets tell a number below 2^32
+four_tell : (n m : ℕ)
+    → bytes_high_first 4 (n % 2 ^ 32) ≡ bytes_high_first 4 (m % 2 ^ 32)
+    → n % 2 ^ 32 ≡ m % 2 ^ 32
+four_tell n m e =
+    let a : n % 2 ^ 32 / 256 ^ 3 % 256 ≡ m % 2 ^ 32 / 256 ^ 3 % 256 = cc in
+    let b : n % 2 ^ 32 / 256 ^ 2 % 256 ≡ m % 2 ^ 32 / 256 ^ 2 % 256 = cc in
+    let c : n % 2 ^ 32 / 256 ^ 1 % 256 ≡ m % 2 ^ 32 / 256 ^ 1 % 256 = cc in
+    let d : n % 2 ^ 32 % 256 ≡ m % 2 ^ 32 % 256 = cc in
+    omega (arith, a, b, c, d)
+
+-- a value is another one than those of the 2^32 - 1 challenges before, whatever the words are
+pub next_challenge-apart : (word other : ℕ) (between before : List Event)
+    → 0 < length (challenges between)
+    → length (challenges between) < 2 ^ 32
+    → next_challenge word (between ++ before) ≢ next_challenge other before
+unfolding next_challenge challenges_made challenges
+next_challenge-apart word other between before some few e =
+    let k : length (challenges (between ++ before))
+    ≡ length (challenges between) + length (challenges before) =
+    ap length (filter-append (λ (x : Event). is_challenge x.note) between before)
+    ∙ length-append (challenges between) (challenges before) in
+    let same = four_tell (length (challenges (between ++ before))) (length (challenges before))
+    (ap (drop 4) e) in
+    omega (arith, some, few, k, same)
+
 -- ---- which value is good
 
 -- a value answers a challenge at a moment
@@ -172,7 +209,8 @@ module _ (now : ℕ) (peer : Peer) (value : List ℕ) where
           rw it (none_within (suc (count before)) (is_answered_by now value (last before)))
       by_peer p v false it (suc n) more =
           rw it
-          (ap (λ b. b && is_answered_by now value (last before)) (one_more (count before) n) ∙ more n)
+          (ap (λ b. b && is_answered_by now value (last before)) (one_more (count before) n)
+          ∙ more n)
 
       by : (x : Note) (n : ℕ)
           → ((m : ℕ) → is_within m before ≡ is_in_front m before)

@@ -90,7 +90,8 @@ module _ (verb w m : List ℕ) (l : Line) where
       (number_of-found max_word x word ex)
       in
       subst (λ v. AreFieldsOf (v ∷ w ∷ m ∷ p ∷ d ∷ x ∷ []) l) (sym is)
-      (subst (AreFieldsOf (codes "in" ∷ w ∷ m ∷ p ∷ d ∷ x ∷ [])) (same_Some _ l e5) spelled)
+      (subst (AreFieldsOf (codes "in" ∷ w ∷ m ∷ p ∷ d ∷ x ∷ [])) (same_Some _ l e5)
+      spelled)
 
   come_alone_found : (p d : List ℕ)
       → verb ≡ codes "in"

@@ -152,7 +152,12 @@ come_said : (worker : ℕ) (moment : Moment) (peer : Peer) (octets : List ℕ) (
 come_said worker moment peer octets word hw hm hp hs hb hx =
     let front : List (List ℕ) → List (List ℕ) =
     λ ps.
-    codes "in" ∷ decimal worker ∷ decimal moment.0 ∷ peer_text peer ∷ datagram_text octets ∷ ps
+    codes "in"
+    ∷ decimal worker
+    ∷ decimal moment.0
+    ∷ peer_text peer
+    ∷ datagram_text octets
+    ∷ ps
     in
     elim (cases_eq word 0) [
       | inl e ↦ ap (λ ps. said_by (front ps)) (no_word word e)

@@ -56,7 +56,12 @@ abbrev ◌>>=◌ : {A B : Type 0} → Option A → (A → Option B) → Option B
 o >>= f = option_and_then f o
 
 -- a datagram that comes: `in`, then worker, moment, peer, octets and word
-unfoldable pub come_of : List ℕ → List ℕ → List ℕ → List ℕ → Option ℕ → Option Line
+unfoldable pub come_of : List ℕ
+    → List ℕ
+    → List ℕ
+    → List ℕ
+    → Option ℕ
+    → Option Line
 come_of worker moment peer octets word = do
   w ← number_of max_worker worker
   m ← number_of max_moment moment
@@ -167,7 +172,8 @@ pub data AreFieldsOf : List (List ℕ) → Line → Type 0 where
       → IsNumber max_moment m moment.0
       → IsPeerText p peer
       → IsDatagramText d octets
-      → AreFieldsOf (codes "in" ∷ w ∷ m ∷ p ∷ d ∷ []) (line.Come worker moment peer octets 0)
+      → AreFieldsOf (codes "in" ∷ w ∷ m ∷ p ∷ d ∷ [])
+      (line.Come worker moment peer octets 0)
   goes : {w m : List ℕ} {worker : ℕ} {moment : Moment}
       → IsNumber max_worker w worker
       → IsNumber max_moment m moment.0

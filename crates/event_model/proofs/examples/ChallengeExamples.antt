@@ -179,7 +179,8 @@ unfolding events_on_literals
 first_challenge = refl
 
 third_challenge :
-    next_challenge 0x01020304 (others_after 2) ≡ 1 ∷ 2 ∷ 3 ∷ 4 ∷ 0 ∷ 0 ∷ 0 ∷ 2 ∷ []
+    next_challenge 0x01020304 (others_after 2)
+    ≡ 1 ∷ 2 ∷ 3 ∷ 4 ∷ 0 ∷ 0 ∷ 0 ∷ 2 ∷ []
 unfolding events_on_literals
 third_challenge = refl
 

@@ -62,6 +62,7 @@ StandsFor-looked rows r d looks none h =
       watching = WatchingStandsFor-looked rows r d.watching (ap not looks) none h.watching;
       fetches = subst (λ (es : List Event). FetchesStandFor (octets_sent (r ∷ rows)) es d.fetches)
           past (FetchesStandFor-row rows r d.fetches h.fetches);
-      challenges = subst (λ (es : List Event). ChallengesStandFor es d.challenges) past h.challenges;
+      challenges =
+          subst (λ (es : List Event). ChallengesStandFor es d.challenges) past h.challenges;
       observed = h.observed ∙ ap observe_values_sent past;
     }

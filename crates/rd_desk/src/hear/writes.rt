@@ -1,5 +1,6 @@
 //! Writes as they are heard (RFC 7252 sections 4.2 and 4.5, RFC 9175 section 2.3).
-ghost use Rattle.std.specs.Prelude.{◌≡◌, ◌<◌, ℕ, Bool, true, false, [], ◌∷◌, List, length};
+ghost use Rattle.std.specs.Prelude.{◌≡◌, ◌<◌, ℕ, Bool, true, false, [], ◌∷◌};
+ghost use Rattle.std.specs.Prelude.{List, length};
 ghost use Rattle.std.specs.Prelude.{if◌then◌else◌, Ok};
 ghost use Rattle.std.specs.List.{list_any};
 ghost use Rattle.rd_base.specs.declared.peers.Peer.{Peer};
@@ -35,8 +36,8 @@ use exchange_core::Keyed;
 use rd_base::Peer;
 use rd_request::{KeptRequest, Request, Resource};
 
-/// A write that is not admitted: a repeat gets the octets of the first answer, or nothing while that
-/// is in flight; and one for which there is no room is refused (RFC 7252 section 4.5).
+/// A write that is not admitted: a repeat gets the octets of the first answer, or nothing while
+/// that is in flight; and one for which there is no room is refused (RFC 7252 section 4.5).
 fn answer_unadmitted(mids: &mut Mids, peer: Peer, view: &View<'_>, keyed: Keyed, out: &mut Outbox)
     requires room { length out.old < most_datagrams }
     ensures sends { (s : Step)

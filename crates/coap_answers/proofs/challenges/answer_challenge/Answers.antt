@@ -1,4 +1,4 @@
-use Rattle.std.proofs.Common.{◌≡◌, [], sym, ap, ◌∙◌, arith}
+use Rattle.std.proofs.Common.{◌≡◌, ℕ, List, [], sym, ap, ◌∙◌, arith}
 use Rattle.message_model.specs.Message.{Message}
 use Rattle.message_model.specs.OptionTable as table
 use Rattle.message_model.specs.Spelling.{spelling}
