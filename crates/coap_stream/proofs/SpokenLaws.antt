@@ -42,8 +42,9 @@ pub is_put : (before now : Option (List ℕ)) (faults faults_then : ℕ) (octets
 is_put before now faults faults_then octets bytes true same whole front counts =
     (subst (Appends before now) same (whole refl), counts)
 is_put before now faults faults_then octets bytes false same whole front counts = (
-  (min front.0 (length bytes), (omega arith, subst (Appends before now) cut front.1)),
-  counts,
+  (min front.0 (length bytes), omega arith, subst (Appends before now) cut front.1),
+  counts.0,
+  counts.1,
 )
   where
     cut : take front.0 octets ≡ take (min front.0 (length bytes)) bytes
