@@ -11,5 +11,5 @@ returns g c =
     c.write_all.result
     (c.put_view-end.ensures.put
     ∙ carried_of-read c.args.datagram.now (message_in c.in-Ok.view) c.in-Ok.ensures.message
-    (let short = c.if-len-gt-MAX_MESSAGE_SIZE.false in omega (arith, short)))
+    (let short = c.if-datagram-gt-MAX_MESSAGE_SIZE.false in omega (arith, short)))
     c.write_all.ensures.all c.write_all.ensures.front c.write_all.ensures.cause
