@@ -1,6 +1,6 @@
 -- JudgeLaws: what a line asks for. ListLaws: lines of a text, judged one after the other.
--- Fronts: fronts of texts. ReportLaws: what is said of a
--- status. MakingLaws: what was printed, poll after poll, and what the making of a list comes to.
+-- Fronts: fronts of texts. ReportLaws: what is said of a status. MakingLaws: what was printed, poll
+-- after poll, and what the making of a list comes to.
 pub mod JudgeLaws
 pub mod ListLaws
 pub mod Fronts
