@@ -33,13 +33,14 @@ use Rattle.std.specs.Prelude.{⊤, ◌⊎◌}
 use Rattle.std.specs.Fmt.{digits}
 use Rattle.std.proofs.lemmas.List.{length-append}
 use Rattle.client_model.specs.declared.asks.Ask.{Ask}
+use Rattle.client_model.specs.declared.events.Event.{Event}
 use Rattle.client_model.specs.declared.outcomes.Outcome.{Outcome}
 use Rattle.client_model.specs.declared.outcomes.Outcome.TheVariants as outcome
 use Rattle.registrant.specs.Turns.{Outside, IsSpoken}
 use Rattle.udp_link.specs.Told.{Stays}
 use Rattle.commissioner.specs.declared.steps.Step.{Step}
 use Rattle.commissioner.specs.declared.steps.Step.TheVariants as step
-use Rattle.commissioner.specs.Shares.{share, verdict_of, said, said_all}
+use Rattle.commissioner.specs.Shares.{share, verdict_of, said, said_all, first_due}
 use Rattle.commissioner.specs.Happening.{HappensAll, is_unsaid}
 use Rattle.commission_list.specs.declared.judging.AskLine.{AskLine}
 use Rattle.commission_list.specs.declared.judging.AskLine.TheVariants as bad
@@ -173,6 +174,24 @@ module _ (ask : Ask) (asks : List Ask) (before after : Outside) where
       too_much_by (said ask 0 (made.0 ++ [])) octet octets none (said_all asks 1 (made.0 ++ []))
       made.4
 
+  -- each ask was decided before
+  pub link_after_all : (text : List ℕ)
+      (made : Makes (ask ∷ asks) [] status.Link before after text)
+      → is_unsaid (said_all (ask ∷ asks) 0 (made.0 ++ [])) ≡ false
+      → ⊥
+  link_after_all text made decided =
+      let no : true ≡ false = sym made.3.0 ∙ decided in
+      absurd cc
+
+  -- an ask was still to begin
+  pub link_before_all : (text : List ℕ) (n : ℕ)
+      (made : Makes (ask ∷ asks) [] status.Link before after text)
+      → first_due [] (ask ∷ asks) 0 (made.0 ++ []) ≡ Some n
+      → ⊥
+  link_before_all text n made due =
+      let no : None ≡ Some n = sym made.3.1 ∙ due in
+      absurd cc
+
   -- ---- the output failed, or memory ran out
 
   front_by : (o : Option Outcome) (others : List (Option Outcome)) (octets : List ℕ)
@@ -198,6 +217,56 @@ module _ (ask : Ask) (asks : List Ask) (before after : Outside) where
       → ⊥
   starved_front octets made =
       front_by (said ask 0 (made.0 ++ [])) (said_all asks 1 (made.0 ++ [])) octets made.4
+
+  -- memory ran out at a receive or where a talk began, though each ask was decided before
+  pub starved_after_all : (text : List ℕ)
+      (made : Makes (ask ∷ asks) [] status.Memory before after text)
+      → is_unsaid (said_all (ask ∷ asks) 0 (made.0 ++ [])) ≡ false
+      → (after ≡ made.1 → ⊥)
+      → ⊥
+  starved_after_all text made decided moved = elim made.3 [
+    | inl same ↦ moved same
+    | inr ends ↦
+        let no : true ≡ false = sym ends.0 ∙ decided in
+        absurd cc
+  ]
+
+-- ---- an event came after each ask was decided
+
+event_after_all : (asks : List Ask) (later more : List Step) (e : Event)
+    (before after : Outside)
+    → HappensAll asks [] (later ++ step.Happened e ∷ more) before after
+    → is_unsaid (said_all asks 0 (more ++ [])) ≡ false
+    → ⊥
+event_after_all asks [] more e before after happens decided =
+    let no : true ≡ false = sym happens.2.unsaid ∙ decided in
+    absurd cc
+event_after_all asks (s ∷ later) more e before after happens decided =
+    event_after_all asks later more e before happens.0 happens.1 decided
+
+-- it is done, whatever happened later
+pub done_after_all : (asks : List Ask) (later more : List Step) (e : Event)
+    (before after : Outside) (text : List ℕ)
+    (made : Makes asks [] status.Done before after text)
+    → made.0 ≡ later ++ step.Happened e ∷ more
+    → is_unsaid (said_all asks 0 (more ++ [])) ≡ false
+    → ⊥
+done_after_all asks later more e before after text made is decided =
+    event_after_all asks later more e before after
+    (subst (λ (steps : List Step). HappensAll asks [] steps before after) is made.1)
+    decided
+
+-- its output failed
+pub unwritten_after_all : (asks : List Ask) (later more : List Step) (e : Event)
+    (before after : Outside) (text : List ℕ)
+    (made : Makes asks [] status.WriteFault before after text)
+    → made.0 ≡ later ++ step.Happened e ∷ more
+    → is_unsaid (said_all asks 0 (more ++ [])) ≡ false
+    → ⊥
+unwritten_after_all asks later more e before after text made is decided =
+    event_after_all asks later more e before after
+    (subst (λ (steps : List Step). HappensAll asks [] steps before after) is made.1)
+    decided
 
 -- ---- done, but no talk began
 
@@ -394,14 +463,41 @@ module _ (L C : Type 0) (told : L → C → Outside) (link : L) (clock : C)
   pub bad_written : (s : CommissionStatus)
       → IsMadeOf told bad_list s back link clock (Some holds) (Some (holds ++ octet ∷ octets))
       → ⊥
-  bad_written s made = more_than holds octet octets made
+  bad_written s made = more_than holds octet octets made.0
 
   -- nor is anything of one that was not read
   pub unread_written : (asks : List Ask)
       → IsMadeOf told (Ok asks) status.ReadFault back link clock (Some holds)
       (Some (holds ++ octet ∷ octets))
       → ⊥
-  unread_written asks made = more_than holds octet octets made
+  unread_written asks made = more_than holds octet octets made.0
+
+-- another link is handed back, over which something was sent
+module _ (L C : Type 0) (told : L → C → Outside) (link : L) (clock : C)
+    (holds now : Option (List ℕ)) where
+  abbrev link_in : Option (L × C) → L
+  link_in None = link
+  link_in (Some ends) = ends.0
+
+  pub bad_sent : (s : CommissionStatus) (later : L) (after : C)
+      → (later ≡ link → ⊥)
+      → IsMadeOf told bad_list s (Some (later, after)) link clock holds now
+      → ⊥
+  bad_sent s later after other made = other (ap link_in made.1)
+
+  pub unread_sent : (asks : List Ask) (later : L) (after : C)
+      → (later ≡ link → ⊥)
+      → IsMadeOf told (Ok asks) status.ReadFault (Some (later, after)) link clock holds now
+      → ⊥
+  unread_sent asks later after other made = other (ap link_in made.1)
+
+  -- none is
+  pub bad_kept : (s : CommissionStatus)
+      → IsMadeOf told bad_list s None link clock holds now
+      → ⊥
+  bad_kept s made =
+      let no : None ≡ Some (link, clock) = made.1 in
+      absurd cc
 
 -- ---- what is handed back, counted and said
 

@@ -1,5 +1,6 @@
 //! One line of a list: what it asks for, or why it is bad.
 ghost use Rattle.std.specs.Prelude.{◌≡◌, ◌≤◌, Ok, IfOk};
+ghost use Rattle.line_model.specs.Lines.{fields};
 ghost use Rattle.client_model.specs.Requests.{CanBeSent};
 ghost use Rattle.commission_list.specs.declared.judging.TheConstants.{MAX_LINES};
 ghost use Rattle.commission_list.specs.Lists as lists;
