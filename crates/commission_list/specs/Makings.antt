@@ -122,8 +122,8 @@ MakesBack told asks s None link clock holds now = ⊥
 MakesBack told asks s (Some ends) link clock holds now =
     MakesOut asks s (told link clock) (told ends.0 ends.1) holds now
 
--- the link and the clock came back as they were handed in, so that nothing was sent, and nothing was
--- written
+-- nothing was written, and the link and the clock came back as they were handed in, so that nothing
+-- was sent
 abbrev pub IsUnmade : {L C : Type 0}
     → Option (L × C)
     → L
