@@ -15,6 +15,6 @@ pub returns-in-Err-Bad : goal.returns-in-Err-Bad
 returns-in-Err-Bad c =
     let (workers, rows, at) = c.requires.stands in
     let made = step_of_line workers rows (Ok c.args.line) in
-    machine_kept workers rows made c.perform.new.self c.in-Err-Bad.field-0-0
+    machine_kept workers rows made c.perform.new.self c.in-Err-Bad.why
     (subst (Performs workers rows made c.perform.new.self)
     (c.in-Err-Bad.is ∙ ap (λ t. Err t) c.in-Err-Bad.field-0-is) (c.perform.ensures workers rows at))
