@@ -58,6 +58,7 @@ CREATED, DELETED, VALID, CHANGED, CONTENT = 0x41, 0x42, 0x43, 0x44, 0x45
 
 # Numbers of options (RFC 7252 section 5.10, RFC 7641 section 2, RFC 7959 section 2.1).
 ETAG, OBSERVE, URI_PATH, CONTENT_FORMAT, URI_QUERY, BLOCK2, BLOCK1 = 4, 6, 11, 12, 15, 23, 27
+ECHO = 252
 
 # Octets of a block of a body that comes in blocks, and its size exponent.
 BLOCK, EXPONENT = 1_024, 6
@@ -378,13 +379,16 @@ def sweeps(size: int, calls: int) -> tuple[Trace, Trace]:
 
 
 def simple(size: int, calls: int) -> tuple[Trace, Trace]:
-    """Devices whose names are new ask to be registered, and answer the GET of their lists."""
+    """Devices whose names are new ask to be registered, show that they receive (RFC 9175 section
+    2.3), and answer the GET of their lists."""
     size = min(size, MOST - calls)
     before = settled(size)
     after = grown(before)
     for call in range(calls):
         peer = device(size + call)
-        after.write(peer, POST, [*path(".well-known", "rd"), *query(f"ep=n{size + call}")])
+        options = [*path(".well-known", "rd"), *query(f"ep=n{size + call}")]
+        after.come(peer, message(CON, POST, after.next_mid(), b"\xa1", options))
+        after.write(peer, POST, [*options, (ECHO, call.to_bytes(8, "big"))])
         token = (call + 1).to_bytes(8, "big")
         content = message(ACK, CONTENT, call, token, [LINK_FORMAT], link(size + call))
         after.come(peer, content)

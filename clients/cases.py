@@ -10,9 +10,10 @@ import random
 import time
 from pathlib import Path
 
-from messages import (ACK, BLOCK2, CHANGED, CON, CONTENT, CONTENT_FORMAT, CREATED, EMPTY, GET,
-                      LINK_FORMAT, LOCATION_PATH, POST, RST, blocks, content, created, octets,
-                      path, query, received, refused, replaced, tags, text_of, uploaded)
+from messages import (ACK, BLOCK2, CHANGED, CON, CONTENT, CONTENT_FORMAT, CREATED, ECHO, EMPTY,
+                      GET, LINK_FORMAT, LOCATION_PATH, POST, RST, UNAUTHORIZED, blocks, content,
+                      created, octets, path, query, received, refused, replaced, tags, text_of,
+                      uploaded)
 
 DISCOVERED_RD = '</rd>;rt="core.rd";ct=40'
 DISCOVERED_LOOKUPS = ('</rd-lookup/ep>;rt="core.rd-lookup-ep";ct=40;obs,'
@@ -377,7 +378,7 @@ def validation(run):
 
 
 def simple_registration(run):
-    run.group("Simple registration (RFC 9176 section 5.1)")
+    run.group("Simple registration (RFC 9176 section 5.1, RFC 9175 section 2.3)")
     served_by_libcoap(run)
     served_by_octets(run)
 
@@ -388,12 +389,15 @@ def served_by_libcoap(run):
     Both may have the port, since libcoap lets it be shared. While the client runs, the GET of the
     directory reaches the client, whose answer is lost (`-l`). The directory asks again within
     three seconds and gets the links from the server (RFC 7252 section 4.2), so that the lookup is
-    tried for that long."""
+    tried for that long. The challenge comes before the server has the port."""
     port = run.port("simple")
+    with run.open_socket("simple") as device:
+        device.settimeout(WAIT_LIMIT)
+        echo = challenged(run, device, "simple")
     served = run.serve_links("simple")
-    run.ask(f"a device asks, where {run.device} -A 127.0.0.1 -p {port} serves its links",
-            ["-m", "post", "-l", "2-100"], "/.well-known/rd?ep=simple", [CHANGED_BARE],
-            device="simple")
+    run.ask(f"it answers, where {run.device} -A 127.0.0.1 -p {port} serves its links",
+            ["-O", f"{ECHO},0x{echo.hex()}", "-m", "post", "-l", "2-100"],
+            "/.well-known/rd?ep=simple", [CHANGED_BARE], device="simple")
     run.ask("its links are listed, within five seconds", [], "/rd-lookup/res?ep=simple",
             [content(served.replace("</", f"<{run.base('simple')}/"))], seconds=5)
     run.ask("it is listed itself", [], "/rd-lookup/ep?ep=simple",
@@ -404,20 +408,34 @@ def served_by_libcoap(run):
             [refused("4.00", "query")])
 
 
+def challenged(run, device, name: str) -> bytes:
+    """The value that a device is to send back, which asks from its port (RFC 9175 section 2.3)."""
+    asked = octets(CON, POST, 0x0100, b"\xe1", [*path(".well-known", "rd"), *query(f"ep={name}")])
+    device.send(asked)
+    came = received(device)
+    echo = came[0][-8:] if came else b""
+    wanted = octets(ACK, UNAUTHORIZED, 0x0100, b"\xe1", [(ECHO, echo)])
+    run.tell("a device asks, and is to show that it receives", f"(octets) {asked.hex()}",
+             [wanted.hex()], [each.hex() for each in came])
+    return echo
+
+
 def served_by_octets(run):
     """A device of a few lines, whose list comes in two blocks."""
-    asked = octets(CON, POST, 0x0101, b"\xe1", [*path(".well-known", "rd"), *query("ep=tiny")])
+    options = [*path(".well-known", "rd"), *query("ep=tiny")]
     fetch = (2).to_bytes(8, "big")
     blocks_of_list = [(b"\x08", b'</tiny>;rt="tiny'), (b"\x10", b'"')]
     came = []
     with run.open_socket("tiny") as device:
         device.settimeout(WAIT_LIMIT)
+        options.append((ECHO, challenged(run, device, "tiny")))
+        asked = octets(CON, POST, 0x0101, b"\xe1", options)
         device.send(asked)
         came += received(device)
         for block, piece in blocks_of_list:
             came += received(device)
-            options = [(CONTENT_FORMAT, b"\x28"), (BLOCK2, block)]
-            device.send(octets(ACK, CONTENT, mid_of(came[-1:]), fetch, options, piece))
+            said = [(CONTENT_FORMAT, b"\x28"), (BLOCK2, block)]
+            device.send(octets(ACK, CONTENT, mid_of(came[-1:]), fetch, said, piece))
     core = path(".well-known", "core")
     wanted = [octets(ACK, CHANGED, 0x0101, b"\xe1"),
               octets(CON, GET, mid_of(came[1:2]), fetch, core),

@@ -16,9 +16,10 @@ LINK_FORMAT = "Content-Format:application/link-format"
 CON, NON, ACK, RST = 0, 1, 2, 3
 EMPTY, GET, POST, DELETE = 0x00, 0x01, 0x02, 0x04
 CREATED, CHANGED, CONTENT = 0x41, 0x44, 0x45
+UNAUTHORIZED = 0x81
 
-# Numbers of options (RFC 7252 section 5.10, RFC 7959 section 2.1).
-LOCATION_PATH, URI_PATH, CONTENT_FORMAT, URI_QUERY, BLOCK2 = 8, 11, 12, 15, 23
+# Numbers of options (RFC 7252 section 5.10, RFC 7959 section 2.1, RFC 9175 section 2.2.1).
+LOCATION_PATH, URI_PATH, CONTENT_FORMAT, URI_QUERY, BLOCK2, ECHO = 8, 11, 12, 15, 23, 252
 
 # The most octets of a UDP datagram.
 MOST_OCTETS = 65_535

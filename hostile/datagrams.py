@@ -10,7 +10,7 @@ from dataclasses import dataclass
 import wire
 from messages import (ACK, BLOCK2, CON, CONTENT, CONTENT_FORMAT, DELETE, EMPTY, GET, NON, POST,
                       RST, URI_QUERY, octets, path, query)
-from wire import ACCEPT, BLOCK1, ETAG, OBSERVE, block
+from wire import ACCEPT, BLOCK1, ECHO, ETAG, OBSERVE, block
 
 # What the compared lookups filter by, and how many registrations are the driver's own.
 STEADY = "steady"
@@ -78,6 +78,8 @@ class Maker:
         self.mids = [self.chance.randrange(0x10000) for _ in range(PORTS)]
         self.port = 0
         self.made = 0
+        # The last Echo that a port was challenged with, where a driver notes it.
+        self.echoes: dict[int, bytes] = {}
 
     def stream(self, count: int):
         """So many datagrams."""
@@ -304,7 +306,8 @@ class Maker:
         return octets(self.kind(), GET, self.mid(), self.some(2), options)
 
     def simple_registration(self) -> bytes:
-        return self.request(POST, SIMPLE + query(self.name(), "lt=60"))
+        echo = [(ECHO, self.echoes[self.port])] if self.port in self.echoes else []
+        return self.request(POST, SIMPLE + query(self.name(), "lt=60") + echo)
 
     def response(self) -> bytes:
         """A response to a fetch that may run, of the peer or of a stranger."""

@@ -16,6 +16,7 @@ import subprocess
 import sys
 import time
 from collections import defaultdict
+from itertools import chain
 from pathlib import Path
 
 import datagrams
@@ -118,6 +119,28 @@ def replayed(program: str, trace: list[str]) -> dict[str, list[bytes]]:
     return sent
 
 
+def challenges(sent: dict[str, list[bytes]]) -> dict[int, int]:
+    """The word of each challenge that was sent, by its count: four octets each of its Echo."""
+    words = {}
+    for octets in chain.from_iterable(sent.values()):
+        for value in wire.read(octets).values(wire.ECHO):
+            words[int.from_bytes(value[4:], "big")] = int.from_bytes(value[:4], "big")
+    return words
+
+
+def worded(program: str, each: Each) -> list[str]:
+    """The trace with the words from which the server made its challenges.
+
+    No datagram answers a challenge. So a replay in which the word of each datagram is the number of
+    its line tells which of them gets which challenge."""
+    numbered = [f"{line} {number}" if line.startswith("in ") else line
+                for number, line in enumerate(each.trace)]
+    lines, words = list(each.trace), challenges(each.came)
+    for count, number in challenges(replayed(program, numbered)).items():
+        lines[number] += f" {words.get(count, 0)}"
+    return lines
+
+
 def compare(each: Each, wanted: dict[str, list[bytes]]) -> bool:
     """Compares what came to each port with what is wanted, tells it; whether all is equal."""
     compared = differ = 0
@@ -151,7 +174,7 @@ def main():
                     each.send(datagram)
             each.end()
             dropped = server.dropped()
-        is_equal = compare(each, replayed(replay, each.trace))
+        is_equal = compare(each, replayed(replay, worded(replay, each)))
     except (Wrong, OSError, ValueError, subprocess.SubprocessError) as wrong:
         sys.exit(f"FAILED: {wrong}")
     if dropped:

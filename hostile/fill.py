@@ -102,6 +102,16 @@ class Filling:
         if is_of_ports:
             self.sockets.append(wire.open_socket(self.server.port))
         asking = self.sockets[-1 if is_of_ports else 0]
+        answer = self.answer(asking, asked)
+        echo = answer.values(wire.ECHO)
+        if not echo:
+            return answer
+        # It is the last option of a request without payload, and follows Uri-Query.
+        return self.answer(asking, asked[:2] + b"\xff\xff" + asked[4:] + b"\xd8\xe0" + echo[0])
+
+    @staticmethod
+    def answer(asking, asked: bytes) -> Message:
+        """What a request is answered on a socket."""
         asking.send(asked)
         return wire.read(asking.recv(wire.MOST_READ))
 

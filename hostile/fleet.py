@@ -509,7 +509,14 @@ class Fleet:
         self.device.is_separate = self.chance.random() < 0.3
         self.device.ended.clear()
         options = path(".well-known", "rd") + entry.parameters()
-        answer = await self.write(self.device.port, POST, options)
+        first = await self.device.port.ask(self.device.port.request(POST, options))
+        if self.ledger.is_refused(first):
+            return
+        echo = first.message.values(wire.ECHO)
+        self.ledger.judge("challenges", len(echo) == 1, first.octets.hex())
+        if not echo:
+            return
+        answer = await self.write(self.device.port, POST, options + [(wire.ECHO, echo[0])])
         if not answer:
             return
         is_right = answer.message.code == CHANGED

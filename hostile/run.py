@@ -141,15 +141,16 @@ def ask_once(asking: socket.socket, request: bytes) -> bytes:
 class Strangers:
     """The ports from which hostile datagrams go, and what came to them."""
 
-    def __init__(self, port: int, count: int):
+    def __init__(self, port: int, count: int, echoes: dict[int, bytes]):
+        self.echoes = echoes
         self.sockets = [wire.open_socket(port) for _ in range(count)]
         self.selector = selectors.DefaultSelector()
         self.classes: Counter[str] = Counter()
         self.answers: Counter[str] = Counter()
         self.wrong: list[bytes] = []
-        for each in self.sockets:
+        for place, each in enumerate(self.sockets):
             each.setblocking(False)
-            self.selector.register(each, selectors.EVENT_READ)
+            self.selector.register(each, selectors.EVENT_READ, place)
 
     def send(self, datagram: datagrams.Datagram):
         """Sends one."""
@@ -162,10 +163,10 @@ class Strangers:
         """Counts all that came."""
         while ready := self.selector.select(0):
             for key, _ in ready:
-                self.count(key.fileobj)
+                self.count(key.fileobj, key.data)
 
-    def count(self, socket_: socket.socket):
-        """Counts what came to one port."""
+    def count(self, socket_: socket.socket, place: int):
+        """Counts what came to one port, and notes what it was challenged with."""
         try:
             came = socket_.recv(datagrams.MOST_SENT)
             answer = wire.read(came)
@@ -176,6 +177,8 @@ class Strangers:
             return
         if len(came) > wire.MOST_WRITTEN:
             self.wrong.append(came)
+        for echo in answer.values(wire.ECHO):
+            self.echoes[place] = echo
         if answer.code == EMPTY:
             name = {ACK: "ACK", RST: "RST"}.get(answer.kind, "empty")
         else:
@@ -197,7 +200,7 @@ class Run:
 
     def __init__(self, server: Server, replay: str, seed: int):
         self.server, self.maker = server, datagrams.Maker(seed)
-        self.strangers = Strangers(server.port, datagrams.PORTS)
+        self.strangers = Strangers(server.port, datagrams.PORTS, self.maker.echoes)
         self.asking = wire.open_socket(server.port)
         self.compared = self.differ = 0
         self.until = time.monotonic() + RUN_LIMIT
@@ -280,8 +283,9 @@ class Run:
 def ends_by_turns(program: str, seed: int) -> bool:
     """Whether a server of some turns ends by itself, with its line, under hostile datagrams."""
     with Server(program, WORKERS, "--turns", str(TURNS)) as server:
-        strangers = Strangers(server.port, datagrams.PORTS)
-        for place, datagram in enumerate(datagrams.Maker(seed).stream(MOST_TURNS_SENT), 1):
+        maker = datagrams.Maker(seed)
+        strangers = Strangers(server.port, datagrams.PORTS, maker.echoes)
+        for place, datagram in enumerate(maker.stream(MOST_TURNS_SENT), 1):
             strangers.send(datagram)
             if place % BURST == 0:
                 time.sleep(0.002)

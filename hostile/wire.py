@@ -15,7 +15,7 @@ import messages  # noqa: E402
 HOST = "127.0.0.1"
 
 # Numbers of options (RFC 7252 section 5.10, RFC 7641 section 2, RFC 7959 section 2.1).
-ETAG, OBSERVE, ACCEPT, BLOCK1 = 4, 6, 17, 27
+ETAG, OBSERVE, ACCEPT, BLOCK1, ECHO = 4, 6, 17, 27, 252
 
 # The marker before a payload, and the most octets that the server reads of a datagram and writes.
 MARKER = 0xFF

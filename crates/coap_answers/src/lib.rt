@@ -3,6 +3,7 @@
 #![tactic(auto)]
 
 mod bodies;
+mod challenges;
 mod datagrams;
 mod empty_messages;
 mod mids;
@@ -12,6 +13,7 @@ mod replies;
 mod server_errors;
 
 pub use bodies::{body_reply, has_asked_block, is_long, szx_of};
+pub use challenges::answer_challenge;
 pub use datagrams::Datagram;
 pub use empty_messages::send_empty;
 pub use mids::Mids;

@@ -275,6 +275,7 @@ pub fn begin_answer(mids: &mut Mids, view: &View<'_>, reply: &Reply<'_>) -> Writ
         ≡ effects.answer s (message_in view.now) (reply_said reply.now) }
     ensures open_end { result.payload ≡ [] }
     ensures filled { codes_of.empty < result.code }
+    ensures ends { end_number 0 result.options ≤ table.block1 }
     ensures size { length (spelling result) ≤ 200 }
     ensures worker { mids.new.worker ≡ mids.old.worker }
     ensures drawn { mids.new.drawn ≡ drawing (drawn_for view.now.kind) mids.old.drawn }

@@ -176,6 +176,7 @@ found_more options option found more so good with = record {
   format = first_found table.content_format options option _ _ good so.format with.format;
   block1 = first_found table.block1 options option _ _ good so.block1 with.block1;
   block2 = first_found table.block2 options option _ _ good so.block2 with.block2;
+  echo = first_found table.echo options option _ _ good so.echo with.echo;
   proxy =
       with.proxy
       ∙ ap (λ (b : Bool). b || (option.0 == table.proxy_uri || option.0 == table.proxy_scheme))
@@ -215,6 +216,7 @@ found_passed options option found more so other elective e =
           so.format ∙ ap first_of (sym (values_without table.content_format options option other));
       block1 = so.block1 ∙ ap first_of (sym (values_without table.block1 options option other));
       block2 = so.block2 ∙ ap first_of (sym (values_without table.block2 options option other));
+      echo = so.echo ∙ ap first_of (sym (values_without table.echo options option other));
       proxy =
           so.proxy
           ∙ ap (λ (os : List Opt). stands_in table.proxy_uri os || stands_in table.proxy_scheme os)

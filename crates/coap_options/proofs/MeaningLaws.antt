@@ -15,4 +15,5 @@ is_meaning meaning = record {
   block1 = meaning.block1_said;
   block2 = meaning.block2_said;
   proxy = meaning.proxy_said;
+  echo = meaning.echo_said;
 }

@@ -29,6 +29,10 @@ block2_is : definition_of table.block2 ≡ Some (up_to 3)
 unfolding definition_of
 block2_is = refl
 
+echo_is : definition_of table.echo ≡ Some (record { least = 1; most = 40; repeatable = false })
+unfolding definition_of
+echo_is = refl
+
 found_short : (number most : ℕ) (options : List Opt) (found : Option (Bor (List ℕ)))
     → definition_of number ≡ Some (up_to most)
     → option_map (λ v. v.now) found ≡ first_of (values number options)
@@ -73,3 +77,13 @@ pub block2_short : (options : List Opt) (found : Option (Bor (List ℕ)))
     → found ≡ Some x
     → length x.now ≤ 3
 block2_short options found = found_short table.block2 3 options found block2_is
+
+pub echo_short : (options : List Opt) (found : Option (Bor (List ℕ)))
+    → option_map (λ v. v.now) found ≡ first_of (values table.echo options)
+    → (x : Bor (List ℕ))
+    → found ≡ Some x
+    → length x.now ≤ 40
+echo_short options found e x some =
+    value_short table.echo (record { least = 1; most = 40; repeatable = false }) options
+    (option_map (λ (v : Bor (List ℕ)). v.now) found) echo_is e
+    x.now (ap (option_map (λ (v : Bor (List ℕ)). v.now)) some)

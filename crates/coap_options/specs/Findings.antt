@@ -48,6 +48,7 @@ pub record IsFound (options : List Opt) (found : Found) : Type 0 where
   pub format : option_map (λ v. v.now) found.format ≡ first_of (values table.content_format options)
   pub block1 : option_map (λ v. v.now) found.block1 ≡ first_of (values table.block1 options)
   pub block2 : option_map (λ v. v.now) found.block2 ≡ first_of (values table.block2 options)
+  pub echo : option_map (λ v. v.now) found.echo ≡ first_of (values table.echo options)
   pub proxy :
       found.proxy
       ≡ (stands_in table.proxy_uri (recognized_options options)
@@ -79,5 +80,8 @@ pub record IsFoundWith (found : Found) (option : Opt) (more : Found) : Type 0 wh
   pub block2 :
       option_map (λ v. v.now) more.block2
       ≡ or_value (option_map (λ v. v.now) found.block2) table.block2 option
+  pub echo :
+      option_map (λ v. v.now) more.echo
+      ≡ or_value (option_map (λ v. v.now) found.echo) table.echo option
   pub proxy :
       more.proxy ≡ (found.proxy || (option.0 == table.proxy_uri || option.0 == table.proxy_scheme))

@@ -10,13 +10,14 @@ use Rattle.message_model.specs.Request.{
   format_in,
   block1_in,
   block2_in,
+  echo_in,
   has_proxy,
 }
 use Rattle.coap_message.specs.Views.{message_in}
 use Rattle.coap_options.specs.declared.meanings.Meaning.{Meaning}
 
 -- Each part is that of the message (RFC 7252 section 5.10, RFC 7641 section 2, RFC 7959 section
--- 2.1).
+-- 2.1, RFC 9175 section 2.2.1).
 pub record IsMeaning (m : Message) (meaning : Meaning) : Type 0 where
   pub view : message_in meaning.view ≡ m
   pub path : meaning.path ≡ path_in m
@@ -26,6 +27,7 @@ pub record IsMeaning (m : Message) (meaning : Meaning) : Type 0 where
   pub block1 : option_map (λ v. v.now) meaning.block1 ≡ block1_in m
   pub block2 : option_map (λ v. v.now) meaning.block2 ≡ block2_in m
   pub proxy : meaning.proxy ≡ has_proxy m
+  pub echo : option_map (λ v. v.now) meaning.echo ≡ echo_in m
 
 -- The values of its Block options have at most three octets (RFC 7959 section 2.2).
 pub record HasShortBlocks (meaning : Meaning) : Type 0 where

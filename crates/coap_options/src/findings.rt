@@ -14,7 +14,7 @@ use crate::segments::{Segments, with_segment};
 use crate::table::{is_critical, is_recognized};
 use coap_message::Opt;
 use message_model::options::{
-    ACCEPT, BLOCK1, BLOCK2, CONTENT_FORMAT, OBSERVE, PROXY_SCHEME, PROXY_URI, URI_PATH,
+    ACCEPT, BLOCK1, BLOCK2, CONTENT_FORMAT, ECHO, OBSERVE, PROXY_SCHEME, PROXY_URI, URI_PATH,
 };
 
 /// What recognized options say, and the number of the last option, whether or not that one is
@@ -31,6 +31,7 @@ pub(crate) struct Found<'a> {
     pub format: Option<&'a [u8]>,
     pub block1: Option<&'a [u8]>,
     pub block2: Option<&'a [u8]>,
+    pub echo: Option<&'a [u8]>,
     /// Whether a proxy is asked for.
     pub proxy: bool,
 }
@@ -89,6 +90,7 @@ pub(crate) fn add_recognized<'a>(found: &mut Found<'a>, option: &Opt<'a>)
     keep_first(&mut found.format, CONTENT_FORMAT, option);
     keep_first(&mut found.block1, BLOCK1, option);
     keep_first(&mut found.block2, BLOCK2, option);
+    keep_first(&mut found.echo, ECHO, option);
     found.proxy = found.proxy || is_proxy(option.number);
 }
 
@@ -114,6 +116,7 @@ pub(crate) fn nothing_found<'a>() -> Found<'a>
         format: None,
         block1: None,
         block2: None,
+        echo: None,
         proxy: false,
     }
 }

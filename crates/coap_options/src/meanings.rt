@@ -11,7 +11,7 @@ use coap_message::View;
 use message_model::Path;
 
 /// What the recognized options of a message say, each the first of its number (RFC 7252 section
-/// 5.10, RFC 7641 section 2, RFC 7959 section 2.1).
+/// 5.10, RFC 7641 section 2, RFC 7959 section 2.1, RFC 9175 section 2.2.1).
 #[rattlefmt::skip]
 #[derive(Clone, Copy, Debug)]
 pub struct Meaning<'a> {
@@ -31,6 +31,8 @@ pub struct Meaning<'a> {
     pub block2: Option<&'a [u8]>,
     /// Whether it has Proxy-Uri or Proxy-Scheme.
     pub proxy: bool,
+    /// The value of Echo, of 1 to 40 octets.
+    pub echo: Option<&'a [u8]>,
     pub ghost path_said: { path ≡ request.path_in (message_in view) }
         by { Coded-set path-code path (request.path_in (message_in view)) },
     pub ghost observe_said: { observe ≡ request.observe_in (message_in view) }
@@ -46,6 +48,10 @@ pub struct Meaning<'a> {
         ≡ request.block2_in (message_in view) }
         by { Prim.hlevel props },
     pub ghost proxy_said: { proxy ≡ request.has_proxy (message_in view) },
+    pub ghost echo_said: { option_map (λ v. v.now) echo
+        ≡ request.echo_in (message_in view) }
+        by { Prim.hlevel props },
     pub ghost block1_short: { ForSome block1 (λ v. length v.now ≤ 3) },
     pub ghost block2_short: { ForSome block2 (λ v. length v.now ≤ 3) },
+    pub ghost echo_short: { ForSome echo (λ v. length v.now ≤ 40) },
 }

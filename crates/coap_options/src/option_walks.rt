@@ -52,6 +52,7 @@ fn meaning_of<'a>(view: &View<'a>, found: &Found<'a>) -> Meaning<'a>
         block1: found.block1,
         block2: found.block2,
         proxy: found.proxy,
+        echo: found.echo,
     }
 }
 

@@ -1,4 +1,5 @@
-//! The table of options (RFC 7252 section 5.10, RFC 7641 section 2, RFC 7959 sections 2.1 and 4).
+//! The table of options (RFC 7252 section 5.10, RFC 7641 section 2, RFC 7959 sections 2.1 and 4,
+//! RFC 9175 section 2.2.1).
 
 ghost use Rattle.std.specs.Prelude.{◌≡◌, ◌&&◌, nat_le};
 ghost use Rattle.std.specs.Option.{option_map};
@@ -6,8 +7,8 @@ ghost use Rattle.message_model.specs.OptionTable as table;
 ghost use Rattle.coap_options.specs.Definitions.{definition_in};
 
 use message_model::options::{
-    ACCEPT, BLOCK1, BLOCK2, CONTENT_FORMAT, ETAG, LOCATION_PATH, OBSERVE, PROXY_SCHEME, PROXY_URI,
-    SIZE1, SIZE2, URI_HOST, URI_PATH, URI_PORT, URI_QUERY,
+    ACCEPT, BLOCK1, BLOCK2, CONTENT_FORMAT, ECHO, ETAG, LOCATION_PATH, OBSERVE, PROXY_SCHEME,
+    PROXY_URI, SIZE1, SIZE2, URI_HOST, URI_PATH, URI_PORT, URI_QUERY,
 };
 
 /// Of an option: the least and greatest length of its value, and whether it may be repeated.
@@ -61,6 +62,7 @@ fn definition_of(number: u32) -> Option<Definition>
         PROXY_URI => at_most_once(1, 1034),
         PROXY_SCHEME => at_most_once(1, 255),
         SIZE1 => at_most_once(0, 4),
+        ECHO => at_most_once(1, 40),
         _ => None,
     }
 }

@@ -1,18 +1,21 @@
--- What was written in pieces.
+-- What is written, and its octets.
 use Rattle.std.proofs.Common.{
   ◌≡◌,
   ℕ,
   ◌+◌,
-  ◌-◌,
   ◌*◌,
+  Bool,
+  true,
+  false,
   List,
   [],
   ◌∷◌,
   ◌++◌,
   length,
   take,
-  drop,
+  min,
   Option,
+  refl,
   sym,
   ap,
   ◌∙◌,
@@ -20,27 +23,32 @@ use Rattle.std.proofs.Common.{
   append_assoc,
   arith,
 }
-use Rattle.std.proofs.Math.Seq.{take-add}
-use Rattle.std.proofs.lemmas.List.{length-append, length-drop, take_all}
+use Rattle.std.proofs.lemmas.List.{length-append, take_min}
 use Rattle.std.specs.Io.KnownBytes.{Appends}
-use Rattle.std.proofs.KnownBytes.{Appends-trans}
+use Rattle.rd_base.specs.Outside.{CountsAll}
 use Rattle.message_model.specs.Spelling.{payload_spelling}
 use Rattle.stream_model.specs.Messages.{nibble_of, extension_of, lengths_spelling}
 use Rattle.stream_reader.specs.declared.frames.Frame.{Frame}
-use Rattle.coap_stream.specs.Spoken.{frame_spelling}
+use Rattle.coap_stream.specs.Spoken.{IsPut, frame_spelling}
 
--- A piece more of what is left.
-pub more_written : (old mid new : Option (List ℕ)) (at n : ℕ) (bytes : List ℕ)
-    → Appends old mid (take at bytes)
-    → Appends mid new (take n (take (length bytes - at) (drop at bytes)))
-    → Appends old new (take (at + n) bytes)
-more_written old mid new at n bytes first second =
-    let rest : take (length bytes - at) (drop at bytes) ≡ drop at bytes =
-    take_all _ _ (omega (arith, length-drop at bytes)) in
-    let whole :
-    take at bytes ++ take n (take (length bytes - at) (drop at bytes)) ≡ take (at + n) bytes =
-    ap (λ (l : List ℕ). take at bytes ++ take n l) rest ∙ sym (take-add at n bytes) in
-    subst (Appends old new) whole (Appends-trans old mid new _ _ first second)
+-- What was written of octets: all, or a front that is no longer than they are.
+pub is_put : (before now : Option (List ℕ)) (faults faults_then : ℕ) (octets bytes : List ℕ)
+    (all : Bool)
+    → octets ≡ bytes
+    → (all ≡ true → Appends before now octets)
+    → (n : ℕ) × Appends before now (take n octets)
+    → CountsAll faults faults_then all
+    → IsPut before now faults faults_then bytes all
+is_put before now faults faults_then octets bytes true same whole front counts =
+    (subst (Appends before now) same (whole refl), counts)
+is_put before now faults faults_then octets bytes false same whole front counts = (
+  (min front.0 (length bytes), omega arith, subst (Appends before now) cut front.1),
+  counts.0,
+  counts.1,
+)
+  where
+    cut : take front.0 octets ≡ take (min front.0 (length bytes)) bytes
+    cut = ap (take front.0) same ∙ sym (take_min front.0 bytes)
 
 -- ---- a message
 

@@ -36,6 +36,7 @@ use Rattle.std.proofs.Common.{
 }
 use Rattle.std.specs.Io.KnownBytes.{Appends}
 use Rattle.std.proofs.KnownBytes.{Appends-trans, Appends-nil}
+use Rattle.std.proofs.lemmas.Bool.{le-ltb}
 use Rattle.std.proofs.lemmas.List.{length-append, take-append-le}
 use Rattle.std.proofs.Math.Seq.{take-append-add}
 use Rattle.std.specs.List.{slice_get}
@@ -50,10 +51,12 @@ use Rattle.message_model.specs.Spelling.{
   payload_spelling,
   spelling,
 }
+use Rattle.message_model.specs.Reading.{reading}
+use Rattle.coap_message.specs.PartialMessages.{longest_datagram}
 use Rattle.stream_model.specs.Messages.{nibble_of, extension_of, lengths_spelling}
 use Rattle.coap_stream.specs.Spoken.{IsPut}
 use Rattle.coap_stream.specs.Made.{VoiceSeen, Speaks, SpeaksBy}
-use Rattle.coap_stream.specs.Talks.{carried, reply_of, replies_to}
+use Rattle.coap_stream.specs.Talks.{carried, carried_in, carried_of, reply_of, replies_to}
 
 -- Nothing is said.
 pub Speaks-none : (v : VoiceSeen) → Speaks v [] v
@@ -203,3 +206,11 @@ carried_fits m d spelled short =
     let whole =
     length-append m.token (options_spelling 0 m.options ++ payload_spelling m.payload) in
     (omega (arith, size), omega (arith, behind, whole), omega (arith, size, behind, short))
+
+-- What is carried of a datagram that is read, and is no longer than one may be.
+pub carried_of-read : (d : List ℕ) (m : Message)
+    → Ok m ≡ reading d
+    → length d ≤ longest_datagram
+    → carried m ≡ carried_of d
+carried_of-read d m is short =
+    rw (le-ltb longest_datagram (length d) short) (ap carried_in is)

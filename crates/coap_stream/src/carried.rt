@@ -9,10 +9,10 @@ ghost use Rattle.coap_stream.specs.Made.{Speaks, voice_seen};
 ghost use Rattle.coap_stream.specs.Spoken.{FitsRoom, IsPut, frame_spelling};
 ghost use Rattle.coap_stream.specs.Talks as spec;
 
-use crate::spoken::{MAX_SPOKEN, put_lengths, put_octets, write_all, write_frame};
+use crate::spoken::{MAX_SPOKEN, put_lengths, put_octets, write_frame};
 use coap_message::{View, view};
 use message_model::MAX_MESSAGE_SIZE;
-use rd_base::{Peer, Sink};
+use rd_base::{Peer, Sink, write_all};
 use rd_desk::Outbox;
 use stream_reader::Frame;
 

@@ -6,10 +6,9 @@ ghost use Rattle.coap_stream.specs.Serving.{Concludes, NeverFail, ServesAll, Ser
 ghost use Rattle.coap_stream.specs.Serving.{ServesStreams, out_seen, talked_line};
 
 use crate::doors::{Accept, Opened};
-use crate::spoken::write_all;
 use crate::talked::{TalkFault, Talked};
 use crate::talks::converse;
-use rd_base::{Bytes, Sink, Starved};
+use rd_base::{Bytes, Sink, Starved, write_all};
 use rd_seat::{Gate, Hall, Seat};
 use std::alloc::Global;
 use std::sync::Wait;

@@ -6,27 +6,12 @@ ghost use Rattle.stream_model.specs.Messages as messages;
 ghost use Rattle.coap_stream.specs.Spoken.{FitsRoom, IsPut, frame_spelling};
 
 use message_model::{MAX_MESSAGE_SIZE, PAYLOAD_MARKER};
-use rd_base::{Put, Sink};
+use rd_base::{Sink, write_all};
 use stream_model::{FIRST_EXTENDED, FIRST_LONG};
 use stream_reader::Frame;
 
 /// The most octets of a message that is written: those of a datagram, and four of the lengths.
 pub(crate) const MAX_SPOKEN: usize = MAX_MESSAGE_SIZE + 4;
-
-/// Writes all octets. False: the output failed, when a front of them was written.
-pub(crate) fn write_all<K: Sink>(out: &mut K, octets: &[u8]) -> bool
-    ensures { IsPut (K.holds out.old) (K.holds out.new) (K.faults out.old) (K.faults out.new)
-        octets.now result }
-{
-    let mut at = 0;
-    'pieces: while at < octets.len() {
-        match out.write(&octets[at..]) {
-            Put::Took(n) => at += n,
-            Put::Failed => return false,
-        }
-    }
-    true
-}
 
 /// Puts octets behind those before a place, and gives the place behind them.
 pub(crate) fn put_octets(octets: &mut [u8], at: usize, piece: &[u8]) -> usize

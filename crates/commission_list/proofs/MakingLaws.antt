@@ -45,7 +45,7 @@ use Rattle.commissioner.specs.declared.polls.Polled.TheVariants as polled
 use Rattle.commissioner.specs.declared.steps.Step.{Step}
 use Rattle.commissioner.specs.Shares.{share, said, said_all}
 use Rattle.commissioner.specs.Happening.{HappensAll, AreOpen, is_unsaid, KeepsDecided}
-use Rattle.commissioner.specs.Commissioning.{StandsFor, IsPolled, KeepsPolled}
+use Rattle.commissioner.specs.Commissioning.{Ends, StandsFor, IsPolled, KeepsPolled}
 use Rattle.commissioner.proofs.AsideLaws.{there_at}
 use Rattle.commissioner.proofs.BeginLaws.{kept_said}
 use Rattle.commissioner.proofs.MadeLaws.{happens_both}
@@ -57,6 +57,7 @@ use Rattle.commission_list.specs.Endings.{IsFrontOf}
 use Rattle.commission_list.specs.Printing.{line_text, front_text}
 use Rattle.commission_list.specs.Makings.{
   lines_after,
+  IsStarved,
   Makes,
   MakesOut,
   MakesBack,
@@ -285,7 +286,7 @@ module _ (asks : List Ask) (past : List Step) (text : List ℕ) (lines after : L
           made.more,
           made.last,
           made.happens,
-          made.ends.2,
+          made.ends,
           append-nil text
               ∙ printed_front 1 outcomes k text prints.printed prints.front
               ∙ ap (front_text 1) (sym same ∙ made.said),
@@ -300,7 +301,7 @@ module _ (asks : List Ask) (past : List Step) (text : List ℕ) (lines after : L
           made.more,
           made.last,
           made.happens,
-          inr made.ends.1,
+          inr made.ends,
           subst (λ (t : List ℕ). IsFrontOf t (lines_after asks (made.more ++ past)))
               (sym (append-nil text ∙ printed_front 1 outcomes k text prints.printed prints.front
               ∙ ap (front_text 1) (sym same ∙ made.said)))
@@ -507,7 +508,7 @@ makes_later asks past xs status.Link a b c text h makes =
       makes.0 ++ xs,
       makes.1,
       happens_both asks past xs makes.0 a b makes.1 h makes.2,
-      makes.3,
+      subst (λ (p : List Step). Ends asks p (Some fault.Link) makes.1 c) same makes.3,
       subst (λ (p : List Step). text ≡ lines_after asks p) same makes.4,
     )
 makes_later asks past xs status.WriteFault a b c text h makes =
@@ -521,7 +522,7 @@ makes_later asks past xs status.Memory a b c text h makes =
       makes.0 ++ xs,
       makes.1,
       happens_both asks past xs makes.0 a b makes.1 h makes.2,
-      makes.3,
+      subst (λ (p : List Step). IsStarved asks p makes.1 c) same makes.3,
       subst (λ (p : List Step). IsFrontOf text (lines_after asks p)) same makes.4,
     )
 makes_later asks past xs status.ReadFault a b c text h makes = makes

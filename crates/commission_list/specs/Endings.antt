@@ -4,9 +4,6 @@ use Rattle.std.specs.Prelude.{
   ◌⊎◌,
   ℕ,
   ◌≤◌,
-  Bool,
-  true,
-  false,
   List,
   [],
   ◌++◌,
@@ -86,8 +83,3 @@ CountsReads before now _ = now ≡ before
 abbrev pub CountsWrites : ℕ → ℕ → CommissionStatus → Type 0
 CountsWrites before now status.WriteFault = (before ≤ now) × Rose before now
 CountsWrites before now _ = now ≡ before
-
--- not all was written only where the count rose, and otherwise it stands
-abbrev pub CountsAll : ℕ → ℕ → Bool → Type 0
-CountsAll before now true = now ≡ before
-CountsAll before now false = (before ≤ now) × Rose before now

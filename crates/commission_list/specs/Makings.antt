@@ -29,13 +29,12 @@ use Rattle.client_model.specs.declared.asks.Ask.{Ask}
 use Rattle.client_model.specs.declared.outcomes.Outcome.{Outcome}
 use Rattle.registrant.specs.declared.turns.TellFault.{TellFault}
 use Rattle.registrant.specs.declared.turns.TellFault.TheVariants as fault
-use Rattle.registrant.specs.Turns.{Outside, Fails}
+use Rattle.registrant.specs.Turns.{Outside}
 use Rattle.commissioner.specs.declared.lines.Line.{Line}
 use Rattle.commissioner.specs.declared.steps.Step.{Step}
 use Rattle.commissioner.specs.Shares.{said_all}
-use Rattle.commissioner.specs.Lines.{IsLost}
-use Rattle.commissioner.specs.Happening.{HappensAll, Unheard, is_unsaid}
-use Rattle.commissioner.specs.Commissioning.{StandsFor}
+use Rattle.commissioner.specs.Happening.{HappensAll, is_unsaid}
+use Rattle.commissioner.specs.Commissioning.{Ends, StandsFor}
 use Rattle.commission_list.specs.declared.listing.ListFault.{ListFault}
 use Rattle.commission_list.specs.declared.listing.ListFault.TheVariants as stop
 use Rattle.commission_list.specs.declared.making.PrintFault.{PrintFault}
@@ -52,14 +51,17 @@ use Rattle.commission_list.specs.Printing.{line_text, front_text}
 abbrev pub lines_after : List Ask → List Step → List ℕ
 lines_after asks past = front_text 1 (said_all asks 0 past)
 
--- memory ran out: at a line of output, as a datagram was heard, or where a talk was to begin
-abbrev pub IsStarved : Outside → Outside → Type 0
-IsStarved last after = (after ≡ last) ⊎ (Unheard last after ⊎ IsLost last after)
+-- memory ran out: at a line of output; or, where an ask was undecided, as a datagram was heard or a
+-- talk was to begin
+abbrev pub IsStarved : List Ask → List Step → Outside → Outside → Type 0
+IsStarved asks past last after =
+    (after ≡ last) ⊎ Ends asks past (Some fault.Starved) last after
 
 -- What the making of asks came to after what happened before, and what was written of it. Where it
 -- is done each ask is decided, and the line of each was written, in the order of the list. Where a
--- receive failed the lines of those were written before which all are decided. Otherwise a front
--- of these was.
+-- receive failed an ask was undecided and none was to begin, and the lines of those were written
+-- before which all are decided. Otherwise a front of these was. No event came after all were
+-- decided (`HappensAll`).
 abbrev pub Makes : List Ask
     → List Step
     → CommissionStatus
@@ -76,7 +78,7 @@ Makes asks past status.Link before after text =
     (more : List Step)
     × (last : Outside)
     × HappensAll asks past more before last
-    × Fails last after
+    × Ends asks (more ++ past) (Some fault.Link) last after
     × (text ≡ lines_after asks (more ++ past))
 Makes asks past status.WriteFault before after text =
     (more : List Step)
@@ -86,7 +88,7 @@ Makes asks past status.Memory before after text =
     (more : List Step)
     × (last : Outside)
     × HappensAll asks past more before last
-    × IsStarved last after
+    × IsStarved asks (more ++ past) last after
     × IsFrontOf text (lines_after asks (more ++ past))
 Makes asks past status.ReadFault before after text = ⊥
 Makes asks past status.Usage before after text = ⊥
@@ -120,6 +122,17 @@ MakesBack told asks s None link clock holds now = ⊥
 MakesBack told asks s (Some ends) link clock holds now =
     MakesOut asks s (told link clock) (told ends.0 ends.1) holds now
 
+-- nothing was written, and the link and the clock came back as they were handed in, so that nothing
+-- was sent
+abbrev pub IsUnmade : {L C : Type 0}
+    → Option (L × C)
+    → L
+    → C
+    → Option (List ℕ)
+    → Option (List ℕ)
+    → Type 0
+IsUnmade back link clock holds now = Appends holds now [] × (back ≡ Some (link, clock))
+
 -- what the making of asks that were listed came to, where they were read, and what was written
 abbrev pub IsMadeOf : {L C : Type 0}
     → (L → C → Outside)
@@ -131,8 +144,9 @@ abbrev pub IsMadeOf : {L C : Type 0}
     → Option (List ℕ)
     → Option (List ℕ)
     → Type 0
-IsMadeOf told (Err first) s back link clock holds now = Appends holds now []
-IsMadeOf told (Ok asks) status.ReadFault back link clock holds now = Appends holds now []
+IsMadeOf told (Err first) s back link clock holds now = IsUnmade back link clock holds now
+IsMadeOf told (Ok asks) status.ReadFault back link clock holds now =
+    IsUnmade back link clock holds now
 IsMadeOf told (Ok asks) s back link clock holds now =
     MakesBack told asks s back link clock holds now
 

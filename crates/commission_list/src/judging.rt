@@ -1,6 +1,5 @@
 //! One line of a list: what it asks for, or why it is bad.
-ghost use Rattle.std.specs.Prelude.{◌≡◌, ◌≤◌, Ok, IfOk, option_map};
-ghost use Rattle.trace_text.specs.Fields.{fields_of_cut};
+ghost use Rattle.std.specs.Prelude.{◌≡◌, ◌≤◌, Ok, IfOk};
 ghost use Rattle.line_model.specs.Lines.{fields};
 ghost use Rattle.client_model.specs.Requests.{CanBeSent};
 ghost use Rattle.commission_list.specs.declared.judging.TheConstants.{MAX_LINES};
@@ -12,7 +11,7 @@ use rd_base::Bytes;
 use registrant::{Ask, AskBad, register_ask};
 use std::alloc::Global;
 use std::str;
-use trace_text::offset_of;
+use trace_text::cut;
 
 /// The most lines of a list.
 pub const MAX_LINES: u64 = 1024;
@@ -40,17 +39,6 @@ pub(crate) enum LineFault {
     Bad(AskLine),
     /// Memory ran out.
     Starved,
-}
-
-/// What stands before the first space of a text, and what stands after it.
-fn cut(text: &[u8]) -> Option<(&[u8], &[u8])>
-    ensures { fields text.now
-        ≡ fields_of_cut text.now (option_map (λ p. (p.0.now, p.1.now)) result) }
-{
-    match offset_of(b' ', text) {
-        None => None,
-        Some(at) => Some((&text[..at], &text[at + 1..])),
-    }
 }
 
 /// The body that a text writes: `-` for the empty one, or octets in digits of either case.

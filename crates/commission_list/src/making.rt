@@ -20,9 +20,8 @@ ghost use Rattle.commission_list.specs.Makings.{CountsStatus, CountsBack, MakesB
 
 use crate::CommissionStatus;
 use crate::printing::push_line;
-use crate::reports::write_all;
 use commissioner::{Asks, Going, Polled, TellFault, poll_once, start};
-use rd_base::{Bytes, Sink, Starved};
+use rd_base::{Bytes, Sink, Starved, write_all};
 use registrant::Outcome;
 use std::alloc::{AllocGlobal, Global};
 use std::sync::Wait;

@@ -1,30 +1,13 @@
 //! Octets that are written, and what is said of a status.
-ghost use Rattle.std.specs.Prelude.{◌≡◌, ◌≤◌, ℕ, true, take, drop, decimal, flat_map};
-ghost use Rattle.std.specs.Io.KnownBytes.{Appends};
+ghost use Rattle.std.specs.Prelude.{◌≡◌, ◌≤◌, drop, decimal, flat_map};
 ghost use Rattle.commission_list.specs.Endings as ends;
 
 use crate::{AskLine, CommissionStatus};
 use itoa::write_digits;
-use rd_base::{Put, Sink};
+use rd_base::{Sink, write_all};
 
 /// The digits that a number of 64 bits has at most.
 const DIGITS: usize = 20;
-
-/// Writes all of some octets, in as many pieces as the sink takes them.
-pub(crate) fn write_all<K: Sink>(out: &mut K, bytes: &[u8]) -> bool
-    ensures all { result ≡ true → Appends (K.holds out.old) (K.holds out.new) bytes.now }
-    ensures front { (n : ℕ) × Appends (K.holds out.old) (K.holds out.new) (take n bytes.now) }
-    ensures cause { ends.CountsAll (K.faults out.old) (K.faults out.new) result }
-{
-    let mut at = 0;
-    'pieces: while at < bytes.len() {
-        match out.write(&bytes[at..]) {
-            Put::Took(n) => at += n,
-            Put::Failed => return false,
-        }
-    }
-    true
-}
 
 /// The name of a reason.
 fn reason_name(why: AskLine) -> &'static [u8]

@@ -85,8 +85,9 @@ use Rattle.commissioner.specs.Happening.{
   AreHanded,
   IsTaken,
   CountsTaken,
+  is_unsaid,
 }
-use Rattle.commissioner.proofs.BeginLaws.{none_due}
+use Rattle.commissioner.proofs.BeginLaws.{none_due, kept_said}
 use Rattle.commissioner.proofs.ShareLaws.{share_event, said_stays, said_silent}
 use Rattle.commissioner.proofs.SendLaws.{sends_both, sends_as}
 
@@ -578,6 +579,7 @@ pub taken_by : (r : Result Unit TellFault) (asks : List Ask) (past : List Step)
     (sent : Option (List Datagram)) (faults : ℕ)
     → AreOpen past asks 0 old outcomes
     → AllBegun [] old
+    → is_unsaid outcomes ≡ true
     → WhereTold (TakesEvent e) before.coming after.coming
     → IsTimed (moment_at e) before.times after.times
     → Stays before.words after.words
@@ -586,10 +588,13 @@ pub taken_by : (r : Result Unit TellFault) (asks : List Ask) (past : List Step)
     → faults ≡ before.send_faults
     → AreHanded asks past outcomes e r new sent faults after.gone after.send_faults
     → IsTaken asks past outcomes r new before after
-taken_by (Ok u) asks past outcomes old new e before after sent faults are begun takes timed words
-    receives stays same handed = (
+taken_by (Ok u) asks past outcomes old new e before after sent faults are begun unsaid takes timed
+    words receives stays same handed = (
       e,
       record {
+        unsaid =
+            subst (λ (os : List (Option Outcome)). is_unsaid os ≡ true)
+            (kept_said asks 0 past old outcomes are) unsaid;
         due = none_due [] asks 0 past old outcomes are begun;
         takes = takes;
         timed = timed;
@@ -602,7 +607,7 @@ taken_by (Ok u) asks past outcomes old new e before after sent faults are begun 
       handed.0,
     )
 taken_by (Err fault.Starved) asks past outcomes old new (event.Came now peer octets) before after
-    sent faults are begun takes timed words receives stays same handed = record {
+    sent faults are begun unsaid takes timed words receives stays same handed = record {
       lost = (peer, octets);
       coming = takes;
       now = now;
@@ -616,10 +621,10 @@ taken_by (Err fault.Starved) asks past outcomes old new (event.Came now peer oct
     }
 taken_by (Err fault.Starved) asks past outcomes old new
     (event.Tick now) before after sent faults are
-    begun takes timed words receives stays same handed =
+    begun unsaid takes timed words receives stays same handed =
     absurd handed.0
 taken_by (Err fault.Link) asks past outcomes old new e before after sent faults are begun
-    takes timed
+    unsaid takes timed
     words receives stays same handed =
     absurd handed
 

@@ -174,16 +174,20 @@ pub polled_unheard : (asks : List Ask) (past xs : List Step) (lines : List Line)
     → is_unsaid outcomes ≡ true
     → HappensAll asks past xs a b
     → AreOpen (xs ++ past) asks 0 lines outcomes
+    → AllBegun [] lines
     → Unheard b c
     → IsMade asks past outcomes (Some fault.Starved) a c
-polled_unheard asks past xs lines outcomes a b c some h are unheard =
+polled_unheard asks past xs lines outcomes a b c some h are begun unheard =
     let said = kept_said asks 0 (xs ++ past) lines outcomes are in
     record {
       more = xs;
       last = b;
       happens = h;
       said = said;
-      ends = (unsaid_as asks (xs ++ past) outcomes true said some, inl unheard);
+      ends = (
+        unsaid_as asks (xs ++ past) outcomes true said some,
+        inl (none_due [] asks 0 (xs ++ past) lines outcomes are begun, unheard),
+      );
     }
 
 pub polled_lost : (asks : List Ask) (past xs : List Step)
@@ -338,6 +342,7 @@ pub stepped : (asks : List Ask) (past : List Step) (items lent begun again lines
     → ((asks : List Ask) (past : List Step) (outcomes : List (Option Outcome))
     → AreOpen past asks 0 again outcomes
     → AllBegun [] again
+    → is_unsaid outcomes ≡ true
     → IsTaken asks past outcomes r lines b c)
     → Stepped asks past outcomes r lines a c
 stepped asks past items lent begun again lines outcomes r a b c stands same same_again begins
@@ -356,7 +361,8 @@ stepped asks past items lent begun again lines outcomes r a b c stands same same
           takes asks (so.0 ++ past) outcomes
           (subst (λ (ls : List Line). AreOpen (so.0 ++ past) asks 0 ls outcomes) (sym same_again)
           so.2)
-          (subst (λ (ls : List Line). AllBegun [] ls) (sym same_again) so.3);
+          (subst (λ (ls : List Line). AllBegun [] ls) (sym same_again) so.3)
+          stands.some;
     }
 
 pub stepped_fault : (asks : List Ask) (past : List Step) (items lines : List Line)
@@ -369,7 +375,7 @@ stepped_fault asks past items lines outcomes fault.Link a c stands s =
     s.taken
 stepped_fault asks past items lines outcomes fault.Starved a c stands s =
     polled_unheard asks past s.more s.begun outcomes a s.between c stands.some s.happens s.kept
-    s.taken
+    s.all s.taken
 
 -- the lines that are put aside then
 pub stepped_lines : (asks : List Ask) (past : List Step) (lines written : List Line)

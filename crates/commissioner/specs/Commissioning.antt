@@ -41,7 +41,7 @@ use Rattle.commissioner.specs.Happening.{
 }
 
 -- how it ended after what happened: each ask was decided; or one was not, and a receive failed, or
--- memory ran out
+-- memory ran out. A receive is made only where no ask is to begin
 abbrev pub Ends : List Ask → List Step → Option TellFault → Outside → Outside → Type 0
 Ends asks past None before after =
     (is_unsaid (said_all asks 0 past) ≡ false) × (after ≡ before)
@@ -50,7 +50,8 @@ Ends asks past (Some fault.Link) before after =
     × (first_due [] asks 0 past ≡ None)
     × Fails before after
 Ends asks past (Some fault.Starved) before after =
-    (is_unsaid (said_all asks 0 past) ≡ true) × (Unheard before after ⊎ IsLost before after)
+    (is_unsaid (said_all asks 0 past) ≡ true)
+    × (((first_due [] asks 0 past ≡ None) × Unheard before after) ⊎ IsLost before after)
 
 -- what a list of asks came to over a link and a clock: these steps happened, so it ended, and what
 -- became of each ask is the verdict of its share

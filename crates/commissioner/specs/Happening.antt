@@ -55,6 +55,10 @@ use Rattle.commissioner.specs.Shares.{
 }
 use Rattle.commissioner.specs.Lines.{IsOpen, IsLine, IsLost, IsDatagram}
 
+-- an ask is not decided
+abbrev pub is_unsaid : List (Option Outcome) → Bool
+is_unsaid outcomes = list_any is_none outcomes
+
 -- ---- a step
 
 -- the talk of the first ask that is to begin began: at the next moment of the clock, with its next
@@ -80,10 +84,11 @@ pub record Begins
   pub coming : Stays before.coming after.coming
   pub receives : after.recv_faults ≡ before.recv_faults
 
--- an event came, when no ask was to begin: it is made of what is coming, at the next moment of the
--- clock, and what it makes go was sent
+-- an event came, when an ask was undecided and none was to begin: it is made of what is coming, at
+-- the next moment of the clock, and what it makes go was sent
 pub record Comes (asks : List Ask) (past : List Step) (e : Event) (before after : Outside)
     : Type 0 where
+  pub unsaid : is_unsaid (said_all asks 0 past) ≡ true
   pub due : first_due [] asks 0 past ≡ None
   pub takes : WhereTold (TakesEvent e) before.coming after.coming
   pub timed : IsTimed (moment_at e) before.times after.times
@@ -226,10 +231,6 @@ IsTaken asks past outcomes (Ok x) lines before after =
     × AreLines (step.Happened e ∷ past) asks 0 lines outcomes
 IsTaken asks past outcomes (Err fault.Link) lines before after = Fails before after
 IsTaken asks past outcomes (Err fault.Starved) lines before after = Unheard before after
-
--- an ask is not decided
-abbrev pub is_unsaid : List (Option Outcome) → Bool
-is_unsaid outcomes = list_any is_none outcomes
 
 -- what was decided is so still, and no ask is more or less
 abbrev pub KeepsDecided : List (Option Outcome) → List (Option Outcome) → Type 0

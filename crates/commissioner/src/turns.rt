@@ -1,5 +1,5 @@
 //! One receive, and what it is to the talks that run.
-ghost use Rattle.std.specs.Prelude.{◌≡◌, ◌≤◌, List, [], Option, length, take};
+ghost use Rattle.std.specs.Prelude.{◌≡◌, ◌≤◌, true, List, [], Option, length, take};
 ghost use Rattle.udp_link.specs.declared.links.TheConstants.{MAX_DATAGRAM};
 ghost use Rattle.udp_link.specs.Told.{Stays};
 ghost use Rattle.client_model.specs.declared.asks.Ask.{Ask};
@@ -8,7 +8,7 @@ ghost use Rattle.registrant.specs.Turns.{seen};
 ghost use Rattle.commissioner.specs.declared.steps.Step.{Step};
 ghost use Rattle.commissioner.specs.Lines.{event_of, IsNoLink};
 ghost use Rattle.commissioner.specs.Happening.{AreOpen, AllBegun, IsTaken, AreHanded};
-ghost use Rattle.commissioner.specs.Happening.{CountsTaken};
+ghost use Rattle.commissioner.specs.Happening.{CountsTaken, is_unsaid};
 
 use crate::lines::{Line, Taken};
 use registrant::TellFault;
@@ -57,6 +57,7 @@ pub(crate) fn take_event<L: Link, C: Clock>(
     ensures taken { (asks : List Ask) (past : List Step) (outcomes : List (Option Outcome))
         → AreOpen past asks 0 lines.old outcomes
         → AllBegun [] lines.old
+        → is_unsaid outcomes ≡ true
         → IsTaken asks past outcomes result lines.new
         (seen L.coming L.gone L.recv_faults L.send_faults C.times C.words link.old clock.old)
         (seen L.coming L.gone L.recv_faults L.send_faults C.times C.words link.new clock.new) }

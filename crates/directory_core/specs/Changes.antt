@@ -29,8 +29,8 @@ pub record IsUpdateOf (now : Moment) (number : ℕ) (given : UpdateParams) (peer
   pub change : entry.change ≡ kind.Update number given
 
 -- the entry gives the registration of this number these links at this moment, from any peer
-pub record IsReplacementOf (now : Moment) (number : ℕ) (links : List SubmittedLink) (entry : Entry) :
-    Type 0 where
+pub record IsReplacementOf (now : Moment) (number : ℕ) (links : List SubmittedLink)
+    (entry : Entry) : Type 0 where
   pub moment : entry.moment ≡ now
   pub change : entry.change ≡ kind.Replace number links
 

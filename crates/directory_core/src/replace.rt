@@ -20,7 +20,14 @@ use std::alloc::Global;
 
 /// What other links make of a record, as a draft under its name: they are resolved against its
 /// base, and all else of it stays.
-#[tactic(auto, unfolding(history_model::specs::Replay::replaced, registration::specs::Drafts::recorded))]
+#[rattlefmt::skip]
+#[tactic(
+    auto,
+    unfolding(
+        history_model::specs::Replay::replaced,
+        registration::specs::Drafts::recorded
+    )
+)]
 fn replaced_draft(alloc: Global, old: &Record, links: &Submitted) -> Result<Draft, Starved>
     requires lasting { (0 < old.now.lt) × (old.now.lt < 2 ^ 32) }
     requires base { is_base old.now.base ≡ true }

@@ -54,6 +54,12 @@ use Rattle.event_model.specs.Fetches.{
   fetch_of,
   fetches_running,
 }
+use Rattle.event_model.specs.Challenges.{
+  is_challenge,
+  challenges,
+  challenges_made,
+  latest_challenges,
+}
 use Rattle.event_model.proofs.NotedLaws.{event_at}
 use Rattle.event_model.proofs.AsideLaws.{notes_aside}
 
@@ -268,6 +274,34 @@ fetches_running-event octets e events other =
         (fetch_asked octets events peer) (λ x r. rw (same peer) refl)
         (last_request peer events)) (fetches events)
 
+-- challenges: a note that is none is about none of them
+latest_challenges-event : (e : Event) (events : List Event)
+    → is_challenge e.note ≡ false
+    → latest_challenges (e ∷ events) ≡ latest_challenges events
+unfolding latest_challenges
+latest_challenges-event e events other = by e.note other
+  where
+    by : (n : Note)
+        → is_challenge n ≡ false
+        → latest_challenges (event_at e.place e.moment e.word n ∷ events)
+        ≡ latest_challenges events
+    by (note.Challenged peer value) h = absurd cc
+    by _ h = refl
+
+-- how many were made
+challenges_made-event : (e : Event) (events : List Event)
+    → is_challenge e.note ≡ false
+    → challenges_made (e ∷ events) ≡ challenges_made events
+unfolding challenges_made challenges
+challenges_made-event e events other = by e.note other
+  where
+    by : (n : Note)
+        → is_challenge n ≡ false
+        → challenges_made (event_at e.place e.moment e.word n ∷ events)
+        ≡ challenges_made events
+    by (note.Challenged peer value) h = absurd cc
+    by _ h = refl
+
 -- ---- the notes of a row
 
 pub exchanges_at-noted : (now place moment word : ℕ) (notes : List Note) (events : List Event)
@@ -314,3 +348,19 @@ fetches_running-noted octets place moment word notes events none =
     notes_aside about_fetches (λ past. fetches_running octets past ≡ fetches_running octets events)
     (λ e past other h. fetches_running-event octets e past other ∙ h) place moment word notes
     events none refl
+
+pub latest_challenges-noted : (place moment word : ℕ) (notes : List Note) (events : List Event)
+    → list_any is_challenge notes ≡ false
+    → latest_challenges (noted place moment word notes events) ≡ latest_challenges events
+latest_challenges-noted place moment word notes events none =
+    notes_aside is_challenge (λ past. latest_challenges past ≡ latest_challenges events)
+    (λ e past other h. latest_challenges-event e past other ∙ h) place moment word notes events
+    none refl
+
+pub challenges_made-noted : (place moment word : ℕ) (notes : List Note) (events : List Event)
+    → list_any is_challenge notes ≡ false
+    → challenges_made (noted place moment word notes events) ≡ challenges_made events
+challenges_made-noted place moment word notes events none =
+    notes_aside is_challenge (λ past. challenges_made past ≡ challenges_made events)
+    (λ e past other h. challenges_made-event e past other ∙ h) place moment word notes events
+    none refl

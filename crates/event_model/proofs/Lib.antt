@@ -4,8 +4,8 @@
 -- entry), DueLaws (in the middle of a step). Observers: ObserverLaws (no two have one name),
 -- AddedObservers and ManyObservers (those that notes add), ObserverEvents (those that stand with
 -- one event more). With one event more: notices in flight (FlightLaws), the counters (CounterLaws),
--- and what a table of observers shows (StandingLaws). OnLiterals unfolds the definitions, so that
--- examples compute.
+-- challenges (ChallengeLaws: which value is good, too), and what a table of observers shows
+-- (StandingLaws). OnLiterals unfolds the definitions, so that examples compute.
 pub mod OnLiterals
 pub mod SameLaws
 pub mod KeptLaws
@@ -22,5 +22,6 @@ pub mod DueLaws
 pub mod FlightLaws
 pub mod ObserverEvents
 pub mod CounterLaws
+pub mod ChallengeLaws
 pub mod StandingLaws
 mod examples

@@ -23,6 +23,13 @@ use Rattle.event_model.specs.Fetches.{
   fetches_started,
   fetches_running,
 }
+use Rattle.event_model.specs.Challenges.{
+  challenges,
+  challenges_made,
+  next_challenge,
+  is_good,
+  latest_challenges,
+}
 
 -- the definitions of events
 unfoldable pub events_on_literals : ⊤
@@ -30,5 +37,6 @@ unfolding history_on_literals events_since last_said admissions kept repeated se
     upload live_upload uploads live_uploads uploads_at names_used kept_answer kept_answers_at
     observers has_room_for observe_value observe_values_sent last_body_formed deadline flight
     is_waited_for waiting_notice is_change_of is_due observers_standing fetches next_token gathered
-    collected fetch_deadline fetches_started fetches_running
+    collected fetch_deadline fetches_started fetches_running challenges challenges_made
+    next_challenge is_good latest_challenges
 events_on_literals = tt

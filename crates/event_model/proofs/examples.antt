@@ -1,1 +1,2 @@
 mod LimitExamples
+mod ChallengeExamples

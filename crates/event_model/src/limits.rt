@@ -14,3 +14,6 @@ pub const MAX_WATCHED: usize = 256;
 
 /// The most fetches that run.
 pub const MAX_FETCHES: usize = 64;
+
+/// How many of the latest challenges can be answered.
+pub const MAX_CHALLENGES: usize = 1_024;

@@ -106,4 +106,6 @@ pub enum Note {
     Waiting(Peer),
     /// The fetch of this peer ended.
     Ceased(Peer),
+    /// This peer was challenged: it is to send this value back (RFC 9175 section 2.3).
+    Challenged(Peer, LinkedList<u8>),
 }

@@ -1,13 +1,34 @@
 -- Which events of a journal a table of exchanges stands for (RFC 7252 section 4.5).
-use Rattle.std.specs.Prelude.{◌≡◌, ◌≢◌, ℕ, ◌≤◌, Bool, true, false, List, ◌∷◌, Option, Some, None}
+use Rattle.std.specs.Prelude.{
+  ◌≡◌,
+  ◌≢◌,
+  ℕ,
+  ◌≤◌,
+  ◌<◌,
+  Bool,
+  true,
+  false,
+  List,
+  ◌∷◌,
+  length,
+  Option,
+  Some,
+  None,
+}
 use Rattle.rd_base.specs.declared.peers.Peer.{Peer}
 use Rattle.event_model.specs.declared.notes.Note.TheVariants as note
 use Rattle.event_model.specs.Events.{Event}
 use Rattle.event_model.specs.AdmissionOrder.{IsOrderly, NoneAfter, IsNewPlace}
-use Rattle.event_model.specs.Repeats.{repeated, settled, is_full_of_exchanges, exchanges_at}
+use Rattle.event_model.specs.Repeats.{
+  max_exchanges,
+  repeated,
+  settled,
+  is_full_of_exchanges,
+  exchanges_at,
+}
 use Rattle.exchange_core.specs.declared.writes.Keyed.{Keyed}
 use Rattle.exchange_core.specs.declared.writes.Keyed.TheVariants as keyed
-use Rattle.exchange_core.specs.Table.{Table, young, repeating}
+use Rattle.exchange_core.specs.Table.{Table, admitted_now, young, repeating}
 
 -- a table stands for events at a moment: of its exchanges those that are young then are those that
 -- are kept then, with their answers
@@ -27,6 +48,25 @@ keyed_as None moment events = keyed_new (is_full_of_exchanges moment events)
 -- how a write of a peer under a Message ID is answered after these events
 unfoldable pub keyed_after : ℕ → Peer → ℕ → List Event → Keyed
 keyed_after moment peer mid events = keyed_as (repeated moment peer mid events) moment events
+
+-- a write of a peer under a Message ID was looked for in a table at a moment: how it would be
+-- answered, and that the table stands for what it stood for at that moment
+pub record IsFoundAt (now : ℕ) (peer : Peer) (mid : ℕ) (before after : Table) (answer : Keyed) :
+    Type 0 where
+  -- it would be answered as it is after those events
+  pub answered : (events : List Event)
+      → IsOrderly events
+      → NoneAfter now events
+      → ExchangesStandFor now events before
+      → answer ≡ keyed_after now peer mid events
+  -- the events stay as they are
+  pub aside : (events : List Event)
+      → ExchangesStandFor now events before
+      → ExchangesStandFor now events after
+  -- a repeat changes nothing
+  pub repeated : answer ≢ keyed.Fresh → answer ≢ keyed.FullExchanges → after ≡ before
+  -- the table was changed at no later moment
+  pub moment : after.moment ≤ now
 
 -- a write of a peer under a Message ID was handed to a table at a moment: how it is answered, and
 -- what the table stands for afterwards, whatever events the table stood for at that moment
@@ -54,3 +94,15 @@ pub record IsKeyedAt (now : ℕ) (peer : Peer) (mid : ℕ) (before after : Table
   pub repeated : answer ≢ keyed.Fresh → answer ≢ keyed.FullExchanges → after ≡ before
   -- the table was changed at no later moment
   pub moment : after.moment ≤ now
+
+-- a write of a peer under a Message ID is new at a moment, and the table that is left has room for
+-- it: it would be answered so, and so it is once it is the latest of the exchanges
+pub record MayBeAdmitted (now : ℕ) (peer : Peer) (mid : ℕ) (before after : Table) : Type 0 where
+  pub found : IsFoundAt now peer mid before after keyed.Fresh
+  pub room : length after.exchanges < max_exchanges
+  -- the table was changed now
+  pub moment : after.moment ≡ now
+  pub admitted : (more : Table)
+      → more.exchanges ≡ admitted_now peer mid now ∷ after.exchanges
+      → more.moment ≡ after.moment
+      → IsKeyedAt now peer mid before more keyed.Fresh

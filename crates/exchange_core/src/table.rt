@@ -1,5 +1,7 @@
 //! The table of exchanges.
-ghost use Rattle.std.specs.Prelude.{◌≡◌, ◌≢◌, ℕ, ◌≤◌, [], ◌∷◌, List, IfOk, find, option_map};
+ghost use Rattle.std.specs.Prelude.{◌≡◌, ◌≢◌, ℕ, ◌≤◌, [], ◌∷◌, List, IfOk, IfSome, find};
+ghost use Rattle.std.specs.Prelude.{option_map};
+ghost use Rattle.std.specs.Option.{IfNone};
 ghost use Rattle.rd_base.specs.declared.peers.Peer.{Peer};
 ghost use Rattle.event_model.specs.declared.notes.Note.TheVariants as note;
 ghost use Rattle.event_model.specs.Events.{Event};
@@ -7,7 +9,8 @@ ghost use Rattle.rd_base.specs.Firsts.{changed_first, without_first};
 ghost use Rattle.exchange_core.specs.Table.{is_with, is_admitted_at, InOrder, young, repeat_among};
 ghost use Rattle.exchange_core.specs.Table.{answered};
 ghost use Rattle.event_model.specs.AdmissionOrder.{IsOpen};
-ghost use Rattle.exchange_core.specs.ExchangeEvents.{ExchangesStandFor, IsKeyedAt};
+ghost use Rattle.exchange_core.specs.ExchangeEvents.{ExchangesStandFor, IsFoundAt, IsKeyedAt};
+ghost use Rattle.exchange_core.specs.ExchangeEvents.{MayBeAdmitted};
 
 use crate::exchange_queue::ExchangeQueue;
 use crate::{Exchange, Keyed, Reply};
@@ -50,6 +53,38 @@ impl Exchanges {
         })
     }
 
+    /// How a write is answered that is not to be admitted: it repeats another, or there is no room
+    /// for it. None where it is new and there is room; what is older than an exchange lives is
+    /// dropped then.
+    fn unadmitted(&mut self, now: Moment, peer: Peer, mid: u16) -> Option<Keyed>
+        requires { self.old.moment ≤ now.0 }
+        ensures some { IfSome result (λ keyed. IsKeyedAt now.0 peer mid self.old self.new keyed
+            × (keyed ≢ Keyed.Fresh)) }
+        ensures none { IfNone result (MayBeAdmitted now.0 peer mid self.old self.new) }
+    {
+        if let Some(repeat) = repeat_in(&self.queue, now, peer, mid) {
+            return Some(repeat);
+        }
+        self.age(now);
+        if self.queue.len() == MAX_EXCHANGES {
+            return Some(Keyed::FullExchanges);
+        }
+        None
+    }
+
+    /// How a write of a peer under a Message ID would be answered (RFC 7252 section 4.5): `Fresh`
+    /// says that it is new, and that there is room for it. It is not admitted. Now is not before
+    /// the moments that the table was changed at. Takes no memory.
+    pub fn find_key(&mut self, now: Moment, peer: Peer, mid: u16) -> Keyed
+        requires { self.old.moment ≤ now.0 }
+        ensures { IsFoundAt now.0 peer mid self.old self.new result }
+    {
+        match self.unadmitted(now, peer, mid) {
+            Some(keyed) => keyed,
+            None => Keyed::Fresh,
+        }
+    }
+
     /// How a write of a peer under a Message ID is answered (RFC 7252 section 4.5). One that is new
     /// is admitted now, in flight, if there is room. Now is not before the moments that the table
     /// was changed at. Takes no memory.
@@ -57,12 +92,8 @@ impl Exchanges {
         requires { self.old.moment ≤ now.0 }
         ensures { IsKeyedAt now.0 peer mid self.old self.new result }
     {
-        if let Some(repeat) = repeat_in(&self.queue, now, peer, mid) {
-            return repeat;
-        }
-        self.age(now);
-        if self.queue.len() == MAX_EXCHANGES {
-            return Keyed::FullExchanges;
+        if let Some(keyed) = self.unadmitted(now, peer, mid) {
+            return keyed;
         }
         self.queue.push(Exchange::in_flight(peer, mid, now));
         Keyed::Fresh

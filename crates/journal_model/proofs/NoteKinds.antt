@@ -19,6 +19,7 @@ of_lookup _ = false
 -- of writes as they are heard
 abbrev pub of_write : Note → Bool
 of_write (note.Admitted peer mid) = true
+of_write (note.Challenged peer value) = true
 of_write _ = false
 
 -- of empty messages

@@ -230,7 +230,7 @@ pub read_effects-notes : (rows : List Row) (moment : ℕ) (s : Step) (m : Messag
 read_effects-notes rows moment s m =
     read_lookup (read_effects rows moment s m).notes (read_effects-kept rows moment s m)
 
--- a write as it is heard: a repeat, one too many, or one that is admitted
+-- a write as it is heard: a repeat, one too many, one that is challenged, or one that is admitted
 pub write_effects-notes : (events : List Event) (moment : ℕ) (s : Step) (m : Message)
     → are of_write (write_effects events moment s m).notes ≡ true
 unfolding write_effects answering
@@ -240,13 +240,15 @@ write_effects-notes events moment s m = by _
     again None = refl
     again (Some octets) = refl
 
-    full : (b : Bool) → are of_write (admitted_unless b s m).notes ≡ true
-    full true = refl
-    full false = refl
+    new : (full unproved : Bool)
+        → are of_write (admitted_unless full unproved events s m).notes ≡ true
+    new true unproved = refl
+    new false true = refl
+    new false false = refl
 
     by : (first : Option Event) → are of_write (write_unless first events moment s m).notes ≡ true
     by (Some first) = again _
-    by None = full _
+    by None = new _ _
 
 -- one note or none
 empty_one : (b : Bool) (n : Note) → of_empty n ≡ true → are of_empty (cond b (n ∷ []) []) ≡ true

@@ -48,6 +48,7 @@ use Rattle.line_model.specs.Lines.{
   line_of,
   AreFieldsOf,
   comes,
+  comes_alone,
   goes,
   ticks,
   ticks_alone,
@@ -71,19 +72,41 @@ is_word : (verb : List ℕ) (word : List ℕ) → bytes_eq verb word ≡ true �
 is_word verb word e = (bytes_eq-Decides verb word).0 e
 
 module _ (verb w m : List ℕ) (l : Line) where
-  come_found : (p d : List ℕ)
+  come_found : (p d x : List ℕ)
       → verb ≡ codes "in"
-      → come_of w m p d ≡ Some l
+      → come_of w m p d (number_of max_word x) ≡ Some l
+      → AreFieldsOf (verb ∷ w ∷ m ∷ p ∷ d ∷ x ∷ []) l
+  unfolding come_of
+  come_found p d x is e =
+      option_and_then_some _ (number_of max_worker w) l e λ worker ew e1.
+      option_and_then_some _ (number_of max_moment m) l e1 λ ms em e2.
+      option_and_then_some _ (peer_of p) l e2 λ peer ep e3.
+      option_and_then_some _ (datagram_of d) l e3 λ octets ed e4.
+      option_and_then_some _ (number_of max_word x) l e4 λ word ex e5.
+      let spelled : AreFieldsOf (codes "in" ∷ w ∷ m ∷ p ∷ d ∷ x ∷ [])
+      (line.Come worker (record { 0 = ms }) peer octets word) =
+      comes (number_of-found max_worker w worker ew) (number_of-found max_moment m ms em)
+      ((peer_of-IsPeerText p peer).0 ep) (datagram_of-found d octets ed)
+      (number_of-found max_word x word ex)
+      in
+      subst (λ v. AreFieldsOf (v ∷ w ∷ m ∷ p ∷ d ∷ x ∷ []) l) (sym is)
+      (subst (AreFieldsOf (codes "in" ∷ w ∷ m ∷ p ∷ d ∷ x ∷ [])) (same_Some _ l e5)
+      spelled)
+
+  come_alone_found : (p d : List ℕ)
+      → verb ≡ codes "in"
+      → come_of w m p d (Some 0) ≡ Some l
       → AreFieldsOf (verb ∷ w ∷ m ∷ p ∷ d ∷ []) l
   unfolding come_of
-  come_found p d is e =
+  come_alone_found p d is e =
       option_and_then_some _ (number_of max_worker w) l e λ worker ew e1.
       option_and_then_some _ (number_of max_moment m) l e1 λ ms em e2.
       option_and_then_some _ (peer_of p) l e2 λ peer ep e3.
       option_and_then_some _ (datagram_of d) l e3 λ octets ed e4.
       let spelled : AreFieldsOf (codes "in" ∷ w ∷ m ∷ p ∷ d ∷ [])
-      (line.Come worker (record { 0 = ms }) peer octets) =
-      comes (number_of-found max_worker w worker ew) (number_of-found max_moment m ms em)
+      (line.Come worker (record { 0 = ms }) peer octets 0) =
+      comes_alone (number_of-found max_worker w worker ew)
+      (number_of-found max_moment m ms em)
       ((peer_of-IsPeerText p peer).0 ep) (datagram_of-found d octets ed)
       in
       subst (λ v. AreFieldsOf (v ∷ w ∷ m ∷ p ∷ d ∷ []) l) (sym is)
@@ -153,17 +176,34 @@ said_by-found (verb ∷ w ∷ m ∷ x ∷ []) l e =
     ]
 said_by-found (verb ∷ w ∷ m ∷ p ∷ d ∷ []) l e =
     elim (either_of (bytes_eq verb (codes "in")) _ _ (Some l) e) [
-      | inl h ↦ come_found verb w m l p d (is_word verb (codes "in") h.0) h.1
+      | inl h ↦ come_alone_found verb w m l p d (is_word verb (codes "in") h.0) h.1
       | inr h ↦ absurd (none-some l h.1)
     ]
-said_by-found (verb ∷ w ∷ m ∷ p ∷ d ∷ more ∷ parts) l e = absurd (none-some l e)
+said_by-found (verb ∷ w ∷ m ∷ p ∷ d ∷ x ∷ []) l e =
+    elim (either_of (bytes_eq verb (codes "in")) _ _ (Some l) e) [
+      | inl h ↦ come_found verb w m l p d x (is_word verb (codes "in") h.0) h.1
+      | inr h ↦ absurd (none-some l h.1)
+    ]
+said_by-found (verb ∷ w ∷ m ∷ p ∷ d ∷ x ∷ more ∷ parts) l e = absurd (none-some l e)
 
 -- what fields spell is what they say
 pub said_by-AreFieldsOf : (parts : List (List ℕ)) (l : Line)
     → AreFieldsOf parts l
     → said_by parts ≡ Some l
 unfolding said_by come_of go_of tick_of
-said_by-AreFieldsOf _ _ (comes {w} {m} {p} {d} {worker} {moment} {peer} {octets} hw hm hp hd) =
+said_by-AreFieldsOf _ _
+    (comes {w} {m} {p} {d} {x} {worker} {moment} {peer} {octets} {word} hw hm hp hd hx) =
+    rw (
+      number_of-IsNumber max_worker w worker hw (omega arith),
+      number_of-IsNumber max_moment m
+          moment.0 hm (omega arith),
+      (peer_of-IsPeerText p peer).1 hp,
+      datagram_of-IsDatagramText
+          d octets hd,
+      number_of-IsNumber max_word x word hx (omega arith),
+    )
+said_by-AreFieldsOf _ _
+    (comes_alone {w} {m} {p} {d} {worker} {moment} {peer} {octets} hw hm hp hd) =
     rw (
       number_of-IsNumber max_worker w worker hw (omega arith),
       number_of-IsNumber max_moment m
@@ -204,7 +244,23 @@ number_spaceless limit text n h small =
 fields_of_line : (parts : List (List ℕ)) (l : Line)
     → AreFieldsOf parts l
     → fields (joined parts) ≡ parts
-fields_of_line _ _ (comes {w} {m} {p} {d} {worker} {moment} {peer} {octets} hw hm hp hd) =
+fields_of_line _ _
+    (comes {w} {m} {p} {d} {x} {worker} {moment} {peer} {octets} {word} hw hm hp hd hx) =
+    fields-joined (codes "in") (w ∷ m ∷ p ∷ d ∷ x ∷ []) (refl, (refl, tt)) (
+      number_spaceless max_worker w worker hw (omega arith),
+      (
+        number_spaceless max_moment m moment.0 hm (omega arith),
+        (
+          subst HasNoSpace (sym hp.printed) (peer_spaceless peer hp.fits),
+          (
+            IsDatagramText_spaceless d octets hd,
+            (number_spaceless max_word x word hx (omega arith), tt),
+          ),
+        ),
+      ),
+    )
+fields_of_line _ _
+    (comes_alone {w} {m} {p} {d} {worker} {moment} {peer} {octets} hw hm hp hd) =
     fields-joined (codes "in") (w ∷ m ∷ p ∷ d ∷ []) (refl, (refl, tt)) (
       number_spaceless max_worker w worker hw (omega arith),
       (

@@ -50,6 +50,7 @@ use Rattle.line_model.specs.Lines.{
   tick_of,
   said_by,
   line_of,
+  word_fields,
   printed_fields,
   line_text,
   IsLine,
@@ -81,17 +82,30 @@ line_of_fields text l short said =
     (ok_or (said_by (fields text)) reason.Form) (le-ltb max_line (length text) short)
     ∙ ap (λ o. ok_or o reason.Form) said
 
--- the fields of each kind of line say it
-come_said : (worker : ℕ) (moment : Moment) (peer : Peer) (octets : List ℕ)
+-- a word of 0 is left out, and any other is not
+no_word : (word : ℕ) → word ≡ 0 → word_fields word ≡ []
+no_word word e = chosen_true (word == 0) [] (decimal word ∷ []) (eq-eqb word 0 e)
+
+some_word : (word : ℕ) → word ≢ 0 → word_fields word ≡ decimal word ∷ []
+some_word word e = chosen_false (word == 0) [] (decimal word ∷ []) (ne_eqb word 0 e)
+
+-- the fields of each kind of line say it: those of a datagram that comes, with the word left out or
+-- not
+come_0 : (worker : ℕ) (moment : Moment) (peer : Peer) (octets : List ℕ)
     → worker ≤ max_worker
     → moment.0 ≤ max_moment
     → IsPeer peer
     → length octets ≤ max_datagram
     → IsBytes octets
-    → said_by (printed_fields (line.Come worker moment peer octets))
-    ≡ Some (line.Come worker moment peer octets)
+    → said_by (codes "in"
+    ∷ decimal worker
+    ∷ decimal moment.0
+    ∷ peer_text peer
+    ∷ datagram_text octets
+    ∷ [])
+    ≡ Some (line.Come worker moment peer octets 0)
 unfolding said_by come_of
-come_said worker moment peer octets hw hm hp hs hb =
+come_0 worker moment peer octets hw hm hp hs hb =
     rw (
       number_of-decimal max_worker worker hw (omega arith),
       number_of-decimal max_moment moment.0
@@ -99,6 +113,59 @@ come_said worker moment peer octets hw hm hp hs hb =
       peer_of-peer_text peer hp,
       datagram_of-datagram_text octets hs hb,
     )
+
+come_word : (worker : ℕ) (moment : Moment) (peer : Peer) (octets : List ℕ) (word : ℕ)
+    → worker ≤ max_worker
+    → moment.0 ≤ max_moment
+    → IsPeer peer
+    → length octets ≤ max_datagram
+    → IsBytes octets
+    → word ≤ max_word
+    → said_by (codes "in"
+    ∷ decimal worker
+    ∷ decimal moment.0
+    ∷ peer_text peer
+    ∷ datagram_text octets
+    ∷ decimal word
+    ∷ [])
+    ≡ Some (line.Come worker moment peer octets word)
+unfolding said_by come_of
+come_word worker moment peer octets word hw hm hp hs hb hx =
+    rw (
+      number_of-decimal max_worker worker hw (omega arith),
+      number_of-decimal max_moment moment.0
+          hm (omega arith),
+      peer_of-peer_text peer hp,
+      datagram_of-datagram_text octets hs hb,
+      number_of-decimal max_word word hx (omega arith),
+    )
+
+come_said : (worker : ℕ) (moment : Moment) (peer : Peer) (octets : List ℕ) (word : ℕ)
+    → worker ≤ max_worker
+    → moment.0 ≤ max_moment
+    → IsPeer peer
+    → length octets ≤ max_datagram
+    → IsBytes octets
+    → word ≤ max_word
+    → said_by (printed_fields (line.Come worker moment peer octets word))
+    ≡ Some (line.Come worker moment peer octets word)
+come_said worker moment peer octets word hw hm hp hs hb hx =
+    let front : List (List ℕ) → List (List ℕ) =
+    λ ps.
+    codes "in"
+    ∷ decimal worker
+    ∷ decimal moment.0
+    ∷ peer_text peer
+    ∷ datagram_text octets
+    ∷ ps
+    in
+    elim (cases_eq word 0) [
+      | inl e ↦ ap (λ ps. said_by (front ps)) (no_word word e)
+          ∙ come_0 worker moment peer octets hw hm hp hs hb
+          ∙ ap (λ x. Some (line.Come worker moment peer octets x)) (sym e)
+      | inr e ↦ ap (λ ps. said_by (front ps)) (some_word word e)
+          ∙ come_word worker moment peer octets word hw hm hp hs hb hx
+    ]
 
 go_said : (worker : ℕ) (moment : Moment)
     → worker ≤ max_worker
@@ -140,16 +207,6 @@ tick_word worker moment word hw hm hx =
           hm (omega arith),
       number_of-decimal max_word word hx (omega arith),
     )
-
--- the fields after the moment
-abbrev word_fields : ℕ → List (List ℕ)
-word_fields word = if word == 0 then [] else decimal word ∷ []
-
-no_word : (word : ℕ) → word ≡ 0 → word_fields word ≡ []
-no_word word e = chosen_true (word == 0) [] (decimal word ∷ []) (eq-eqb word 0 e)
-
-some_word : (word : ℕ) → word ≢ 0 → word_fields word ≡ decimal word ∷ []
-some_word word e = chosen_false (word == 0) [] (decimal word ∷ []) (ne_eqb word 0 e)
 
 tick_said : (worker : ℕ) (moment : Moment) (word : ℕ)
     → worker ≤ max_worker
@@ -205,22 +262,22 @@ length-word before word n h small = elim (cases_eq word 0) [
 -- no printed line is too long
 pub length-line_text : (l : Line) → IsLine l → length (line_text l) ≤ max_line
 unfolding line_text
-length-line_text (line.Come worker moment peer octets) (come hw hm hp hs hb) =
-    let d = length-datagram_text octets hs in
+length-line_text (line.Come worker moment peer octets word) (come hw hm hp hs hb hx) =
+    let d = length-word (datagram_text octets) word 8192 (length-datagram_text octets hs) hx in
     let p =
-    length-front (peer_text peer) (datagram_text octets) [] 100 8192 (length-peer_text peer hp)
-    d in
+    length-front (peer_text peer) (datagram_text octets) (word_fields word) 100 8208
+    (length-peer_text peer hp) d in
     let m =
-    length-front (decimal moment.0) (peer_text peer) (datagram_text octets ∷ []) 15 8293
-    (length-small moment.0 hm) p in
+    length-front (decimal moment.0) (peer_text peer) (datagram_text octets ∷ word_fields word) 15
+    8309 (length-small moment.0 hm) p in
     let w =
     length-front (decimal worker) (decimal moment.0)
-    (peer_text peer ∷ datagram_text octets ∷ []) 15 8309 (length-small worker (omega arith))
-    m in
+    (peer_text peer ∷ datagram_text octets ∷ word_fields word) 15 8325
+    (length-small worker (omega arith)) m in
     let all =
     length-front (codes "in") (decimal worker)
-    (decimal moment.0 ∷ peer_text peer ∷ datagram_text octets ∷ []) 2 8325 (omega arith)
-    w in
+    (decimal moment.0 ∷ peer_text peer ∷ datagram_text octets ∷ word_fields word) 2 8341
+    (omega arith) w in
     omega (arith, all)
 length-line_text (line.Go worker moment) (go hw hm) =
     let w =
@@ -242,12 +299,19 @@ length-line_text (line.Tick worker moment word) (tick hw hm hx) =
 -- the fields of a printed line are those that it was printed from
 pub fields-line_text : (l : Line) → IsLine l → fields (line_text l) ≡ printed_fields l
 unfolding line_text
-fields-line_text (line.Come worker moment peer octets) (come hw hm hp hs hb) =
+fields-line_text (line.Come worker moment peer octets word) (come hw hm hp hs hb hx) =
     fields-joined (codes "in")
-    (decimal worker ∷ decimal moment.0 ∷ peer_text peer ∷ datagram_text octets ∷ [])
+    (decimal worker
+    ∷ decimal moment.0
+    ∷ peer_text peer
+    ∷ datagram_text octets
+    ∷ word_fields word)
     (refl, (refl, tt)) (
       small_spaceless worker (omega arith),
-      (small_spaceless moment.0 hm, (peer_spaceless peer hp, (datagram_spaceless octets hb, tt))),
+      (
+        small_spaceless moment.0 hm,
+        (peer_spaceless peer hp, (datagram_spaceless octets hb, word_spaceless word hx)),
+      ),
     )
 fields-line_text (line.Go worker moment) (go hw hm) =
     fields-joined (codes "go") (decimal worker ∷ decimal moment.0 ∷ []) (refl, (refl, tt))
@@ -261,8 +325,8 @@ fields-line_text (line.Tick worker moment word) (tick hw hm hx) =
 
 -- and they say it
 pub said_by-printed_fields : (l : Line) → IsLine l → said_by (printed_fields l) ≡ Some l
-said_by-printed_fields (line.Come worker moment peer octets) (come hw hm hp hs hb) =
-    come_said worker moment peer octets hw hm hp hs hb
+said_by-printed_fields (line.Come worker moment peer octets word) (come hw hm hp hs hb hx) =
+    come_said worker moment peer octets word hw hm hp hs hb hx
 said_by-printed_fields (line.Go worker moment) (go hw hm) = go_said worker moment hw hm
 said_by-printed_fields (line.Tick worker moment word) (tick hw hm hx) =
     tick_said worker moment word hw hm hx

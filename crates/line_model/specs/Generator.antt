@@ -99,7 +99,7 @@ abbrev pub observer_lines : ℕ → ℕ → List Line
 observer_lines workers i =
     if divides 10 i
     then line.Come (i % workers) (record { 0 = pace * i + 2 }) onlooker
-    (spelling (observation i))
+    (spelling (observation i)) 0
     ∷ []
     else []
 
@@ -111,7 +111,8 @@ tick_lines workers i =
 -- the lines of a device: the workers take turns
 abbrev pub device_lines : ℕ → ℕ → List Line
 device_lines workers i =
-    line.Come (i % workers) (record { 0 = pace * i }) (device i) (spelling (device_registration i))
+    line.Come (i % workers) (record { 0 = pace * i }) (device i)
+    (spelling (device_registration i)) 0
     ∷ line.Go (i % workers) (record { 0 = pace * i + 1 })
     ∷ observer_lines workers i ++ tick_lines workers i
 

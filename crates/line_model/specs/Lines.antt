@@ -55,14 +55,20 @@ infixl 10 ◌>>=◌
 abbrev ◌>>=◌ : {A B : Type 0} → Option A → (A → Option B) → Option B
 o >>= f = option_and_then f o
 
--- a datagram that comes: `in`, then worker, moment, peer and octets
-unfoldable pub come_of : List ℕ → List ℕ → List ℕ → List ℕ → Option Line
-come_of worker moment peer octets = do
+-- a datagram that comes: `in`, then worker, moment, peer, octets and word
+unfoldable pub come_of : List ℕ
+    → List ℕ
+    → List ℕ
+    → List ℕ
+    → Option ℕ
+    → Option Line
+come_of worker moment peer octets word = do
   w ← number_of max_worker worker
   m ← number_of max_moment moment
   p ← peer_of peer
   d ← datagram_of octets
-  Some (line.Come w (record { 0 = m }) p d)
+  x ← word
+  Some (line.Come w (record { 0 = m }) p d x)
 
 -- a worker that ends its job: `go`, then worker and moment
 unfoldable pub go_of : List ℕ → List ℕ → Option Line
@@ -79,7 +85,8 @@ tick_of worker moment word = do
   x ← word
   Some (line.Tick w (record { 0 = m }) x)
 
--- what the fields of a line say, by its first word. A tick without a word has the word 0
+-- what the fields of a line say, by its first word. A datagram that comes and a tick have the word
+-- 0 where none is written
 unfoldable pub said_by : List (List ℕ) → Option Line
 said_by (verb ∷ worker ∷ moment ∷ []) =
     if bytes_eq verb (codes "go") then go_of worker moment
@@ -87,7 +94,11 @@ said_by (verb ∷ worker ∷ moment ∷ []) =
 said_by (verb ∷ worker ∷ moment ∷ word ∷ []) =
     if bytes_eq verb (codes "tick") then tick_of worker moment (number_of max_word word) else None
 said_by (verb ∷ worker ∷ moment ∷ peer ∷ octets ∷ []) =
-    if bytes_eq verb (codes "in") then come_of worker moment peer octets else None
+    if bytes_eq verb (codes "in") then come_of worker moment peer octets (Some 0) else None
+said_by (verb ∷ worker ∷ moment ∷ peer ∷ octets ∷ word ∷ []) =
+    if bytes_eq verb (codes "in")
+    then come_of worker moment peer octets (number_of max_word word)
+    else None
 said_by _ = None
 
 -- what a line says, or why it is bad: too long comes before any other form
@@ -97,13 +108,22 @@ line_of text =
     then Err reason.Long
     else ok_or (said_by (fields text)) reason.Form
 
+-- the field of a word, which is left out where it is 0
+abbrev pub word_fields : ℕ → List (List ℕ)
+word_fields word = if word == 0 then [] else decimal word ∷ []
+
 -- the fields of a line as it is printed, a word of 0 left out
 abbrev pub printed_fields : Line → List (List ℕ)
-printed_fields (line.Come worker moment peer octets) =
-    codes "in" ∷ decimal worker ∷ decimal moment.0 ∷ peer_text peer ∷ datagram_text octets ∷ []
+printed_fields (line.Come worker moment peer octets word) =
+    codes "in"
+    ∷ decimal worker
+    ∷ decimal moment.0
+    ∷ peer_text peer
+    ∷ datagram_text octets
+    ∷ word_fields word
 printed_fields (line.Go worker moment) = codes "go" ∷ decimal worker ∷ decimal moment.0 ∷ []
 printed_fields (line.Tick worker moment word) =
-    codes "tick" ∷ decimal worker ∷ decimal moment.0 ∷ (if word == 0 then [] else decimal word ∷ [])
+    codes "tick" ∷ decimal worker ∷ decimal moment.0 ∷ word_fields word
 
 -- a line as it is printed, without a line feed
 unfoldable pub line_text : Line → List ℕ
@@ -117,13 +137,14 @@ out_text worker peer octets =
 -- what a line can be: its numbers are within their limits, its peer is one, and its octets are at
 -- most 4,096
 pub data IsLine : Line → Type 0 where
-  come : {worker : ℕ} {moment : Moment} {peer : Peer} {octets : List ℕ}
+  come : {worker : ℕ} {moment : Moment} {peer : Peer} {octets : List ℕ} {word : ℕ}
       → worker ≤ max_worker
       → moment.0 ≤ max_moment
       → IsPeer peer
       → length octets ≤ max_datagram
       → IsBytes octets
-      → IsLine (line.Come worker moment peer octets)
+      → word ≤ max_word
+      → IsLine (line.Come worker moment peer octets word)
   go : {worker : ℕ} {moment : Moment}
       → worker ≤ max_worker
       → moment.0 ≤ max_moment
@@ -136,12 +157,23 @@ pub data IsLine : Line → Type 0 where
 
 -- the fields spell this line
 pub data AreFieldsOf : List (List ℕ) → Line → Type 0 where
-  comes : {w m p d : List ℕ} {worker : ℕ} {moment : Moment} {peer : Peer} {octets : List ℕ}
+  comes : {w m p d x : List ℕ} {worker : ℕ} {moment : Moment} {peer : Peer} {octets : List ℕ}
+      {word : ℕ}
       → IsNumber max_worker w worker
       → IsNumber max_moment m moment.0
       → IsPeerText p peer
       → IsDatagramText d octets
-      → AreFieldsOf (codes "in" ∷ w ∷ m ∷ p ∷ d ∷ []) (line.Come worker moment peer octets)
+      → IsNumber max_word x word
+      → AreFieldsOf (codes "in" ∷ w ∷ m ∷ p ∷ d ∷ x ∷ [])
+      (line.Come worker moment peer octets word)
+  comes_alone : {w m p d : List ℕ} {worker : ℕ} {moment : Moment} {peer : Peer}
+      {octets : List ℕ}
+      → IsNumber max_worker w worker
+      → IsNumber max_moment m moment.0
+      → IsPeerText p peer
+      → IsDatagramText d octets
+      → AreFieldsOf (codes "in" ∷ w ∷ m ∷ p ∷ d ∷ [])
+      (line.Come worker moment peer octets 0)
   goes : {w m : List ℕ} {worker : ℕ} {moment : Moment}
       → IsNumber max_worker w worker
       → IsNumber max_moment m moment.0

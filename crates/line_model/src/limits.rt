@@ -12,5 +12,5 @@ pub const MAX_WORKER: u64 = 255;
 /// The greatest moment, in milliseconds.
 pub const MAX_MOMENT: u64 = 999_999_999_999_999;
 
-/// The greatest word of a tick.
+/// The greatest word of a datagram that comes, and of a tick.
 pub const MAX_WORD: u64 = 4_294_967_295;

@@ -14,6 +14,8 @@ pub enum Line {
         peer: Peer,
         /// Its octets.
         datagram: Bytes,
+        /// The word that is handed in, from which waits and challenges are made.
+        word: u32,
     },
     /// A worker ends the job that it holds.
     Go(u8, Moment),

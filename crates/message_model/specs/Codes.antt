@@ -52,6 +52,9 @@ continue = numbers.CONTINUE
 abbrev pub bad_request : ℕ
 bad_request = numbers.BAD_REQUEST
 
+abbrev pub unauthorized : ℕ
+unauthorized = numbers.UNAUTHORIZED
+
 abbrev pub bad_option : ℕ
 bad_option = numbers.BAD_OPTION
 

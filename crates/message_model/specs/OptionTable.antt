@@ -28,8 +28,8 @@ use Rattle.std.specs.List.{list_any}
 use Rattle.message_model.specs.declared.options.TheConstants as number_of
 use Rattle.message_model.specs.Message.{Opt}
 
--- The numbers of the options (RFC 7252 section 12.2, RFC 7641 section 2, RFC 7959 section 6), which
--- are those of src/options.rt.
+-- The numbers of the options (RFC 7252 section 12.2, RFC 7641 section 2, RFC 7959 section 6, RFC
+-- 9175 section 2.2.1), which are those of src/options.rt.
 abbrev pub uri_host : ℕ
 uri_host = number_of.URI_HOST
 
@@ -75,6 +75,9 @@ proxy_scheme = number_of.PROXY_SCHEME
 abbrev pub size1 : ℕ
 size1 = number_of.SIZE1
 
+abbrev pub echo : ℕ
+echo = number_of.ECHO
+
 -- Of an option: the least and greatest length of its value, and whether it may be repeated (RFC
 -- 7252 section 5.10).
 pub record Definition : Type 0 where
@@ -90,7 +93,8 @@ at_most_once least most = Some (record { least = least; most = most; repeatable 
 abbrev pub any_number : ℕ → ℕ → Option Definition
 any_number least most = Some (record { least = least; most = most; repeatable = true })
 
--- The table of options (RFC 7252 section 5.10, RFC 7641 section 2, RFC 7959 sections 2.1 and 4).
+-- The table of options (RFC 7252 section 5.10, RFC 7641 section 2, RFC 7959 sections 2.1 and 4, RFC
+-- 9175 section 2.2.1).
 unfoldable pub definition_of : ℕ → Option Definition
 definition_of number =
     if number == uri_host then at_most_once 1 255
@@ -108,6 +112,7 @@ definition_of number =
     else if number == proxy_uri then at_most_once 1 1034
     else if number == proxy_scheme then at_most_once 1 255
     else if number == size1 then at_most_once 0 4
+    else if number == echo then at_most_once 1 40
     else None
 
 -- An option of this number stands among these.

@@ -124,6 +124,10 @@ block1_in m = first_of (values table.block1 m.options)
 abbrev pub block2_in : Message → Option (List ℕ)
 block2_in m = first_of (values table.block2 m.options)
 
+-- The value of Echo (RFC 9175 section 2.2.1).
+abbrev pub echo_in : Message → Option (List ℕ)
+echo_in m = first_of (values table.echo m.options)
+
 -- The entity tags, in order (RFC 7252 section 5.10.6).
 abbrev pub etags_in : Message → List (List ℕ)
 etags_in m = values table.etag m.options

@@ -40,6 +40,9 @@ pub const CONTINUE: u8 = (2 << 5) | 31;
 /// 4.00 Bad Request (RFC 7252 section 5.9.2.1).
 pub const BAD_REQUEST: u8 = (4 << 5) | 0;
 
+/// 4.01 Unauthorized (RFC 7252 section 5.9.2.2).
+pub const UNAUTHORIZED: u8 = (4 << 5) | 1;
+
 /// 4.02 Bad Option (RFC 7252 section 5.9.2.3).
 pub const BAD_OPTION: u8 = (4 << 5) | 2;
 

@@ -1,4 +1,5 @@
-//! The numbers of the options (RFC 7252 section 12.2, RFC 7641 section 2, RFC 7959 section 6).
+//! The numbers of the options (RFC 7252 section 12.2, RFC 7641 section 2, RFC 7959 section 6, RFC
+//! 9175 section 2.2.1).
 
 /// Uri-Host (RFC 7252 section 5.10.1).
 pub const URI_HOST: u32 = 3;
@@ -44,3 +45,6 @@ pub const PROXY_SCHEME: u32 = 39;
 
 /// Size1 (RFC 7252 section 5.10.9, RFC 7959 section 4).
 pub const SIZE1: u32 = 60;
+
+/// Echo (RFC 9175 section 2.2.1).
+pub const ECHO: u32 = 252;

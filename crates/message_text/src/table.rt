@@ -1,8 +1,8 @@
 //! The options that are shown by name, and how the value of each is written.
 
 use message_model::options::{
-    ACCEPT, BLOCK1, BLOCK2, CONTENT_FORMAT, ETAG, LOCATION_PATH, OBSERVE, PROXY_SCHEME, PROXY_URI,
-    SIZE1, SIZE2, URI_HOST, URI_PATH, URI_PORT, URI_QUERY,
+    ACCEPT, BLOCK1, BLOCK2, CONTENT_FORMAT, ECHO, ETAG, LOCATION_PATH, OBSERVE, PROXY_SCHEME,
+    PROXY_URI, SIZE1, SIZE2, URI_HOST, URI_PATH, URI_PORT, URI_QUERY,
 };
 
 /// What the value of an option is (RFC 7252 section 5.10).
@@ -53,7 +53,7 @@ pub(crate) fn named(number: u32) -> Option<(&'static str, Form)> {
         PROXY_URI => ("Proxy-Uri", Form::Text),
         PROXY_SCHEME => ("Proxy-Scheme", Form::Text),
         SIZE1 => ("Size1", Form::Number),
-        252 => ("Echo", Form::Opaque),
+        ECHO => ("Echo", Form::Opaque),
         258 => ("No-Response", Form::Number),
         292 => ("Request-Tag", Form::Opaque),
         _ => return None,

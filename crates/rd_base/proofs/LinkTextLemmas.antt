@@ -150,8 +150,10 @@ module _ (t m t' a n a' : List ℕ) (et : t' ≡ t ++ m) (ea : a' ≡ a ++ n) wh
   }
 
   pub HoldsPair-more : (p : PairSpans) → HoldsPair t a p → HoldsPair t' a' p
-  HoldsPair-more p h =
-      (IsStretch-more t m t' a n a' et ea p.name h.0, IsStretch-more t m t' a n a' et ea p.value h.1)
+  HoldsPair-more p h = (
+    IsStretch-more t m t' a n a' et ea p.name h.0,
+    IsStretch-more t m t' a n a' et ea p.value h.1,
+  )
 
   pub pair-same : (p : PairSpans) → HoldsPair t a p → pair_of t' a' p ≡ pair_of t a p
   pair-same p h =

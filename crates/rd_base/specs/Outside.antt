@@ -12,6 +12,9 @@ use Rattle.std.specs.Prelude.{
   Option,
   None,
   Some,
+  Bool,
+  true,
+  false,
   nat_lt,
   if◌then◌else◌,
 }
@@ -62,6 +65,11 @@ Takes old new put.Failed piece = Keeps old new
 abbrev pub CountsWritten : ℕ → ℕ → Put → Type 0
 CountsWritten before now (put.Took n) = now ≡ before
 CountsWritten before now put.Failed = (before ≤ now) × Rose before now
+
+-- the count rose exactly where not all was written
+abbrev pub CountsAll : ℕ → ℕ → Bool → Type 0
+CountsAll before now true = now ≡ before
+CountsAll before now false = (before ≤ now) × Rose before now
 
 -- what is told, where it has fewer octets than 64 bits count
 abbrev pub told_below : ℕ → Option (List ℕ) → Option (List ℕ)

@@ -40,7 +40,7 @@ pub use memory_ends::{MemSink, MemSource};
 pub use moments::Moment;
 pub use octets::Bytes;
 pub use out_of_memory::Starved;
-pub use outside::{Got, Put, Sink, Source};
+pub use outside::{Got, Put, Sink, Source, write_all};
 pub use parameters::{RegParams, UpdateParams};
 pub use peer_spelling::{PeerBad, base_of, peer_read, peer_read_ascii, peer_text};
 pub use peers::{Host, Peer};

@@ -1,7 +1,8 @@
 //! The outside: where octets come from and go to.
-ghost use Rattle.std.specs.Prelude.{ℕ, List, Option, length, ◌<◌, ◌^◌, IfSome};
+ghost use Rattle.std.specs.Prelude.{ℕ, List, Option, true, length, take, ◌≡◌, ◌<◌, ◌^◌, IfSome};
+ghost use Rattle.std.specs.Io.KnownBytes.{Appends};
 ghost use Rattle.rd_base.specs.Outside.{IsWithinRoom, Gives, RunsDown, CountsRead, IsWithinPiece};
-ghost use Rattle.rd_base.specs.Outside.{Takes, CountsWritten};
+ghost use Rattle.rd_base.specs.Outside.{Takes, CountsWritten, CountsAll};
 
 /// What a call of `Source::read` gave.
 #[derive(Clone, Copy, Debug, PartialEq, Eq)]
@@ -54,4 +55,21 @@ pub trait Sink {
         ensures within { IsWithinPiece result (length piece.now) }
         ensures bytes { Takes (holds self.old) (holds self.new) result piece.now }
         ensures cause { CountsWritten (faults self.old) (faults self.new) result };
+}
+
+/// Writes all of some octets, in as many pieces as the sink takes them. False where a writing
+/// failed; a front of them may then stand in the sink.
+pub fn write_all<K: Sink>(out: &mut K, octets: &[u8]) -> bool
+    ensures all { result ≡ true → Appends (K.holds out.old) (K.holds out.new) octets.now }
+    ensures front { (n : ℕ) × Appends (K.holds out.old) (K.holds out.new) (take n octets.now) }
+    ensures cause { CountsAll (K.faults out.old) (K.faults out.new) result }
+{
+    let mut at = 0;
+    'pieces: while at < octets.len() {
+        match out.write(&octets[at..]) {
+            Put::Took(n) => at += n,
+            Put::Failed => return false,
+        }
+    }
+    true
 }

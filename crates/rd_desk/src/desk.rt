@@ -95,10 +95,10 @@ impl<B: Board> Desk<B> {
 
     /// The step that hears a datagram of a peer, which is not one that only looks
     /// ([`crate::is_look`]), at a moment in milliseconds that is at most 10^15; one below that of
-    /// the directory is lifted to it. Waits of messages that go out are made from the word. `out`
-    /// is empty, and gets what is sent. `Held`: it is a write that is admitted, and the worker has
-    /// its job. `Starved`: out of memory; a request is answered 5.00, a response is as if it had
-    /// not come (RFC 7252 section 4).
+    /// the directory is lifted to it. Waits of messages that go out, and the values of challenges,
+    /// are made from the word. `out` is empty, and gets what is sent. `Held`: it is a write that is
+    /// admitted, and the worker has its job. `Starved`: out of memory; a request is answered 5.00,
+    /// a response is as if it had not come (RFC 7252 section 4).
     ///
     /// Nothing is staged on the board, and its entries, where it tells them, are those of the
     /// directory. Where the step makes an entry, its version is staged afterwards.

@@ -1,4 +1,5 @@
-//! The tables of a desk, and what stands in them together (RFC 9176, RFC 7252, RFC 7641, RFC 7959).
+//! The tables of a desk, and what stands in them together (RFC 9176, RFC 7252, RFC 7641, RFC 7959,
+//! RFC 9175).
 ghost use Rattle.std.specs.Prelude.{◌≡◌, ◌≤◌, ◌^◌, ℕ, Bool, [], List, IfOk, max};
 ghost use Rattle.rd_base.specs.declared.peers.Peer.{Peer};
 ghost use Rattle.journal_model.specs.declared.steps.Step.{Step};
@@ -13,7 +14,7 @@ use directory_core::Directory;
 use exchange_core::Exchanges;
 use observation::Watching;
 use rd_base::{Moment, Starved};
-use simple_registration::Fetches;
+use simple_registration::{Echoes, Fetches};
 use std::alloc::Global;
 use std::marker::Model;
 use std::sync::Arc;
@@ -37,6 +38,8 @@ pub(crate) struct Tables {
     pub(crate) watching: Watching,
     /// The fetches of simple registrations.
     pub(crate) fetches: Fetches,
+    /// The challenges of simple registrations.
+    pub(crate) echoes: Echoes,
     /// How many Observe values were given, modulo 2^64.
     pub(crate) observed: u64,
 }
@@ -55,6 +58,7 @@ impl Model for Tables {
       transfers = t.transfers;
       watching = t.watching;
       fetches = t.fetches;
+      challenges = t.echoes;
       observed = t.observed;
     } };
 
@@ -75,6 +79,7 @@ impl Tables {
         let transfers = Transfers::make(alloc)?;
         let watching = Watching::make(alloc)?;
         let fetches = Fetches::make(alloc)?;
+        let echoes = Echoes::make(alloc)?;
         Ok(Tables {
             alloc,
             moment: Moment(0),
@@ -83,6 +88,7 @@ impl Tables {
             transfers,
             watching,
             fetches,
+            echoes,
             observed: 0,
         })
     }

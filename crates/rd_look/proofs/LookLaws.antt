@@ -149,6 +149,10 @@ read_at history moment m number looks is =
     ∙ ap (λ (method : Method). option_map (look_for history moment m) (sought_of number method))
     (get_at m number looks is)
 
+-- what is sought at a path by a message stands under a tag
+abbrev tagged_by : Path → Message → Bool
+tagged_by p m = has_tag (sought_at p (method_of m.code) (query_of m))
+
 -- what stands under a tag and is sought at the location of a registration is its source
 pub seeks_source : (m : Message) (number : ℕ)
     → path_in m ≡ path.Location number
@@ -157,7 +161,7 @@ pub seeks_source : (m : Message) (number : ℕ)
 seeks_source m number is tagged =
     ap (λ (p : Path). sought_at p (method_of m.code) (query_of m)) is
     ∙ by (method_of m.code)
-    (subst (λ (p : Path). has_tag (sought_at p (method_of m.code) (query_of m)) ≡ true) is tagged)
+    (subst (λ (p : Path). tagged_by p m ≡ true) is tagged)
   where
     by : (method : Method)
         → has_tag (sought_of number method) ≡ true
@@ -180,20 +184,25 @@ pub no_look_at_rd : (m : Message) → only_looks m ≡ true → path_in m ≡ pa
 no_look_at_rd m looks is =
     false≢true (ap (λ (p : Path). looks_by p m) (sym is) ∙ looks)
 
-pub no_look_at_simple : (m : Message) → only_looks m ≡ true → path_in m ≡ path.SimpleRd → ⊥
+pub no_look_at_simple : (m : Message)
+    → only_looks m ≡ true
+    → path_in m ≡ path.SimpleRd
+    → ⊥
 no_look_at_simple m looks is =
     false≢true (ap (λ (p : Path). looks_by p m) (sym is) ∙ looks)
 
--- what is sought at a path by a message stands under a tag
-abbrev tagged_by : Path → Message → Bool
-tagged_by p m = has_tag (sought_at p (method_of m.code) (query_of m))
-
 -- the directory's own links stand under none, and where registrations are made nothing is sought
-pub no_tag_at_core : (m : Message) → has_tag (sought_in m) ≡ true → path_in m ≡ path.Core → ⊥
+pub no_tag_at_core : (m : Message)
+    → has_tag (sought_in m) ≡ true
+    → path_in m ≡ path.Core
+    → ⊥
 no_tag_at_core m tagged is =
     false≢true (ap (λ (p : Path). tagged_by p m) (sym is) ∙ tagged)
 
-pub no_tag_at_rd : (m : Message) → has_tag (sought_in m) ≡ true → path_in m ≡ path.Rd → ⊥
+pub no_tag_at_rd : (m : Message)
+    → has_tag (sought_in m) ≡ true
+    → path_in m ≡ path.Rd
+    → ⊥
 no_tag_at_rd m tagged is =
     false≢true (ap (λ (p : Path). tagged_by p m) (sym is) ∙ tagged)
 

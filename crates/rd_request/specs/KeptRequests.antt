@@ -39,7 +39,7 @@ kept_message kind code mid token octets options = record {
 -- a message is a request that nothing refuses for itself, of which this is read: what its options
 -- mean, what it is about, and the blocks that it names (RFC 7252 section 5.10)
 pub record IsReadAs (m : Message) (path : Path) (observe accept format : Option ℕ)
-    (block1 block2 : Option (List ℕ)) (proxy : Bool) (resource : Resource)
+    (block1 block2 : Option (List ℕ)) (proxy : Bool) (echo : Option (List ℕ)) (resource : Resource)
     (asked sent : Option Block) : Type 0 where
   pub accepted : is_none (requests_of.refusal_of_request m) ≡ true
   pub path_said : path ≡ request.path_in m
@@ -49,8 +49,10 @@ pub record IsReadAs (m : Message) (path : Path) (observe accept format : Option 
   pub block1_said : block1 ≡ request.block1_in m
   pub block2_said : block2 ≡ request.block2_in m
   pub proxy_said : proxy ≡ request.has_proxy m
+  pub echo_said : echo ≡ request.echo_in m
   pub block1_short : ForSome block1 (λ v. length v ≤ 3)
   pub block2_short : ForSome block2 (λ v. length v ≤ 3)
+  pub echo_short : ForSome echo (λ v. length v ≤ 40)
   pub here : is_at resource path ≡ true
   pub asked_said : asked ≡ requests_of.asked_block m
   pub sent_said : sent ≡ requests_of.sent_block m

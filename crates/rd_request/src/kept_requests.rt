@@ -43,6 +43,8 @@ pub struct KeptRequest {
     block2: Option<Octets<3>>,
     /// Whether it has Proxy-Uri or Proxy-Scheme.
     proxy: bool,
+    /// The value of Echo.
+    echo: Option<Octets<40>>,
     /// What it is about.
     resource: Resource,
     /// The block of the answer that is asked for (RFC 7959 section 2.1).
@@ -62,7 +64,7 @@ impl Model for KeptRequest {
 
     ghost invariant = { λ r. (r.options ≤ length r.octets)
         × IsReadAs (kept_message r.kind r.code r.mid r.token r.octets r.options) r.path r.observe
-        r.accept r.format r.block1 r.block2 r.proxy r.resource r.asked r.sent };
+        r.accept r.format r.block1 r.block2 r.proxy r.echo r.resource r.asked r.sent };
 }
 
 /// The options of a message as they are spelled and its payload behind them, in one piece of
@@ -76,9 +78,9 @@ fn joined(alloc: Global, view: &View<'_>) -> Result<Bytes, Starved>
     Ok(Bytes::of(octets))
 }
 
-/// The value of a Block option, kept.
-fn kept_value(value: Option<&[u8]>) -> Option<Octets<3>>
-    requires { ForSome value (λ v. length v.now ≤ 3) }
+/// The value of an option, kept.
+fn kept_value<const N: usize>(value: Option<&[u8]>) -> Option<Octets<N>>
+    requires { ForSome value (λ v. length v.now ≤ N) }
     ensures { result ≡ option_map (λ v. v.now) value.entry }
 {
     match value {
@@ -87,8 +89,8 @@ fn kept_value(value: Option<&[u8]>) -> Option<Octets<3>>
     }
 }
 
-/// The value of a Block option, lent again.
-fn lent_value(value: &Option<Octets<3>>) -> Option<&[u8]>
+/// The value of an option, lent again.
+fn lent_value<const N: usize>(value: &Option<Octets<N>>) -> Option<&[u8]>
     ensures { option_map (λ v. v.now) result ≡ value.now }
 {
     match value {
@@ -119,6 +121,7 @@ impl KeptRequest {
             block1: kept_value(meaning.block1),
             block2: kept_value(meaning.block2),
             proxy: meaning.proxy,
+            echo: kept_value(meaning.echo),
             resource: request.resource,
             asked: request.asked,
             sent: request.sent,
@@ -156,6 +159,7 @@ impl KeptRequest {
             block1: lent_value(&self.block1),
             block2: lent_value(&self.block2),
             proxy: self.proxy,
+            echo: lent_value(&self.echo),
         };
         Request {
             meaning,

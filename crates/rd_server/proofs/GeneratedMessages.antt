@@ -328,8 +328,8 @@ pub come-IsLine : (worker at : ℕ) (octets : List ℕ) (port : ℕ) (datagram :
     → length datagram ≤ 4_096
     → AreBytes datagram
     → IsLine (line.Come worker (record { 0 = at }) (record { host = host.V4 octets; port = port })
-    datagram)
+    datagram 0)
 come-IsLine worker at octets port datagram hw hm four fits low high short bytes =
     come hw (omega (arith, hm))
     (record { host = (four, byte_at_index octets fits); port_low = low; port_high = high })
-    short (byte_at_index datagram bytes)
+    short (byte_at_index datagram bytes) (omega arith)

@@ -199,12 +199,12 @@ come_feedless : (worker at : ℕ) (octets : List ℕ) (port : ℕ) (datagram : L
     → port < 2 ^ 16
     → IsFeedless
     (line.Come worker (record { 0 = at }) (record { host = host.V4 octets; port = port })
-    datagram)
+    datagram 0)
 unfolding line_text
 come_feedless worker at octets port datagram hw hm fits small =
     fields_feedless (printed_fields
     (line.Come worker (record { 0 = at }) (record { host = host.V4 octets; port = port })
-    datagram)) (
+    datagram 0)) (
       (refl, (refl, tt)),
       (
         decimal_feedless worker hw,

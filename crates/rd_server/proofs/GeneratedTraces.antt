@@ -292,15 +292,15 @@ tick_goes workers worker at word within fits rows number more idle later =
 -- a datagram comes to a worker, who then ends the job that it leaves
 served_goes : (workers worker at after : ℕ) (peer : Peer) (datagram : List ℕ)
     → nat_lt worker workers ≡ true
-    → IsLine (line.Come worker (record { 0 = at }) peer datagram)
+    → IsLine (line.Come worker (record { 0 = at }) peer datagram 0)
     → IsLine (line.Go worker (record { 0 = after }))
-    → Goes workers (line.Come worker (record { 0 = at }) peer datagram
+    → Goes workers (line.Come worker (record { 0 = at }) peer datagram 0
     ∷ line.Go worker (record { 0 = after })
     ∷ [])
 served_goes workers worker at after peer datagram within comes ends rows number more idle later =
-    one_step workers number rows (line.Come worker (record { 0 = at }) peer datagram)
+    one_step workers number rows (line.Come worker (record { 0 = at }) peer datagram 0)
     (line_text (line.Go worker (record { 0 = after })) ∷ more) s comes within
-    (ap (λ job. come_step job rows worker at peer datagram) (idle worker))
+    (ap (λ job. come_step job rows worker at peer datagram 0) (idle worker))
     (by (job_of worker middle) refl)
   where
     s : Step
@@ -450,16 +450,16 @@ observation-leaves rows s i low kind of held =
 observed_goes : (workers worker at i : ℕ)
     → i ≤ 4_000
     → nat_lt worker workers ≡ true
-    → IsLine (line.Come worker (record { 0 = at }) onlooker (spelling (observation i)))
-    → Goes workers (line.Come worker (record { 0 = at }) onlooker (spelling (observation i)) ∷ [])
+    → IsLine (line.Come worker (record { 0 = at }) onlooker (spelling (observation i)) 0)
+    → Goes workers (line.Come worker (record { 0 = at }) onlooker (spelling (observation i)) 0 ∷ [])
 observed_goes workers worker at i low within fits rows number more idle later =
     let s : Step =
     step_after rows (hearing (spelling (observation i))) worker at 0 onlooker
     (spelling (observation i)) in
     one_step workers number rows
-    (line.Come worker (record { 0 = at }) onlooker (spelling (observation i))) more s fits
+    (line.Come worker (record { 0 = at }) onlooker (spelling (observation i)) 0) more s fits
     within
-    (ap (λ job. come_step job rows worker at onlooker (spelling (observation i))) (idle worker))
+    (ap (λ job. come_step job rows worker at onlooker (spelling (observation i)) 0) (idle worker))
     (later (row rows s false ∷ rows) (number + 1) (idle_after rows s (λ v other. idle v)
     (observation-leaves rows s i low (observation-hearing i low) refl
     (job_of worker rows))))
@@ -482,7 +482,8 @@ device_goes workers i some few low =
     let within : nat_lt (i % workers) workers ≡ true = grind (arith, turn) in
     let worker : i % workers ≤ 255 = omega (arith, turn, few) in
     goes_both workers
-    (line.Come (i % workers) (record { 0 = pace * i }) (device i) (spelling (device_registration i))
+    (line.Come (i % workers) (record { 0 = pace * i }) (device i)
+    (spelling (device_registration i)) 0
     ∷ line.Go (i % workers) (record { 0 = pace * i + 1 })
     ∷ [])
     (observer_lines workers i ++ tick_lines workers i)

@@ -1,5 +1,5 @@
 -- Texts: Cuts (by a separator), SentLines (of what is sent), LineFeeds (lines), Fronts (the
--- beginnings of a text), WrittenPieces.
+-- beginnings of a text).
 -- Steps: DeskSteps (the journal with the row of a step is one of a desk), JobRows (what a worker
 -- holds and drew after its own row),
 --   OtherWorkers (what it leaves of the others), WorkerSteps (what the desk made of a call is the
@@ -16,7 +16,6 @@ pub mod GeneratedTexts
 pub mod GeneratedMessages
 pub mod GeneratedTraces
 pub mod Cuts
-pub mod WrittenPieces
 pub mod LineDone
 pub mod LineFeeds
 pub mod SentLines

@@ -57,10 +57,10 @@ Names worker (Err why) = ⊤
 Names worker (Ok made) = IsBy made worker
 
 worker_names : (rows : List Row) (l : Line) → Names (worker_of l) (step_of_worker rows l)
-worker_names rows (line.Come worker moment peer datagram) = by (job_of worker rows)
+worker_names rows (line.Come worker moment peer datagram word) = by (job_of worker rows)
   where
     by : (held : Option machine_of.Job)
-        → Names worker (come_step held rows worker moment.0 peer datagram)
+        → Names worker (come_step held rows worker moment.0 peer datagram word)
     by (Some job) = tt
     by None = refl
 worker_names rows (line.Go worker moment) = by (job_of worker rows)

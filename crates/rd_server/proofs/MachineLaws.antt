@@ -6,6 +6,7 @@ use Rattle.std.proofs.Common.{
   ◌≤◌,
   ◌^◌,
   max,
+  Bool,
   true,
   false,
   List,
@@ -36,6 +37,7 @@ use Rattle.std.proofs.Common.{
   nat_lt,
   arith,
 }
+use Rattle.std.specs.Prelude.{if◌then◌else◌}
 use Rattle.std.proofs.lemmas.Bool.{false≢true, ne_eqb, lt-ltb}
 use Rattle.std.proofs.lemmas.List.{length-set}
 use Rattle.std.proofs.lemmas.Option.{slice_get_within, slice_get_read}
@@ -54,7 +56,15 @@ use Rattle.journal_model.specs.Journal.{latest, entries, events}
 use Rattle.journal_model.specs.Rows.{row}
 use Rattle.journal_model.specs.DeskJournal.{IsHanded, ends_job, max_workers}
 use Rattle.journal_model.specs.DeskJournal as desk_of
-use Rattle.journal_model.specs.Machine.{hearing, hears, goes, ticks, MayMake, job_of}
+use Rattle.journal_model.specs.Machine.{
+  hearing,
+  hears,
+  goes,
+  ticks,
+  MayMake,
+  is_look_datagram,
+  job_of,
+}
 use Rattle.journal_model.specs.Machine as machine_of
 use Rattle.journal_model.proofs.UnfinishedRowLaws.{now_latest}
 use Rattle.trace_model.specs.Steps.{step_after, step_of_line, come_step, go_step, if_worker, nobody}
@@ -256,9 +266,17 @@ made_step workers rows s moment now old new before after at lent may handed word
       made.sent_is,
     )
 
+-- a step that hears a datagram ends no job
+hearing-goes_on : (looks : Bool)
+    → ends_job (if looks then step.Look else step.Admit) ≡ true
+    → ⊥
+hearing-goes_on true ending = false≢true ending
+hearing-goes_on false ending = false≢true ending
+
 -- a datagram came to a worker that holds no job
 pub came : (workers : ℕ) (rows : List Row) (number : ℕ) (moment : Moment) (peer : Peer)
-    (datagram heard : List ℕ) (now : Moment) (old new : Machine) (before after : Worker)
+    (datagram heard : List ℕ) (word : ℕ) (now : Moment) (old new : Machine)
+    (before after : Worker)
     → IsMachineAt workers rows old
     → Lent number moment.0 now old new before after
     → heard ≡ datagram
@@ -269,39 +287,40 @@ pub came : (workers : ℕ) (rows : List Row) (number : ℕ) (moment : Moment) (p
     → s.kind ≡ hearing heard
     → s.peer ≡ peer
     → s.datagram ≡ heard
-    → s.word ≡ 0
+    → s.word ≡ word
     → MayStep rows s now old.desk.tables before
     → Steps rows s new.desk.tables after new.sent)
-    → Performs workers rows (step_of_line workers rows (Ok (line.Come number moment peer datagram)))
-    new (Ok tt)
-came workers rows number moment peer datagram heard now old new before after at lent same idle
+    → Performs workers rows
+    (step_of_line workers rows (Ok (line.Come number moment peer datagram word))) new (Ok tt)
+came workers rows number moment peer datagram heard word now old new before after at lent same idle
     does =
     by (job_of number rows) refl
     (idle rows number (worker_at workers rows old number before at lent.found))
   where
     s : Step
-    s = step_after rows (hearing datagram) number moment.0 0 peer datagram
+    s = step_after rows (hearing datagram) number moment.0 word peer datagram
 
     done : job_of number rows ≡ None → Performs workers rows (Ok (Some s)) new (Ok tt)
     done none =
         made_step workers rows s moment.0 now old new before after at lent
-        (record { begin = hears none refl; drawn = refl }) refl (λ ending. refl)
+        (record { begin = hears none refl; drawn = refl }) refl
+        (λ ending. absurd (hearing-goes_on (is_look_datagram datagram) ending))
         (does rows s (ap hearing (sym same)) refl (sym same) refl)
 
     by : (held : Option machine_of.Job)
         → job_of number rows ≡ held
         → false ≡ is_some held
         → Performs workers rows
-        (if_worker (nat_lt number workers) rows (line.Come number moment peer datagram)) new
+        (if_worker (nat_lt number workers) rows (line.Come number moment peer datagram word)) new
         (Ok tt)
     by (Some job) holds free = absurd (false≢true free)
     by None none free =
         subst (λ b.
-        Performs workers rows (if_worker b rows (line.Come number moment peer datagram)) new
+        Performs workers rows (if_worker b rows (line.Come number moment peer datagram word)) new
         (Ok tt))
         (sym (lt-ltb number workers (there_is workers rows old number before at lent.found)))
         (subst (λ held.
-        Performs workers rows (come_step held rows number moment.0 peer datagram) new
+        Performs workers rows (come_step held rows number moment.0 peer datagram word) new
         (Ok tt)) (sym none) (done none))
 
 -- a worker did the job that it held

@@ -6,9 +6,6 @@ use Rattle.std.specs.Prelude.{
   List,
   [],
   ◌++◌,
-  Bool,
-  true,
-  false,
   Option,
   Some,
   None,
@@ -133,11 +130,6 @@ abbrev pub CountsStopped : ℕ → ℕ → Read → Type 0
 CountsStopped before now (read.Stopped stop) = CountsUnwritten before now (Some stop)
 CountsStopped before now read.End = now ≡ before
 CountsStopped before now read.Failed = now ≡ before
-
--- the count rose exactly where not all was written
-abbrev pub CountsAll : ℕ → ℕ → Bool → Type 0
-CountsAll before now true = now ≡ before
-CountsAll before now false = (before ≤ now) × Rose before now
 
 -- a text was written, or a prefix of it where the output failed, or nothing
 abbrev pub Writes : Option (List ℕ) → Option (List ℕ) → List ℕ → Option Stop → Type 0

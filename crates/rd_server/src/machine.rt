@@ -15,7 +15,7 @@ use crate::troubles::Trouble;
 use crate::workers::Worker;
 use directory_core::NoBoard;
 use rd_base::{Bytes, Moment, Peer, Starved};
-use rd_desk::{Desk, Outbox};
+use rd_desk::{Arrival, Desk, Outbox, read_datagram};
 use std::alloc::Global;
 use trace_text::{Line, Reason, out_print};
 
@@ -75,6 +75,7 @@ impl Machine {
         moment: Moment,
         peer: Peer,
         datagram: Bytes,
+        word: u32,
     ) -> Result<(), Trouble>
         requires stands { IsMachine self.old }
         requires moment { moment.0 ≤ 10 ^ 15 }
@@ -82,7 +83,7 @@ impl Machine {
         ensures { (workers : ℕ) (rows : List Row)
             → IsMachineAt workers rows self.old
             → Performs workers rows (steps.step_of_line workers rows
-            (Ok (kind.Come worker moment peer datagram))) self.new result }
+            (Ok (kind.Come worker moment peer datagram word))) self.new result }
     {
         let Some(hearer) = self.workers.get_mut(usize::from(worker)) else {
             return Err(Trouble::Bad(Reason::Worker));
@@ -91,14 +92,15 @@ impl Machine {
             return Err(Trouble::Bad(Reason::Busy));
         }
         self.latest = self.latest.later(moment);
-        Ok(hearer.hear(
-            self.alloc,
-            &mut self.desk,
-            self.latest,
+        let datagram = datagram.as_slice();
+        let arrival = Arrival {
+            moment: self.latest,
+            word,
             peer,
-            datagram.as_slice(),
-            &mut self.sent,
-        )?)
+            datagram,
+            incoming: read_datagram(datagram),
+        };
+        Ok(hearer.hear(self.alloc, &mut self.desk, arrival, &mut self.sent)?)
     }
 
     /// A worker does its job. Where it holds none it makes no step, and hands in no moment. The
@@ -157,7 +159,8 @@ impl Machine {
                 moment,
                 peer,
                 datagram,
-            } => self.come(worker, moment, peer, datagram),
+                word,
+            } => self.come(worker, moment, peer, datagram, word),
             Line::Go(worker, moment) => self.go(worker, moment),
             Line::Tick {
                 worker,

@@ -15,10 +15,10 @@ ghost use Rattle.rd_server.specs.Words.{AreDevices, IsWorkers, words_said, worke
 
 use crate::endings::{Read, Status, Stop};
 use crate::made::run_made;
-use crate::sessions::{Session, write_all};
+use crate::sessions::Session;
 use crate::words::{Words, WordsFault, words_read};
 use itoa::write_digits;
-use rd_base::{Got, Sink, Source};
+use rd_base::{Got, Sink, Source, write_all};
 use std::alloc::Global;
 use trace_text::{LineBad, Reason};
 

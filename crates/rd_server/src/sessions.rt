@@ -1,7 +1,6 @@
 //! A replay in the middle of a trace.
-ghost use Rattle.std.specs.Prelude.{◌≡◌, ◌≤◌, ℕ, List, [], ◌∷◌, ◌++◌, IfOk, take, true, None};
+ghost use Rattle.std.specs.Prelude.{◌≡◌, ◌≤◌, ℕ, List, [], ◌∷◌, ◌++◌, IfOk, None};
 ghost use Rattle.std.specs.Prelude.{Option, length};
-ghost use Rattle.std.specs.Io.KnownBytes.{Appends};
 ghost use Rattle.line_model.specs.Lines as trace;
 ghost use Rattle.journal_model.specs.declared.rows.Row.{Row};
 ghost use Rattle.journal_model.specs.DeskJournal.{max_workers};
@@ -9,7 +8,7 @@ ghost use Rattle.trace_model.specs.Output.{text, last_line};
 ghost use Rattle.trace_model.specs.Steps as steps;
 ghost use Rattle.rd_server.specs.Fields as fields;
 ghost use Rattle.rd_server.specs.Machines.{IsMachine, IsMachineAt, PerformsFor, lines_sent};
-ghost use Rattle.rd_server.specs.Sessions.{CountsAll, CountsUnwritten, Writes, DoesLine, Feeds};
+ghost use Rattle.rd_server.specs.Sessions.{CountsUnwritten, Writes, DoesLine, Feeds};
 ghost use Rattle.rd_server.specs.Sessions.{EndsLines, Finishes, IsAt, IsSession, Point};
 ghost use Rattle.rd_server.specs.Sessions.{journal_from, start};
 
@@ -18,7 +17,7 @@ use crate::fields::cut;
 use crate::machine::Machine;
 use crate::troubles::Trouble;
 use line_model::limits::MAX_LINE;
-use rd_base::{Bytes, Put, Sink, Starved};
+use rd_base::{Bytes, Sink, Starved, write_all};
 use std::alloc::Global;
 use std::mem;
 use trace_text::{Line, LineBad, Reason, line_read};
@@ -58,22 +57,6 @@ pub fn perform(alloc: Global, machine: &mut Machine, line: &[u8]) -> Result<u8, 
     let worker = worker_of(&step);
     machine.perform(step)?;
     Ok(worker)
-}
-
-/// Writes all of some octets, in as many pieces as the sink takes them.
-pub fn write_all<K: Sink>(out: &mut K, bytes: &[u8]) -> bool
-    ensures all { result ≡ true → Appends (K.holds out.old) (K.holds out.new) bytes.now }
-    ensures front { (n : ℕ) × Appends (K.holds out.old) (K.holds out.new) (take n bytes.now) }
-    ensures cause { CountsAll (K.faults out.old) (K.faults out.new) result }
-{
-    let mut at = 0;
-    'pieces: while at < bytes.len() {
-        match out.write(&bytes[at..]) {
-            Put::Took(n) => at += n,
-            Put::Failed => return false,
-        }
-    }
-    true
 }
 
 /// Writes the lines of the datagrams that the last step sent, which is one of this worker.

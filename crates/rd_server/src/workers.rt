@@ -17,7 +17,6 @@ use directory_core::NoBoard;
 use rd_base::{Moment, Peer, Starved};
 use rd_desk::{
     Admitted, Arrival, Desk, Incoming, Job, Looked, Mids, Outbox, Request, Stepped, answer_look,
-    read_datagram,
 };
 use std::alloc::Global;
 use std::mem;
@@ -87,7 +86,6 @@ impl Worker {
             → s.kind ≡ step.Look
             → s.peer ≡ peer
             → s.datagram ≡ spelling (message_of request.now)
-            → s.word ≡ 0
             → MayStep rows s now desk.now.tables self.old
             → Steps rows s desk.now.tables self.new out.new) }
     {
@@ -117,7 +115,6 @@ impl Worker {
         out: &mut Outbox,
     ) -> Result<(), Starved>
         requires moment { arrival.moment.0 ≤ 10 ^ 15 }
-        requires word { arrival.word ≡ 0 }
         requires read { IsIncoming arrival.datagram.now arrival.incoming }
         requires other { is_look_datagram arrival.datagram.now ≡ false }
         requires empty { out.old ≡ [] }
@@ -125,7 +122,7 @@ impl Worker {
             → s.kind ≡ step.Admit
             → s.peer ≡ arrival.entry.peer
             → s.datagram ≡ arrival.entry.datagram.now
-            → s.word ≡ 0
+            → s.word ≡ arrival.entry.word
             → MayStep rows s arrival.entry.moment desk.old.tables self.old
             → Steps rows s desk.new.tables self.new out.new) }
     {
@@ -144,35 +141,26 @@ impl Worker {
         &mut self,
         alloc: Global,
         desk: &mut Desk<NoBoard>,
-        now: Moment,
-        peer: Peer,
-        datagram: &[u8],
+        arrival: Arrival<'_>,
         out: &mut Outbox,
     ) -> Result<(), Starved>
-        requires moment { now.0 ≤ 10 ^ 15 }
-        requires after_at { desk.old.tables.version.at ≤ now.0 }
-        requires after_sweep { desk.old.tables.version.swept ≤ now.0 }
+        requires moment { arrival.moment.0 ≤ 10 ^ 15 }
+        requires read { IsIncoming arrival.datagram.now arrival.incoming }
+        requires after_at { desk.old.tables.version.at ≤ arrival.moment.0 }
+        requires after_sweep { desk.old.tables.version.swept ≤ arrival.moment.0 }
         requires empty { out.old ≡ [] }
         ensures { IfOk result (λ _. (rows : List Row) (s : Step)
-            → s.kind ≡ hearing datagram.now
-            → s.peer ≡ peer
-            → s.datagram ≡ datagram.now
-            → s.word ≡ 0
-            → MayStep rows s now desk.old.tables self.old
+            → s.kind ≡ hearing arrival.entry.datagram.now
+            → s.peer ≡ arrival.entry.peer
+            → s.datagram ≡ arrival.entry.datagram.now
+            → s.word ≡ arrival.entry.word
+            → MayStep rows s arrival.entry.moment desk.old.tables self.old
             → Steps rows s desk.new.tables self.new out.new) }
     {
-        let incoming = read_datagram(datagram);
-        let Incoming::Look(request) = incoming else {
-            let arrival = Arrival {
-                moment: now,
-                word: 0,
-                peer,
-                datagram,
-                incoming,
-            };
+        let Incoming::Look(request) = arrival.incoming else {
             return self.admit(desk, arrival, out);
         };
-        self.look(alloc, &*desk, now, peer, &request, out)
+        self.look(alloc, &*desk, arrival.moment, arrival.peer, &request, out)
     }
 
     /// It does the job that it holds; where it holds none, nothing happens. `Starved`: out of

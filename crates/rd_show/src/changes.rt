@@ -29,6 +29,7 @@ impl Change {
                 moment,
                 peer,
                 datagram,
+                ..
             } => Change {
                 moment: Some(*moment),
                 worker: Some(*worker),

@@ -93,6 +93,7 @@ pub(crate) fn write_line(
             moment,
             peer,
             datagram,
+            ..
         } => {
             let label = arrival_label(alloc, *moment, *worker, is_repeat)?;
             write_arrival(page, alloc, peer, datagram.as_slice(), label.as_str())

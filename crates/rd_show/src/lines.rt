@@ -48,6 +48,7 @@ pub(crate) fn write_line(
             moment,
             peer,
             datagram,
+            ..
         } => {
             write_moment(page, *moment)?;
             write_sender(page, alloc, *worker, peer, is_repeat)?;

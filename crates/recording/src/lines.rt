@@ -30,6 +30,7 @@ pub(crate) fn come_line(
         moment,
         peer,
         datagram,
+        word: 0,
     })
 }
 

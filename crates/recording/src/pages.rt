@@ -1,6 +1,6 @@
 //! What is to be written.
 
-use rd_base::{Bytes, Put, Sink, Starved};
+use rd_base::{Bytes, Sink, Starved, write_all};
 use std::alloc::Global;
 
 /// What is to be written, and was not yet.
@@ -42,16 +42,4 @@ impl Pages {
         self.out.truncate(0);
         is_written
     }
-}
-
-/// Writes all octets, in as many pieces as the sink takes them. False: the sink failed.
-pub(crate) fn write_all<K: Sink>(sink: &mut K, octets: &[u8]) -> bool {
-    let mut rest = octets;
-    'pieces: while !rest.is_empty() {
-        match sink.write(rest) {
-            Put::Took(count) => rest = &rest[count..],
-            Put::Failed => return false,
-        }
-    }
-    true
 }

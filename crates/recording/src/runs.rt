@@ -2,13 +2,13 @@
 
 use crate::about::text_about;
 use crate::endings::{Status, Stop};
-use crate::pages::{Pages, write_all};
+use crate::pages::Pages;
 use crate::recorders::Recorder;
 use crate::servers::Way;
 use crate::transcripts::Transcript;
 use crate::words::{Output, Words, words_read};
 use itoa::Buffer;
-use rd_base::{Got, Sink, Source};
+use rd_base::{Got, Sink, Source, write_all};
 use std::alloc::Global;
 use trace_text::{LineBad, Reason};
 

@@ -1,7 +1,7 @@
 -- The octets of requests: AskLaws. Events, and the fetches that run after them: NoteLaws (one event
 -- more, for one fetch), PeerLaws (who is fetched from), RunningLaws (the list of the fetches). What
 -- a table stands for: TableLaws. For a desk above: DeskLaws, StepLaws. That requests can be sent:
--- SendableLaws.
+-- SendableLaws. Challenges: ChallengeLaws.
 pub mod AskLaws
 pub mod NoteLaws
 pub mod PeerLaws
@@ -12,4 +12,5 @@ pub mod TableLaws
 pub mod CallLaws
 pub mod DeskLaws
 pub mod SendableLaws
+pub mod ChallengeLaws
 mod examples

@@ -60,11 +60,12 @@ data MayGive (rows : List Row) : Result (Option Step) Reason → Type 0 where
 
 -- the step of a line of a worker
 step_of_worker-MayGive : (rows : List Row) (l : Line) → MayGive rows (step_of_worker rows l)
-step_of_worker-MayGive rows (line.Come worker moment peer datagram) = by (job_of worker rows) refl
+step_of_worker-MayGive rows (line.Come worker moment peer datagram word) =
+    by (job_of worker rows) refl
   where
     by : (job : Option Job)
         → job_of worker rows ≡ job
-        → MayGive rows (come_step job rows worker moment.0 peer datagram)
+        → MayGive rows (come_step job rows worker moment.0 peer datagram word)
     by (Some job) e = bad
     by None e = gives (record { begin = hears e refl; drawn = refl })
 step_of_worker-MayGive rows (line.Go worker moment) = by (job_of worker rows) refl

@@ -4,6 +4,7 @@ mod BlockTraces
 mod SourceTraces
 mod ObserverTraces
 mod FetchTraces
+mod EchoTraces
 mod FullTableTraces
 mod StepTraces
 mod TableTraces

@@ -53,10 +53,17 @@ step_after rows kind worker moment word peer datagram = record {
 }
 
 -- a worker that holds a job can hear nothing
-abbrev pub come_step : Option Job → List Row → ℕ → ℕ → Peer → List ℕ → Result (Option Step) Reason
-come_step (Some job) rows worker moment peer datagram = Err reason.Busy
-come_step None rows worker moment peer datagram =
-    Ok (Some (step_after rows (hearing datagram) worker moment 0 peer datagram))
+abbrev pub come_step : Option Job
+    → List Row
+    → ℕ
+    → ℕ
+    → Peer
+    → List ℕ
+    → ℕ
+    → Result (Option Step) Reason
+come_step (Some job) rows worker moment peer datagram word = Err reason.Busy
+come_step None rows worker moment peer datagram word =
+    Ok (Some (step_after rows (hearing datagram) worker moment word peer datagram))
 
 -- a worker ends the job that it holds, and makes no step where it holds none
 abbrev pub go_step : Option Job → List Row → ℕ → ℕ → Result (Option Step) Reason
@@ -66,15 +73,15 @@ go_step None rows worker moment = Ok None
 
 -- the step of a line for a worker that there is
 abbrev pub step_of_worker : List Row → Line → Result (Option Step) Reason
-step_of_worker rows (line.Come worker moment peer datagram) =
-    come_step (job_of worker rows) rows worker moment.0 peer datagram
+step_of_worker rows (line.Come worker moment peer datagram word) =
+    come_step (job_of worker rows) rows worker moment.0 peer datagram word
 step_of_worker rows (line.Go worker moment) = go_step (job_of worker rows) rows worker moment.0
 step_of_worker rows (line.Tick worker moment word) =
     Ok (Some (step_after rows step.Tick worker moment.0 word nobody []))
 
 -- the worker of a line
 abbrev pub worker_of : Line → ℕ
-worker_of (line.Come worker moment peer datagram) = worker
+worker_of (line.Come worker moment peer datagram word) = worker
 worker_of (line.Go worker moment) = worker
 worker_of (line.Tick worker moment word) = worker
 

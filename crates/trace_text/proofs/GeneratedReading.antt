@@ -170,7 +170,7 @@ come_back : (worker moment a b c d port : ℕ) (octets : List ℕ)
     → ((k : ℕ) → slice_index (a ∷ b ∷ c ∷ d ∷ []) k < 2 ^ 8)
     → 1 ≤ port → port < 2 ^ 16 → AreBytes octets → length octets ≤ 256
     → IsReadBack (line.Come worker (record { 0 = moment })
-    (record { host = host.V4 (a ∷ b ∷ c ∷ d ∷ []); port = port }) octets)
+    (record { host = host.V4 (a ∷ b ∷ c ∷ d ∷ []); port = port }) octets 0)
 unfolding line_text
 come_back worker moment a b c d port octets few soon fits low high bytes short = record {
   inside =
@@ -192,7 +192,7 @@ come_back worker moment a b c d port octets few soon fits low high bytes short =
   is =
       come (omega (arith, few)) (omega (arith, soon))
       (record { host = (refl, fits); port_low = low; port_high = high }) (omega (arith, short))
-      (places octets bytes);
+      (places octets bytes) (omega arith);
 }
 
 go_back : (worker moment : ℕ)

@@ -37,6 +37,7 @@ use Rattle.line_model.specs.Lines.{
   tick,
   AreFieldsOf,
   comes,
+  comes_alone,
   goes,
   ticks,
   ticks_alone,
@@ -61,26 +62,30 @@ module _ (text : List ℕ) where
 has_field : (text : List ℕ) → 0 < length (fields text)
 has_field text = omega (arith, length-slice_split (λ b. b == space) text)
 
-six : (a b c d e : List ℕ) (more : List (List ℕ))
+seven : (a b c d e f : List ℕ) (more : List (List ℕ))
     → 0 < length more
-    → said_by (a ∷ b ∷ c ∷ d ∷ e ∷ more) ≡ None
+    → said_by (a ∷ b ∷ c ∷ d ∷ e ∷ f ∷ more) ≡ None
 unfolding said_by
-six a b c d e [] h = absurd (omega (arith, h))
-six a b c d e (f ∷ more) h = refl
+seven a b c d e f [] h = absurd (omega (arith, h))
+seven a b c d e f (g ∷ more) h = refl
 
--- six fields or more
-pub six_say_nothing : (text a text1 b text2 c text3 d text4 e text5 : List ℕ)
+-- seven fields or more
+pub seven_say_nothing :
+    (text a text1 b text2 c text3 d text4 e text5 f text6 : List ℕ)
     → fields text ≡ a ∷ fields text1
     → fields text1 ≡ b ∷ fields text2
     → fields text2 ≡ c ∷ fields text3
     → fields text3 ≡ d ∷ fields text4
     → fields text4 ≡ e ∷ fields text5
+    → fields text5 ≡ f ∷ fields text6
     → said_by (fields text) ≡ None
-six_say_nothing text a text1 b text2 c text3 d text4 e text5 ea eb ec ed ee =
+seven_say_nothing text a text1 b text2 c text3 d text4 e text5 f text6 ea eb ec ed ee ef =
     ap (λ fs. said_by fs) (ea
     ∙ ap (λ fs. a ∷ fs)
-    (eb ∙ ap (λ fs. b ∷ fs) (ec ∙ ap (λ fs. c ∷ fs) (ed ∙ ap (λ fs. d ∷ fs) ee))))
-    ∙ six a b c d e (fields text5) (has_field text5)
+    (eb
+    ∙ ap (λ fs. b ∷ fs)
+    (ec ∙ ap (λ fs. c ∷ fs) (ed ∙ ap (λ fs. d ∷ fs) (ee ∙ ap (λ fs. e ∷ fs) ef)))))
+    ∙ seven a b c d e f (fields text6) (has_field text6)
 
 -- what a text writes is octets, and not too many
 datagram_fits : (text octets : List ℕ)
@@ -95,8 +100,12 @@ datagram_fits text octets (inr h) = (h.2, (decode_of-ok text octets h.0).3)
 
 -- what fields spell is a line
 pub spelled_line : (parts : List (List ℕ)) (l : Line) → AreFieldsOf parts l → IsLine l
-spelled_line _ _ (comes {w} {m} {p} {d} {worker} {moment} {peer} {octets} hw hm hp hd) =
-    let fits = datagram_fits d octets hd in come hw.within hm.within hp.fits fits.0 fits.1
+spelled_line _ _ (comes {w} {m} {p} {d} {x} {worker} {moment} {peer} {octets} hw hm hp hd hx) =
+    let fits = datagram_fits d octets hd in
+    come hw.within hm.within hp.fits fits.0 fits.1 hx.within
+spelled_line _ _ (comes_alone {w} {m} {p} {d} {worker} {moment} {peer} {octets} hw hm hp hd) =
+    let fits = datagram_fits d octets hd in
+    come hw.within hm.within hp.fits fits.0 fits.1 (omega arith)
 spelled_line _ _ (goes hw hm) = go hw.within hm.within
 spelled_line _ _ (ticks hw hm hx) = tick hw.within hm.within hx.within
 spelled_line _ _ (ticks_alone hw hm) = tick hw.within hm.within (omega arith)

@@ -174,12 +174,12 @@ fn come_line(
     ensures { IfOk result (λ text.
         string_bytes text
         ≡ line_text (line_kind.Come worker (record { 0 = at }) peer.now
-        (spelling (with_payload writer.old payload.now)))) }
+        (spelling (with_payload writer.old payload.now)) 0)) }
 {
     let Ok(datagram) = writer.finish(payload) else {
         unreachable!()
     };
-    come_print(alloc, worker, Moment(at), peer, datagram)
+    come_print(alloc, worker, Moment(at), peer, datagram, 0)
 }
 
 /// The line of a device's registration. `Starved`: out of memory.
@@ -187,7 +187,7 @@ fn registration_line(alloc: Global, i: u16, worker: u8) -> Result<String, Starve
     ensures { IfOk result (λ text.
         string_bytes text
         ≡ line_text (line_kind.Come worker (record { 0 = generator.pace * i })
-        (generator.device i) (spelling (generator.device_registration i)))) }
+        (generator.device i) (spelling (generator.device_registration i)) 0)) }
 {
     let name = name_query(alloc, i)?;
     let lifetime = lifetime_query(alloc, i)?;
@@ -203,7 +203,7 @@ fn observation_line(alloc: Global, i: u16, worker: u8) -> Result<String, Starved
     ensures { IfOk result (λ text.
         string_bytes text
         ≡ line_text (line_kind.Come worker (record { 0 = generator.pace * i + 2 })
-        generator.onlooker (spelling (generator.observation i)))) }
+        generator.onlooker (spelling (generator.observation i)) 0)) }
 {
     let kind = kind_query(alloc, i)?;
     let mut writer = begin_observation(i, kind.as_bytes());

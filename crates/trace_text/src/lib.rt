@@ -11,7 +11,7 @@ mod line_printer;
 mod numbers;
 
 pub use faults::LineFault;
-pub use fields::offset_of;
+pub use fields::{cut, offset_of};
 pub use generator::make;
 pub use line_model::{Line, LineBad, Reason};
 pub use line_parser::line_read;

@@ -13,7 +13,7 @@ use line_model::limits::{MAX_LINE, MAX_MOMENT, MAX_WORD, MAX_WORKER};
 use rd_base::{Moment, Peer, peer_read_ascii};
 use std::alloc::Global;
 
-/// What the fields of a datagram that comes say.
+/// What the fields of a datagram that comes say, with a word.
 #[tactic(auto, unfolding(line_model::specs::Lines::come_of))]
 fn come_read(
     alloc: Global,
@@ -21,19 +21,30 @@ fn come_read(
     moment: &[u8],
     peer: &[u8],
     octets: &[u8],
+    word: Option<u32>,
 ) -> Result<Line, FieldFault>
-    ensures { IsSaid result (lines.come_of worker.now moment.now peer.now octets.now) }
+    ensures { IsSaid result (lines.come_of worker.now moment.now peer.now octets.now word) }
 {
     let worker = number_read(MAX_WORKER, worker).ok_or(FieldFault::Form)?;
     let moment = number_read(MAX_MOMENT, moment).ok_or(FieldFault::Form)?;
     let peer = peer_read_ascii(peer).ok().ok_or(FieldFault::Form)?;
     let octets = datagram_read(alloc, octets)?;
+    let word = word.ok_or(FieldFault::Form)?;
     Ok(Line::Come {
         worker: worker as u8,
         moment: Moment(moment),
         peer,
         datagram: octets,
+        word,
     })
+}
+
+/// The word that a field says.
+fn word_read(word: &[u8]) -> Option<u32>
+    ensures { result ≡ numbers.number_of numbers.max_word word.now }
+{
+    let word = number_read(MAX_WORD, word)?;
+    Some(word as u32)
 }
 
 /// What the fields of a worker that ends its job say.
@@ -68,11 +79,11 @@ fn tick_word_read(worker: &[u8], moment: &[u8], word: &[u8]) -> Option<Line>
 {
     let worker = number_read(MAX_WORKER, worker)?;
     let moment = number_read(MAX_MOMENT, moment)?;
-    let word = number_read(MAX_WORD, word)?;
+    let word = word_read(word)?;
     Some(Line::Tick {
         worker: worker as u8,
         moment: Moment(moment),
-        word: word as u32,
+        word,
     })
 }
 
@@ -115,7 +126,28 @@ fn five_read(
         (lines.said_by (verb.now ∷ worker.now ∷ moment.now ∷ peer.now ∷ octets.now ∷ [])) }
 {
     if verb == b"in".as_slice() {
-        return come_read(alloc, worker, moment, peer, octets);
+        return come_read(alloc, worker, moment, peer, octets, Some(0));
+    }
+    Err(FieldFault::Form)
+}
+
+/// What six fields say.
+#[tactic(auto, unfolding(line_model::specs::Lines::said_by))]
+fn six_read(
+    alloc: Global,
+    verb: &[u8],
+    worker: &[u8],
+    moment: &[u8],
+    peer: &[u8],
+    octets: &[u8],
+    word: &[u8],
+) -> Result<Line, FieldFault>
+    ensures { IsSaid result
+        (lines.said_by
+        (verb.now ∷ worker.now ∷ moment.now ∷ peer.now ∷ octets.now ∷ word.now ∷ [])) }
+{
+    if verb == b"in".as_slice() {
+        return come_read(alloc, worker, moment, peer, octets, word_read(word));
     }
     Err(FieldFault::Form)
 }
@@ -136,8 +168,11 @@ fn fields_read(alloc: Global, line: &[u8]) -> Result<Line, FieldFault>
     let Some((fourth, rest)) = cut(rest) else {
         return four_read(verb, worker, moment, rest).ok_or(FieldFault::Form);
     };
+    let Some((fifth, rest)) = cut(rest) else {
+        return five_read(alloc, verb, worker, moment, fourth, rest);
+    };
     match cut(rest) {
-        None => five_read(alloc, verb, worker, moment, fourth, rest),
+        None => six_read(alloc, verb, worker, moment, fourth, fifth, rest),
         Some(_) => Err(FieldFault::Form),
     }
 }
@@ -159,8 +194,8 @@ fn read(alloc: Global, line: &[u8]) -> Result<Line, LineFault>
 
 /// The line that a text is, without its line feed. `Starved`: out of memory. `Long` comes exactly
 /// where it has more than 8,600 bytes, and `Form` exactly where it has not and is none of the three
-/// forms: `in`, a worker, a moment, a peer and octets; `go`, a worker and a moment; `tick`, a
-/// worker, a moment and maybe a word.
+/// forms: `in`, a worker, a moment, a peer, octets and maybe a word; `go`, a worker and a moment;
+/// `tick`, a worker, a moment and maybe a word.
 pub fn line_read(alloc: Global, line: &[u8]) -> Result<Line, LineFault>
     ensures answered { IsAnswered line.now result }
     ensures read { IsRead result (lines.line_of line.now) }

@@ -12,25 +12,30 @@ use std::alloc::Global;
 /// The room that is taken at once for what stands in a line before its octets.
 const FRONT: usize = 80;
 
-/// The line of a datagram that comes.
+/// The line of a datagram that comes, a word of 0 left out.
 pub(crate) fn come_print(
     alloc: Global,
     worker: u8,
     moment: Moment,
     peer: &Peer,
     octets: &[u8],
+    word: u32,
 ) -> Result<String, Starved>
     ensures { IfOk result (λ text.
         string_bytes text
         ≡ lines.joined
-        (lines.printed_fields (line_kind.Come worker moment peer.now octets.now))) }
+        (lines.printed_fields (line_kind.Come worker moment peer.now octets.now word))) }
 {
     let Moment(at) = moment;
     let peer = peer_text(alloc, peer)?;
     let peer = peer.as_str();
     let octets = datagram_text(alloc, octets)?;
     let mut text = String::with_capacity(alloc, usize::saturating_add(FRONT, octets.len()))?;
-    write!(text, "in {worker} {at} {peer} {octets}")?;
+    if word == 0 {
+        write!(text, "in {worker} {at} {peer} {octets}")?;
+        return Ok(text);
+    }
+    write!(text, "in {worker} {at} {peer} {octets} {word}")?;
     Ok(text)
 }
 
@@ -75,7 +80,8 @@ fn printed(alloc: Global, line: &Line) -> Result<String, Starved>
             moment,
             peer,
             datagram: octets,
-        } => { come_print(alloc, *worker, *moment, peer, octets.as_slice()) }
+            word,
+        } => { come_print(alloc, *worker, *moment, peer, octets.as_slice(), *word) }
         Line::Go(worker, moment) => go_print(alloc, *worker, *moment),
         Line::Tick {
             worker,

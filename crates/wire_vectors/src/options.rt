@@ -78,6 +78,7 @@ fn put_meaning(page: &mut String, meaning: &Meaning<'_>) -> Result<(), Starved> 
     put_format(page, "format", meaning.format)?;
     put_value(page, "block1", meaning.block1)?;
     put_value(page, "block2", meaning.block2)?;
+    put_value(page, "echo", meaning.echo)?;
     if meaning.proxy {
         page.push_str(" proxy")?;
     }

@@ -9,6 +9,7 @@ use Rattle.std.proofs.Common.{
   Bool,
   true,
   false,
+  cond,
   List,
   [],
   ◌∷◌,
@@ -22,6 +23,7 @@ use Rattle.std.proofs.Common.{
   refl,
   sym,
   subst,
+  ◌∙◌,
   arith,
 }
 use Rattle.std.specs.Prelude.{nat_lt}
@@ -32,11 +34,12 @@ use Rattle.line_model.specs.declared.lines.Reason.{Reason}
 use Rattle.line_model.specs.Lines.{line_of}
 use Rattle.line_model.specs.Texts.{lines_of}
 use Rattle.journal_model.specs.declared.steps.Step.{Step}
+use Rattle.journal_model.specs.declared.steps.StepKind.TheVariants as step
 use Rattle.journal_model.specs.declared.rows.Row.{Row}
 use Rattle.journal_model.specs.Journal.{latest}
 use Rattle.journal_model.specs.Rows.{row}
-use Rattle.journal_model.specs.Machine.{Job, job_of, run, unstarved}
-use Rattle.journal_model.specs.DeskJournal.{NoLaterLook, IsHanded, IsDeskJournal}
+use Rattle.journal_model.specs.Machine.{Job, job_of, is_look_datagram, hearing, run, unstarved}
+use Rattle.journal_model.specs.DeskJournal.{ends_job, NoLaterLook, IsHanded, IsDeskJournal}
 use Rattle.journal_model.proofs.EventRows.{AllRows}
 use Rattle.journal_model.proofs.RowEquations.{row-step}
 use Rattle.trace_model.specs.Steps.{
@@ -66,18 +69,28 @@ GivesHanded rows _ = Unit {0}
 step_in_time : (rows : List Row) (moment : ℕ) → NoLaterLook (max moment (latest rows)) rows
 step_in_time rows moment = omega arith
 
+-- what is heard ends no job
+hearing_ends_none : (datagram : List ℕ) → ends_job (hearing datagram) ≡ false
+hearing_ends_none datagram = by (is_look_datagram datagram)
+  where
+    by : (b : Bool) → ends_job (cond b step.Look step.Admit) ≡ false
+    by true = refl
+    by false = refl
+
 -- the step of a worker that there is
 step_of_worker-handed : (rows : List Row) (l : Line)
     → worker_of l < 16
     → GivesHanded rows (step_of_worker rows l)
-step_of_worker-handed rows (line.Come worker moment peer datagram) within = by (job_of worker rows)
+step_of_worker-handed rows (line.Come worker moment peer datagram word) within =
+    by (job_of worker rows)
   where
-    by : (job : Option Job) → GivesHanded rows (come_step job rows worker moment.0 peer datagram)
+    by : (job : Option Job)
+        → GivesHanded rows (come_step job rows worker moment.0 peer datagram word)
     by (Some job) = tt
     by None = record {
       in_time = step_in_time rows moment.0;
       worker = within;
-      word = λ ending. refl;
+      word = λ ending. absurd (false≢true (sym (hearing_ends_none datagram) ∙ ending));
     }
 step_of_worker-handed rows (line.Go worker moment) within = by (job_of worker rows)
   where

@@ -35,7 +35,13 @@ use Rattle.journal_model.specs.declared.steps.StepKind.{StepKind}
 use Rattle.journal_model.specs.declared.rows.Row.{Row}
 use Rattle.journal_model.specs.Journal.{events}
 use Rattle.journal_model.specs.Effects.{answering}
-use Rattle.journal_model.specs.Writes.{again_answered, admitted_unless, write_unless, write_effects}
+use Rattle.journal_model.specs.Writes.{
+  again_answered,
+  is_unproved,
+  admitted_unless,
+  write_unless,
+  write_effects,
+}
 use Rattle.journal_model.specs.Rows.{effects, row_moment, row}
 use Rattle.journal_model.specs.PlacedRows.{admits}
 use Rattle.journal_model.proofs.NoteKinds.{
@@ -95,11 +101,12 @@ write_admits rows moment s m peer mid = by (repeated moment s.peer m.mid (events
     again None = refl
     again (Some octets) = refl
 
-    full : (b : Bool)
+    new : (full unproved : Bool)
         → repeated moment s.peer m.mid (events rows) ≡ None
-        → Admits rows moment peer mid (admitted_unless b s m).notes
-    full true none e = absurd (false≢true e)
-    full false none e =
+        → Admits rows moment peer mid (admitted_unless full unproved (events rows) s m).notes
+    new true unproved none e = absurd (false≢true e)
+    new false true none e = absurd (false≢true e)
+    new false false none e =
         let both =
         and_parts (is_same_peer s.peer peer) (m.mid == mid)
         (one (is_same_peer s.peer peer && m.mid == mid) e) in
@@ -116,7 +123,8 @@ write_admits rows moment s m peer mid = by (repeated moment s.peer m.mid (events
         → Admits rows moment peer mid (write_unless first (events rows) moment s m).notes
     by (Some first) found =
         nothing_noted rows moment peer mid _ (again (settled first.place (events rows)))
-    by None none = full (is_full_of_exchanges moment (events rows)) none
+    by None none =
+        new (is_full_of_exchanges moment (events rows)) (is_unproved (events rows) moment s m) none
 
 -- any step
 effects_admit : (kind : StepKind) (starved : Bool) (rows : List Row) (moment : ℕ) (s : Step)

@@ -70,7 +70,9 @@ use Rattle.history_model.proofs.NumberLaws.{
 }
 use Rattle.event_model.specs.declared.notes.Note.{Note}
 use Rattle.event_model.specs.declared.notes.Note.TheVariants as note
+use Rattle.event_model.specs.Events.{Event}
 use Rattle.event_model.specs.Uploads.{live_upload, live_uploads}
+use Rattle.event_model.specs.Challenges.{next_challenge}
 use Rattle.journal_model.specs.declared.steps.Step.{Step}
 use Rattle.journal_model.specs.declared.rows.Row.{Row}
 use Rattle.journal_model.specs.Journal.{events, entries}
@@ -92,6 +94,7 @@ use Rattle.journal_model.specs.Requests.{
 }
 use Rattle.journal_model.specs.Bodies.{block2_option, answered_block, part_reply, body_reply}
 use Rattle.journal_model.specs.Looks.{still_valid, not_live}
+use Rattle.journal_model.specs.Writes.{challenge}
 use Rattle.journal_model.specs.Changes.{
   Outcome,
   refused_as,
@@ -223,6 +226,21 @@ good_bad : (word : List ℕ)
     → IsGoodReply (diagnostic codes_of.bad_request word)
 good_bad word short =
     good_word codes_of.bad_request word refl (λ e. absurd (omega (arith, e))) short
+
+-- the value of a challenge has eight octets
+pub next_challenge-length : (word : ℕ) (events : List Event)
+    → length (next_challenge word events) ≡ 8
+unfolding next_challenge
+next_challenge-length word events = refl
+
+-- 4.01 with such a value in Echo
+pub good_challenge : (value : List ℕ) → length value ≡ 8 → IsGoodReply (challenge value)
+good_challenge value short = record {
+  class = refl;
+  filled = λ e. absurd (omega (arith, e));
+  options = (omega arith, omega arith, omega (arith, short), tt);
+  room = omega (arith, short);
+}
 
 -- a refusal, where there is one
 abbrev GoodIf : Option Reply → Type 0

@@ -73,6 +73,7 @@ use Rattle.event_model.specs.Same.{RequestName}
 use Rattle.event_model.specs.Events.{Event}
 use Rattle.event_model.specs.Repeats.{repeated, settled, is_full_of_exchanges}
 use Rattle.event_model.specs.KeptAnswers.{Answer, kept_answer}
+use Rattle.event_model.specs.Challenges.{next_challenge}
 use Rattle.event_model.specs.Observers.{observers, has_room_for, observe_value}
 use Rattle.event_model.specs.Fetches.{
   Request,
@@ -153,7 +154,14 @@ use Rattle.journal_model.specs.Lookups.{
   read_effects,
   observing_by,
 }
-use Rattle.journal_model.specs.Writes.{again_answered, admitted_unless, write_unless, write_effects}
+use Rattle.journal_model.specs.Writes.{
+  again_answered,
+  challenge,
+  is_unproved,
+  admitted_unless,
+  write_unless,
+  write_effects,
+}
 use Rattle.journal_model.specs.Changes.{Outcome}
 use Rattle.journal_model.specs.Registrations.{registering}
 use Rattle.journal_model.specs.Commits.{
@@ -216,6 +224,8 @@ use Rattle.journal_model.proofs.datagrams.FittingReplies.{
   good_bare,
   good_starved,
   good_unavailable,
+  next_challenge-length,
+  good_challenge,
   good_refusal,
   good_part_reply,
   good_body_reply,
@@ -408,17 +418,24 @@ write_own rows moment s m past read asks = by (repeated moment s.peer m.mid (eve
     again first found None e = tt
     again first found (Some octets) e = (past.repeats s m moment first octets read asks found e, tt)
 
-    full : (b : Bool) → AreOwn rows s (admitted_unless b s m).sent
-    full true =
+    new : (full unproved : Bool)
+        → AreOwn rows s (admitted_unless full unproved (events rows) s m).sent
+    new true unproved =
         own_answering rows s m (diagnostic codes_of.service_unavailable (codes "exchanges")) [] read
         asks (good_unavailable (codes "exchanges") (omega arith))
-    full false = tt
+    new false true =
+        own_answering rows s m (challenge (next_challenge s.word (events rows)))
+        (note.Challenged s.peer (next_challenge s.word (events rows)) ∷ []) read asks
+        (good_challenge (next_challenge s.word (events rows))
+        (next_challenge-length s.word (events rows)))
+    new false false = tt
 
     by : (first : Option Event)
         → repeated moment s.peer m.mid (events rows) ≡ first
         → AreOwn rows s (write_unless first (events rows) moment s m).sent
     by (Some first) found = again first found (settled first.place (events rows)) refl
-    by None found = full (is_full_of_exchanges moment (events rows))
+    by None found =
+        new (is_full_of_exchanges moment (events rows)) (is_unproved (events rows) moment s m)
 
 -- the size of a block that is asked for
 usable : (m : Message) → szx_of (asked_block m) < 7

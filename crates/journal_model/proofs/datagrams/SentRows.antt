@@ -325,6 +325,7 @@ admits_some peer mid (note.Gathered p octets tag) h = absurd (false≢true h)
 admits_some peer mid (note.Resent p) h = absurd (false≢true h)
 admits_some peer mid (note.Waiting p) h = absurd (false≢true h)
 admits_some peer mid (note.Ceased p) h = absurd (false≢true h)
+admits_some peer mid (note.Challenged p value) h = absurd (false≢true h)
 
 -- the one admission of a row that is of a peer and a Message ID has them
 its_own : (r : Row) (own : OwnAdmission r) (n : Note) (peer : Peer) (mid : ℕ)

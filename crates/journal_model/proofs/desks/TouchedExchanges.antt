@@ -52,7 +52,13 @@ use Rattle.journal_model.specs.Commits.{
   commit_effects,
   fetch_room,
 }
-use Rattle.journal_model.specs.Writes.{again_answered, admitted_unless, write_unless, write_effects}
+use Rattle.journal_model.specs.Writes.{
+  again_answered,
+  is_unproved,
+  admitted_unless,
+  write_unless,
+  write_effects,
+}
 use Rattle.journal_model.specs.Rows.{effects, row_moment, row}
 use Rattle.journal_model.proofs.NoteKinds.{
   of_lookup,
@@ -138,17 +144,20 @@ write_touches rows moment s m read asks = by (repeated moment s.peer m.mid (even
     again None = refl
     again (Some octets) = refl
 
-    full : (b : Bool)
+    new : (full unproved : Bool)
         → repeated moment s.peer m.mid (events rows) ≡ None
-        → Touches step.Admit rows moment s (admitted_unless b s m).notes
-    full true none = aside refl
-    full false none = admits m refl read asks refl none
+        → Touches step.Admit rows moment s
+        (admitted_unless full unproved (events rows) s m).notes
+    new true unproved none = aside refl
+    new false true none = aside refl
+    new false false none = admits m refl read asks refl none
 
     by : (first : Option Event)
         → repeated moment s.peer m.mid (events rows) ≡ first
         → Touches step.Admit rows moment s (write_unless first (events rows) moment s m).notes
     by (Some first) found = aside (ap (are is_aside) (again (settled first.place (events rows))))
-    by None none = full (is_full_of_exchanges moment (events rows)) none
+    by None none =
+        new (is_full_of_exchanges moment (events rows)) (is_unproved (events rows) moment s m) none
 
 -- a commit ends its own admission at most
 commit_ends : (rows : List Row) (moment place : ℕ) (s : Step) (m : Message)

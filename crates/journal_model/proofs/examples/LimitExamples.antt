@@ -187,11 +187,11 @@ after_writes n = after_notes (map (λ mid. note.Admitted (peer 1) mid) (range_wi
 abbrev heard_after : ℕ → Row
 heard_after n = row (after_writes n) (hearing (spelling update)) false
 
--- what is done about it, where these are the admissions that stand
-abbrev done_about : List Event → Effects
-done_about admitted =
+-- what is done about it after events, where these are the admissions that stand
+abbrev done_about : List Event → List Event → Effects
+done_about past admitted =
     admitted_unless (nat_le max_exchanges (length (filter (λ a. is_young 0 a.moment) admitted)))
-    (hearing (spelling update)) update
+    false past (hearing (spelling update)) update
 
 -- what an example unfolds; which admissions stand is left to a law
 unfoldable writes_on_literals : ⊤
@@ -203,7 +203,7 @@ writes_on_literals = tt
 room_for_exchange : (heard_after 4_095).notes ≡ note.Admitted (peer 1) 4_096 ∷ []
 unfolding writes_on_literals
 room_for_exchange =
-    ap (λ admitted. (done_about admitted).notes)
+    ap (λ admitted. (done_about (events (after_writes 4_095)) admitted).notes)
     (admissions_whole (events (after_writes 4_095)) refl)
 
 -- 4,096 are kept: it is refused at once
@@ -212,5 +212,5 @@ full_of_exchanges :
     map (λ d. d.1) (heard_after 4_096).sent ≡ hex (codes "60a31000ff65786368616e676573") ∷ []
 unfolding writes_on_literals
 full_of_exchanges =
-    ap (λ admitted. map (λ d. d.1) (done_about admitted).sent)
+    ap (λ admitted. map (λ d. d.1) (done_about (events (after_writes 4_096)) admitted).sent)
     (admissions_whole (events (after_writes 4_096)) refl)

@@ -96,7 +96,13 @@ use Rattle.journal_model.specs.Registrations.{
   replacing,
   block_room,
 }
-use Rattle.journal_model.specs.Writes.{again_answered, admitted_unless, write_unless, write_effects}
+use Rattle.journal_model.specs.Writes.{
+  again_answered,
+  is_unproved,
+  admitted_unless,
+  write_unless,
+  write_effects,
+}
 use Rattle.journal_model.specs.Rows.{refusal_answered, unread_answered}
 use Rattle.journal_model.specs.PlacedRows.{code_at}
 use Rattle.journal_model.proofs.NoteKinds.{are}
@@ -197,7 +203,7 @@ abbrev pub SettledPlain : List Event → Type 0
 SettledPlain events =
     (place : ℕ) (octets : List ℕ) → settled place events ≡ Some octets → IsPlain octets
 
--- a write as it is heard: a repeat, one too many, or one that is admitted
+-- a write as it is heard: a repeat, one too many, one that is challenged, or one that is admitted
 pub write_plain : (events : List Event) (moment : ℕ) (s : Step) (m : Message)
     → SettledPlain events
     → ArePlain (write_effects events moment s m).sent
@@ -210,13 +216,14 @@ write_plain events moment s m before = by (repeated moment s.peer m.mid events)
     again place None e = tt
     again place (Some octets) e = (before place octets e, tt)
 
-    full : (b : Bool) → ArePlain (admitted_unless b s m).sent
-    full true = plain_answering s m _ [] (record { no_content = refl; no_valid = refl })
-    full false = tt
+    new : (full unproved : Bool) → ArePlain (admitted_unless full unproved events s m).sent
+    new true unproved = plain_answering s m _ [] (record { no_content = refl; no_valid = refl })
+    new false true = plain_answering s m _ _ (record { no_content = refl; no_valid = refl })
+    new false false = tt
 
     by : (first : Option Event) → ArePlain (write_unless first events moment s m).sent
     by (Some first) = again first.place (settled first.place events) refl
-    by None = full (is_full_of_exchanges moment events)
+    by None = new (is_full_of_exchanges moment events) (is_unproved events moment s m)
 
 -- ---- commits
 

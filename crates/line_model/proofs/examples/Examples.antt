@@ -78,16 +78,59 @@ tick_word_too_great = refl
 
 -- a dash is the empty datagram
 come_empty :
-    line_of (codes "in 0 10 192.0.2.10:5683 -") ≡ Ok (line.Come 0 (record { 0 = 10 }) device [])
+    line_of (codes "in 0 10 192.0.2.10:5683 -")
+    ≡ Ok (line.Come 0 (record { 0 = 10 }) device [] 0)
 unfolding trace_on_literals
 come_empty = refl
 
 -- digits of either case
 come_upper :
     line_of (codes "in 0 10 192.0.2.10:5683 aBFf")
-    ≡ Ok (line.Come 0 (record { 0 = 10 }) device (0xab ∷ 0xff ∷ []))
+    ≡ Ok (line.Come 0 (record { 0 = 10 }) device (0xab ∷ 0xff ∷ []) 0)
 unfolding trace_on_literals
 come_upper = refl
+
+-- a word, the greatest, and one that is too great
+come_with_word :
+    line_of (codes "in 0 10 192.0.2.10:5683 ab 7")
+    ≡ Ok (line.Come 0 (record { 0 = 10 }) device (0xab ∷ []) 7)
+unfolding trace_on_literals
+come_with_word = refl
+
+come_with_greatest_word :
+    line_of (codes "in 0 10 192.0.2.10:5683 - 4294967295")
+    ≡ Ok (line.Come 0 (record { 0 = 10 }) device [] 4_294_967_295)
+unfolding trace_on_literals
+come_with_greatest_word = refl
+
+come_word_too_great : line_of (codes "in 0 10 192.0.2.10:5683 - 4294967296") ≡ Err reason.Form
+unfolding trace_on_literals
+come_word_too_great = refl
+
+-- a word of 0 may be written, one with a leading zero may not
+come_with_word_0 :
+    line_of (codes "in 0 10 192.0.2.10:5683 - 0")
+    ≡ Ok (line.Come 0 (record { 0 = 10 }) device [] 0)
+unfolding trace_on_literals
+come_with_word_0 = refl
+
+come_with_leading_zero : line_of (codes "in 0 10 192.0.2.10:5683 - 07") ≡ Err reason.Form
+unfolding trace_on_literals
+come_with_leading_zero = refl
+
+-- an empty word, and two
+come_with_empty_word : line_of (codes "in 0 10 192.0.2.10:5683 - ") ≡ Err reason.Form
+unfolding trace_on_literals
+come_with_empty_word = refl
+
+come_with_two_words : line_of (codes "in 0 10 192.0.2.10:5683 - 7 7") ≡ Err reason.Form
+unfolding trace_on_literals
+come_with_two_words = refl
+
+-- a go has none
+go_with_word : line_of (codes "go 0 10 7") ≡ Err reason.Form
+unfolding trace_on_literals
+go_with_word = refl
 
 -- an odd number of digits
 come_odd : line_of (codes "in 0 10 192.0.2.10:5683 abc") ≡ Err reason.Form
@@ -216,16 +259,23 @@ printed_far = refl
 
 -- a line that is printed
 printed_come :
-    line_text (line.Come 0 (record { 0 = 10 }) device (0xAB ∷ 1 ∷ []))
+    line_text (line.Come 0 (record { 0 = 10 }) device (0xAB ∷ 1 ∷ []) 0)
     ≡ codes "in 0 10 192.0.2.10:5683 ab01"
 unfolding trace_on_literals
 printed_come = refl
 
 -- an empty datagram is a dash
 printed_empty :
-    line_text (line.Come 0 (record { 0 = 10 }) far []) ≡ codes "in 0 10 [2001:db8::1]:61616 -"
+    line_text (line.Come 0 (record { 0 = 10 }) far [] 0) ≡ codes "in 0 10 [2001:db8::1]:61616 -"
 unfolding trace_on_literals
 printed_empty = refl
+
+-- a word that is not 0 stands behind the octets
+printed_come_with_word :
+    line_text (line.Come 0 (record { 0 = 10 }) device (0xAB ∷ 1 ∷ []) 7)
+    ≡ codes "in 0 10 192.0.2.10:5683 ab01 7"
+unfolding trace_on_literals
+printed_come_with_word = refl
 
 -- a word of 0 is left out
 printed_tick : line_text (line.Tick 3 (record { 0 = 10 }) 0) ≡ codes "tick 3 10"

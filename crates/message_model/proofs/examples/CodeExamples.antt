@@ -39,6 +39,9 @@ continue_is = refl
 bad_request_is : codes_of.bad_request ≡ code 4 0
 bad_request_is = refl
 
+unauthorized_is : codes_of.unauthorized ≡ code 4 1
+unauthorized_is = refl
+
 bad_option_is : codes_of.bad_option ≡ code 4 2
 bad_option_is = refl
 

@@ -6,7 +6,7 @@ use Rattle.message_model.specs.Codes.{get, post, put, delete}
 use Rattle.message_model.specs.Message.{Opt}
 use Rattle.message_model.specs.OptionTable as table
 use Rattle.message_model.specs.OptionTable.{recognized_options, first_bad_option, values}
-use Rattle.message_model.specs.Request.{path_of, observe_in, etags_in, accept_in}
+use Rattle.message_model.specs.Request.{path_of, observe_in, etags_in, accept_in, echo_in}
 use Rattle.message_model.specs.Refusals.{refusal_of, refusal_code, diagnostic_of}
 use Rattle.message_model.specs.RequestKey.{key_in}
 use Rattle.message_model.proofs.Notation.{hex, request}
@@ -234,6 +234,43 @@ long_etag_is_passed_over :
 unfolding messages_on_literals
 long_etag_is_passed_over = refl
 
+-- Echo has 1 to 40 bytes, and counts once; what does not count is passed over, for it is elective
+shortest_echo_counts :
+    echo_in (request post ((table.echo, hex (codes "00")) ∷ []) []) ≡ Some (hex (codes "00"))
+unfolding messages_on_literals
+shortest_echo_counts = refl
+
+longest_echo_counts :
+    echo_in (request post ((table.echo, replicate 40 7) ∷ []) []) ≡ Some (replicate 40 7)
+unfolding messages_on_literals
+longest_echo_counts = refl
+
+empty_echo_is_passed_over : echo_in (request post ((table.echo, []) ∷ []) []) ≡ None
+unfolding messages_on_literals
+empty_echo_is_passed_over = refl
+
+too_long_echo_is_passed_over :
+    echo_in (request post ((table.echo, replicate 41 7) ∷ []) []) ≡ None
+unfolding messages_on_literals
+too_long_echo_is_passed_over = refl
+
+too_long_echo_is_not_refused : first_bad_option ((table.echo, replicate 41 7) ∷ []) ≡ None
+unfolding messages_on_literals
+too_long_echo_is_not_refused = refl
+
+first_echo_counts :
+    echo_in
+    (request post ((table.echo, hex (codes "01")) ∷ (table.echo, hex (codes "02")) ∷ []) [])
+    ≡ Some (hex (codes "01"))
+unfolding messages_on_literals
+first_echo_counts = refl
+
+-- the second is a further occurrence, also where the first has a bad length
+neither_echo_counts :
+    echo_in (request post ((table.echo, []) ∷ (table.echo, hex (codes "02")) ∷ []) []) ≡ None
+unfolding messages_on_literals
+neither_echo_counts = refl
+
 -- leading zero bytes are read
 zeros_are_read : accept_in (request get ((table.accept, hex (codes "0028")) ∷ []) []) ≡ Some 40
 unfolding messages_on_literals
@@ -274,3 +311,11 @@ key_is_made :
     ≡ hex (codes "02030000000000000102046c743d31")
 unfolding messages_on_literals
 key_is_made = refl
+
+-- Echo is no part of it (RFC 9175 section 2.2.1)
+key_without_echo :
+    key_in
+    (request post (to_one (codes "rd") ++ (table.echo, hex (codes "0102")) ∷ []) [])
+    ≡ key_in (request post (to_one (codes "rd")) [])
+unfolding messages_on_literals
+key_without_echo = refl

@@ -104,20 +104,24 @@ again_notes = refl
 -- type a is registered, of which a tick tells, and then one of type b
 --     CON 0.01 m=0010 t=c1 [6 x][11 rd-lookup][11 res][15 rt=a]
 --     CON 0.01 m=0010 t=c2 [6 x][11 rd-lookup][11 res][15 rt=b]
---     CON 0.02 m=0005 t=e1 [11 .well-known][11 rd][15 ep=s]
+--     CON 0.02 m=0004 t=e1 [11 .well-known][11 rd][15 ep=s]
+--     CON 0.02 m=0005 t=e1 [11 .well-known][11 rd][15 ep=s][252 x0000000000000000]
 --     CON 0.02 m=0001 t=a1 [11 rd][15 ep=n] | <x>;rt=a
 --     CON 0.02 m=0002 t=a1 [11 rd][15 ep=m] | <x>;rt=b
 abbrev observed : List Row
 observed = run (unstarved (
     step_of step.Admit 1000 0 2 (codes "41010010c1605972642d6c6f6f6b7570037265734472743d61")
     ∷ step_of step.Admit 1000 0 3 (codes "41010010c2605972642d6c6f6f6b7570037265734472743d62")
-    ∷ step_of step.Admit 1000 0 4 (codes "41020005e1bb2e77656c6c2d6b6e6f776e0272644465703d73")
-    ∷ step_of (step.Commit 2) 1000 0 4 (codes "41020005e1bb2e77656c6c2d6b6e6f776e0272644465703d73")
+    ∷ step_of step.Admit 1000 0 4 (codes "41020004e1bb2e77656c6c2d6b6e6f776e0272644465703d73")
+    ∷ step_of step.Admit 1000 0 4
+    (codes "41020005e1bb2e77656c6c2d6b6e6f776e0272644465703d73d8e00000000000000000")
+    ∷ step_of (step.Commit 3) 1000 0 4
+    (codes "41020005e1bb2e77656c6c2d6b6e6f776e0272644465703d73d8e00000000000000000")
     ∷ step_of step.Admit 1000 1 1 (codes "41020001a1b272644465703d6eff3c783e3b72743d61")
-    ∷ step_of (step.Commit 4) 1000 1 1 (codes "41020001a1b272644465703d6eff3c783e3b72743d61")
+    ∷ step_of (step.Commit 5) 1000 1 1 (codes "41020001a1b272644465703d6eff3c783e3b72743d61")
     ∷ step_of step.Tick 1000 1 0 []
     ∷ step_of step.Admit 1001 2 1 (codes "41020002a1b272644465703d6dff3c783e3b72743d62")
-    ∷ step_of (step.Commit 7) 1001 2 1 (codes "41020002a1b272644465703d6dff3c783e3b72743d62")
+    ∷ step_of (step.Commit 8) 1001 2 1 (codes "41020002a1b272644465703d6dff3c783e3b72743d62")
     ∷ []))
 
 -- a response to that fetch is as if it had not come: CON 2.05 m=0777 t=0000000000000001 | <y> gets

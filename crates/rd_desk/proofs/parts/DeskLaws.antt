@@ -9,6 +9,7 @@ use Rattle.journal_model.specs.Ticks.{octets_sent}
 use Rattle.exchange_core.specs.ExchangeEvents.{ExchangesStandFor}
 use Rattle.transfers.specs.TransferEvents.{TransfersStandFor}
 use Rattle.simple_registration.specs.FetchEvents.{FetchesStandFor}
+use Rattle.simple_registration.specs.Challenges.{ChallengesStandFor}
 use Rattle.observation.specs.Watching.{WatchingStandsFor}
 use Rattle.rd_desk.specs.calls.Desks.{Seen, StandsFor}
 
@@ -25,19 +26,22 @@ pub StandsFor-none : (d : Seen)
     → ((at : ℕ) → TransfersStandFor at [] d.transfers)
     → WatchingStandsFor [] d.watching
     → ((octets : OctetsSent) → FetchesStandFor octets [] d.fetches)
+    → ChallengesStandFor [] d.challenges
     → d.observed ≡ 0
     → StandsFor [] d
 unfolding events entries now last_moment observe_values_sent
-StandsFor-none d moment version swept exchanges transfers watching fetches observed = record {
-  moment = moment;
-  directory = record {
-    history = version;
-    at = (let at = version.at in omega (arith, at));
-    swept = omega (arith, swept);
-  };
-  exchanges = exchanges;
-  transfers = transfers 0;
-  watching = watching;
-  fetches = fetches (octets_sent []);
-  observed = observed;
-}
+StandsFor-none d moment version swept exchanges transfers watching fetches challenges observed =
+    record {
+      moment = moment;
+      directory = record {
+        history = version;
+        at = (let at = version.at in omega (arith, at));
+        swept = omega (arith, swept);
+      };
+      exchanges = exchanges;
+      transfers = transfers 0;
+      watching = watching;
+      fetches = fetches (octets_sent []);
+      challenges = challenges;
+      observed = observed;
+    }

@@ -13,6 +13,7 @@ use Rattle.journal_model.proofs.RowEquations.{events-row, now-row}
 use Rattle.exchange_core.specs.ExchangeEvents.{ExchangesStandFor}
 use Rattle.transfers.specs.TransferEvents.{TransfersStandFor}
 use Rattle.simple_registration.specs.FetchEvents.{FetchesStandFor}
+use Rattle.simple_registration.specs.Challenges.{ChallengesStandFor}
 use Rattle.rd_desk.specs.calls.Desks.{Seen, StandsFor}
 use Rattle.rd_desk.proofs.responses.FetchStepLaws.{FetchesStandFor-row}
 use Rattle.observation.specs.Directories.{DirectoryStandsFor}
@@ -61,5 +62,7 @@ StandsFor-looked rows r d looks none h =
       watching = WatchingStandsFor-looked rows r d.watching (ap not looks) none h.watching;
       fetches = subst (λ (es : List Event). FetchesStandFor (octets_sent (r ∷ rows)) es d.fetches)
           past (FetchesStandFor-row rows r d.fetches h.fetches);
+      challenges =
+          subst (λ (es : List Event). ChallengesStandFor es d.challenges) past h.challenges;
       observed = h.observed ∙ ap observe_values_sent past;
     }

@@ -7,6 +7,7 @@ use Rattle.rd_base.proofs.lemmas.Each.{each_failing, none_pass}
 use Rattle.event_model.specs.declared.notes.Note.{Note}
 use Rattle.event_model.specs.declared.notes.Note.TheVariants as note
 use Rattle.event_model.specs.Observers.{is_forming}
+use Rattle.event_model.specs.Challenges.{is_challenge}
 use Rattle.event_model.proofs.AsideTables.{
   about_exchanges,
   about_uploads,
@@ -23,6 +24,7 @@ pub data Topic : Type 0 where
   transfers : Topic
   observers : Topic
   fetches : Topic
+  challenges : Topic
   registrations : Topic
 
 -- what a note is about
@@ -46,6 +48,7 @@ topic_of (note.Gathered peer octets tag) = fetches
 topic_of (note.Resent peer) = fetches
 topic_of (note.Waiting peer) = fetches
 topic_of (note.Ceased peer) = fetches
+topic_of (note.Challenged peer value) = challenges
 
 -- the topics differ
 abbrev pub differ : Topic → Topic → Bool
@@ -53,6 +56,7 @@ differ exchanges exchanges = false
 differ transfers transfers = false
 differ observers observers = false
 differ fetches fetches = false
+differ challenges challenges = false
 differ registrations registrations = false
 differ _ _ = true
 
@@ -70,6 +74,7 @@ clash exchanges exchanges h g = false≢true h
 clash transfers transfers h g = false≢true h
 clash observers observers h g = false≢true h
 clash fetches fetches h g = false≢true h
+clash challenges challenges h g = false≢true h
 clash registrations registrations h g = false≢true h
 clash _ _ h g = false≢true (sym g)
 
@@ -131,6 +136,14 @@ beside_fetches one other (note.Waiting peer) h = absurd (clash fetches one other
 beside_fetches one other (note.Ceased peer) h = absurd (clash fetches one other h)
 beside_fetches one other _ h = refl
 
+beside_challenges : (one : Topic)
+    → differ challenges one ≡ true
+    → (n : Note)
+    → is_beside one n ≡ false
+    → is_challenge n ≡ false
+beside_challenges one other (note.Challenged peer value) h = absurd (clash challenges one other h)
+beside_challenges one other _ h = refl
+
 -- a note that holds an entry
 abbrev is_entering : Note → Bool
 is_entering (note.Entered entry) = true
@@ -180,6 +193,13 @@ pub no_fetches : (one : Topic) (notes : List Note)
     → list_any about_fetches notes ≡ false
 no_fetches one notes other h =
     none_pass (is_beside one) about_fetches (beside_fetches one other) notes h
+
+pub no_challenges : (one : Topic) (notes : List Note)
+    → differ challenges one ≡ true
+    → AreAbout one notes
+    → list_any is_challenge notes ≡ false
+no_challenges one notes other h =
+    none_pass (is_beside one) is_challenge (beside_challenges one other) notes h
 
 -- notes that enter nothing hold no entry
 none_entered : (notes : List Note)

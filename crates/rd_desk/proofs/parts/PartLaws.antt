@@ -18,6 +18,8 @@ use Rattle.transfers.specs.TransferEvents.{TransfersStandFor}
 use Rattle.transfers.proofs.TransferLaws.{TransfersStandFor-noted}
 use Rattle.simple_registration.specs.Table as fetches
 use Rattle.simple_registration.specs.FetchEvents.{FetchesStandFor}
+use Rattle.simple_registration.specs.Challenges.{ChallengeTable, ChallengesStandFor}
+use Rattle.simple_registration.proofs.ChallengeLaws.{ChallengesStandFor-noted}
 use Rattle.simple_registration.proofs.DeskLaws.{FetchesStandFor-noted}
 use Rattle.coap_answers.specs.declared.mids.Mids.{Mids}
 use Rattle.coap_answers.specs.Sendings.{Sends, AreRequestsSent}
@@ -41,6 +43,7 @@ use Rattle.rd_desk.proofs.parts.NoteTopics.{
   no_answers,
   no_observers,
   no_fetches,
+  no_challenges,
   no_entries,
   no_requests,
   no_bodies,
@@ -83,6 +86,16 @@ left_fetches one rows s starved done e t other alone stands =
     FetchesStandFor-noted (octets_sent (making rows s starved (joined done e))) t (length rows)
     (row_moment rows s) s.word e.notes (events (making rows s starved done))
     (no_fetches one e.notes other alone) stands
+
+left_challenges : (one : Topic) (rows : List Row) (s : Step) (starved : Bool) (done e : Effects)
+    (t : ChallengeTable)
+    → differ topic.challenges one ≡ true
+    → AreAbout one e.notes
+    → ChallengesStandFor (events (making rows s starved done)) t
+    → ChallengesStandFor (noting_more rows s e.notes (events (making rows s starved done))) t
+left_challenges one rows s starved done e t other alone stands =
+    ChallengesStandFor-noted t (length rows) (row_moment rows s) s.word e.notes
+    (events (making rows s starved done)) (no_challenges one e.notes other alone) stands
 
 left_observed : (rows : List Row) (s : Step) (starved : Bool) (done e : Effects) (count : ℕ)
     → list_any is_forming e.notes ≡ false
@@ -132,6 +145,7 @@ more_exchanges rows s starved done e x d t out sent mids_before mids seen alone 
     (left_transfers topic.exchanges rows s starved done e x.transfers refl alone)
     (left_watching topic.exchanges rows s starved done e x.watching refl refl alone)
     (left_fetches topic.exchanges rows s starved done e x.fetches refl alone)
+    (left_challenges topic.exchanges rows s starved done e x.challenges refl alone)
     (left_observed rows s starved done e x.observed (no_bodies topic.exchanges e.notes refl alone))
     (no_requests e (no_fetches topic.exchanges e.notes refl alone)) sends
     (subst (λ (y : Seen). UnderWay rows s starved done y out mids_before) (sym seen) way)
@@ -154,6 +168,7 @@ more_transfers rows s starved done e x d t out sent mids_before mids seen alone 
     stands
     (left_watching topic.transfers rows s starved done e x.watching refl refl alone)
     (left_fetches topic.transfers rows s starved done e x.fetches refl alone)
+    (left_challenges topic.transfers rows s starved done e x.challenges refl alone)
     (left_observed rows s starved done e x.observed (no_bodies topic.transfers e.notes refl alone))
     (no_requests e (no_fetches topic.transfers e.notes refl alone)) sends
     (subst (λ (y : Seen). UnderWay rows s starved done y out mids_before) (sym seen) way)
@@ -182,6 +197,7 @@ more_watching rows s starved done e x d w count out sent mids_before mids seen a
     (left_transfers topic.observers rows s starved done e x.transfers refl alone)
     stands
     (left_fetches topic.observers rows s starved done e x.fetches refl alone)
+    (left_challenges topic.observers rows s starved done e x.challenges refl alone)
     observed
     (no_requests e (no_fetches topic.observers e.notes refl alone)) sends
     (subst (λ (y : Seen). UnderWay rows s starved done y out mids_before) (sym seen) way)
@@ -222,8 +238,31 @@ more_fetches rows s starved done e x d t out sent mids_before mids seen alone st
     (left_transfers topic.fetches rows s starved done e x.transfers refl alone)
     (left_watching topic.fetches rows s starved done e x.watching refl refl alone)
     stands
+    (left_challenges topic.fetches rows s starved done e x.challenges refl alone)
     (left_observed rows s starved done e x.observed (no_bodies topic.fetches e.notes refl alone))
     requests sends
+    (subst (λ (y : Seen). UnderWay rows s starved done y out mids_before) (sym seen) way)
+
+-- about the challenges alone
+pub more_challenges : (rows : List Row) (s : Step) (starved : Bool) (done e : Effects) (x d : Seen)
+    (t : ChallengeTable) (out sent : List (Peer × List ℕ)) (mids_before mids : Mids)
+    → x ≡ d
+    → AreAbout topic.challenges e.notes
+    → (ChallengesStandFor (events (making rows s starved done)) x.challenges
+    → ChallengesStandFor (noting_more rows s e.notes (events (making rows s starved done))) t)
+    → Sends e out sent mids_before mids
+    → UnderWay rows s starved done d out mids_before
+    → UnderWay rows s starved (joined done e) (record x { challenges = t }) sent mids
+more_challenges rows s starved done e x d t out sent mids_before mids seen alone stands sends way =
+    more rows s starved done e x (record x { challenges = t }) out sent mids_before mids refl
+    (left_directory topic.challenges rows s starved done e x.version refl alone)
+    (left_exchanges topic.challenges rows s starved done e x.exchanges refl alone)
+    (left_transfers topic.challenges rows s starved done e x.transfers refl alone)
+    (left_watching topic.challenges rows s starved done e x.watching refl refl alone)
+    (left_fetches topic.challenges rows s starved done e x.fetches refl alone)
+    stands
+    (left_observed rows s starved done e x.observed (no_bodies topic.challenges e.notes refl alone))
+    (no_requests e (no_fetches topic.challenges e.notes refl alone)) sends
     (subst (λ (y : Seen). UnderWay rows s starved done y out mids_before) (sym seen) way)
 
 -- about the registrations alone: the version changes, and observers are due
@@ -248,6 +287,7 @@ more_registrations rows s starved done e x d v w out sent mids_before mids seen 
     (left_transfers topic.registrations rows s starved done e x.transfers refl alone)
     watching
     (left_fetches topic.registrations rows s starved done e x.fetches refl alone)
+    (left_challenges topic.registrations rows s starved done e x.challenges refl alone)
     (left_observed rows s starved done e x.observed
     (no_bodies topic.registrations e.notes refl alone))
     (no_requests e (no_fetches topic.registrations e.notes refl alone)) sends

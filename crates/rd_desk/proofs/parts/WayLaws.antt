@@ -42,6 +42,7 @@ use Rattle.exchange_core.proofs.TableLaws.{ExchangesStandFor-later}
 use Rattle.transfers.specs.TransferEvents.{TransfersStandFor}
 use Rattle.transfers.proofs.TransferLaws.{TransfersStandFor-later}
 use Rattle.simple_registration.specs.FetchEvents.{FetchesStandFor}
+use Rattle.simple_registration.specs.Challenges.{ChallengesStandFor}
 use Rattle.coap_answers.specs.declared.mids.Mids.{Mids}
 use Rattle.coap_answers.specs.Sendings.{IsStepOf, Sends, AreRequestsSent}
 use Rattle.rd_desk.specs.calls.Desks.{Seen, StandsFor}
@@ -107,6 +108,8 @@ time_passes rows s starved handed moment d w desk is none at watching stands =
           FetchesStandFor (octets_sent (making rows s starved nothing)) es d.fetches) same
           (FetchesStandFor-row rows (row_with s (row_moment rows s) starved nothing) d.fetches
           stands.fetches);
+      challenges =
+          subst (λ (es : List Event). ChallengesStandFor es d.challenges) same stands.challenges;
       observed = stands.observed ∙ ap observe_values_sent same;
     }
 
@@ -186,6 +189,9 @@ pub more : (rows : List Row) (s : Step) (starved : Bool) (done e : Effects) (bef
     (events (making rows s starved done)) before.fetches
     → FetchesStandFor (octets_sent (making rows s starved (joined done e)))
     (noting_more rows s e.notes (events (making rows s starved done))) after.fetches)
+    → (ChallengesStandFor (events (making rows s starved done)) before.challenges
+    → ChallengesStandFor (noting_more rows s e.notes (events (making rows s starved done)))
+    after.challenges)
     → (before.observed ≡ observe_values_sent (events (making rows s starved done))
     → after.observed
     ≡ observe_values_sent
@@ -195,7 +201,7 @@ pub more : (rows : List Row) (s : Step) (starved : Bool) (done e : Effects) (bef
     → UnderWay rows s starved done before out mids_before
     → UnderWay rows s starved (joined done e) after sent mids
 more rows s starved done e before after out sent mids_before mids moment directory exchanges
-    transfers watching fetches observed requests sends way =
+    transfers watching fetches challenges observed requests sends way =
     let past = events (making rows s starved done) in
     let same : noting_more rows s e.notes past ≡ events (making rows s starved (joined done e)) =
     sym (events-making_joined rows s starved done e) in
@@ -235,6 +241,9 @@ more rows s starved done e before after out sent mids_before mids moment directo
             after.fetches) same
             (fetches (FetchesStandFor-sent rows s starved done e before.fetches way.requests
             way.stands.fetches));
+        challenges =
+            subst (λ (es : List Event). ChallengesStandFor es after.challenges) same
+            (challenges way.stands.challenges);
         observed = observed way.stands.observed ∙ ap observe_values_sent same;
       };
       requests = requests-joined done e way.requests requests;

@@ -31,6 +31,7 @@ aged-StandsFor rows b d t seen aged h =
       transfers = own.transfers;
       watching = own.watching;
       fetches = own.fetches;
+      challenges = own.challenges;
       observed = own.observed;
     }
 
@@ -56,6 +57,7 @@ swept-StandsFor rows b d v seen stands at swept h =
       transfers = own.transfers;
       watching = own.watching;
       fetches = own.fetches;
+      challenges = own.challenges;
       observed = own.observed;
     }
 
@@ -74,5 +76,6 @@ watched-StandsFor rows b d w seen stands h =
       transfers = own.transfers;
       watching = stands own.watching;
       fetches = own.fetches;
+      challenges = own.challenges;
       observed = own.observed;
     }

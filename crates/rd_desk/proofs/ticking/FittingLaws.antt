@@ -182,7 +182,13 @@ use Rattle.journal_model.specs.Responses.{
 }
 use Rattle.journal_model.specs.SentDatagrams.{is_response}
 use Rattle.journal_model.specs.Ticks.{confirmable_sent, octets_sent, tick_effects}
-use Rattle.journal_model.specs.Writes.{again_answered, admitted_unless, write_unless, write_effects}
+use Rattle.journal_model.specs.Writes.{
+  again_answered,
+  is_unproved,
+  admitted_unless,
+  write_unless,
+  write_effects,
+}
 use Rattle.journal_model.proofs.MessageSizeLaws.{spelling-most}
 use Rattle.journal_model.proofs.NoteKinds.{
   of_lookup,
@@ -438,13 +444,15 @@ write_sends past moment s m all = by (repeated moment s.peer m.mid past)
     again place None e = tt
     again place (Some octets) e = (never s.peer octets (settled_never place past octets all e), tt)
 
-    full : (b : Bool) → AreResendable (admitted_unless b s m).sent
-    full true = one_answer s m _ _
-    full false = tt
+    unless : (full unproved : Bool)
+        → AreResendable (admitted_unless full unproved past s m).sent
+    unless true unproved = one_answer s m _ _
+    unless false true = one_answer s m _ _
+    unless false false = tt
 
     by : (first : Option Event) → AreResendable (write_unless first past moment s m).sent
     by (Some first) = again first.place (settled first.place past) refl
-    by None = full (is_full_of_exchanges moment past)
+    by None = unless (is_full_of_exchanges moment past) (is_unproved past moment s m)
 
 request_sends : (rows : List Row) (moment : ℕ) (s : Step) (m : Message)
     → AllSettledNever (events rows)

@@ -61,8 +61,8 @@ IsHeldFor (admitted.Held job) notes s moment =
 IsHeldFor admitted.Done notes s moment = list_any is_admitting notes ≡ false
 IsHeldFor admitted.Starved notes s moment = list_any is_admitting notes ≡ false
 
--- a write takes memory where it is admitted, for its job: no repeat does, and none for which there
--- is no room
+-- a write takes memory where it is admitted, for its job: no repeat does, none for which there is
+-- no room, and none that is challenged
 abbrev pub write_takes : List Row → ℕ → Step → Message → Bool
 write_takes rows moment s m = list_any is_admitting (write_effects (events rows) moment s m).notes
 

@@ -11,6 +11,7 @@ use Rattle.transfers.specs.TransferEvents as transfers
 use Rattle.transfers.specs.TransferEvents.{TransfersStandFor}
 use Rattle.simple_registration.specs.Table as fetches
 use Rattle.simple_registration.specs.FetchEvents.{FetchesStandFor}
+use Rattle.simple_registration.specs.Challenges.{ChallengeTable, ChallengesStandFor}
 use Rattle.observation.specs.Directories.{DirectoryStandsFor}
 use Rattle.observation.specs.Watching.{Watching, WatchingStandsFor}
 
@@ -23,6 +24,7 @@ pub record Seen : Type 0 where
   pub transfers : transfers.Table
   pub watching : Watching
   pub fetches : fetches.Table
+  pub challenges : ChallengeTable
   pub observed : ℕ
 
 -- a desk stands for a journal: its moment is that of the last row that is no look, and each table
@@ -34,4 +36,5 @@ pub record StandsFor (rows : List Row) (d : Seen) : Type 0 where
   pub transfers : TransfersStandFor (now rows) (events rows) d.transfers
   pub watching : WatchingStandsFor rows d.watching
   pub fetches : FetchesStandFor (octets_sent rows) (events rows) d.fetches
+  pub challenges : ChallengesStandFor (events rows) d.challenges
   pub observed : d.observed ≡ observe_values_sent (events rows)

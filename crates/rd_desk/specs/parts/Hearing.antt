@@ -1,12 +1,22 @@
 -- What a write does that is heard, and what comes of a datagram that leaves no job.
-use Rattle.std.specs.Prelude.{Bool, true, false, List}
+use Rattle.std.specs.Prelude.{Bool, true, false, List, [], codes}
 use Rattle.message_model.specs.Message.{Message}
+use Rattle.message_model.specs.Codes as codes_of
 use Rattle.journal_model.specs.declared.steps.Step.{Step}
 use Rattle.journal_model.specs.declared.rows.Row.{Row}
-use Rattle.journal_model.specs.Effects.{Effects, without_memory}
+use Rattle.journal_model.specs.Effects.{
+  Effects,
+  nothing,
+  sending,
+  diagnostic,
+  answering,
+  without_memory,
+}
 use Rattle.journal_model.specs.Journal.{events}
 use Rattle.journal_model.specs.Rows.{row_moment}
 use Rattle.journal_model.specs.Writes.{write_effects}
+use Rattle.exchange_core.specs.declared.writes.Keyed.{Keyed}
+use Rattle.exchange_core.specs.declared.writes.Keyed.TheVariants as keyed
 use Rattle.rd_desk.specs.declared.admissions.Admitted.{Admitted}
 use Rattle.rd_desk.specs.declared.admissions.Admitted.TheVariants as admitted
 use Rattle.rd_desk.specs.declared.steps.Stepped.{Stepped}
@@ -16,6 +26,15 @@ use Rattle.rd_desk.specs.declared.steps.Stepped.TheVariants as stepped
 abbrev pub write_heard : Bool → List Row → Step → Message → Effects
 write_heard true rows s m = without_memory s m
 write_heard false rows s m = write_effects (events rows) (row_moment rows s) s m
+
+-- a write that is not admitted: a repeat gets the octets of the first answer, or nothing while that
+-- is in flight, and one for which there is no room is refused (RFC 7252 section 4.5)
+abbrev pub unadmitted : Keyed → Step → Message → Effects
+unadmitted keyed.Fresh s m = nothing
+unadmitted keyed.InFlight s m = nothing
+unadmitted (keyed.Kept reply) s m = sending s.peer reply
+unadmitted keyed.FullExchanges s m =
+    answering s m (diagnostic codes_of.service_unavailable (codes "exchanges")) []
 
 -- a datagram that leaves no job
 abbrev pub jobless : Stepped → Admitted

@@ -102,7 +102,7 @@ impl Tables {
                 without_job(self.hear_lookup(mids, peer, &request, out))
             }
             Incoming::Read(request) => { without_job(self.answer_later(mids, peer, &request, out)) }
-            Incoming::Write(request) => { self.hear_write(mids, peer, &request, out) }
+            Incoming::Write(request) => { self.hear_write(arrival.word, mids, peer, &request, out) }
             Incoming::Nothing => Admitted::Done,
             Incoming::Look(_) => unreachable!(),
         }
@@ -111,8 +111,8 @@ impl Tables {
     /// The step that hears a datagram which does not only look ([`is_look`](crate::is_look)), at a
     /// moment that is at most 10^15; one below that of the tables is lifted to it. `out` is empty.
     /// A write that is admitted leaves the worker with a job. What is refused for itself, what is
-    /// no request and no response, a response that belongs to no fetch, a repeat of a write, and
-    /// one for which there is no room take no memory.
+    /// no request and no response, a response that belongs to no fetch, a repeat of a write, one
+    /// for which there is no room, and one that is challenged take no memory.
     pub(crate) fn admit<B: Board>(
         &mut self,
         board: &mut B,

@@ -7,8 +7,7 @@ ghost use Rattle.rd_server.specs.serving.Endings.{Concludes, served_line};
 use crate::serving::ends::End;
 use crate::serving::served::{ServeFault, Served};
 use crate::serving::statuses::ServeStatus;
-use crate::sessions::write_all;
-use rd_base::{Bytes, Sink, Starved};
+use rd_base::{Bytes, Sink, Starved, write_all};
 use std::alloc::Global;
 
 /// The sums of two, or the first fault that applies.

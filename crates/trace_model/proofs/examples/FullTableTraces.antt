@@ -1,9 +1,9 @@
 -- Traces of as many uploads, and as many fetches, as there may be, and of one more.
 use Rattle.std.proofs.Common.{◌≡◌, ℕ, ◌+◌, List, [], ◌∷◌, ◌++◌, flat_map, codes, decimal, refl}
 use Rattle.std.specs.List.{range_with_len}
-use Rattle.message_model.specs.declared.messages.Kind4.TheVariants.{Con}
+use Rattle.message_model.specs.declared.messages.Kind4.TheVariants.{Con, Ack}
 use Rattle.message_model.specs.Codes as codes_of
-use Rattle.message_model.specs.Message.{Message}
+use Rattle.message_model.specs.Message.{Message, Opt}
 use Rattle.message_model.specs.OptionTable as table
 use Rattle.message_model.specs.Spelling.{spelling}
 use Rattle.line_model.specs.Datagrams.{datagram_text}
@@ -47,18 +47,40 @@ full_of_uploads : output 1 (lines (flat_map (posts first_block) peers ++ posts f
 unfolding output_on_literals
 full_of_uploads = refl
 
--- a simple registration: CON 0.02 m=0005 [11 .well-known][11 rd][15 ep=s]
-abbrev simple : Message
-simple = record {
+-- a simple registration with an Echo, where there is one: CON 0.02 [11 .well-known][11 rd][15 ep=s]
+abbrev simple : ℕ → List Opt → Message
+simple mid echo = record {
   kind = Con;
   code = codes_of.post;
-  mid = 5;
+  mid = mid;
   token = [];
   options =
       (table.uri_path, codes ".well-known")
       ∷ (table.uri_path, codes "rd")
       ∷ (table.uri_query, codes "ep=s")
-      ∷ [];
+      ∷ echo;
+  payload = [];
+}
+
+-- the value by which a peer is challenged, after so many challenges
+abbrev value : ℕ → List ℕ
+value made = 0 ∷ 0 ∷ 0 ∷ 0 ∷ 0 ∷ 0 ∷ 0 ∷ made ∷ []
+
+-- a peer asks, is challenged after so many challenges, and asks with that value
+abbrev asks : ℕ → ℕ → List (List ℕ)
+asks made k =
+    (codes "in 0 5 192.0.3."
+    ++ (decimal k ++ (codes ":5683 " ++ datagram_text (spelling (simple 4 [])))))
+    ∷ posts (simple 5 ((table.echo, value made) ∷ [])) k
+
+-- the challenge
+abbrev challenge : ℕ → Message
+challenge made = record {
+  kind = Ack;
+  code = codes_of.unauthorized;
+  mid = 4;
+  token = [];
+  options = (table.echo, value made) ∷ [];
   payload = [];
 }
 
@@ -74,13 +96,22 @@ asked k = record {
   payload = [];
 }
 
+abbrev challenged : ℕ → List ℕ
+challenged k = sent (datagram_text (spelling (challenge k))) (k + 1)
+
 abbrev fetched : ℕ → List (List ℕ)
-fetched k = sent (codes "60440005") (k + 1) ∷ sent (datagram_text (spelling (asked k))) (k + 1) ∷ []
+fetched k =
+    challenged k
+    ∷ sent (codes "60440005") (k + 1)
+    ∷ sent (datagram_text (spelling (asked k))) (k + 1)
+    ∷ []
 
 -- 64 fetches start, and the next is refused by 5.03 `fetches`
-full_of_fetches : output 1 (lines (flat_map (posts simple) peers ++ posts simple 65))
+full_of_fetches :
+    output 1 (lines (flat_map (λ k. asks k (k + 1)) (range_with_len 0 64) ++ asks 64 65))
     ≡ writes (flat_map fetched (range_with_len 0 64)
-    ++ sent (codes "60a30005ff66657463686573") 65
+    ++ challenged 64
+    ∷ sent (codes "60a30005ff66657463686573") 65
     ∷ codes "end 0 0 0"
     ∷ [])
 unfolding output_on_literals

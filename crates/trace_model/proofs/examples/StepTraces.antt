@@ -336,20 +336,26 @@ one_flight_by_steps : step_by_step 1 (both_change ++ (
 unfolding output_on_literals
 one_flight_by_steps = refl
 
--- a device asks that its list be fetched
---     in 0 1000 192.0.2.10:5683: CON 0.02 m=0005 t=e1 [11 .well-known][11 rd][15 ep=s1]
+-- a device asks that its list be fetched, and shows that it receives
+--     in 0 999 192.0.2.10:5683, word 7: CON 0.02 m=0004 t=e1 [11 .well-known][11 rd][15 ep=s1]
+--         out 0 192.0.2.10:5683: ACK 4.01 m=0004 t=e1 [252 x0000000700000000]
+--     in 0 1000 192.0.2.10:5683: CON 0.02 m=0005 t=e1 [11 .well-known][11 rd][15 ep=s1][252
+-- x0000000700000000]
 --     go 0 1000
 --         out 0 192.0.2.10:5683: ACK 2.04 m=0005 t=e1
 --         out 0 192.0.2.10:5683: CON 0.01 m=0000 t=0000000000000001 [11 .well-known][11 core]
 abbrev asked : List (List ℕ)
 asked =
-    codes "in 0 1000 192.0.2.10:5683 41020005e1bb2e77656c6c2d6b6e6f776e0272644565703d7331"
+    codes "in 0 999 192.0.2.10:5683 41020004e1bb2e77656c6c2d6b6e6f776e0272644565703d7331 7"
+    ∷ codes
+    "in 0 1000 192.0.2.10:5683 41020005e1bb2e77656c6c2d6b6e6f776e0272644565703d7331d8e00000000700000000"
     ∷ codes "go 0 1000" ∷ []
 
 -- what these steps write
 abbrev asked_writes : List (List (List ℕ))
 asked_writes =
-    []
+    (codes "out 0 192.0.2.10:5683 61810004e1d8ef0000000700000000" ∷ [])
+    ∷ []
     ∷ (codes "out 0 192.0.2.10:5683 61440005e1"
     ∷ codes "out 0 192.0.2.10:5683 480100000000000000000001bb2e77656c6c2d6b6e6f776e04636f7265"
     ∷ [])
@@ -425,7 +431,8 @@ never_answered_by_steps = refl
 --     in 0 1002 192.0.2.10:5683: CON 4.04 m=0777 t=0000000000000001 [4 xaa][12 x28][23 x08] |
 -- </a>;rt="0123456
 --         out 0 192.0.2.10:5683: ACK 0.00 m=0777
---     in 0 1003 192.0.2.10:5683: CON 0.02 m=0006 t=e1 [11 .well-known][11 rd][15 ep=s1]
+--     in 0 1003 192.0.2.10:5683: CON 0.02 m=0006 t=e1 [11 .well-known][11 rd][15 ep=s1][252
+-- x0000000700000000]
 --     go 0 1003
 --         out 0 192.0.2.10:5683: ACK 2.04 m=0006 t=e1
 --         out 0 192.0.2.10:5683: CON 0.01 m=0001 t=0000000000000002 [11 .well-known][11 core]
@@ -434,7 +441,8 @@ answered_by_an_error_by_steps : step_by_step 1 (asked ++ (
     codes "in 0 1001 192.0.2.10:5683 60000000"
     ∷ codes
     "in 0 1002 192.0.2.10:5683 48840777000000000000000141aa8128b108ff3c2f613e3b72743d2230313233343536"
-    ∷ codes "in 0 1003 192.0.2.10:5683 41020006e1bb2e77656c6c2d6b6e6f776e0272644565703d7331"
+    ∷ codes
+    "in 0 1003 192.0.2.10:5683 41020006e1bb2e77656c6c2d6b6e6f776e0272644565703d7331d8e00000000700000000"
     ∷ codes "go 0 1003" ∷ []))
     ≡ map lines (asked_writes ++ (
     []

@@ -163,11 +163,13 @@ fetches_after trace =
     map (λ f. (f.waits.resend, f.acknowledged))
     (fetches_running (octets_sent (journal_of trace)) (events (journal_of trace)))
 
--- a device has its list fetched from 0 on, and nothing comes: CON 0.02 m=0005 t=e1 [11
--- .well-known][11 rd][15 ep=s1]
+-- a device has its list fetched from 0 on, once it answered a challenge, and nothing comes: CON
+-- 0.02 m=0005 t=e1 [11 .well-known][11 rd][15 ep=s1][252 x0000000700000000]
 abbrev fetching : List (List ℕ)
 fetching =
-    codes "in 0 0 192.0.2.10:5683 41020005e1bb2e77656c6c2d6b6e6f776e0272644565703d7331"
+    codes "in 0 0 192.0.2.10:5683 41020004e1bb2e77656c6c2d6b6e6f776e0272644565703d7331 7"
+    ∷ codes
+    "in 0 0 192.0.2.10:5683 41020005e1bb2e77656c6c2d6b6e6f776e0272644565703d7331d8e00000000700000000"
     ∷ codes "go 0 0" ∷ codes "tick 0 2000" ∷ codes "tick 0 6000" ∷ codes "tick 0 77000" ∷ []
 
 -- the request is acknowledged late: ACK 0.00 m=0000

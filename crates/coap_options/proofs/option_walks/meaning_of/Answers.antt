@@ -5,6 +5,7 @@ use Rattle.coap_options.proofs.ValueLengths.{
   format_short,
   block1_short,
   block2_short,
+  echo_short,
 }
 use Rattle.coap_options.proofs.option_walks.meaning_of.Goals as goal
 
@@ -35,3 +36,7 @@ invariant_of-result-clause-block1_short c =
 pub invariant_of-result-clause-block2_short : goal.invariant_of-result-clause-block2_short
 invariant_of-result-clause-block2_short c =
     block2_short (message_in c.args.view.now).options c.args.found.now.block2 c.requires.block2
+
+pub invariant_of-result-clause-echo_short : goal.invariant_of-result-clause-echo_short
+invariant_of-result-clause-echo_short c =
+    echo_short (message_in c.args.view.now).options c.args.found.now.echo c.requires.echo

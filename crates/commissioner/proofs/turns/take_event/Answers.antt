@@ -6,7 +6,7 @@ use Rattle.commissioner.proofs.EventLaws.{taken_by, counted}
 use Rattle.commissioner.proofs.turns.take_event.Goals as goal
 
 pub returns-in-Datagram-clause-taken : goal.returns-in-Datagram-clause-taken
-returns-in-Datagram-clause-taken g c = λ asks past outcomes are begun.
+returns-in-Datagram-clause-taken g c = λ asks past outcomes are begun unsaid.
     let told =
     seen g.L.Link.coming g.L.Link.gone g.L.Link.recv_faults g.L.Link.send_faults
     g.C.Clock.times g.C.Clock.words in
@@ -18,6 +18,7 @@ returns-in-Datagram-clause-taken g c = λ asks past outcomes are begun.
     (g.L.Link.send_faults c.recv-came.new.self)
     are
     begun
+    unsaid
     (told_datagram c.now-now.result c.in-Datagram.peer c.in-Datagram.size c.recv-came.new.into
     c.received-datagram.result.now
     (g.L.Link.coming c.args.link.now)
@@ -34,7 +35,7 @@ returns-in-Datagram-clause-taken g c = λ asks past outcomes are begun.
     (c.hand_all.ensures.handed asks past outcomes are)
 
 pub returns-in-TooLong-clause-taken : goal.returns-in-TooLong-clause-taken
-returns-in-TooLong-clause-taken g c = λ asks past outcomes are begun.
+returns-in-TooLong-clause-taken g c = λ asks past outcomes are begun unsaid.
     let told =
     seen g.L.Link.coming g.L.Link.gone g.L.Link.recv_faults g.L.Link.send_faults
     g.C.Clock.times g.C.Clock.words in
@@ -47,6 +48,7 @@ returns-in-TooLong-clause-taken g c = λ asks past outcomes are begun.
     (g.L.Link.send_faults c.recv-came.new.self)
     are
     begun
+    unsaid
     (told_long c.now-now.result c.recv-came.new.into
     (g.L.Link.coming c.args.link.now)
     (g.L.Link.coming c.recv-came.new.self)
@@ -61,7 +63,7 @@ returns-in-TooLong-clause-taken g c = λ asks past outcomes are begun.
     (c.hand_all-in-TooLong.ensures.handed asks past outcomes are)
 
 pub returns-in-Nothing-clause-taken : goal.returns-in-Nothing-clause-taken
-returns-in-Nothing-clause-taken g c = λ asks past outcomes are begun.
+returns-in-Nothing-clause-taken g c = λ asks past outcomes are begun unsaid.
     let told =
     seen g.L.Link.coming g.L.Link.gone g.L.Link.recv_faults g.L.Link.send_faults
     g.C.Clock.times g.C.Clock.words in
@@ -74,6 +76,7 @@ returns-in-Nothing-clause-taken g c = λ asks past outcomes are begun.
     (g.L.Link.send_faults c.recv-came.new.self)
     are
     begun
+    unsaid
     (told_nothing c.now-now.result c.recv-came.new.into
     (g.L.Link.coming c.args.link.now)
     (g.L.Link.coming c.recv-came.new.self)

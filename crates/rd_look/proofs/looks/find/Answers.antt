@@ -81,7 +81,8 @@ returns-in-Location c history stands =
 -- what makes a registration is no look
 written : (request : Request)
     → only_looks (message_of request) ≡ true
-    → (request.resource ≡ resource.SimpleRegistration) ⊎ (request.resource ≡ resource.Registration)
+    → (request.resource ≡ resource.SimpleRegistration)
+    ⊎ (request.resource ≡ resource.Registration)
     → ⊥
 written request looks (inl simple) =
     no_look_at_simple (message_of request) looks (simple_path request simple)

@@ -1,7 +1,6 @@
-use Rattle.std.proofs.Common.{◌≡◌, List, ℕ, Option, Some, None, refl, sym, ap, ◌∙◌}
+use Rattle.std.proofs.Common.{Some, refl, sym, ap, ◌∙◌}
 use Rattle.coap_message.specs.Views.{message_in}
 use Rattle.history_model.specs.Listing.{tag}
-use Rattle.history_model.specs.Sources.{source}
 use Rattle.journal_model.specs.Looks.{found_or_not}
 use Rattle.rd_look.proofs.LookLaws.{found_valid, found_whole}
 use Rattle.rd_look.proofs.looks.find_source.Goals as goal

@@ -1,4 +1,4 @@
-use Rattle.std.proofs.Common.{◌≡◌, ℕ, List, subst}
+use Rattle.std.proofs.Common.{ℕ, List, subst}
 use Rattle.message_model.specs.Reading.{reading}
 use Rattle.journal_model.specs.Looks.{looked, held_after}
 use Rattle.coap_answers.specs.Sendings.{Sends}

@@ -12,6 +12,7 @@ pub returns : goal.returns
 returns c datagram is = (
   is,
   changes_location (message_of c.args.request)
-      (none_there (refusal_of_request (message_of c.args.request)) c.args.request.accepted) c.requires
+      (none_there (refusal_of_request (message_of c.args.request)) c.args.request.accepted)
+      c.requires
       c.if-request-eq-GET.false,
 )

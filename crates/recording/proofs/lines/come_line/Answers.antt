@@ -18,4 +18,4 @@ returns c =
     let fits : IsBytes octets = λ k. omega (arith, c.type_inv.payload k) in
     let both =
     copied octets c.in_ok-datagram.datagram c.in_ok-datagram.ensures c.requires.payload fits in
-    come (omega arith) (omega arith) c.requires.peer both.0 both.1
+    come (omega arith) (omega arith) c.requires.peer both.0 both.1 (omega arith)

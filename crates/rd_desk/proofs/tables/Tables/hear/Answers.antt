@@ -316,7 +316,7 @@ returns-in-Write-clause-way g c rows s of worded way =
     (request_writes rows s starved m (none_there (refusal_of_request m) c.in-Write.request.accepted)
     is.1
     ∙ heard_for rows s starved role.Request c.args.arrival.datagram.now m is.0)
-    (c.hear_write.ensures.way rows s of way)
+    (c.hear_write.ensures.way rows s of worded way)
 
 pub returns-in-Write-clause-held : goal.returns-in-Write-clause-held
 returns-in-Write-clause-held g c rows s of datagram way =

@@ -18,4 +18,5 @@ returns c =
     StandsFor-none _ refl (subst (VersionStandsFor 0 []) (sym same) c.in_ok-empty.ensures.stands)
     (ap (λ (v : Version). v.swept) same ∙ c.in_ok-empty.ensures.unswept)
     c.in_ok-exchanges.ensures.stands
-    c.in_ok-transfers.ensures c.in_ok-watching.ensures c.in_ok-fetches.ensures refl
+    c.in_ok-transfers.ensures c.in_ok-watching.ensures c.in_ok-fetches.ensures
+    c.in_ok-echoes.ensures refl

@@ -30,6 +30,7 @@ returns-in-Wait-clause-way c rows s starved done mids x there room short way =
       transfers = c.self.inside.transfers;
       watching = w;
       fetches = c.self.inside.fetches;
+      challenges = c.self.inside.echoes;
       observed = c.self.inside.observed;
     })
     (c.timeout.ensures.unsent

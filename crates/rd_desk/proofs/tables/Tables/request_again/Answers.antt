@@ -25,6 +25,7 @@ returns-in-Wait c rows s starved first mids most less one h =
       transfers = c.self.inside.transfers;
       watching = c.self.inside.watching;
       fetches = t;
+      challenges = c.self.inside.echoes;
       observed =
           c.self.inside.observed;
     })

@@ -1,4 +1,4 @@
-use Rattle.std.proofs.Common.{refl, sym, ap, ◌∙◌}
+use Rattle.std.proofs.Common.{refl, ap}
 use Rattle.journal_model.specs.Journal.{is_look}
 use Rattle.rd_server.proofs.WorkerSteps.{called, admitted_write, admitted_nothing}
 use Rattle.rd_server.proofs.workers.Worker.admit.Goals as goal
@@ -13,7 +13,7 @@ returns-in-Done c rows s kind by of word it =
     c.args.self.now (record { mids = c.admit_arrival.new.mids; job = c.args.self.now.job })
     c.admit_arrival.new.out kind refl it
     (c.in-Done.ensures.held rows s kind by of call)
-    (c.in-Done.ensures.made rows s kind by of (word ∙ sym c.requires.word) call)
+    (c.in-Done.ensures.made rows s kind by of word call)
 
 pub returns-in-Held : goal.returns-in-Held
 returns-in-Held c rows s kind by of word it =
@@ -24,4 +24,4 @@ returns-in-Held c rows s kind by of word it =
     c.admit_arrival.new.self.tables c.args.self.now
     _ c.in-Held.job c.admit_arrival.new.out kind refl it
     (c.in-Held.ensures.held rows s kind by of call)
-    (c.in-Held.ensures.made rows s kind by of (word ∙ sym c.requires.word) call)
+    (c.in-Held.ensures.made rows s kind by of word call)

@@ -5,7 +5,7 @@ use Rattle.rd_server.proofs.WorkerSteps.{looked_done, looked_held}
 use Rattle.rd_server.proofs.workers.Worker.look.Goals as goal
 
 pub returns-in-Done : goal.returns-in-Done
-returns-in-Done c rows s kind by of word it =
+returns-in-Done c rows s kind by of it =
     looked_done rows s c.args.now c.args.desk.now.tables c.args.self.now
     (record { mids = c.answer_look.new.mids; job = c.args.self.now.job }) c.deref.result.now
     c.args.peer (spelling (message_of c.args.request.now)) c.args.out.now c.answer_look.new.out
@@ -13,7 +13,7 @@ returns-in-Done c rows s kind by of word it =
     (c.in-Done.ensures.sends s) c.in-Done.ensures.held
 
 pub returns-in-Held : goal.returns-in-Held
-returns-in-Held c rows s kind by of word it =
+returns-in-Held c rows s kind by of it =
     looked_held rows s c.args.now c.args.desk.now.tables c.args.self.now _ c.deref.result.now
     c.args.peer (spelling (message_of c.args.request.now)) c.in-Held.job c.args.out.now
     c.answer_look.new.out

@@ -1,0 +1,2 @@
+mod ListExamples
+mod LineExamples
