@@ -1,6 +1,5 @@
 -- What a desk needs that keeps a table of fetches while it makes rows: notes that are aside, rows
--- that come after, and what is due. End theorems, but for those that StepLaws uses: nothing else
--- here cites them.
+-- that come after, and what is due. End theorems: nothing here cites them.
 use Rattle.std.proofs.Common.{
   ◌≡◌,
   ℕ,

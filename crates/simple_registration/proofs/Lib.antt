@@ -1,6 +1,6 @@
 -- The octets of requests: AskLaws. Events, and the fetches that run after them: NoteLaws (one event
 -- more, for one fetch), PeerLaws (who is fetched from), RunningLaws (the list of the fetches). What
--- a table stands for: TableLaws. For a desk above: DeskLaws, StepLaws. That requests can be sent:
+-- a table stands for: TableLaws. For a desk above: CallLaws, DeskLaws. That requests can be sent:
 -- SendableLaws. Challenges: ChallengeLaws.
 pub mod AskLaws
 pub mod NoteLaws
