@@ -15,7 +15,8 @@ hear-requires-clause-after_sweep c =
 pub returns : goal.returns
 returns c = λ workers rows at.
     came workers rows c.args.worker c.args.moment c.args.peer c.args.datagram
-    c.as_slice-datagram.result.now c.args.word c.later-self.result c.args.self.now _ c.in-Some.hearer.now c.hear.new.self at
+    c.as_slice-datagram.result.now c.args.word c.later-self.result c.args.self.now _
+    c.in-Some.hearer.now c.hear.new.self at
     (lent_at c.args.worker c.from.result c.args.moment.0 c.later-self.result c.args.self.now _
     c.in-Some.hearer.now c.hear.new.self c.from.ensures (c.in-Some.ensures.variant.0 refl)
     c.in-Some.ensures.value c.later-self.ensures
