@@ -3,8 +3,7 @@
 -- Steps: DeskSteps (the journal with the row of a step is one of a desk), JobRows (what a worker
 -- holds and drew after its own row),
 --   OtherWorkers (what it leaves of the others), WorkerSteps (what the desk made of a call is the
---   step), MachineLaws (the machine after a line), MachineSteps (what a line leaves of a machine,
---   for the programs above), EachWorker (lists by index).
+--   step), MachineLaws (the machine after a line), EachWorker (lists by index).
 -- A replay: JournalRuns (its journal is that of its steps), LineDone (one line), Journeys (pieces
 -- of a trace), LastLines (its end), ReportLaws (status), ReplayLaws (the whole).
 -- A made trace: MadeCounts (what is counted of its lines).
@@ -13,7 +12,6 @@
 pub mod OtherWorkers
 pub mod EachWorker
 pub mod MachineLaws
-pub mod MachineSteps
 pub mod GeneratedTexts
 pub mod GeneratedMessages
 pub mod GeneratedTraces

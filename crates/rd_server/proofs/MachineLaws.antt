@@ -73,7 +73,6 @@ use Rattle.observation.proofs.TickLaws.{length-StandsFor}
 use Rattle.rd_desk.specs.calls.Desks.{StandsFor}
 use Rattle.rd_server.specs.declared.workers.Worker.{Worker}
 use Rattle.rd_server.specs.declared.machine.Machine.{Machine}
-use Rattle.rd_server.specs.declared.troubles.Trouble.{Trouble}
 use Rattle.rd_server.specs.declared.troubles.Trouble.TheVariants as trouble
 use Rattle.rd_server.specs.Machines.{
   HoldsJob,
@@ -439,17 +438,19 @@ end_is workers rows machine entered lives observing at enters lives_are watch =
     ++ (decimal (length (live (entries rows) (latest rows)))
     ++ (codes " " ++ decimal n)))))) observers_are))
 
--- after a line the machine stands for some journal, unless memory ran out
--- An end theorem, for programs that go on after a bad line: nothing here cites it.
-pub performs-IsMachine : (workers : ℕ) (rows : List Row) (said : Result (Option Step) Reason)
-    (machine : Machine) (result : Result Unit Trouble)
-    → (result ≡ Err trouble.Starved → ⊥)
-    → Performs workers rows said machine result
+-- after a line the machine is after some journal again
+-- This and the next are for programs that go on after a bad line: nothing here cites them.
+pub machine_after : (workers : ℕ) (rows : List Row) (made : Result (Option Step) Reason)
+    (machine : Machine) (done : Unit)
+    → Performs workers rows made machine (Ok done)
     → IsMachine machine
-performs-IsMachine workers rows (Ok made) machine (Ok done) kept h =
-    (workers, rows_with rows made, h.0)
-performs-IsMachine workers rows (Err why) machine (Ok done) kept h = absurd h
-performs-IsMachine workers rows (Ok made) machine (Err (trouble.Bad said)) kept h = absurd h
-performs-IsMachine workers rows (Err why) machine (Err (trouble.Bad said)) kept h =
-    (workers, rows, h.1)
-performs-IsMachine workers rows said machine (Err trouble.Starved) kept h = absurd (kept refl)
+machine_after workers rows (Ok made) machine done h = (workers, rows_with rows made, h.0)
+machine_after workers rows (Err why) machine done h = absurd h
+
+-- a line that is bad leaves it as it was
+pub machine_kept : (workers : ℕ) (rows : List Row) (made : Result (Option Step) Reason)
+    (machine : Machine) (why : Reason)
+    → Performs workers rows made machine (Err (trouble.Bad why))
+    → IsMachine machine
+machine_kept workers rows (Ok made) machine why h = absurd h
+machine_kept workers rows (Err said) machine why h = (workers, rows, h.1)

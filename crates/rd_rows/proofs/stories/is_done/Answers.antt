@@ -2,7 +2,7 @@
 use Rattle.std.proofs.Common.{Ok, Err, ap, ◌∙◌, subst}
 use Rattle.trace_model.specs.Steps.{step_of_line}
 use Rattle.rd_server.specs.Machines.{Performs}
-use Rattle.rd_server.proofs.MachineSteps.{machine_after, machine_kept}
+use Rattle.rd_server.proofs.MachineLaws.{machine_after, machine_kept}
 use Rattle.rd_rows.proofs.stories.is_done.Goals as goal
 
 pub returns-in-Ok : goal.returns-in-Ok
