@@ -39,7 +39,7 @@ returns-in_default c =
 pub look-requires-clause-read : goal.look-requires-clause-read
 look-requires-clause-read c =
     let is =
-        look_read c.args.arrival.datagram.now _ c.in-Look.request c.in-Look.is c.requires.read in
+    look_read c.args.arrival.datagram.now _ c.in-Look.request c.in-Look.is c.requires.read in
     spelling_read role.Request c.args.arrival.datagram.now (message_of c.in-Look.request) is.0
 
 pub look-requires-clause-looks : goal.look-requires-clause-looks
@@ -50,7 +50,7 @@ look-requires-clause-looks c =
 pub returns : goal.returns
 returns c =
     let is =
-        look_read c.args.arrival.datagram.now _ c.in-Look.request c.in-Look.is c.requires.read in
+    look_read c.args.arrival.datagram.now _ c.in-Look.request c.in-Look.is c.requires.read in
     let looks = looks_is c.args.arrival.datagram.now (incoming.Look c.in-Look.request) is in
     ok_as c.look.result
     (λ _ made rows s kind by of word.
