@@ -440,17 +440,17 @@ end_is workers rows machine entered lives observing at enters lives_are watch =
 
 -- after a line the machine is after some journal again
 -- This and the next are for programs that go on after a bad line: nothing here cites them.
-pub machine_after : (workers : ℕ) (rows : List Row) (made : Result (Option Step) Reason)
+pub done-IsMachine : (workers : ℕ) (rows : List Row) (made : Result (Option Step) Reason)
     (machine : Machine) (done : Unit)
     → Performs workers rows made machine (Ok done)
     → IsMachine machine
-machine_after workers rows (Ok made) machine done h = (workers, rows_with rows made, h.0)
-machine_after workers rows (Err why) machine done h = absurd h
+done-IsMachine workers rows (Ok made) machine done h = (workers, rows_with rows made, h.0)
+done-IsMachine workers rows (Err why) machine done h = absurd h
 
 -- a line that is bad leaves it as it was
-pub machine_kept : (workers : ℕ) (rows : List Row) (made : Result (Option Step) Reason)
+pub bad-IsMachine : (workers : ℕ) (rows : List Row) (made : Result (Option Step) Reason)
     (machine : Machine) (why : Reason)
     → Performs workers rows made machine (Err (trouble.Bad why))
     → IsMachine machine
-machine_kept workers rows (Ok made) machine why h = absurd h
-machine_kept workers rows (Err said) machine why h = (workers, rows, h.1)
+bad-IsMachine workers rows (Ok made) machine why h = absurd h
+bad-IsMachine workers rows (Err said) machine why h = (workers, rows, h.1)

@@ -2,19 +2,19 @@
 use Rattle.std.proofs.Common.{Ok, Err, ap, ◌∙◌, subst}
 use Rattle.trace_model.specs.Steps.{step_of_line}
 use Rattle.rd_server.specs.Machines.{Performs}
-use Rattle.rd_server.proofs.MachineLaws.{machine_after, machine_kept}
+use Rattle.rd_server.proofs.MachineLaws.{done-IsMachine, bad-IsMachine}
 use Rattle.rd_show.proofs.conversation.done.Goals as goal
 
 pub returns-in-Ok : goal.returns-in-Ok
 returns-in-Ok c =
     let (workers, rows, at) = c.requires.stands in
-    machine_after workers rows (step_of_line workers rows (Ok c.args.line)) c.perform.new.self
+    done-IsMachine workers rows (step_of_line workers rows (Ok c.args.line)) c.perform.new.self
     c.in-Ok.field-0 (rw c.in-Ok.is at (c.perform.ensures workers rows at))
 
 pub returns-in-Err-Bad : goal.returns-in-Err-Bad
 returns-in-Err-Bad c =
     let (workers, rows, at) = c.requires.stands in
     let made = step_of_line workers rows (Ok c.args.line) in
-    machine_kept workers rows made c.perform.new.self c.in-Err-Bad.why
+    bad-IsMachine workers rows made c.perform.new.self c.in-Err-Bad.why
     (subst (Performs workers rows made c.perform.new.self)
     (c.in-Err-Bad.is ∙ ap (λ t. Err t) c.in-Err-Bad.field-0-is) (c.perform.ensures workers rows at))
