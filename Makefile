@@ -1,7 +1,7 @@
 # What a newcomer needs: `make demo` shows a trace as a conversation, `make serve` starts the server, `make build` makes the proved programs,
 # `make clients` runs real clients against the server, `make hostile` sends it hostile datagrams and refuses memory, `make soak` judges its answers
-# under mixed load, `make examples` runs all stored cases, the examples among them, `make bench` measures what calls, a replay and the server cost,
-# `make test` is the gate.
+# under mixed load, `make unit` starts the unit of systemd in a container, `make examples` runs all stored cases, the examples among them, `make bench`
+# measures what calls, a replay and the server cost, `make test` is the gate.
 PROGRAMS = rd_serve rd_host rd_replay rd_show rd_capture rd_commission rd_rows
 
 # The numbers of workers with which `make clients` runs the server.
@@ -11,7 +11,7 @@ WORKERS = 1 4
 SECONDS = 600
 SEED = 1
 
-.PHONY: demo serve build clients hostile soak examples bench test
+.PHONY: demo serve build clients hostile soak unit examples bench test
 
 demo:
 	@echo "examples/lookup.trace, a recorded trace, and what the directory answers:"; echo
@@ -46,6 +46,9 @@ hostile: build-rd_serve build-rd_replay build-rd_show
 
 soak: build-rd_serve
 	@python3 hostile/soak.py --seconds $(SECONDS) --seed $(SEED)
+
+unit: build-rd_host
+	@packaging/try_unit.sh bin/rd_host
 
 examples: build
 	@cd crates/rd_rows/data && ../../../bin/rd_rows < ../stdin
