@@ -95,7 +95,8 @@ fn ways_over(alloc: Global, listeners: &[Listener]) -> Result<Vec<Way>, Starved>
 }
 
 impl<'a, R> HostLink<'a, R> {
-    /// A link that receives at the address of `listeners[own]`. `Starved`: out of memory.
+    /// A link that receives at the address of `listeners[own]`, of which no call failed yet.
+    /// `Starved`: out of memory.
     pub fn over(
         rt: &'a R,
         alloc: Global,
@@ -104,6 +105,8 @@ impl<'a, R> HostLink<'a, R> {
         own: usize,
     ) -> Result<HostLink<'a, R>, Starved>
         requires { own < length listeners.now }
+        ensures received { IfOk result (λ link. link.recv_faults ≡ 0) }
+        ensures sent { IfOk result (λ link. link.send_faults ≡ 0) }
     {
         let ways = ways_over(alloc, listeners)?;
         Ok(HostLink {

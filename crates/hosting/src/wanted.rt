@@ -23,6 +23,11 @@ pub enum HostFault {
 }
 
 impl From<Starved> for HostFault {
+    ghost use Rattle.std.specs.Prelude.{◌≡◌};
+    ghost use Rattle.hosting.specs.declared.wanted.HostFault.TheVariants as fault;
+
+    ghost from_gives = { λ _ e. e ≡ fault.Starved };
+
     fn from(_: Starved) -> HostFault {
         HostFault::Starved
     }
