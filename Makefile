@@ -1,13 +1,16 @@
-# What a newcomer needs: `make demo` shows a trace as a conversation, `make serve` starts the server, `make build` makes the proved programs,
-# `make clients` runs real clients against the server, `make hostile` sends it hostile datagrams and refuses memory, `make soak` judges its answers
-# under mixed load, `make unit` starts the unit of systemd in a container, `make examples` runs all stored cases, the examples among them, `make bench`
-# measures what calls, a replay and the server cost, `make test` is the gate.
+# What a newcomer needs: `make demo` shows a trace as a conversation, `make serve` starts the
+# server, `make build` makes the proved programs, `make clients` runs real clients against the
+# server, `make hostile` sends it hostile datagrams and refuses memory, `make soak` judges its
+# answers under mixed load, `make unit` starts the unit of systemd in a container, `make examples`
+# runs all stored cases, the examples among them, `make bench` measures what calls, a replay and the
+# server cost, `make test` is the gate.
 PROGRAMS = rd_serve rd_host rd_replay rd_show rd_capture rd_commission rd_rows
 
 # The numbers of workers with which `make clients` runs the server.
 WORKERS = 1 4
 
-# The seconds of `make soak`, and the number that `make hostile` and `make soak` begin with: a run of the same number sends the same.
+# The seconds of `make soak`, and the number that `make hostile` and `make soak` begin with: a run of
+# the same number sends the same.
 SECONDS = 600
 SEED = 1
 
@@ -17,12 +20,15 @@ demo:
 	@echo "examples/lookup.trace, a recorded trace, and what the directory answers:"; echo
 	@cd crates/rd_show && rt try < ../../examples/lookup.trace > out.demo 2> out.demo.log \
 		|| { cat out.demo out.demo.log; rm -f out.demo out.demo.log; exit 1; }
-	@sed '/^checked: /d; /^races: /d; /^run=/d; s/^/    /' crates/rd_show/out.demo; rm -f crates/rd_show/out.demo crates/rd_show/out.demo.log
+	@sed '/^checked: /d; /^races: /d; /^run=/d; s/^/    /' crates/rd_show/out.demo
+	@rm -f crates/rd_show/out.demo crates/rd_show/out.demo.log
 
 serve: build-rd_serve
-	@echo "It serves on coap://127.0.0.1 until it is ended by ctrl-c. To ask it, in another terminal, with coap-client of libcoap3-bin:"
+	@echo "It serves on coap://127.0.0.1 until it is ended by ctrl-c. To ask it, in another terminal,"
+	@echo "with coap-client of libcoap3-bin:"
 	@echo "    coap-client 'coap://127.0.0.1/.well-known/core'"
-	@echo "    coap-client -m post -t 40 -e '</temp>;rt=\"temperature\"' 'coap://127.0.0.1/rd?ep=node1'"
+	@echo "    coap-client -m post -t 40 -e '</temp>;rt=\"temperature\"' \
+'coap://127.0.0.1/rd?ep=node1'"
 	@echo "    coap-client 'coap://127.0.0.1/rd-lookup/res?rt=temperature'"
 	@bin/rd_serve
 
