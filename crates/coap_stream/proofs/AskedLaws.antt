@@ -1,16 +1,5 @@
 -- What a conversation hands to the seat is what the octets of its connection say.
-use Rattle.std.proofs.Common.{
-  ◌≡◌,
-  ℕ,
-  ◌+◌,
-  ◌<◌,
-  ◌≤◌,
-  ◌==◌,
-  List,
-  [],
-  ◌∷◌,
-  ◌++◌,
-}
+use Rattle.std.proofs.Common.{◌≡◌, ℕ, ◌<◌, ◌≤◌, List, [], ◌∷◌, ◌++◌}
 use Rattle.std.proofs.Common.{Option, Some, None, Result, Ok, Err}
 use Rattle.std.proofs.Common.{refl, sym, ap, subst, ◌∙◌, append_assoc, append-nil, arith}
 use Rattle.std.specs.Prelude.{reverse, IfOk, IfSome}
@@ -18,7 +7,7 @@ use Rattle.std.specs.Io.KnownBytes.{Consumes, IsAtEnd}
 use Rattle.std.proofs.lemmas.List.{reverse-append}
 use Rattle.rd_base.specs.declared.peers.Peer.{Peer}
 use Rattle.stream_model.specs.declared.messages.StreamBad.{StreamBad}
-use Rattle.stream_model.specs.Streams.{Stream, stream_of}
+use Rattle.stream_model.specs.Streams.{stream_of}
 use Rattle.stream_reader.specs.Shown.{Shown, shown_in}
 use Rattle.coap_stream.specs.declared.talked.TalkEnd.{TalkEnd}
 use Rattle.coap_stream.specs.declared.talked.TalkEnd.TheVariants as end_as

@@ -1,20 +1,8 @@
 -- What is answered to messages of a few octets, computed (RFC 8323 sections 3.2, 5.3 to 5.6).
-use Rattle.std.specs.Prelude.{
-  ◌≡◌,
-  ℕ,
-  List,
-  [],
-  ◌∷◌,
-  ◌++◌,
-  Some,
-  None,
-  codes,
-  refl,
-}
-use Rattle.message_model.specs.declared.messages.Kind4.TheVariants.{Con, Ack}
+use Rattle.std.specs.Prelude.{◌≡◌, ℕ, List, [], ◌∷◌, Some, None, codes, refl}
 use Rattle.message_model.specs.declared.requests.Refusal.TheVariants as refusal
 use Rattle.message_model.specs.Codes as code_named
-use Rattle.message_model.specs.Message.{Message, Opt}
+use Rattle.message_model.specs.Message.{Opt}
 use Rattle.message_model.specs.Spelling.{spelling}
 use Rattle.message_model.specs.OptionTable as table
 use Rattle.message_model.proofs.Notation.{hex}
@@ -23,12 +11,12 @@ use Rattle.reference_model.specs.References.{before}
 use Rattle.stream_model.specs.Messages as stream_messages
 use Rattle.stream_model.specs.declared.messages.StreamBad.TheVariants as bad
 use Rattle.stream_model.specs.declared.signals.TheConstants as signals
-use Rattle.stream_reader.specs.Shown.{Shown, shown_in}
+use Rattle.stream_reader.specs.Shown.{Shown}
 use Rattle.coap_stream.specs.declared.purposes.Meant.TheVariants as meant
 use Rattle.coap_stream.specs.declared.refusing.Unasked.TheVariants as unasked_for
 use Rattle.coap_stream.specs.declared.talked.TalkEnd.TheVariants as end_as
 use Rattle.coap_stream.specs.Requests.{meant_by, heard_as, unasked_of}
-use Rattle.coap_stream.specs.Talks.{saying, opening, farewell, carried, carried_of}
+use Rattle.coap_stream.specs.Talks.{saying, opening, farewell, carried_of}
 
 -- ---- signals
 

@@ -1,28 +1,15 @@
 -- A conversation, piece by piece, to its end.
-use Rattle.std.proofs.Common.{
-  ◌≡◌,
-  ℕ,
-  zero,
-  suc,
-  ◌<◌,
-  ◌≤◌,
-  Bool,
-  true,
-  false,
-  List,
-  [],
-}
-use Rattle.std.proofs.Common.{◌++◌, length, take, Option, Some, None, Result, Ok, Err}
-use Rattle.std.proofs.Common.{refl, sym, ap, subst, ◌∙◌, append_assoc, append-nil, arith}
+use Rattle.std.proofs.Common.{◌≡◌, ℕ, ◌<◌, ◌≤◌, Bool, true, false, List, []}
+use Rattle.std.proofs.Common.{◌++◌, length, Option, Some, None, Result, Err}
+use Rattle.std.proofs.Common.{refl, sym, ap, subst, ◌∙◌, append_assoc, append-nil}
 use Rattle.std.specs.Prelude.{reverse}
-use Rattle.std.specs.Io.KnownBytes.{Appends, Consumes, IsAtEnd, Keeps}
+use Rattle.std.specs.Io.KnownBytes.{Consumes, IsAtEnd, Keeps}
 use Rattle.std.proofs.KnownBytes.{Appends-nil, Consumes-nil, Consumes-trans, Consumes-kept}
 use Rattle.rd_base.specs.declared.peers.Peer.{Peer}
 use Rattle.rd_base.specs.Outside.{Rose}
 use Rattle.stream_model.specs.Judging.{judge}
 use Rattle.stream_model.specs.Streams.{Stream, stream_from, stream_of, partial}
 use Rattle.stream_reader.specs.Reading.{Held, at_beginning, stream_after}
-use Rattle.rd_seat.specs.Callers.{CallerSeen}
 use Rattle.rd_seat.proofs.CallLaws.{CallsMade-none}
 use Rattle.coap_stream.specs.declared.talked.TalkEnd.{TalkEnd}
 use Rattle.coap_stream.specs.declared.talked.TalkEnd.TheVariants as end_as
@@ -32,15 +19,7 @@ use Rattle.coap_stream.specs.declared.talked.Talked.{Talked}
 use Rattle.coap_stream.specs.Calls.{as_they_came}
 use Rattle.coap_stream.specs.Made.{VoiceSeen, Speaks, SpeaksBy}
 use Rattle.coap_stream.specs.Talks.{Exchange, ended_by, written_of, opening, farewell}
-use Rattle.coap_stream.specs.Endings.{
-  TalkSeen,
-  SourceSeen,
-  AreFirst,
-  AreAll,
-  EndsSo,
-  WasSaying,
-  Talks,
-}
+use Rattle.coap_stream.specs.Endings.{TalkSeen, SourceSeen, AreAll, EndsSo, Talks}
 use Rattle.coap_stream.specs.Talking.{
   Counts,
   Answering,

@@ -1,17 +1,5 @@
 -- What a reader holds after a piece.
-use Rattle.std.proofs.Common.{
-  ◌≡◌,
-  ℕ,
-  ◌<◌,
-  ◌==◌,
-  Bool,
-  true,
-  false,
-  List,
-  [],
-  ◌++◌,
-  length,
-}
+use Rattle.std.proofs.Common.{◌≡◌, ℕ, ◌<◌, ◌==◌, Bool, true, false, List, [], length}
 use Rattle.std.proofs.Common.{
   Option,
   Some,
@@ -36,7 +24,6 @@ use Rattle.stream_model.specs.declared.messages.StreamBad.{StreamBad}
 use Rattle.stream_model.specs.declared.signals.TheConstants as signals
 use Rattle.stream_model.specs.Streams.{IsGood, IsFront, partial, stream_from}
 use Rattle.stream_model.proofs.ReadingLaws.{front_judged, good_judged}
-use Rattle.stream_reader.specs.declared.feeding.Fed.{Fed}
 use Rattle.stream_reader.specs.declared.feeding.Fed.TheVariants as fed
 use Rattle.stream_reader.specs.declared.frames.Frame.{Frame}
 use Rattle.stream_reader.specs.Reading.{
@@ -49,7 +36,6 @@ use Rattle.stream_reader.specs.Reading.{
   stream_after,
 }
 use Rattle.stream_reader.specs.Shown.{frame_shown, message_by, message_of, shown_in, Shown}
-use Rattle.coap_stream.specs.declared.purposes.Meant.{Meant}
 use Rattle.coap_stream.specs.declared.purposes.Meant.TheVariants as meant
 use Rattle.coap_stream.specs.declared.talked.TalkEnd.{TalkEnd}
 use Rattle.coap_stream.specs.declared.talked.TalkEnd.TheVariants as end_as

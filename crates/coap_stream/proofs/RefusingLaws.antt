@@ -1,31 +1,5 @@
 -- Which requests are answered without a seat, and the name of a query option.
-use Rattle.std.proofs.Common.{
-  ◌≡◌,
-  ℕ,
-  ◌+◌,
-  ◌<◌,
-  Bool,
-  true,
-  false,
-  Option,
-  Some,
-  None,
-  List,
-  [],
-  ◌∷◌,
-  ◌++◌,
-  take,
-  drop,
-  length,
-  refl,
-  sym,
-  ap,
-  ◌∙◌,
-  append_assoc,
-  append-nil,
-  arith,
-  if◌then◌else◌,
-}
+use Rattle.std.proofs.Common.{◌≡◌, ℕ, ◌+◌, ◌<◌, false, Option, Some, None, List, [], ◌∷◌, ◌++◌, take, drop, length, refl, sym, ap, ◌∙◌, append_assoc, append-nil, arith, if◌then◌else◌}
 use Rattle.std.proofs.Math.ListN.{get_or}
 use Rattle.std.proofs.Math.Seq.{take-add, drop-length}
 use Rattle.std.proofs.lemmas.List.{drop_more, take_all}
@@ -37,15 +11,8 @@ use Rattle.message_model.specs.OptionTable.{first_bad_option}
 use Rattle.message_model.specs.Refusals.{refusal_of, refusal_after_options, option_refusal_or}
 use Rattle.message_model.specs.declared.requests.Refusal.{Refusal}
 use Rattle.message_model.specs.declared.requests.Refusal.TheVariants as refusal
-use Rattle.coap_stream.specs.declared.refusing.Unasked.{Unasked}
 use Rattle.coap_stream.specs.declared.refusing.Unasked.TheVariants as unasked_for
-use Rattle.coap_stream.specs.Requests.{
-  is_before_method,
-  is_simple,
-  is_baseless,
-  unasked_by,
-  unasked_of,
-}
+use Rattle.coap_stream.specs.Requests.{is_before_method, is_simple, unasked_of}
 
 -- ---- names
 

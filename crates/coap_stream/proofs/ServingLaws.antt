@@ -17,11 +17,8 @@ use Rattle.std.proofs.Common.{refl, sym, ap, subst, ◌∙◌, append_assoc, ari
 use Rattle.std.proofs.lemmas.List.{length-append, take_at}
 use Rattle.rd_base.specs.declared.peers.Peer.{Peer}
 use Rattle.rd_base.specs.Outside.{Rose}
-use Rattle.rd_base.specs.declared.outside.Source as sources
-use Rattle.rd_base.specs.declared.outside.Sink as sinks
-use Rattle.rd_base.proofs.lemmas.Options.{some_same}
 use Rattle.udp_link.specs.Links.{Datagram}
-use Rattle.udp_link.specs.Told.{WhereTold, Stays}
+use Rattle.udp_link.specs.Told.{WhereTold}
 use Rattle.rd_seat.specs.Chains.{Chain}
 use Rattle.rd_seat.specs.Callers.{CallerSeen}
 use Rattle.rd_seat.specs.Seats.{SeatSeen}

@@ -11,14 +11,14 @@ use Rattle.std.proofs.Common.{
   true,
   false,
 }
-use Rattle.std.proofs.Common.{List, [], ◌∷◌, ◌++◌, length, drop, Option, Some, None}
-use Rattle.std.proofs.Common.{refl, sym, ap, subst, ◌∙◌, append_assoc, append-nil, arith}
+use Rattle.std.proofs.Common.{List, [], ◌∷◌, ◌++◌, drop, Option, Some, None}
+use Rattle.std.proofs.Common.{sym, ap, subst, ◌∙◌, append_assoc, append-nil, arith}
 use Rattle.std.specs.Prelude.{reverse}
 use Rattle.std.proofs.lemmas.List.{reverse-append}
 use Rattle.rd_base.proofs.lemmas.Options.{some_same}
 use Rattle.rd_base.specs.declared.peers.Peer.{Peer}
 use Rattle.stream_model.specs.declared.messages.StreamBad.{StreamBad}
-use Rattle.stream_model.specs.Streams.{Stream, stream_of, with_message, broken, partial}
+use Rattle.stream_model.specs.Streams.{Stream, stream_of, with_message, broken}
 use Rattle.stream_reader.specs.declared.feeding.Fed.TheVariants as fed
 use Rattle.stream_reader.specs.Reading.{Held, GoesOn, stream_after}
 use Rattle.stream_reader.specs.Shown.{Shown, shown_in}
@@ -33,35 +33,9 @@ use Rattle.coap_stream.specs.Requests.{meant_by, heard_as, number_asked, unasked
 use Rattle.coap_stream.specs.Calls.{as_they_came}
 use Rattle.coap_stream.specs.Made.{VoiceSeen, Speaks}
 use Rattle.coap_stream.specs.Answered.{MessageDone}
-use Rattle.coap_stream.specs.Talks.{
-  Exchange,
-  Answers,
-  AnswersAs,
-  AnswersRequest,
-  asked_as,
-  asked_by,
-  asked_of,
-  dropped_of,
-  calls_of,
-  written_of,
-  ends_by,
-  end_by,
-  ended_by,
-  most_asked,
-  opening,
-}
-use Rattle.coap_stream.specs.Endings.{TalkSeen, AreFirst, AreAll, EndsSo}
-use Rattle.coap_stream.specs.Talking.{
-  Counts,
-  WasHeard,
-  Answering,
-  TalksSo,
-  TalksTo,
-  TalksUntil,
-  WouldEnd,
-  voice_of,
-  with_messages,
-}
+use Rattle.coap_stream.specs.Talks.{Exchange, Answers, AnswersAs, AnswersRequest, asked_as, asked_by, asked_of, calls_of, written_of, ends_by, end_by, ended_by, most_asked, opening}
+use Rattle.coap_stream.specs.Endings.{TalkSeen, AreFirst, EndsSo}
+use Rattle.coap_stream.specs.Talking.{Counts, WasHeard, Answering, TalksSo, TalksTo, TalksUntil, voice_of, with_messages}
 use Rattle.coap_stream.proofs.VoiceLaws.{Speaks-then}
 
 -- ---- what a message hands to the seat and drops

@@ -1,16 +1,5 @@
 -- How many requests a stream hands to the seat, by its octets alone.
-use Rattle.std.specs.Prelude.{
-  ℕ,
-  ◌+◌,
-  ◌==◌,
-  List,
-  [],
-  ◌∷◌,
-  ◌++◌,
-  Option,
-  Some,
-  None,
-}
+use Rattle.std.specs.Prelude.{ℕ, ◌+◌, ◌==◌, List, [], ◌∷◌, Option, Some, None}
 use Rattle.udp_link.specs.Links.{Datagram}
 use Rattle.stream_model.specs.Streams.{stream_of}
 use Rattle.stream_reader.specs.Shown.{Shown, shown_in}

@@ -1,4 +1,4 @@
-use Rattle.std.proofs.Common.{[], List, ℕ, sym, subst, arith}
+use Rattle.std.proofs.Common.{sym, arith}
 use Rattle.coap_stream.specs.Made.{voice_seen}
 use Rattle.coap_stream.proofs.VoiceLaws.{Speaks-none, Speaks-next}
 use Rattle.coap_stream.proofs.carried.carry_all.Goals as goal

@@ -1,23 +1,11 @@
-use Rattle.std.proofs.Common.{
-  ◌≡◌,
-  ◌<◌,
-  ◌-◌,
-  Bool,
-  List,
-  ℕ,
-  Option,
-  None,
-  Some,
-  true,
-  false,
-}
-use Rattle.std.proofs.Common.{length, take, drop, sym, subst, ◌∙◌, arith}
+use Rattle.std.proofs.Common.{List, ℕ, Option, true}
+use Rattle.std.proofs.Common.{sym, subst, ◌∙◌, arith}
 use Rattle.std.proofs.lemmas.List.{take_rest}
 use Rattle.stream_model.specs.Streams.{IsGood}
 use Rattle.rd_seat.specs.Callers.{caller_seen}
 use Rattle.coap_stream.specs.declared.talked.TalkEnd.{TalkEnd}
 use Rattle.coap_stream.specs.Made.{voice_seen}
-use Rattle.coap_stream.specs.Endings.{SourceSeen, TalkSeen, talk_seen}
+use Rattle.coap_stream.specs.Endings.{TalkSeen, talk_seen}
 use Rattle.coap_stream.specs.Talking.{Counts, TalksSo, WasHeard, voice_of}
 use Rattle.stream_reader.specs.Shown.{shown_in}
 use Rattle.coap_stream.proofs.ReaderLaws.{

@@ -1,20 +1,8 @@
-use Rattle.std.proofs.Common.{
-  ◌≡◌,
-  ◌<◌,
-  ℕ,
-  List,
-  [],
-  length,
-  take,
-  refl,
-  subst,
-  ◌∙◌,
-  arith,
-}
+use Rattle.std.proofs.Common.{ℕ, [], take, refl, subst, ◌∙◌, arith}
 use Rattle.std.specs.Io.KnownBytes.{Consumes}
-use Rattle.coap_stream.specs.Made.{VoiceSeen, voice_seen}
+use Rattle.coap_stream.specs.Made.{voice_seen}
 use Rattle.coap_stream.specs.Endings.{SourceSeen, TalkSeen, source_seen, talk_seen}
-use Rattle.coap_stream.specs.Talking.{Counts, TalksSo, TalksTo}
+use Rattle.coap_stream.specs.Talking.{Counts}
 use Rattle.coap_stream.proofs.PieceLaws.{
   begins_as,
   beginning_empty,
