@@ -1,44 +1,14 @@
 -- What is decided is put aside.
-use Rattle.std.proofs.Common.{
-  ◌≡◌,
-  ◌<◌,
-  ◌≤◌,
-  ◌+◌,
-  ◌⊎◌,
-  inl,
-  inr,
-  ℕ,
-  zero,
-  suc,
-  List,
-  [],
-  ◌∷◌,
-  length,
-  take,
-  Option,
-  Some,
-  None,
-  is_some,
-  true,
-  false,
-  refl,
-  sym,
-  ap,
-  subst,
-  ◌∙◌,
-  arith,
-  add-one,
-}
+use Rattle.std.proofs.Common.{◌≡◌, ◌<◌, ◌≤◌, ◌+◌, inl, inr, ℕ, zero, suc, List, [], ◌∷◌, length, take, Option, Some, None, is_some, true, false, refl, sym, ap, subst, ◌∙◌, arith, add-one}
 use Rattle.std.specs.List.{slice_get, remove}
 use Rattle.std.specs.Prelude.{slice_set, slice_index_or, ⊤}
 use Rattle.client_model.specs.declared.asks.Ask.{Ask}
 use Rattle.client_model.specs.declared.outcomes.Outcome.{Outcome}
 use Rattle.commissioner.specs.declared.lines.Line.{Line}
 use Rattle.commissioner.specs.declared.steps.Step.{Step}
-use Rattle.commissioner.specs.Shares.{said, said_all}
-use Rattle.commissioner.specs.Lines.{IsOpen, IsOver, IsLine}
+use Rattle.commissioner.specs.Shares.{said}
+use Rattle.commissioner.specs.Lines.{IsOpen, IsLine}
 use Rattle.commissioner.specs.Happening.{AreOpen, AreLines, is_unsaid, KeepsDecided}
-use Rattle.commissioner.proofs.BeginLaws.{said_open}
 
 nothing : {A : Type 0} (lines : List A) (k : ℕ) (line : A)
     → lines ≡ []

@@ -1,40 +1,7 @@
 -- An event is handed to each line.
-use Rattle.std.proofs.Common.{
-  ◌≡◌,
-  ◌+◌,
-  ◌<◌,
-  ◌≤◌,
-  ◌⊎◌,
-  inl,
-  inr,
-  ℕ,
-  zero,
-  suc,
-  Bool,
-  true,
-  false,
-  List,
-  [],
-  ◌∷◌,
-  ◌++◌,
-  length,
-  Option,
-  Some,
-  None,
-  Result,
-  Ok,
-  Err,
-  refl,
-  sym,
-  ap,
-  subst,
-  ◌∙◌,
-  arith,
-  add-one,
-}
+use Rattle.std.proofs.Common.{◌≡◌, ◌+◌, ◌≤◌, inl, inr, ℕ, zero, suc, Bool, true, false, List, [], ◌∷◌, ◌++◌, length, Option, Some, None, Result, Ok, Err, refl, sym, subst, ◌∙◌, arith, add-one}
 use Rattle.std.specs.List.{slice_get}
 use Rattle.std.specs.Prelude.{slice_set, IsErrAnd}
-use Rattle.rd_base.specs.declared.moments.Moment.{Moment}
 use Rattle.rd_base.specs.declared.peers.Peer.{Peer}
 use Rattle.udp_link.specs.Told.{WhereTold, Stays}
 use Rattle.udp_link.specs.Links.{Datagram}
@@ -50,7 +17,7 @@ use Rattle.registrant.specs.declared.turns.TellFault.TheVariants as fault
 use Rattle.registrant.specs.declared.turns.Turn.{Turn}
 use Rattle.registrant.specs.declared.turns.Turn.TheVariants as turn
 use Rattle.registrant.specs.Talking.{Talking, StandsFor}
-use Rattle.registrant.specs.Turns.{Outside, Sends, IsTurned, IsTimed, TakesEvent, moment_at}
+use Rattle.registrant.specs.Turns.{Outside, Sends, IsTimed, TakesEvent, moment_at}
 use Rattle.registrant.proofs.TurnLaws.{sends_none, sends_after}
 use Rattle.commissioner.specs.declared.lines.Line.{Line}
 use Rattle.commissioner.specs.declared.steps.Step.{Step}
@@ -68,16 +35,7 @@ use Rattle.commissioner.specs.Shares.{
   sent_by,
   sent_all,
 }
-use Rattle.commissioner.specs.Lines.{
-  IsStage,
-  IsOpen,
-  IsOver,
-  IsLine,
-  IsTurnedIf,
-  IsDatagram,
-  IsHanded,
-  IsNoLink,
-}
+use Rattle.commissioner.specs.Lines.{IsStage, IsOpen, IsLine, IsTurnedIf, IsDatagram, IsHanded, IsNoLink}
 use Rattle.commissioner.specs.Happening.{
   AreOpen,
   AreLines,

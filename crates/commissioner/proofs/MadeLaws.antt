@@ -1,38 +1,5 @@
 -- What a list of asks comes to.
-use Rattle.std.proofs.Common.{
-  ◌≡◌,
-  ◌<◌,
-  ◌≤◌,
-  ◌+◌,
-  inl,
-  inr,
-  ℕ,
-  zero,
-  suc,
-  Bool,
-  true,
-  false,
-  List,
-  [],
-  ◌∷◌,
-  ◌++◌,
-  length,
-  take,
-  drop,
-  Option,
-  Some,
-  None,
-  Result,
-  Ok,
-  Err,
-  refl,
-  sym,
-  ap,
-  subst,
-  ◌∙◌,
-  arith,
-  append_assoc,
-}
+use Rattle.std.proofs.Common.{◌≡◌, ◌<◌, ◌≤◌, ◌+◌, inl, inr, ℕ, suc, Bool, true, false, List, [], ◌∷◌, ◌++◌, length, take, drop, Option, Some, None, Result, Ok, Err, refl, sym, ap, subst, ◌∙◌, arith, append_assoc}
 use Rattle.rd_base.specs.declared.out_of_memory.Starved.{Starved}
 use Rattle.client_model.specs.declared.asks.Ask.{Ask}
 use Rattle.client_model.specs.declared.events.Event.{Event}
@@ -42,11 +9,10 @@ use Rattle.registrant.specs.declared.turns.TellFault.{TellFault}
 use Rattle.registrant.specs.declared.turns.TellFault.TheVariants as fault
 use Rattle.registrant.specs.Turns.{Outside, Fails}
 use Rattle.commissioner.specs.declared.lines.Line.{Line}
-use Rattle.commissioner.specs.declared.polls.Polled.{Polled}
 use Rattle.commissioner.specs.declared.polls.Polled.TheVariants as polled
 use Rattle.commissioner.specs.declared.steps.Step.{Step}
 use Rattle.commissioner.specs.declared.steps.Step.TheVariants as step
-use Rattle.commissioner.specs.Shares.{share, said_all, first_due}
+use Rattle.commissioner.specs.Shares.{share, said_all}
 use Rattle.commissioner.specs.Lines.{IsOpen, IsLost}
 use Rattle.commissioner.specs.Happening.{
   Comes,

@@ -1,5 +1,5 @@
 -- Datagrams that are sent one after the other.
-use Rattle.std.proofs.Common.{◌≡◌, ℕ, List, [], ◌∷◌, ◌++◌, Option, subst, sym}
+use Rattle.std.proofs.Common.{◌≡◌, ℕ, List, [], ◌∷◌, ◌++◌, Option, subst}
 use Rattle.udp_link.specs.Links.{Datagram}
 use Rattle.registrant.specs.Turns.{Sends}
 use Rattle.registrant.proofs.TurnLaws.{sends_after}

@@ -1,30 +1,10 @@
 -- How the share of an ask changes by a step.
-use Rattle.std.proofs.Common.{
-  ◌≡◌,
-  ℕ,
-  suc,
-  ◌==◌,
-  Bool,
-  true,
-  false,
-  is_none,
-  List,
-  [],
-  ◌∷◌,
-  Option,
-  Some,
-  None,
-  refl,
-  sym,
-  subst,
-  ◌∙◌,
-}
+use Rattle.std.proofs.Common.{◌≡◌, ℕ, ◌==◌, false, List, [], ◌∷◌, Option, Some, None, refl, sym, subst}
 use Rattle.std.proofs.lemmas.Bool.{eq-eqb}
 use Rattle.rd_base.specs.declared.moments.Moment.{Moment}
 use Rattle.client_model.specs.declared.asks.Ask.{Ask}
 use Rattle.client_model.specs.declared.events.Event.{Event}
 use Rattle.client_model.specs.declared.outcomes.Outcome.{Outcome}
-use Rattle.client_model.specs.Verdicts.{verdict}
 use Rattle.client_model.specs.Sending.{Sent}
 use Rattle.registrant.specs.Talking.{asked_now}
 use Rattle.commissioner.specs.declared.steps.Step.{Step}

@@ -1,26 +1,5 @@
 -- What is kept of an ask while it is made, and what it stands for.
-use Rattle.std.specs.Prelude.{
-  ◌≡◌,
-  ◌⊎◌,
-  ℕ,
-  suc,
-  Bool,
-  true,
-  false,
-  not,
-  ◌&&◌,
-  is_some,
-  List,
-  [],
-  ◌∷◌,
-  Option,
-  Some,
-  None,
-  Result,
-  Ok,
-  Err,
-  ⊤,
-}
+use Rattle.std.specs.Prelude.{◌≡◌, ◌⊎◌, ℕ, Bool, true, false, not, ◌&&◌, is_some, List, [], ◌∷◌, Option, Some, None, Result, Ok, Err, ⊤}
 use Rattle.std.specs.List.{list_any}
 use Rattle.rd_base.specs.declared.moments.Moment.{Moment}
 use Rattle.udp_link.specs.Told.{Stays}
@@ -42,15 +21,7 @@ use Rattle.commissioner.specs.declared.lines.Taken.{Taken}
 use Rattle.commissioner.specs.declared.lines.Taken.TheVariants as taken
 use Rattle.commissioner.specs.declared.steps.Step.{Step}
 use Rattle.commissioner.specs.declared.steps.Step.TheVariants as step
-use Rattle.commissioner.specs.Shares.{
-  Share,
-  token_of,
-  octets_of,
-  is_shared,
-  share,
-  said,
-  sent_by,
-}
+use Rattle.commissioner.specs.Shares.{Share, token_of, octets_of, share, said, sent_by}
 
 -- the event that a receive came to
 abbrev pub event_of : Taken → Event

@@ -1,5 +1,5 @@
 -- How many ends a plan has.
-use Rattle.std.proofs.Common.{ℕ, ◌≤◌, ◌*◌, ◌/◌, arith}
+use Rattle.std.proofs.Common.{ℕ, ◌≤◌, ◌*◌, ◌/◌}
 use Rattle.std.proofs.Math.Nat.{le-div_iff_mul-le, mul-pos}
 
 pub few_ends : (addresses workers : ℕ) → 1 ≤ addresses → workers ≤ 16 / addresses

@@ -1,14 +1,4 @@
-use Rattle.std.proofs.Common.{
-  ◌≡◌,
-  ◌<◌,
-  ◌+◌,
-  is_some,
-  length,
-  refl,
-  ap,
-  ◌∙◌,
-  arith,
-}
+use Rattle.std.proofs.Common.{◌<◌, ◌+◌, is_some, length, refl, ap, ◌∙◌, arith}
 use Rattle.commissioner.specs.declared.lines.Line.{Line}
 use Rattle.commissioner.proofs.AsideLaws.{
   one_there,

@@ -1,4 +1,4 @@
-use Rattle.std.proofs.Common.{◌≡◌, ◌-◌, List, length, take}
+use Rattle.std.proofs.Common.{◌-◌, List, length, take}
 use Rattle.client_model.specs.declared.asks.Ask.{Ask}
 use Rattle.commissioner.specs.declared.steps.Step.{Step}
 use Rattle.commissioner.specs.Happening.{AreLines, KeepsDecided}

@@ -1,17 +1,4 @@
-use Rattle.std.proofs.Common.{
-  ◌≡◌,
-  ◌<◌,
-  List,
-  length,
-  Result,
-  slice_index_or,
-  slice_set,
-  refl,
-  sym,
-  ap,
-  ◌∙◌,
-  arith,
-}
+use Rattle.std.proofs.Common.{◌≡◌, ◌<◌, length, Result, slice_index_or, slice_set, refl, ◌∙◌, arith}
 use Rattle.std.proofs.lemmas.Option.{slice_get-get_or}
 use Rattle.registrant.specs.declared.turns.TellFault.{TellFault}
 use Rattle.registrant.proofs.TurnLaws.{stays_same, told_stays}

@@ -1,6 +1,5 @@
-use Rattle.std.proofs.Common.{◌≡◌, ℕ, List, Some, None, Option, sym, ap, subst, ◌∙◌}
+use Rattle.std.proofs.Common.{sym}
 use Rattle.udp_link.specs.Clocks.{GivesFirst}
-use Rattle.client_model.specs.declared.asks.Ask.{Ask}
 use Rattle.registrant.specs.Turns.{seen}
 use Rattle.registrant.proofs.TurnLaws.{told_stays, stays_told}
 use Rattle.commissioner.proofs.BeginLaws.{began}
