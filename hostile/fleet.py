@@ -76,8 +76,9 @@ class Ledger:
         self.next_write = max(self.next_write + 1 / WRITES_A_SECOND, now)
         await asyncio.sleep(self.next_write - now)
 
-    def is_refused(self, answer: "Answer") -> bool:
-        """Whether a write was refused since too many are kept; judges that, and keeps others."""
+    def is_refused(self, answer: "Answer", is_kept: bool = True) -> bool:
+        """Whether a write was refused since too many are kept; judges that. One that was not is
+        kept, unless it was only challenged."""
         while self.kept and answer.sent - self.kept[0][1] > REMEMBERED + MARGIN:
             self.kept.popleft()
         least = sum(came <= answer.sent and answer.came - sent < REMEMBERED - MARGIN
@@ -86,9 +87,11 @@ class Ledger:
         if is_refused:
             most = len(self.kept) + UNDER_WAY
             self.judge("writes refused: too many are kept", most >= MOST_WRITES, most)
-        else:
+        elif is_kept:
             self.judge("writes accepted", least < MOST_WRITES, least)
             self.kept.append((answer.sent, answer.came))
+        else:
+            self.judge("writes challenged where there was room", least < MOST_WRITES, least)
         return is_refused
 
 
@@ -510,7 +513,7 @@ class Fleet:
         self.device.ended.clear()
         options = path(".well-known", "rd") + entry.parameters()
         first = await self.device.port.ask(self.device.port.request(POST, options))
-        if self.ledger.is_refused(first):
+        if self.ledger.is_refused(first, is_kept=False):
             return
         echo = first.message.values(wire.ECHO)
         self.ledger.judge("challenges", len(echo) == 1, first.octets.hex())
