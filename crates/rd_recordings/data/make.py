@@ -111,7 +111,7 @@ class Story:
     """What is to come of a capture: datagrams that are met, packets that are not read."""
 
     def __init__(self):
-        self.met = []  # (milliseconds, "in" or "out", peer, payload)
+        self.met = []  # (milliseconds, "in" or "out", peer, payload, and of some "in" the word)
         self.said = []
         self.packets = 0
 
@@ -136,17 +136,17 @@ class Story:
                 first = max(low // 1000, high // 1000 - CAP)
                 ticks.update((s + 1) * 1000 for s in range(first, high // 1000))
         lines, left = [], sorted(ticks)
-        for m, (_, way, where, payload) in zip(moments, self.met):
+        for m, (_, way, where, payload, *word) in zip(moments, self.met):
             while left and left[0] <= m:
                 lines.append(f"tick 0 {left.pop(0)}")
             if way == "in":
-                lines.append(f"in 0 {m} {peer(where)} {digits(payload)}")
+                lines.append(" ".join(["in 0", str(m), peer(where), digits(payload), *word]))
                 if len(payload) > 1 and 1 <= payload[1] <= 31:
                     lines.append(f"go 0 {m}")
         return lines + [f"tick 0 {m}" for m in left]
 
     def replies(self):
-        sent = [(where, payload) for _, way, where, payload in self.met if way == "out"]
+        sent = [(where, payload) for _, way, where, payload, *_ in self.met if way == "out"]
         return [f"out 0 {peer(where)} {digits(payload)}" for where, payload in sent]
 
 
@@ -773,10 +773,61 @@ def transcripts():
             case(f"read {name} --pcap", hexed(written([good])) + [f"line 2: {why}"], 4)
 
 
+def challenges():
+    say("challenges: the word that the server drew stands behind the request that it challenged")
+
+    def post(token, kind=0x41, mid=b"\x00\x05"):
+        return bytes([kind, 2]) + mid + token + b"\xbb.well-known\x02rd"
+
+    def answer(token, value=None, code=0x81, kind=0x61, mid=b"\x00\x05"):
+        option = b"" if value is None else bytes([0xd0 | len(value), 252 - 13]) + value
+        return bytes([kind, code]) + mid + token + option
+
+    made = bytes.fromhex("a18170d200000000")
+    word = str(0xA18170D2)
+    other = ("192.0.2.20", 40000)
+    story = Pcap(228)
+
+    def come(at, where, payload, *words):
+        story.add(BASE + at, packet(where, SERVER, payload), ("in", where, payload, *words))
+
+    def go(at, where, payload):
+        story.add(BASE + at, packet(SERVER, where, payload), ("out", where, payload))
+
+    # two that wait at a time, the later answered first, with a look and a tick between
+    come(0, DEVICE, post(b"\xe1"), word)
+    come(1, other, post(b"\xe1", kind=0x51), str(1))
+    come(2, DEVICE, GET)
+    go(3, other, answer(b"\xe1", bytes.fromhex("0000000100000007"), kind=0x51))
+    go(1_003, DEVICE, answer(b"\xe1", made))
+    # the same again, which is challenged anew, and a change in between
+    come(1_010, DEVICE, post(b"\xe1"), word)
+    come(1_011, DEVICE, post(b"\xe1"), str(0xFFFF_FFFF))
+    go(1_012, DEVICE, answer(b"\xe1", made))
+    go(1_013, DEVICE, answer(b"\xe1", b"\xff" * 8))
+    # answers that are no challenge, or of another form; the word 0, which no line says
+    for at, said in enumerate([answer(b"\xe2", code=0x44), answer(b"\xe2"),
+                               answer(b"\xe2", made, code=0x44), answer(b"\xe2", made[:5]),
+                               answer(b"\xe2", bytes(8)), answer(b"\xe3", made),
+                               b"\x61\x81\x00\x05"]):
+        come(1_020 + 2 * at, DEVICE, post(b"\xe2"))
+        go(1_021 + 2 * at, DEVICE, said)
+    read("challenges.pcap", story)
+    case("read challenges.pcap --replies", story.replies(), 0)
+
+    say("of seventeen that wait none but the last does any more")
+    story = Pcap(228)
+    for at in range(17):
+        come(at, DEVICE, post(bytes([at + 1])), *([word] if at == 16 else []))
+    for at in range(17):
+        go(100 + at, DEVICE, answer(bytes([at + 1]), made))
+    read("many-wait.pcap", story)
+
+
 def recordings():
     say("recordings of examples: a replay of what came sends what was sent")
     names = ["register", "discovery", "lookup", "filters", "two_filters", "pages", "update",
-             "lapse", "upload", "blocks", "simple", "refused", "malformed"]
+             "lapse", "upload", "blocks", "simple", "challenged", "refused", "malformed"]
     for name in names:
         capture = Pcapng().section("<", options=[(1, f"examples/{name}".encode())])
         capture.interface(1, 1 << 18)
@@ -788,8 +839,9 @@ def recordings():
                 now = BASE + int(fields[1])
             if verb not in ("in", "out"):
                 continue
-            text = re.sub(r"\{(\w+)\*(\d+)\}", lambda m: m[1] * int(m[2]), fields[-1])
-            there, payload = place_of(fields[-2]), bytes.fromhex(text.replace("-", ""))
+            where, said = fields[2:4] if verb == "in" else fields[-2:]
+            text = re.sub(r"\{(\w+)\*(\d+)\}", lambda m: m[1] * int(m[2]), said)
+            there, payload = place_of(where), bytes.fromhex(text.replace("-", ""))
             here = SERVER6 if ":" in there[0] else SERVER
             ends = (there, here) if verb == "in" else (here, there)
             ticks = now * 1000 + (500 if verb == "out" else 0)
@@ -828,7 +880,8 @@ def main():
         file.write(story.octets)
     with open(os.path.join(HERE, "..", "..", "rd_capture", "stdout"), "w") as file:
         file.write("\n".join(story.trace()) + "\n")
-    groups = [link_layers, orders, internet, times, blocks, no_captures, words, transcripts]
+    groups = [link_layers, orders, internet, times, blocks, no_captures, words, transcripts,
+              challenges]
     for group in groups + [recordings]:
         group()
     for name in set(os.listdir(HERE)) - set(FILES) - {os.path.basename(__file__)}:

@@ -3,6 +3,7 @@
 #![tactic(auto)]
 
 mod about;
+mod challenges;
 mod endings;
 mod fields;
 mod lines;
@@ -13,6 +14,7 @@ mod runs;
 mod servers;
 mod timelines;
 mod transcripts;
+mod waiting;
 mod words;
 
 pub use endings::Status;

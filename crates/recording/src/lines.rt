@@ -12,12 +12,13 @@ use trace_text::Line;
 /// The one worker of a recording.
 pub(crate) const WORKER: u8 = 0;
 
-/// The line of a datagram that comes.
+/// The line of a datagram that comes, with the word that its step is handed.
 pub(crate) fn come_line(
     alloc: Global,
     moment: Moment,
     peer: Peer,
     payload: &[u8],
+    word: u32,
 ) -> Result<Line, Starved>
     requires moment { moment.0 ≤ MAX_MOMENT }
     requires peer { IsPeer peer }
@@ -30,7 +31,7 @@ pub(crate) fn come_line(
         moment,
         peer,
         datagram,
-        word: 0,
+        word,
     })
 }
 

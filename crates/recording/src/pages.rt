@@ -1,7 +1,12 @@
 //! What is to be written.
 
-use rd_base::{Bytes, Sink, Starved, write_all};
+use crate::waiting::Waiting;
+use rd_base::{Bytes, Peer, Sink, Starved, write_all};
 use std::alloc::Global;
+use std::mem;
+
+/// The most requests that wait for their answers.
+const MAX_WAITING: usize = 16;
 
 /// What is to be written, and was not yet.
 #[derive(Drop)]
@@ -10,6 +15,11 @@ pub(crate) struct Pages {
     pub out: Bytes,
     /// What goes to the error sink.
     pub err: Bytes,
+    /// The requests that wait for their answers, in the order in which they came: what goes to the
+    /// output behind `out`.
+    waiting: Vec<Waiting>,
+    /// Where its memory comes from.
+    alloc: Global,
 }
 
 impl Pages {
@@ -18,13 +28,58 @@ impl Pages {
         Pages {
             out: Bytes::new(alloc),
             err: Bytes::new(alloc),
+            waiting: Vec::new(alloc),
+            alloc,
         }
     }
 
-    /// Adds a line to the output.
+    /// Adds a line to the output, behind the requests that wait.
     pub(crate) fn put_line(&mut self, line: &[u8]) -> Result<(), Starved> {
-        self.out.append(line)?;
-        self.out.push(b'\n')
+        let Some(last) = self.waiting.last_mut() else {
+            self.out.append(line)?;
+            return self.out.push(b'\n');
+        };
+        last.put_line(line)?;
+        if last.is_long() {
+            return self.release();
+        }
+        Ok(())
+    }
+
+    /// Adds the line of a request that waits for its answer. Where too many wait, none of those
+    /// waits any more.
+    pub(crate) fn put_request(&mut self, request: Waiting) -> Result<(), Starved> {
+        if self.waiting.len() == MAX_WAITING {
+            self.release()?;
+        }
+        self.waiting.push(request)?;
+        Ok(())
+    }
+
+    /// An answer was sent to a peer: the first request that waits for it has its word.
+    pub(crate) fn answer(&mut self, peer: Peer, token: &[u8], word: u32) -> Result<(), Starved> {
+        let place = self
+            .waiting
+            .iter()
+            .position(|request| request.is_answered(peer, token));
+        let Some(place) = place else {
+            return Ok(());
+        };
+        let text = self.waiting.remove(place).text(self.alloc, word)?;
+        if place == 0 {
+            return self.out.append(text.as_slice());
+        }
+        self.waiting[place - 1].put_text(text.as_slice())
+    }
+
+    /// No request waits any more.
+    pub(crate) fn release(&mut self) -> Result<(), Starved> {
+        let waiting = mem::replace(&mut self.waiting, Vec::new(self.alloc));
+        'requests: for request in &waiting {
+            let text = request.text(self.alloc, 0)?;
+            self.out.append(text.as_slice())?;
+        }
+        Ok(())
     }
 
     /// Adds a line that says why a packet was not read.

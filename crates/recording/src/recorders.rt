@@ -2,16 +2,19 @@
 ghost use Rattle.std.specs.Prelude.{◌≤◌, length};
 ghost use Rattle.rd_base.specs.Peers.{IsPeer};
 
+use crate::challenges::{challengeable, word_of};
 use crate::endings::Stop;
 use crate::lines::{WORKER, come_line, go_line, is_request};
 use crate::pages::Pages;
 use crate::peers::peer_of;
 use crate::servers::{Server, Way};
 use crate::timelines::Timeline;
+use crate::waiting::Waiting;
 use capture_file::{
     CaptureFault, Datagram, Found, MAX_PART, Packet, PacketFault, Reader, datagram_of,
 };
-use line_model::limits::MAX_DATAGRAM;
+use coap_message::view;
+use line_model::limits::{MAX_DATAGRAM, MAX_MOMENT};
 use rd_base::{Bytes, Moment, Peer, Starved};
 use std::alloc::Global;
 use std::mem;
@@ -79,6 +82,27 @@ impl Recorder {
         }
     }
 
+    /// A datagram that came to the server is written; a request that may be challenged waits for
+    /// its answer.
+    fn write_heard(
+        &self,
+        moment: Moment,
+        peer: Peer,
+        payload: &[u8],
+        pages: &mut Pages,
+    ) -> Result<(), Starved>
+        requires moment { moment.0 ≤ MAX_MOMENT }
+        requires peer { IsPeer peer }
+        requires payload { length payload.now ≤ MAX_DATAGRAM }
+    {
+        let Some(request) = challengeable(payload) else {
+            let line = come_line(self.alloc, moment, peer, payload, 0)?;
+            return pages.put_line(line_print(self.alloc, &line)?.as_slice());
+        };
+        let token = request.token.octets;
+        pages.put_request(Waiting::new(self.alloc, moment, peer, payload, token)?)
+    }
+
     /// A datagram that came to the server is written, with the end of its job where it may leave
     /// one.
     fn write_come(
@@ -92,8 +116,7 @@ impl Recorder {
         requires payload { length payload.now ≤ MAX_DATAGRAM }
     {
         let moment = self.timeline.hear(moment, pages)?;
-        let line = come_line(self.alloc, moment, peer, payload)?;
-        pages.put_line(line_print(self.alloc, &line)?.as_slice())?;
+        self.write_heard(moment, peer, payload, pages)?;
         if is_request(payload) {
             let line = line_print(self.alloc, &go_line(moment))?;
             pages.put_line(line.as_slice())?;
@@ -117,6 +140,9 @@ impl Recorder {
         match (self.written, way) {
             (Way::Came, Way::Came) => self.write_come(moment, peer, payload, pages),
             (Way::Came, Way::Sent) => {
+                if let Ok(answer) = view(payload) {
+                    pages.answer(peer, answer.token.octets, word_of(&answer))?;
+                }
                 let _ = self.timeline.reach(moment, pages)?;
                 Ok(())
             }
@@ -247,6 +273,7 @@ impl Recorder {
         if !self.is_over && self.is_cut() {
             self.give_up(name_of(PacketFault::Cut), pages)?;
         }
-        Ok(self.timeline.end(pages)?)
+        self.timeline.end(pages)?;
+        Ok(pages.release()?)
     }
 }

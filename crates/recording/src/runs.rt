@@ -66,6 +66,9 @@ fn write_pages<K: Sink, E: Sink>(
     out: &mut K,
     err: &mut E,
 ) -> Option<Status> {
+    if step.is_err() {
+        let _ = pages.release();
+    }
     let is_written = pages.write(out, err);
     match step {
         _ if !is_written => Some(Status::WriteFault),

@@ -1,0 +1,32 @@
+//! Challenges of a recording: the words from which the server made them (RFC 9175 section 2.2).
+
+use coap_message::{View, options_of, view};
+use message_model::codes::{POST, UNAUTHORIZED};
+use message_model::options::ECHO;
+
+/// The word of a challenge, the first four octets of its value.
+fn word_in(value: &[u8]) -> Option<u32> {
+    match value {
+        [a, b, c, d, _, _, _, _] => Some(u32::from_be_bytes([*a, *b, *c, *d])),
+        _ => None,
+    }
+}
+
+/// The word of the challenge that an answer is, and 0 of any other answer.
+pub(crate) fn word_of(answer: &View<'_>) -> u32 {
+    if answer.code != UNAUTHORIZED {
+        return 0;
+    }
+    let Some(challenge) = options_of(answer).find(|option| option.number == ECHO) else {
+        return 0;
+    };
+    word_in(challenge.value).unwrap_or(0)
+}
+
+/// The message of a datagram, where it is a request that may be challenged.
+pub(crate) fn challengeable(payload: &[u8]) -> Option<View<'_>> {
+    match view(payload) {
+        Ok(view) if view.code == POST => Some(view),
+        _ => None,
+    }
+}
