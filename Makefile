@@ -23,14 +23,17 @@ demo:
 	@sed '/^checked: /d; /^races: /d; /^run=/d; s/^/    /' crates/rd_show/out.demo
 	@rm -f crates/rd_show/out.demo crates/rd_show/out.demo.log
 
-serve: build-rd_serve
+serve:
 	@echo "It serves on coap://127.0.0.1 until it is ended by ctrl-c. To ask it, in another terminal,"
 	@echo "with coap-client of libcoap3-bin:"
 	@echo "    coap-client 'coap://127.0.0.1/.well-known/core'"
 	@echo "    coap-client -m post -t 40 -e '</temp>;rt=\"temperature\"' \
 'coap://127.0.0.1/rd?ep=node1'"
 	@echo "    coap-client 'coap://127.0.0.1/rd-lookup/res?rt=temperature'"
-	@bin/rd_serve
+	@if [ -x bin/rd_serve ]; then exec bin/rd_serve; fi; \
+		echo "This is a build with checks at run time, which begins in a minute; \
+'make build' makes the proved one."; \
+		cd crates/rd_serve && exec rt try --seconds 86400 < /dev/null
 
 build: $(PROGRAMS:%=build-%)
 
