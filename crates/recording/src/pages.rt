@@ -40,10 +40,8 @@ impl Pages {
             return self.out.push(b'\n');
         };
         last.put_line(line)?;
-        if last.is_long() {
-            return self.release();
-        }
-        Ok(())
+        let is_long = last.is_long();
+        self.release_if(is_long)
     }
 
     /// Adds the line of a request that waits for its answer. Where too many wait, none of those
@@ -69,7 +67,18 @@ impl Pages {
         if place == 0 {
             return self.out.append(text.as_slice());
         }
-        self.waiting[place - 1].put_text(text.as_slice())
+        let before = &mut self.waiting[place - 1];
+        before.put_text(text.as_slice())?;
+        let is_long = before.is_long();
+        self.release_if(is_long)
+    }
+
+    /// No request waits any more where too much stands behind one.
+    fn release_if(&mut self, is_long: bool) -> Result<(), Starved> {
+        if is_long {
+            return self.release();
+        }
+        Ok(())
     }
 
     /// No request waits any more.
