@@ -1,5 +1,26 @@
 -- What a good message of a stream shows fits a datagram (RFC 8323 sections 3.2 and 5.3.1).
-use Rattle.std.proofs.Common.{◌≡◌, ℕ, ◌+◌, ◌≤◌, Bool, true, false, cond, nat_lt, Option, Some, None, List, length, refl, sym, ap, subst, ◌∙◌, arith}
+use Rattle.std.proofs.Common.{
+  ◌≡◌,
+  ℕ,
+  ◌+◌,
+  ◌≤◌,
+  Bool,
+  true,
+  false,
+  cond,
+  nat_lt,
+  Option,
+  Some,
+  None,
+  List,
+  length,
+  refl,
+  sym,
+  ap,
+  subst,
+  ◌∙◌,
+  arith,
+}
 use Rattle.std.specs.Prelude.{option_map}
 use Rattle.std.proofs.lemmas.Bool.{ltb-false}
 use Rattle.std.proofs.lemmas.List.{length-append}
@@ -12,7 +33,13 @@ use Rattle.message_model.proofs.TailLemmas.{tail_taken}
 use Rattle.stream_model.specs.declared.messages.StreamBad.{StreamBad}
 use Rattle.stream_model.specs.declared.messages.StreamBad.TheVariants as bad
 use Rattle.stream_model.specs.Messages.{StreamMessage, stream_spelling}
-use Rattle.stream_model.specs.Faults.{first_of, lengths_fault, message_fault, tail_fault, is_other_code}
+use Rattle.stream_model.specs.Faults.{
+  first_of,
+  lengths_fault,
+  message_fault,
+  tail_fault,
+  is_other_code,
+}
 use Rattle.stream_model.specs.Streams.{IsGood}
 use Rattle.stream_model.proofs.MessageLaws.{length-spelling}
 use Rattle.stream_reader.specs.Shown.{Shown, shown_in, shown_by}

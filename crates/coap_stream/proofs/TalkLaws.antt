@@ -33,9 +33,33 @@ use Rattle.coap_stream.specs.Requests.{meant_by, heard_as, number_asked, unasked
 use Rattle.coap_stream.specs.Calls.{as_they_came}
 use Rattle.coap_stream.specs.Made.{VoiceSeen, Speaks}
 use Rattle.coap_stream.specs.Answered.{MessageDone}
-use Rattle.coap_stream.specs.Talks.{Exchange, Answers, AnswersAs, AnswersRequest, asked_as, asked_by, asked_of, calls_of, written_of, ends_by, end_by, ended_by, most_asked, opening}
+use Rattle.coap_stream.specs.Talks.{
+  Exchange,
+  Answers,
+  AnswersAs,
+  AnswersRequest,
+  asked_as,
+  asked_by,
+  asked_of,
+  calls_of,
+  written_of,
+  ends_by,
+  end_by,
+  ended_by,
+  most_asked,
+  opening,
+}
 use Rattle.coap_stream.specs.Endings.{TalkSeen, AreFirst, EndsSo}
-use Rattle.coap_stream.specs.Talking.{Counts, WasHeard, Answering, TalksSo, TalksTo, TalksUntil, voice_of, with_messages}
+use Rattle.coap_stream.specs.Talking.{
+  Counts,
+  WasHeard,
+  Answering,
+  TalksSo,
+  TalksTo,
+  TalksUntil,
+  voice_of,
+  with_messages,
+}
 use Rattle.coap_stream.proofs.VoiceLaws.{Speaks-then}
 
 -- ---- what a message hands to the seat and drops

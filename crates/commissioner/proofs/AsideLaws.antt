@@ -1,5 +1,33 @@
 -- What is decided is put aside.
-use Rattle.std.proofs.Common.{◌≡◌, ◌<◌, ◌≤◌, ◌+◌, inl, inr, ℕ, zero, suc, List, [], ◌∷◌, length, take, Option, Some, None, is_some, true, false, refl, sym, ap, subst, ◌∙◌, arith, add-one}
+use Rattle.std.proofs.Common.{
+  ◌≡◌,
+  ◌<◌,
+  ◌≤◌,
+  ◌+◌,
+  inl,
+  inr,
+  ℕ,
+  zero,
+  suc,
+  List,
+  [],
+  ◌∷◌,
+  length,
+  take,
+  Option,
+  Some,
+  None,
+  is_some,
+  true,
+  false,
+  refl,
+  sym,
+  ap,
+  subst,
+  ◌∙◌,
+  arith,
+  add-one,
+}
 use Rattle.std.specs.List.{slice_get, remove}
 use Rattle.std.specs.Prelude.{slice_set, slice_index_or, ⊤}
 use Rattle.client_model.specs.declared.asks.Ask.{Ask}

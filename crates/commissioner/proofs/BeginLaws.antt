@@ -61,7 +61,19 @@ use Rattle.registrant.specs.Talking.{Talking, StandsFor, asked_now}
 use Rattle.commissioner.specs.declared.lines.Line.{Line}
 use Rattle.commissioner.specs.declared.steps.Step.{Step}
 use Rattle.commissioner.specs.declared.steps.Step.TheVariants as step
-use Rattle.commissioner.specs.Shares.{Share, token_of, octets_of, share, said, verdict_of, said_all, is_busy, is_due, first_due, sent_first}
+use Rattle.commissioner.specs.Shares.{
+  Share,
+  token_of,
+  octets_of,
+  share,
+  said,
+  verdict_of,
+  said_all,
+  is_busy,
+  is_due,
+  first_due,
+  sent_first,
+}
 use Rattle.commissioner.specs.Lines.{IsStage, IsOpen, Begun, IsBegun, IsLost, is_to_begin}
 use Rattle.commissioner.specs.Happening.{HappensAll, AreOpen, HasBegun, AllBegun, AreBegun}
 use Rattle.commissioner.proofs.ShareLaws.{share_other, share_own, said_other}

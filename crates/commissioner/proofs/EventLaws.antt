@@ -1,5 +1,34 @@
 -- An event is handed to each line.
-use Rattle.std.proofs.Common.{◌≡◌, ◌+◌, ◌≤◌, inl, inr, ℕ, zero, suc, Bool, true, false, List, [], ◌∷◌, ◌++◌, length, Option, Some, None, Result, Ok, Err, refl, sym, subst, ◌∙◌, arith, add-one}
+use Rattle.std.proofs.Common.{
+  ◌≡◌,
+  ◌+◌,
+  ◌≤◌,
+  inl,
+  inr,
+  ℕ,
+  zero,
+  suc,
+  Bool,
+  true,
+  false,
+  List,
+  [],
+  ◌∷◌,
+  ◌++◌,
+  length,
+  Option,
+  Some,
+  None,
+  Result,
+  Ok,
+  Err,
+  refl,
+  sym,
+  subst,
+  ◌∙◌,
+  arith,
+  add-one,
+}
 use Rattle.std.specs.List.{slice_get}
 use Rattle.std.specs.Prelude.{slice_set, IsErrAnd}
 use Rattle.rd_base.specs.declared.peers.Peer.{Peer}
@@ -35,7 +64,15 @@ use Rattle.commissioner.specs.Shares.{
   sent_by,
   sent_all,
 }
-use Rattle.commissioner.specs.Lines.{IsStage, IsOpen, IsLine, IsTurnedIf, IsDatagram, IsHanded, IsNoLink}
+use Rattle.commissioner.specs.Lines.{
+  IsStage,
+  IsOpen,
+  IsLine,
+  IsTurnedIf,
+  IsDatagram,
+  IsHanded,
+  IsNoLink,
+}
 use Rattle.commissioner.specs.Happening.{
   AreOpen,
   AreLines,

@@ -1,5 +1,19 @@
 -- How the share of an ask changes by a step.
-use Rattle.std.proofs.Common.{◌≡◌, ℕ, ◌==◌, false, List, [], ◌∷◌, Option, Some, None, refl, sym, subst}
+use Rattle.std.proofs.Common.{
+  ◌≡◌,
+  ℕ,
+  ◌==◌,
+  false,
+  List,
+  [],
+  ◌∷◌,
+  Option,
+  Some,
+  None,
+  refl,
+  sym,
+  subst,
+}
 use Rattle.std.proofs.lemmas.Bool.{eq-eqb}
 use Rattle.rd_base.specs.declared.moments.Moment.{Moment}
 use Rattle.client_model.specs.declared.asks.Ask.{Ask}

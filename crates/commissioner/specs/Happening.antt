@@ -1,5 +1,25 @@
 -- What happens while a list of asks is made over a link and a clock.
-use Rattle.std.specs.Prelude.{◌≡◌, ◌⊎◌, ◌≤◌, ℕ, suc, Bool, true, is_none, List, [], ◌∷◌, ◌++◌, Option, Some, None, Result, Ok, Err, ⊤}
+use Rattle.std.specs.Prelude.{
+  ◌≡◌,
+  ◌⊎◌,
+  ◌≤◌,
+  ℕ,
+  suc,
+  Bool,
+  true,
+  is_none,
+  List,
+  [],
+  ◌∷◌,
+  ◌++◌,
+  Option,
+  Some,
+  None,
+  Result,
+  Ok,
+  Err,
+  ⊤,
+}
 use Rattle.std.specs.List.{list_any}
 use Rattle.rd_base.specs.Outside.{Rose}
 use Rattle.rd_base.specs.declared.moments.Moment.{Moment}

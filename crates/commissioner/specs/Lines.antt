@@ -1,5 +1,25 @@
 -- What is kept of an ask while it is made, and what it stands for.
-use Rattle.std.specs.Prelude.{◌≡◌, ◌⊎◌, ℕ, Bool, true, false, not, ◌&&◌, is_some, List, [], ◌∷◌, Option, Some, None, Result, Ok, Err, ⊤}
+use Rattle.std.specs.Prelude.{
+  ◌≡◌,
+  ◌⊎◌,
+  ℕ,
+  Bool,
+  true,
+  false,
+  not,
+  ◌&&◌,
+  is_some,
+  List,
+  [],
+  ◌∷◌,
+  Option,
+  Some,
+  None,
+  Result,
+  Ok,
+  Err,
+  ⊤,
+}
 use Rattle.std.specs.List.{list_any}
 use Rattle.rd_base.specs.declared.moments.Moment.{Moment}
 use Rattle.udp_link.specs.Told.{Stays}

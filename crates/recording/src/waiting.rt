@@ -1,5 +1,5 @@
 //! A request that waits for its answer.
-ghost use Rattle.std.specs.Prelude.{◌≡◌, ◌≤◌, length};
+ghost use Rattle.std.specs.Prelude.{◌≤◌, length};
 ghost use Rattle.rd_base.specs.Peers.{IsPeer};
 
 use crate::lines::come_line;

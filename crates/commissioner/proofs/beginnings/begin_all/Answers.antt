@@ -1,9 +1,27 @@
-use Rattle.std.proofs.Common.{◌<◌, length, Result, slice_index_or, slice_set, refl, sym, ap, ◌∙◌, arith}
+use Rattle.std.proofs.Common.{
+  ◌<◌,
+  length,
+  Result,
+  slice_index_or,
+  slice_set,
+  refl,
+  sym,
+  ap,
+  ◌∙◌,
+  arith,
+}
 use Rattle.std.proofs.lemmas.Option.{slice_get-get_or}
 use Rattle.rd_base.specs.declared.out_of_memory.Starved.{Starved}
 use Rattle.registrant.specs.Turns.{seen}
 use Rattle.commissioner.specs.Happening.{AreBegun}
-use Rattle.commissioner.proofs.BeginLaws.{begins_can, begins_set, begins_not, begins_lost, starved_at, there_some}
+use Rattle.commissioner.proofs.BeginLaws.{
+  begins_can,
+  begins_set,
+  begins_not,
+  begins_lost,
+  starved_at,
+  there_some,
+}
 use Rattle.commissioner.proofs.beginnings.begin_all.Goals.{then-is_due+in_ok-begin, else-is_due}
 use Rattle.commissioner.proofs.beginnings.begin_all.Goals as goal
 
