@@ -812,6 +812,10 @@ def challenges():
                                b"\x61\x81\x00\x05"]):
         come(1_020 + 2 * at, DEVICE, post(b"\xe2"))
         go(1_021 + 2 * at, DEVICE, said)
+    # an empty message is no answer, though it has no token either
+    come(1_040, DEVICE, post(b"", kind=0x40), word)
+    go(1_041, DEVICE, b"\x70\x00\x00\x09")
+    go(1_042, DEVICE, answer(b"", made, kind=0x60))
     read("challenges.pcap", story)
     case("read challenges.pcap --replies", story.replies(), 0)
 

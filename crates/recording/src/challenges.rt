@@ -1,7 +1,7 @@
 //! Challenges of a recording: the words from which the server made them (RFC 9175 section 2.2).
 
 use coap_message::{View, options_of, view};
-use message_model::codes::{POST, UNAUTHORIZED};
+use message_model::codes::{LAST_REQUEST, POST, UNAUTHORIZED};
 use message_model::options::ECHO;
 
 /// The word of a challenge, the first four octets of its value.
@@ -21,6 +21,14 @@ pub(crate) fn word_of(answer: &View<'_>) -> u32 {
         return 0;
     };
     word_in(challenge.value).unwrap_or(0)
+}
+
+/// The message of a datagram, where it is a response by its code (RFC 7252 section 3).
+pub(crate) fn response(payload: &[u8]) -> Option<View<'_>> {
+    match view(payload) {
+        Ok(view) if view.code > LAST_REQUEST => Some(view),
+        _ => None,
+    }
 }
 
 /// The message of a datagram, where it is a request that may be challenged.

@@ -2,7 +2,7 @@
 ghost use Rattle.std.specs.Prelude.{◌≤◌, length};
 ghost use Rattle.rd_base.specs.Peers.{IsPeer};
 
-use crate::challenges::{challengeable, word_of};
+use crate::challenges::{challengeable, response, word_of};
 use crate::endings::Stop;
 use crate::lines::{WORKER, come_line, go_line, is_request};
 use crate::pages::Pages;
@@ -13,7 +13,6 @@ use crate::waiting::Waiting;
 use capture_file::{
     CaptureFault, Datagram, Found, MAX_PART, Packet, PacketFault, Reader, datagram_of,
 };
-use coap_message::view;
 use line_model::limits::{MAX_DATAGRAM, MAX_MOMENT};
 use rd_base::{Bytes, Moment, Peer, Starved};
 use std::alloc::Global;
@@ -140,7 +139,7 @@ impl Recorder {
         match (self.written, way) {
             (Way::Came, Way::Came) => self.write_come(moment, peer, payload, pages),
             (Way::Came, Way::Sent) => {
-                if let Ok(answer) = view(payload) {
+                if let Some(answer) = response(payload) {
                     pages.answer(peer, answer.token.octets, word_of(&answer))?;
                 }
                 let _ = self.timeline.reach(moment, pages)?;
