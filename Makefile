@@ -9,8 +9,8 @@ PROGRAMS = rd_serve rd_host rd_replay rd_show rd_capture rd_commission rd_rows
 # The numbers of workers with which `make clients` runs the server.
 WORKERS = 1 4
 
-# The seconds of `make soak`, and the number that `make hostile` and `make soak` begin with: a run of
-# the same number sends the same.
+# The seconds of `make soak`, and the number that `make hostile` and `make soak` begin with: a run
+# of the same number sends the same.
 SECONDS = 600
 SEED = 1
 
@@ -30,7 +30,9 @@ serve:
 	@echo "    coap-client -m post -t 40 -e '</temp>;rt=\"temperature\"' \
 'coap://127.0.0.1/rd?ep=node1'"
 	@echo "    coap-client 'coap://127.0.0.1/rd-lookup/res?rt=temperature'"
-	@if [ -x bin/rd_serve ]; then exec bin/rd_serve; fi; \
+	@if [ -x bin/rd_serve ] && [ -z "$$(find crates -path '*/src/*' -newer bin/rd_serve)" ]; then \
+			exec bin/rd_serve; \
+		fi; \
 		echo "This is a build with checks at run time, which begins in a minute; \
 'make build' makes the proved one."; \
 		cd crates/rd_serve && exec rt try --seconds 86400 < /dev/null

@@ -2,7 +2,7 @@
 # try_unit.sh PROGRAM: starts rd_host.service under systemd with this built rd_host, in a container
 # that has loopback alone and sees a copy of this machine's files, and prints a line for each thing
 # that is wanted of it, and 'N passed, M failed'. Run by hand, as root, where systemd-container and
-# libcoap3-bin are installed. Nothing outside the container changes.
+# libcoap3-bin are installed. Outside the container nothing changes, but that /run/systemd is there.
 set -eu
 
 here=$(cd "$(dirname "$0")" && pwd)
@@ -53,7 +53,8 @@ check "a device registers" client -m post -t 40 -e '</temp>' "$directory/rd?ep=n
 check "it is listed" says 'ep="node1"' "$directory/rd-lookup/ep"
 systemctl kill -s KILL rd_host
 sleep 4
-check "it is started again after it was killed" is "$(shows SubState) $(shows NRestarts)" "running 1"
+check "it is started again after it was killed" \
+    is "$(shows SubState) $(shows NRestarts)" "running 1"
 check "nothing outlived it" is_empty
 systemctl stop rd_host
 check "it ends where it is stopped" is "$(shows ActiveState) $(shows Result)" "inactive success"
