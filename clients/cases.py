@@ -6,14 +6,13 @@ A case has a name, the words of the client and what must come to it. Registratio
 compared by names, A, B and so on, but where a case is about the tag itself.
 """
 
-import random
 import time
 from pathlib import Path
 
-from messages import (ACK, BLOCK2, CHANGED, CON, CONTENT, CONTENT_FORMAT, CREATED, ECHO, EMPTY,
-                      GET, LINK_FORMAT, LOCATION_PATH, POST, RST, UNAUTHORIZED, blocks, content,
-                      created, octets, path, query, received, refused, replaced, tags, text_of,
-                      uploaded)
+from messages import (ACK, BLOCK2, CHANGED, CON, CONTENT, CONTENT_FORMAT, CREATED, DELETE,
+                      DELETED, ECHO, EMPTY, GET, LINK_FORMAT, LOCATION_PATH, OBSERVE, POST, RST,
+                      UNAUTHORIZED, blocks, content, created, octets, path, query, received,
+                      refused, replaced, tags, text_of, uploaded)
 
 DISCOVERED_RD = '</rd>;rt="core.rd";ct=40'
 DISCOVERED_LOOKUPS = ('</rd-lookup/ep>;rt="core.rd-lookup-ep";ct=40;obs,'
@@ -35,7 +34,8 @@ PAIRS = 200
 
 # How many devices a tool registers from one list, and the number of the first.
 DEVICES = 100
-FIRST_DEVICE = 17 + PAIRS
+FIRST_PAIR = 18
+FIRST_DEVICE = FIRST_PAIR + PAIRS
 
 # Receives of a server that ends by itself, each of at most 50 milliseconds.
 FEW_TURNS = "20"
@@ -225,10 +225,15 @@ def removal(run):
             "/rd?ep=node1&d=floor2", [created(4)], device="node3")
     run.ask("a device registers for two seconds", post("</brief>"), "/rd?ep=brief&lt=2",
             [created(5)], device="brief")
-    run.ask("it is listed while they run", [], "/rd-lookup/res?ep=brief",
+    run.ask("it is listed while they run, under the tag of eleven changes", [],
+            "/rd-lookup/res?ep=brief",
+            [content(f"<{run.base('brief')}/brief>", tag="0x00000000000b0000")])
+    time.sleep(1.3)
+    run.ask("it is listed before their end", [], "/rd-lookup/res?ep=brief",
             [content(f"<{run.base('brief')}/brief>")])
-    time.sleep(2.1)
-    run.ask("it is not listed after them", [], "/rd-lookup/res?ep=brief", [content()])
+    time.sleep(0.8)
+    run.ask("it is not listed after them, under another tag, since one has lapsed", [],
+            "/rd-lookup/res?ep=brief", [content(tag="0x00000000000b0001")])
     run.ask("it is not updated after them", ["-m", "post"], "/rd/5",
             [refused("4.04", "registration")])
 
@@ -446,6 +451,12 @@ def served_by_octets(run):
             [content(f'<{run.base("tiny")}/tiny>;rt="tiny"')], seconds=1)
 
 
+# Seconds in which a notification comes, and after which one that nobody reset or acknowledged comes
+# again (RFC 7252 section 4.2); and the codes that may come.
+QUIET, FIRST_WAIT = 0.6, 3.2
+CODES = {CONTENT: "content", CREATED: "created", DELETED: "deleted"}
+
+
 def mid_of(datagrams: list[bytes]) -> int:
     """The Message ID of the only datagram of a list, 0 where it is empty."""
     return int.from_bytes(datagrams[0][2:4], "big") if datagrams else 0
@@ -492,7 +503,7 @@ def refusals(run):
          "/rd?ep=x", "4.00", "limited"),
         ("a critical option that nobody knows", ["-O", "65001,x"], lookup, "4.02", "option"),
         ("If-Match", ["-m", "post", "-O", "1,0x01"], "/rd/1", "4.02", "option"),
-        ("a proxy", ["-P", run.base("server")], "coap://example.org/x", "5.05", "proxy"),
+        ("a proxy", ["-P", run.uri("server")], "coap://example.org/x", "5.05", "proxy"),
     ]
     for name, options, resource, code, word in rows:
         run.ask(name, options, resource, [refused(code, word)])
@@ -514,7 +525,34 @@ def messages_as_octets(run):
              [registered(0x0104, "again", 16)] * 2, device="again")
     run.ask("and there is one registration", [], "/rd-lookup/ep?ep=again",
             [content(f'</rd/16>;base="{run.base("again")}";ep="again";rt="core.rd-ep"')])
+    removed = octets(CON, DELETE, 0x0105, b"\xa2", path("rd", "16"))
+    run.send("a removal that comes again gets the same answer",
+             [(removed, octets(ACK, DELETED, 0x0105, b"\xa2"))] * 2, device="again")
+    reset_by_observer(run)
     found_at_once(run)
+
+
+def reset_by_observer(run):
+    """Who resets a notice is told nothing more (RFC 7641 section 3.6)."""
+    came = []
+    with run.open_socket("bell") as device, run.open_socket() as client:
+        for each in (device, client):
+            each.settimeout(WAIT_LIMIT)
+        observed = [(OBSERVE, b""), *path("rd-lookup", "ep"), *query("ep=bell")]
+        client.send(octets(CON, GET, 0x0106, b"\xc1", observed))
+        came += [each[1] for each in received(client)]
+        device.send(registered(0x0107, "bell", 17)[0])
+        came += [each[1] for each in received(device)]
+        client.settimeout(QUIET)
+        notice_of_it = received(client)
+        came += [each[1] for each in notice_of_it]
+        client.send(octets(RST, EMPTY, mid_of(notice_of_it)))
+        device.send(octets(CON, DELETE, 0x0108, b"\xc1", path("rd", "17")))
+        came += [each[1] for each in received(device)]
+        client.settimeout(FIRST_WAIT)
+        came += [each[1] for each in received(client)]
+    run.tell("an observer that resets a notice is told nothing more", "(octets)",
+             ["content", "created", "content", "deleted"], [CODES.get(each, "?") for each in came])
 
 
 def registered(mid: int, name: str, number: int) -> tuple[bytes, bytes]:
@@ -528,11 +566,11 @@ def found_at_once(run):
     """What was registered is found by the next lookup, whichever workers hear the two."""
     missing = 0
     with run.open_socket() as device, run.open_socket() as client:
-        link = f"<coap://127.0.0.1:{device.getsockname()[1]}/x>".encode()
+        link = f"<coap://{run.seen_host}:{device.getsockname()[1]}/x>".encode()
         for each in (device, client):
             each.settimeout(WAIT_LIMIT)
         for place in range(PAIRS):
-            asked, answer = registered(place, f"pair{place}", 17 + place)
+            asked, answer = registered(place, f"pair{place}", FIRST_PAIR + place)
             lookup = [*path("rd-lookup", "res"), *query(f"ep=pair{place}")]
             device.send(asked)
             is_made = received(device) == [answer]
@@ -545,7 +583,7 @@ def found_at_once(run):
 
 def commissioning(run):
     run.group("A list of devices (RFC 9176 section 5)")
-    directory, links = f"{run.base('server')}/rd", b"</x>".hex()
+    directory, links = f"{run.uri('server')}/rd", b"</x>".hex()
     lines = [f"{directory}?ep=dev{place}&base=coap://dev{place}.example {links}"
              for place in range(DEVICES)]
     made = [f"{place + 1} created /rd/{FIRST_DEVICE + place}" for place in range(DEVICES)]

@@ -10,16 +10,22 @@ CAME = re.compile(r"received \d+ bytes$")
 MESSAGE = re.compile(r"^v:1 t:(\w+) c:(\S+) i:\w+ \{\w*\} \[ ?(.*?) ?\](?: :: '(.*)')?$")
 REQUEST = re.compile(r"\w+ [A-Z]")
 
+# How it says that no answer came in time, and how that stands among what came.
+AGAIN = re.compile(r"retransmission #\d+$")
+ASKED_AGAIN = "(the client asks again)"
+
 LINK_FORMAT = "Content-Format:application/link-format"
 
-# Types (RFC 7252 section 3) and codes (section 12.1) of the messages that are sent as octets.
+# Types (RFC 7252 section 3) and codes (section 12.1, RFC 7959 section 2.9) of the messages that are
+# sent as octets.
 CON, NON, ACK, RST = 0, 1, 2, 3
-EMPTY, GET, POST, DELETE = 0x00, 0x01, 0x02, 0x04
-CREATED, CHANGED, CONTENT = 0x41, 0x44, 0x45
-UNAUTHORIZED = 0x81
+EMPTY, GET, POST, PUT, DELETE = 0x00, 0x01, 0x02, 0x03, 0x04
+CREATED, DELETED, CHANGED, CONTENT, CONTINUE = 0x41, 0x42, 0x44, 0x45, 0x5F
+UNAUTHORIZED, NOT_FOUND = 0x81, 0x84
 
 # Numbers of options (RFC 7252 section 5.10, RFC 7959 section 2.1, RFC 9175 section 2.2.1).
-LOCATION_PATH, URI_PATH, CONTENT_FORMAT, URI_QUERY, BLOCK2, ECHO = 8, 11, 12, 15, 23, 252
+ETAG, OBSERVE, LOCATION_PATH, URI_PATH, CONTENT_FORMAT, URI_QUERY, BLOCK2, BLOCK1, ECHO = \
+    4, 6, 8, 11, 12, 15, 23, 27, 252
 
 # The most octets of a UDP datagram.
 MOST_OCTETS = 65_535
@@ -40,9 +46,12 @@ def shown(line: str) -> str:
 
 
 def came(output: str) -> list[str]:
-    """The answers that came to coap-client, by its output. A request is none."""
+    """The answers that came to coap-client, by its output, and where it had to ask again. A
+    request is none."""
     lines = output.splitlines()
-    messages = [shown(after) for line, after in zip(lines, lines[1:]) if CAME.search(line)]
+    messages = [ASKED_AGAIN if AGAIN.search(line) else shown(after)
+                for line, after in zip(lines, lines[1:])
+                if CAME.search(line) or AGAIN.search(line)]
     return [message for message in messages if not REQUEST.match(message)]
 
 

@@ -2,13 +2,14 @@
 """Runs real clients against the server: `clients/run.py [--workers N].. [--answers] [PROGRAM]`.
 
 For each number of workers rd_serve is started on a free port of 127.0.0.1 and driven by libcoap's
-coap-client, case after case (clients/cases.py), and at last over TCP (clients/streams.py). Each
-case prints one line: whether it passed, what it shows, and the command as it can be typed; it is
-run with `-v 7` besides, over UDP, by which the client shows each datagram. --answers shows what
-came, too. The last line counts the cases. What is wanted of each was written down from the RFCs and
-from docs/, never from what the program printed. A few are marked "(octets)": what coap-client
-cannot send goes out from a socket of this script. The status is 1 where a case failed, and 2 where
-there is nothing to run.
+coap-client, case after case (clients/cases.py). Then it is driven over TCP (clients/streams.py),
+rd_host is ended and started again (clients/restarts.py), and a recording of rd_host is replayed
+(clients/recordings.py). Each case prints one line: whether it passed, what it shows, and the
+command as it can be typed; it is run with `-v 7` besides, over UDP, by which the client shows each
+datagram. --answers shows what came, too. The last line counts the cases. What is wanted of each was
+written down from the RFCs and from docs/, never from what the program printed. A few are marked
+"(octets)": what coap-client cannot send goes out from a socket of this script. The status is 1
+where a case failed, and 2 where there is nothing to run.
 """
 
 import argparse
@@ -26,10 +27,19 @@ from pathlib import Path
 
 import cases
 import messages
+import recordings
+import restarts
 import streams
 
 HOST = "127.0.0.1"
 FIRST_PORT = 20_000
+
+# The relay with faults, and the address at which the server sees clients through it.
+RELAY = Path(__file__).resolve().parent.parent / "hostile" / "relay.py"
+SEEN = "127.0.0.2"
+
+# The programs that are run beside the server.
+OTHERS = ["rd_commission", "rd_host", "rd_capture", "rd_replay"]
 
 # Seconds: how long one run of a client may take, how long something that comes by itself is
 # waited for, how long nothing is to come, and how long the server may take to begin or to end.
@@ -109,6 +119,10 @@ class ServerEnded(Exception):
     """The server has ended while cases were run against it."""
 
 
+class Stopped(Exception):
+    """A case has failed, and no further one is to be run."""
+
+
 class Watch:
     """A client that runs beside the others and shows what it is given."""
 
@@ -141,15 +155,20 @@ class Watch:
 class Run:
     """One server, the cases that are run against it, and how they came out."""
 
-    def __init__(self, program: str, workers: int, folder: str, with_answers: bool):
+    def __init__(self, program: str, workers: int, folder: str, words: argparse.Namespace):
         self.program, self.workers, self.folder = program, workers, folder
-        self.with_answers = with_answers
+        self.with_answers, self.is_stopped = words.answers, words.stop
+        self.fault, self.seen_host = words.fault, SEEN if words.fault else HOST
         self.client, self.device = program_of("coap-client"), program_of("coap-server")
         self.passed = self.failed = 0
         self.next_port = FIRST_PORT
         self.ports: dict[str, int] = {}
         self.started: list[subprocess.Popen] = []
         self.server: subprocess.Popen | None = None
+
+    def beside(self, name: str) -> str:
+        """Another program of this project, beside the server."""
+        return str(Path(self.program).with_name(name))
 
     # Ports.
 
@@ -163,6 +182,10 @@ class Run:
 
     def base(self, name: str) -> str:
         """The base of what a device registers from its port (RFC 9176 section 5)."""
+        return f"coap://{self.seen_host}:{self.port(name)}"
+
+    def uri(self, name: str) -> str:
+        """Where what listens on a port is asked."""
         return f"coap://{HOST}:{self.port(name)}"
 
     # What is told.
@@ -183,6 +206,8 @@ class Run:
             self.tell_each("came", came)
         if self.server is not None and self.server.poll() is not None:
             raise ServerEnded
+        if self.is_stopped and not is_right:
+            raise Stopped
 
     @staticmethod
     def tell_each(what: str, texts: list[str]):
@@ -195,7 +220,7 @@ class Run:
     def words(self, options: list[str], resource: str, device: str) -> list[str]:
         """The command line of a client, from the port of a device where one is named."""
         at = ["-a", HOST, "-p", str(self.port(device))] if device else []
-        uri = f"{self.base('server')}{resource}" if resource.startswith("/") else resource
+        uri = f"{self.uri('server')}{resource}" if resource.startswith("/") else resource
         return [self.client, *at, *options, uri]
 
     @staticmethod
@@ -281,12 +306,15 @@ class Run:
     def serve(self):
         """Starts the server, and waits until it answers a ping."""
         port = self.port("server")
-        words = ["--port", str(port), "--workers", str(self.workers)]
+        own = self.port("own") if self.fault else port
+        words = ["--port", str(own), "--workers", str(self.workers)]
         print(f"rd_serve {shlex.join(words)}", flush=True)
         self.server = self.start([self.program, *words])
+        if self.fault:
+            self.start([sys.executable, str(RELAY), "--fault", self.fault, "--from", str(port),
+                        "--to", str(own)])
         if not is_answered(port, PING, PONG):
-            end(self.server)
-            raise ServerEnded
+            self.end_ungreeted()
 
     def end_of(self, name: str, words: list[str], wanted: list[str], pinged: int = 0):
         """A case: a server of its own words, with the status and the text of its end.
@@ -306,11 +334,11 @@ class Run:
 
     def commission(self, name: str, lines: list[str], wanted: list[str]):
         """A case: a tool registers the devices of a list, with its status and all that it says."""
-        tool = Path(self.program).with_name("rd_commission")
         try:
-            done = subprocess.run([tool], input="\n".join(lines).encode(), cwd=self.folder,
-                                  stdout=subprocess.PIPE, stderr=subprocess.STDOUT,
-                                  timeout=RUN_LIMIT, check=False)
+            done = subprocess.run([self.beside("rd_commission")], input="\n".join(lines).encode(),
+                                  cwd=self.folder, stdout=subprocess.PIPE,
+                                  stderr=subprocess.STDOUT, timeout=RUN_LIMIT,
+                                  check=False)
             came = [f"status {done.returncode}", *done.stdout.decode().splitlines()]
         except subprocess.TimeoutExpired:
             came = ["no end"]
@@ -323,7 +351,7 @@ class Run:
         self.start([self.device, "-A", HOST, "-p", str(port)])
         if not is_answered(port, PING, PONG):
             return ""
-        words = self.words([], f"{self.base(device)}/.well-known/core", "")
+        words = self.words([], f"{self.uri(device)}/.well-known/core", "")
         return "".join(each.partition("] ")[2] for each in messages.came(self.output(words)))
 
     def end_ungreeted(self):
@@ -338,6 +366,11 @@ class Run:
         except subprocess.TimeoutExpired:
             return "no end"
         return said if self.server.returncode == 0 else f"status {self.server.returncode} {said}"
+
+    def end_server(self):
+        """Ends the server, so that another one can be started at its port."""
+        server, self.server = self.server, None
+        end(server)
 
     def end(self):
         """Ends all that was started."""
@@ -357,12 +390,14 @@ def over_udp(run: Run):
     cases.run(run)
 
 
-def run_all(program: str, workers: int, with_answers: bool, run_cases=over_udp) -> int:
+def run_all(program: str, workers: int, words: argparse.Namespace, run_cases=over_udp) -> int:
     """Runs cases against a server, of so many workers where it is over UDP; how many failed."""
     with tempfile.TemporaryDirectory() as folder:
-        run = Run(program, workers, folder, with_answers)
+        run = Run(program, workers, folder, words)
         try:
             run_cases(run)
+        except Stopped:
+            pass
         except ServerEnded:
             run.failed += 1
             said = b"".join(run.server.communicate()).decode().strip()
@@ -378,9 +413,12 @@ def main():
     parser.add_argument("program", nargs="?", default="bin/rd_serve")
     parser.add_argument("--workers", type=int, action="append", help="1 and then 4 by default")
     parser.add_argument("--answers", action="store_true", help="shows what came, too")
+    parser.add_argument("--stop", action="store_true", help="at the first case that fails")
+    parser.add_argument("--fault", default="", help="a fault of hostile/relay.py, over UDP")
     words = parser.parse_args()
     program = Path(words.program).resolve()
-    for each in (program, program.with_name("rd_commission")):
+    others = ["rd_commission"] if words.fault else OTHERS
+    for each in (program, *map(program.with_name, others)):
         if not os.access(each, os.X_OK):
             print(f"{each} is not there: make build", file=sys.stderr)
             sys.exit(2)
@@ -389,8 +427,10 @@ def main():
     signal.signal(signal.SIGTERM, lambda *_: sys.exit(1))
     failed = 0
     for workers in words.workers or [1, 4]:
-        failed += run_all(str(program), workers, words.answers)
-    failed += run_all(str(program), 1, words.answers, streams.run)
+        failed += run_all(str(program), workers, words)
+    if not words.fault:
+        for run_cases in (streams.run, restarts.run, recordings.run):
+            failed += run_all(str(program), 1, words, run_cases)
     sys.exit(failed > 0)
 
 

@@ -1,10 +1,11 @@
 #!/usr/bin/env python3
 """Compares docs/REFUSALS.md with the stored cases: `examples/refusals.py`.
 
-Each word of that page is to be the whole payload of an answer that the case refusals/every_word
-expects, under the same code, and the case is to have no other word; but for those words that no
-trace reaches, which are named here. Each stored case that the page names as an example is to be
-there, and to be listed for rd_rows. The status is 1 where something is missing.
+Each word of that page is to be the whole payload of an answer that one of two cases expects, under
+the same code, and these cases are to have no other word: refusals/every_word and, for the word
+`entries`, whose run begins near the last count, beginnings/two_before_the_last_number. Each stored
+case that the page names as an example is to be there, and to be listed for rd_rows. The status is 1
+where something is missing.
 """
 
 import re
@@ -14,8 +15,8 @@ from pathlib import Path
 TOP = Path(__file__).resolve().parent.parent
 ROWS = TOP / "crates" / "rd_rows"
 
-# Words that no trace reaches: 2^48 - 1 changes are before the first.
-UNREACHED = {("5.03", "entries")}
+# The cases whose answers have the words of the page.
+WORDS = ("refusals/every_word", "beginnings/two_before_the_last_number")
 
 PAYLOAD = "ff"
 
@@ -47,8 +48,8 @@ def main():
     page = (TOP / "docs" / "REFUSALS.md").read_text()
     cases = set((ROWS / "stdin").read_text().split())
     faults = []
-    come = expected((ROWS / "data" / "refusals" / "every_word.case").read_text())
-    for code, word in sorted(listed(page) - UNREACHED - come):
+    come = set().union(*(expected((ROWS / "data" / f"{name}.case").read_text()) for name in WORDS))
+    for code, word in sorted(listed(page) - come):
         faults.append(f"{code} {word} of docs/REFUSALS.md comes in no answer")
     for code, word in sorted(come - listed(page)):
         faults.append(f"{code} {word} comes, and is not in docs/REFUSALS.md")

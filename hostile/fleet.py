@@ -9,7 +9,7 @@ from dataclasses import dataclass, field
 
 import wire
 from messages import (ACK, BLOCK2, CHANGED, CON, CONTENT, CONTENT_FORMAT, CREATED, DELETE, EMPTY,
-                      GET, LOCATION_PATH, POST, RST, octets, path, query)
+                      GET, LOCATION_PATH, POST, RST, URI_PATH, octets, path, query)
 from wire import BLOCK1, ETAG, OBSERVE, Message, Wrong, block
 
 # Codes of answers (RFC 7252 section 12.1.2, RFC 7959 section 2.9).
@@ -22,11 +22,16 @@ WRITES_A_SECOND = 20
 UNDER_WAY = 16
 
 # Seconds: how far the model's time and the server's may be apart, how often an answer is waited
-# for, how long a notice or a fetch may take, and how long a refused write waits.
-MARGIN = 1.0
+# for, how long a fetch may take, and how long a refused write waits.
+MARGIN = 0.05
 TRIES = 4
-NEWS_LIMIT, FETCH_LIMIT = 5, 8
+FETCH_LIMIT = 8
 REFUSED_WAIT = 1.0
+
+# A notice comes when time passes in some worker, which it does behind each sixteenth datagram of
+# one: how many pings are answered till then, how often that is waited for, and for how many seconds
+# what was sent may lie here.
+TICK_PINGS, NEWS_TRIES, NEWS_GRACE = 72, 3, 0.1
 
 # How often each other act comes for one of writing.
 OTHERS = 5
@@ -60,6 +65,8 @@ class Ledger:
         self.highest = 0
         self.bodies: dict[tuple, bytes] = {}
         self.versions = itertools.count(1)
+        # Changes that are made for sure, and those that may be.
+        self.changes = self.most_changes = 0
 
     def judge(self, what: str, is_right: bool, told: object = ""):
         """Counts an answer, and tells it where it is wrong."""
@@ -69,6 +76,16 @@ class Ledger:
             self.wrong += 1
             if self.wrong <= MOST_TOLD:
                 print(f"WRONG {what}: {told}", flush=True)
+
+    def count_tag(self, message: Message, least: int):
+        """Judges that a tag counts no fewer changes than were made, and no more than may be."""
+        tags = message.values(ETAG)
+        if len(tags) == 1 and len(tags[0]) == 8:
+            count = int.from_bytes(tags[0][:6], "big")
+            self.judge("counts of tags", least <= count <= self.most_changes,
+                       (least, count, self.most_changes))
+        elif message.code == CONTENT:
+            self.judge("counts of tags", False, tags)
 
     async def pace(self):
         """Waits until the next write is due."""
@@ -108,9 +125,11 @@ class Answer:
 class Port(asyncio.DatagramProtocol):
     """A port of this script, from which requests go, and to which the server may send some."""
 
-    def __init__(self, heard=None):
-        self.heard = heard
+    def __init__(self, ledger: Ledger, seen: str, heard=None):
+        self.ledger, self.seen, self.heard = ledger, seen, heard
         self.waiting: dict[int, asyncio.Future] = {}
+        self.asked_again: set[int] = set()
+        self.confirmable: set[int] = set()
         self.mids = itertools.count(1)
         self.transport: asyncio.DatagramTransport | None = None
 
@@ -127,15 +146,20 @@ class Port(asyncio.DatagramProtocol):
         waiting = self.waiting.get(message.mid) if message.kind in (ACK, RST) else None
         if waiting and not waiting.done():
             waiting.set_result((message, data, time.monotonic()))
+        elif message.kind in (ACK, RST):
+            known = self.confirmable if message.code == EMPTY else self.asked_again
+            self.ledger.judge("answers to what was asked", message.mid in known, data.hex())
         elif self.heard:
             self.heard(message)
+        else:
+            self.ledger.judge("answers to what was asked", False, data.hex())
 
     def error_received(self, exc):
         """A port that nobody has says nothing here: an answer is missing then."""
 
     def base(self) -> str:
         """The base of what registers from here."""
-        return f"coap://{wire.HOST}:{self.transport.get_extra_info('sockname')[1]}"
+        return f"coap://{self.seen}:{self.transport.get_extra_info('sockname')[1]}"
 
     def request(self, code: int, options, payload: bytes = b"", token: bytes = b"\x01") -> bytes:
         """A request under the next Message ID."""
@@ -143,7 +167,7 @@ class Port(asyncio.DatagramProtocol):
         return octets(CON, code, mid, token, sorted(options, key=lambda each: each[0]), payload)
 
     async def ask(self, request: bytes) -> Answer:
-        """The answer to a request, which is sent again where none comes."""
+        """The answer to a request, which is sent again where none comes; that is wrong."""
         mid, sent = int.from_bytes(request[2:4], "big"), time.monotonic()
         answer = self.waiting[mid] = asyncio.get_running_loop().create_future()
         try:
@@ -152,10 +176,20 @@ class Port(asyncio.DatagramProtocol):
                 await asyncio.wait([answer], timeout=wire.ANSWER_LIMIT)
                 if answer.done():
                     message, data, came = answer.result()
+                    self.judge(mid, request, data)
                     return Answer(message, data, sent, came)
+                self.asked_again.add(mid)
         finally:
             del self.waiting[mid]
         raise Wrong(f"no answer to {request.hex()}")
+
+    def judge(self, mid: int, request: bytes, answer: bytes):
+        """Judges that an answer came at once, as an acknowledgement with the token."""
+        end = 4 + (request[0] & 15)
+        self.ledger.judge("answers at once", mid not in self.asked_again, request.hex())
+        if request != wire.PING:
+            is_right = answer[0] == 0x60 | request[0] & 15 and answer[4:end] == request[4:end]
+            self.ledger.judge("tokens", is_right, (request.hex(), answer.hex()))
 
 
 @dataclass
@@ -257,6 +291,7 @@ class Device:
         if self.is_separate:
             self.port.transport.sendto(octets(ACK, EMPTY, message.mid))
             kind, mid = CON, next(self.mids) & 0xFFFF
+            self.port.confirmable.add(mid)
         if not is_more:
             self.ended.append(time.monotonic())
         self.port.transport.sendto(octets(kind, CONTENT, mid, message.token, options, payload))
@@ -265,8 +300,8 @@ class Device:
 class Observer:
     """Who observes a query, with what it was last given."""
 
-    def __init__(self, ledger: Ledger):
-        self.ledger, self.port = ledger, Port(self.heard)
+    def __init__(self, ledger: Ledger, seen: str):
+        self.ledger, self.port = ledger, Port(ledger, seen, self.heard)
         self.token, self.value, self.body = b"\x07", -1, b""
 
     def heard(self, message: Message):
@@ -275,8 +310,9 @@ class Observer:
             return
         is_own = message.code == CONTENT and message.token == self.token
         self.port.transport.sendto(octets(ACK if is_own else RST, EMPTY, message.mid))
+        self.ledger.judge("notices", is_own and message.values(CONTENT_FORMAT) == [b"\x28"],
+                          message)
         if is_own:
-            self.ledger.counts["notices"] += 1
             self.take(message)
 
     def take(self, message: Message):
@@ -290,29 +326,30 @@ class Observer:
 class Fleet:
     """Devices of one fleet, what is known of their registrations, and what they do."""
 
-    def __init__(self, number: int, server_port: int, ledger: Ledger, chance: random.Random):
-        self.name, self.server_port = f"f{number}", server_port
+    def __init__(self, number: int, server, ledger: Ledger, chance: random.Random):
+        self.name, self.server_port, seen = f"f{number}", server.port, server.seen
         self.ledger, self.chance = ledger, chance
         self.entries: dict[str, Entry] = {}
-        self.client, self.sensor = Port(), Port()
-        self.device = Device(Port())
+        self.client, self.sensor = Port(ledger, seen), Port(ledger, seen)
+        self.device = Device(Port(ledger, seen))
         self.device.port.heard = self.device.heard
-        self.observer = Observer(ledger)
+        self.observer = Observer(ledger, seen)
         self.ports = [self.client, self.sensor, self.device.port, self.observer.port]
         self.watched = Query(RESOURCES + query("rt=hot", f"fleet={self.name}", f"count={PAGE}"),
                              lambda entry: entry.link_lines("hot"), (0, PAGE))
 
-    async def act(self, until: float):
-        """Does one thing after another until a moment."""
+    async def act(self, until: float, is_stopped: bool):
+        """Does one thing after another until a moment, or up to what is wrong."""
         for port in self.ports:
             await port.open(self.server_port)
         await self.observe()
+        await self.brief()
         writes = [self.register, self.register, self.upload, self.update, self.update,
-                  self.refresh, self.remove, self.simple, self.unknown]
+                  self.refresh, self.remove, self.simple, self.unknown, self.brief]
         others = [self.look, self.look, self.look, self.blocks, self.blocks, self.pages,
                   self.validate, self.watch, self.observe, self.refused]
         acts = writes + others * OTHERS
-        while time.monotonic() < until:
+        while time.monotonic() < until and not (is_stopped and self.ledger.wrong):
             await self.chance.choice(acts)()
             await asyncio.sleep(self.chance.uniform(0, 0.05))
         await self.look()
@@ -330,7 +367,12 @@ class Fleet:
         """The answer to a write; nothing where too many are kept."""
         await self.ledger.pace()
         request = port.request(code, options, payload)
+        self.ledger.most_changes += 1
         answer = await port.ask(request)
+        is_change = answer.message.code in (CREATED, DELETED) \
+            or answer.message.code == CHANGED and (URI_PATH, b".well-known") not in options
+        self.ledger.changes += is_change
+        self.ledger.most_changes -= not is_change
         if self.ledger.is_refused(answer):
             await asyncio.sleep(self.chance.uniform(0, REFUSED_WAIT))
             return None
@@ -377,6 +419,23 @@ class Fleet:
         options = path("rd") + [LINK_FORMAT] + entry.parameters()
         if answer := await self.write(self.sensor, POST, options, entry.body()):
             self.enter("registrations", entry, answer, highest)
+
+    async def brief(self):
+        """Registers a device for a second, and looks it up again and again near its end."""
+        entry, highest = self.draft(self.sensor.base(), False), self.ledger.highest
+        entry.lifetime, entry.name = 1, f"{self.name}brief"
+        options = path("rd") + [LINK_FORMAT] + entry.parameters()
+        if not (answer := await self.write(self.sensor, POST, options, entry.body())):
+            return
+        self.enter("registrations for a second", entry, answer, highest)
+        asked = Query(ENDPOINTS + query(f"ep={entry.name}"),
+                      lambda each: each.endpoint_lines() if each.name == entry.name else [])
+        await asyncio.sleep(max(0, answer.sent + 0.9 - time.monotonic()))
+        while time.monotonic() < answer.came + 1.3:
+            if came := await self.whole(asked):
+                body, first, tag = came
+                self.judge("lookups near an end", asked, body, first.sent, first.came, tag)
+            await asyncio.sleep(0.005)
 
     async def upload(self):
         """Registers a device in blocks."""
@@ -519,8 +578,10 @@ class Fleet:
         self.ledger.judge("challenges", len(echo) == 1, first.octets.hex())
         if not echo:
             return
+        self.ledger.most_changes += 1
         answer = await self.write(self.device.port, POST, options + [(wire.ECHO, echo[0])])
         if not answer:
+            self.ledger.most_changes -= 1
             return
         is_right = answer.message.code == CHANGED
         self.ledger.judge("simple registrations", is_right, answer.octets.hex())
@@ -556,6 +617,7 @@ class Fleet:
         is_right = [listed] == entry.endpoint_lines() \
             and self.is_number(entry, first, entry.number, highest)
         self.ledger.judge("fetched registrations", is_right, (listed, entry, highest))
+        self.ledger.changes += 1
         self.keep(entry, Answer(first.message, b"", begun, answer.came))
 
     # Lookups.
@@ -591,10 +653,15 @@ class Fleet:
 
     async def whole(self, asked: Query, exponent: int = 6) -> tuple[bytes, Answer, bytes] | None:
         """A whole listing by its blocks, with its first answer and tag; none where it changed."""
-        body, number, first, tags = b"", 0, None, set()
+        body, number, first, tags, least = b"", 0, None, set(), self.ledger.changes
         while True:
             given = [(BLOCK2, block(number, False, exponent))] if number or exponent != 6 else []
             answer = await self.client.ask(self.client.request(GET, asked.options + given))
+            if not first:
+                self.ledger.count_tag(answer.message, least)
+            self.ledger.judge("formats", answer.message.code != CONTENT or
+                              answer.message.values(CONTENT_FORMAT) == [b"\x28"],
+                              answer.octets.hex())
             first = first or answer
             tags.update(answer.message.values(ETAG))
             if answer.message.code != CONTENT or len(tags) != 1:
@@ -656,12 +723,20 @@ class Fleet:
         self.judge("observations", self.watched, answer.message.payload, answer.sent, answer.came)
 
     async def watch(self):
-        """Waits until the observer was given what is listed now."""
-        until = time.monotonic() + NEWS_LIMIT
-        while time.monotonic() < until:
-            now = time.monotonic()
-            if self.watched.is_listing(self.observer.body, list(self.entries.values()), now, now):
-                self.ledger.judge("observers up to date", True)
-                return
-            await asyncio.sleep(0.02)
+        """Lets time pass in the server, until the observer was given what is listed now."""
+        for _ in range(NEWS_TRIES):
+            for _ in range(TICK_PINGS):
+                await self.client.ask(wire.PING)
+            until = time.monotonic() + NEWS_GRACE
+            while time.monotonic() < until:
+                if self.is_up_to_date():
+                    self.ledger.judge("observers up to date", True)
+                    return
+                await asyncio.sleep(0.01)
         self.ledger.judge("observers up to date", False, self.observer.body)
+
+    def is_up_to_date(self) -> bool:
+        """Whether the observer was given what is listed now, as far as that is known."""
+        now = time.monotonic()
+        entries = list(self.entries.values())
+        return self.watched.is_listing(self.observer.body, entries, now, now) is not False

@@ -3,9 +3,12 @@
 
 rd_serve is started with four workers on a free port of 127.0.0.1, and some hundred devices
 register. Then hostile datagrams come, three times 20,000 (hostile/datagrams.py), from some hundred
-ports. After each thousand lookups are asked, whose answers are to be those that rd_replay gives
-for the same registrations and lookups, but for the entity tag, which counts what the hostile
-datagrams registered, too. One line a thousand says what was compared and the server's memory.
+ports. After each thousand lookups are asked, whose answers are to be those that rd_replay and the
+plain directory (hostile/plain) give for the same registrations and lookups, but for the entity tag,
+which counts what the hostile datagrams registered, too. Then a client whose answers are known
+(hostile/probe.py) registers, changes, observes and is fetched, as long as the server takes further
+writes; an answer that comes only when it is asked for again counts as wrong. One line a thousand
+says what was compared and the server's memory.
 At the end stand what was compared, the highest memory, and how many answers came of each class.
 A second server, of some turns, is to end by itself meanwhile. With --starve N each N-th of the
 server's allocations is refused (hostile/fail_alloc.c), and what is answered 5.00 is asked again.
@@ -28,8 +31,11 @@ from pathlib import Path
 import datagrams
 import memory
 import wire
+from probe import Probe
+from plain.trace import answered
 from datagrams import KEPT, LINK_FORMAT, LOOKUPS, REGISTER, STEADY
-from messages import ACK, BLOCK2, CON, EMPTY, GET, POST, RST, octets, query
+from messages import (ACK, BLOCK2, CON, CREATED, EMPTY, GET, LOCATION_PATH, POST, RST, octets,
+                      query)
 from wire import ETAG, Server, Wrong, block
 
 ROUNDS, IN_ROUND, BETWEEN = 3, 20_000, 1_000
@@ -43,6 +49,9 @@ MOST_KIBIBYTES = 400 << 10
 
 # Seconds: how long all may take, and how long the replay may.
 RUN_LIMIT, REPLAY_LIMIT = 600, 60
+
+# How many answers may differ before a run is ended, and how seldom a lease is waited for.
+MOST_DIFFER, LEASE_EACH = 20, 10
 
 # The turns of a server that ends by itself, and the most datagrams that it is sent till then.
 TURNS, MOST_TURNS_SENT = 1_000, 50_000
@@ -99,14 +108,18 @@ def comparable(answer: bytes) -> tuple:
     return came.kind, came.code, came.mid, came.token, options, came.payload
 
 
-def replayed(program: str, registering: int, asking: int, lookups: list[bytes]) -> list[bytes]:
-    """What rd_replay answers to the lookups behind the registrations, from these ports."""
+def replayed(program: str, registering: str, asking: str, lookups: list[bytes]) -> list[bytes]:
+    """What rd_replay answers to the lookups behind the registrations, from these peers; the plain
+    directory answers the same."""
     lines = []
-    for port, asked in [(registering, kept_registrations()), (asking, lookups)]:
+    for peer, asked in [(registering, kept_registrations()), (asking, lookups)]:
         for datagram in asked:
-            lines += [f"in 0 1 {wire.HOST}:{port} {datagram.hex()}", "go 0 1"]
-    done = subprocess.run([program], input="\n".join(lines), text=True, timeout=REPLAY_LIMIT,
+            lines += [f"in 0 1 {peer} {datagram.hex()}", "go 0 1"]
+    trace = "\n".join(lines)
+    done = subprocess.run([program], input=trace, text=True, timeout=REPLAY_LIMIT,
                           stdout=subprocess.PIPE, check=True)
+    if done.stdout.splitlines() != answered(trace.encode(), 1)[0]:
+        raise Wrong("rd_replay and the plain directory differ")
     out = [bytes.fromhex(line.split()[3]) for line in done.stdout.splitlines()
            if line.startswith("out ")]
     if len(out) != KEPT + len(lookups):
@@ -114,28 +127,30 @@ def replayed(program: str, registering: int, asking: int, lookups: list[bytes]) 
     return out[KEPT:]
 
 
-def ask(asking: socket.socket, request: bytes) -> bytes:
-    """The answer to a request, which is asked again where the server found no memory."""
-    for _ in range(STARVED_TRIES):
-        came = ask_once(asking, request)
-        if came[1:2] != STARVED:
-            break
-    return came
+class Asking:
+    """A port that asks, and how many answers came only when they were asked for again."""
 
+    def __init__(self, port: int):
+        self.socket = wire.open_socket(port)
+        self.late = 0
 
-def ask_once(asking: socket.socket, request: bytes) -> bytes:
-    """The answer to a request that is sent again where none comes."""
-    for _ in range(3):
-        asking.send(request)
-        until = time.monotonic() + wire.ANSWER_LIMIT
-        while time.monotonic() < until:
-            try:
-                came = asking.recv(datagrams.MOST_SENT)
-            except OSError:
+    def ask(self, request: bytes) -> bytes:
+        """The answer to a request, which is asked again where the server found no memory."""
+        for _ in range(STARVED_TRIES):
+            came = self.ask_once(request)
+            if came[1:2] != STARVED:
                 break
-            if came[2:4] == request[2:4]:
-                return came
-    return b""
+        return came
+
+    def ask_once(self, request: bytes) -> bytes:
+        """What comes to a request, which is sent again where nothing does."""
+        for _ in range(3):
+            self.socket.send(request)
+            try:
+                return self.socket.recv(datagrams.MOST_SENT)
+            except OSError:
+                self.late += 1
+        return b""
 
 
 class Strangers:
@@ -198,32 +213,58 @@ class Strangers:
 class Run:
     """The server, what is compared, and how it came out."""
 
-    def __init__(self, server: Server, replay: str, seed: int):
+    def __init__(self, server: Server, replay: str, seed: int, with_probe: bool):
         self.server, self.maker = server, datagrams.Maker(seed)
         self.strangers = Strangers(server.port, datagrams.PORTS, self.maker.echoes)
-        self.asking = wire.open_socket(server.port)
+        self.asking = Asking(server.port)
+        self.probe = Probe(server, WORKERS) if with_probe else None
         self.compared = self.differ = 0
         self.until = time.monotonic() + RUN_LIMIT
         self.lookups = compared_lookups()
         registering = self.register()
-        self.wanted = replayed(replay, registering, self.asking.getsockname()[1], self.lookups)
+        self.wanted = replayed(replay, registering, self.peer(self.asking), self.lookups)
 
-    def register(self) -> int:
-        """Registers the driver's devices; the port from which they come."""
-        with wire.open_socket(self.server.port) as registering:
-            for registration in kept_registrations():
-                if ask(registering, registration)[1:2] != b"\x41":
-                    raise Wrong("a device was not registered")
-            return registering.getsockname()[1]
+    def peer(self, asking: Asking) -> str:
+        """A port as the server sees it."""
+        return f"{self.server.seen}:{asking.socket.getsockname()[1]}"
+
+    def register(self) -> str:
+        """Registers the driver's devices; from where they come, as the server sees it."""
+        registering = Asking(self.server.port)
+        for number, registration in enumerate(kept_registrations(), 1):
+            came, digits = registering.ask(registration), b"%d" % number
+            wanted = octets(ACK, CREATED, number, b"\x01",
+                            [(LOCATION_PATH, b"rd"), (LOCATION_PATH, digits)])
+            if came != wanted:
+                raise Wrong(f"a device was not registered: {came.hex()}")
+        peer = self.peer(registering)
+        self.count_late(registering)
+        registering.socket.close()
+        return peer
+
+    def count_late(self, asking: Asking):
+        """Answers that came only when they were asked for again are wrong."""
+        if asking.late:
+            self.differ += asking.late
+            print(f"{asking.late} answers came only when they were asked for again")
+            asking.late = 0
 
     def compare(self):
         """Asks all lookups, and compares what comes with what is wanted."""
         for lookup, wanted in zip(self.lookups, self.wanted):
-            came = ask(self.asking, lookup)
+            came = self.asking.ask(lookup)
             self.compared += 1
             if not came or comparable(came) != comparable(wanted):
                 self.differ += 1
                 print(f"differs: {lookup.hex()}\n  wanted {wanted.hex()}\n  came   {came.hex()}")
+                if self.differ >= MOST_DIFFER:
+                    raise Wrong("too much differs")
+        self.count_late(self.asking)
+
+    def try_probe(self, number: int):
+        """Lets the client whose answers are known do all once."""
+        if self.probe:
+            self.probe.round(with_lease=number % LEASE_EACH == 1)
 
     def check_unreadable(self):
         """Sends some of each kind that cannot be read: a RST comes to a CON, else nothing."""
@@ -249,26 +290,36 @@ class Run:
 
     def settle(self):
         """Waits until the server has taken off what was sent, and counts what came."""
-        if not any(self.server.is_answering() for _ in range(3)):
-            raise Wrong("the server does not answer a ping")
+        self.server.settle()
         self.strangers.take()
         if time.monotonic() > self.until:
             raise Wrong(f"it takes more than {RUN_LIMIT} seconds")
 
-    def rounds(self):
-        """Sends all, and compares after each thousand."""
+    def rounds(self, count: int, is_stopped: bool):
+        """Sends so many thousands, and compares after each."""
         self.compare()
-        for number in range(1, ROUNDS * IN_ROUND // BETWEEN + 1):
+        self.try_probe(1)
+        for number in range(1, count + 1):
+            if is_stopped and self.wrong():
+                return
             self.thousand()
             self.compare()
             self.check_unreadable()
+            self.try_probe(number)
             print(f"{number * BETWEEN:>6} sent, {self.compared} compared, {self.differ} differ, "
                   f"{self.server.kibibytes('VmRSS') / 1024:.1f} MiB", flush=True)
+
+    def wrong(self) -> int:
+        """How much was wrong so far."""
+        return self.differ + (self.probe.wrong if self.probe else 0)
 
     def tell(self) -> bool:
         """Tells how all came out, and whether it is as wanted."""
         most = self.server.kibibytes("VmHWM")
         print(f"{self.compared} compared, {self.differ} differ")
+        if self.probe:
+            print(f"{self.probe.judged} answers of a client whose answers are known, "
+                  f"{self.probe.wrong} wrong")
         print(f"highest memory {most / 1024:.1f} MiB, to stay below {MOST_KIBIBYTES >> 10}")
         print(f"dropped before the server {self.server.dropped()}")
         print("came: " + ", ".join(f"{count} {name}" for name, count in
@@ -277,7 +328,7 @@ class Run:
             print(f"    {count:>6} {name}")
         for came in self.strangers.wrong:
             print(f"unreadable or too long: {came.hex()}")
-        return not self.differ and not self.strangers.wrong and most < MOST_KIBIBYTES
+        return not self.wrong() and not self.strangers.wrong and most < MOST_KIBIBYTES
 
 
 def ends_by_turns(program: str, seed: int) -> bool:
@@ -309,6 +360,9 @@ def main():
     parser = argparse.ArgumentParser(description="Hostile datagrams against the server.")
     parser.add_argument("--seed", type=int, default=1)
     parser.add_argument("--starve", type=int, default=0, help="each N-th allocation is refused")
+    parser.add_argument("--thousands", type=int, default=ROUNDS * IN_ROUND // BETWEEN)
+    parser.add_argument("--stop", action="store_true", help="at what differs first")
+    parser.add_argument("--fault", default="", help="a fault of hostile/relay.py")
     parser.add_argument("--bin", type=Path, default=Path("bin"), help="where the programs are")
     words = parser.parse_args()
     signal.signal(signal.SIGTERM, lambda *_: sys.exit(1))
@@ -316,14 +370,16 @@ def main():
     print(f"seed {words.seed}, {WORKERS} workers, {KEPT} devices, {datagrams.PORTS} ports")
     try:
         with tempfile.TemporaryDirectory() as folder, \
-                Server(serve, WORKERS, env=environment(words.starve, folder)) as server:
-            run = Run(server, replay, words.seed)
-            run.rounds()
+                Server(serve, WORKERS, env=environment(words.starve, folder),
+                       fault=words.fault) as server:
+            run = Run(server, replay, words.seed, with_probe=not words.starve)
+            run.rounds(words.thousands, words.stop)
             is_right = run.tell() and server.is_alive()
             status, said = server.end()
             print(f"ended by a signal: status {status} {said}".rstrip())
             is_right = is_right and status == -signal.SIGTERM
-        is_right = ends_by_turns(serve, words.seed) and is_right
+        if not words.stop:
+            is_right = ends_by_turns(serve, words.seed) and is_right
     except (Wrong, OSError, subprocess.SubprocessError) as wrong:
         sys.exit(f"FAILED: {wrong}")
     sys.exit(not is_right)

@@ -5,8 +5,9 @@ rd_serve is started with four workers on a free port of 127.0.0.1. Some fleets o
 whole and in blocks, refresh, change and remove their registrations, whose leases are short and
 lapse, and are fetched by simple registration; each fleet is looked up, in pages and in blocks, and
 observed. A model of each fleet (hostile/fleet.py) says what each lookup is to list. An entry that
-is within a second of its end may be listed or not. All fleets together write faster than 4,096
-times in 247 seconds, so that the server refuses some writes from the fourth minute on, as the
+is within 50 milliseconds of its end may be listed or not. A notice is to come at the next tick, an
+answer at once, and a tag counts the changes that were made. All fleets together write faster than
+4,096 times in 247 seconds, so that the server refuses some writes from the fourth minute on, as the
 model knows. A line a minute says how far it is; at the end stand counts and what was wrong. The
 status is 1 where anything was.
 """
@@ -31,15 +32,15 @@ END_LIMIT = 300
 MOST_KIBIBYTES = 400 << 10
 
 
-async def drive(server: Server, ledger: Ledger, seed: int, seconds: float):
-    """Lets all fleets act for so many seconds."""
+async def drive(server: Server, ledger: Ledger, seed: int, seconds: float, is_stopped: bool):
+    """Lets all fleets act for so many seconds, or up to what is wrong."""
     until = time.monotonic() + seconds
-    fleets = [Fleet(number, server.port, ledger, random.Random(f"{seed} {number}"))
+    fleets = [Fleet(number, server, ledger, random.Random(f"{seed} {number}"))
               for number in range(FLEETS)]
     telling = asyncio.create_task(tell(server, ledger))
     try:
-        await asyncio.wait_for(asyncio.gather(*[fleet.act(until) for fleet in fleets]),
-                               seconds + END_LIMIT)
+        acting = asyncio.gather(*[fleet.act(until, is_stopped) for fleet in fleets])
+        await asyncio.wait_for(acting, seconds + END_LIMIT)
     finally:
         telling.cancel()
         for fleet in fleets:
@@ -69,6 +70,8 @@ def main():
     parser = argparse.ArgumentParser(description="Mixed load, each answer of which is judged.")
     parser.add_argument("--seconds", type=float, default=SECONDS)
     parser.add_argument("--seed", type=int, default=1)
+    parser.add_argument("--stop", action="store_true", help="at what is wrong first")
+    parser.add_argument("--fault", default="", help="a fault of hostile/relay.py")
     parser.add_argument("--bin", type=Path, default=Path("bin"), help="where the program is")
     words = parser.parse_args()
     signal.signal(signal.SIGTERM, lambda *_: sys.exit(1))
@@ -76,8 +79,8 @@ def main():
     print(f"seed {words.seed}, {WORKERS} workers, {FLEETS} fleets, {words.seconds:.0f} seconds")
     ledger = Ledger()
     try:
-        with Server(program, WORKERS) as server:
-            asyncio.run(drive(server, ledger, words.seed, words.seconds))
+        with Server(program, WORKERS, fault=words.fault) as server:
+            asyncio.run(drive(server, ledger, words.seed, words.seconds, words.stop))
             is_right = tell_all(server, ledger)
             status, said = server.end()
             print(f"ended by a signal: status {status} {said}".rstrip())

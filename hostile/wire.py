@@ -14,16 +14,27 @@ import messages  # noqa: E402
 
 HOST = "127.0.0.1"
 
+# The address at which the server sees clients through a relay (hostile/relay.py).
+SEEN = "127.0.0.2"
+
 # Numbers of options (RFC 7252 section 5.10, RFC 7641 section 2, RFC 7959 section 2.1).
-ETAG, OBSERVE, ACCEPT, BLOCK1, ECHO = 4, 6, 17, 27, 252
+ETAG, OBSERVE, URI_QUERY, ACCEPT, BLOCK2, BLOCK1, ECHO = 4, 6, 15, 17, 23, 27, 252
+
+# The most octets of a datagram that comes.
+MOST_DATAGRAM = 65_535
 
 # The marker before a payload, and the most octets that the server reads of a datagram and writes.
 MARKER = 0xFF
 MOST_READ, MOST_WRITTEN = 4_096, 1_280
 
-# Seconds: how long an answer is waited for, and how long a server may take to begin or to end.
+# Seconds: how long an answer is waited for, and how long a server may take to begin or to end, and
+# how long it may have to do with what was sent to it, up to the answer to each of some pings.
 ANSWER_LIMIT = 2
 SERVER_LIMIT = 5
+PATIENCE = (2, 5, 20)
+
+# The Message IDs of pings by which a script finds out how far a server is, 4,096 from here on.
+FIRST_PING = 0xE000
 
 PING = messages.octets(messages.CON, messages.EMPTY, 0x4E55)
 PONG = messages.octets(messages.RST, messages.EMPTY, 0x4E55)
@@ -118,15 +129,31 @@ def free_port() -> int:
         return tried.getsockname()[1]
 
 
-class Server:
-    """rd_serve as it runs, with its memory."""
+def start_relay(fault: str, serving: int) -> tuple[subprocess.Popen, int]:
+    """Starts a relay with a fault before a port, and its own port."""
+    port = free_port()
+    words = [sys.executable, str(Path(__file__).with_name("relay.py")), "--fault", fault,
+             "--from", str(port), "--to", str(serving)]
+    started = subprocess.Popen(words, stdin=subprocess.DEVNULL, stdout=subprocess.PIPE)
+    if started.stdout.readline() != b"ready\n":
+        raise Wrong(f"the relay with the fault {fault} does not begin")
+    return started, port
 
-    def __init__(self, program: str, workers: int, *words: str, env: dict | None = None):
-        self.port = free_port()
+
+class Server:
+    """rd_serve as it runs, with its memory; behind a relay where a fault is named."""
+
+    def __init__(self, program: str, workers: int, *words: str, env: dict | None = None,
+                 fault: str = ""):
+        self.port = self.own_port = free_port()
         self.process = subprocess.Popen(
             [program, "--port", str(self.port), "--workers", str(workers), *words],
             stdin=subprocess.DEVNULL, stdout=subprocess.PIPE, stderr=subprocess.PIPE, env=env)
-        self.asking = open_socket(self.port)
+        self.relay, self.seen = None, HOST
+        if fault:
+            self.relay, self.port = start_relay(fault, self.own_port)
+            self.seen = SEEN
+        self.asking, self.pings = open_socket(self.port), 0
 
     def __enter__(self):
         until = time.monotonic() + SERVER_LIMIT
@@ -142,12 +169,22 @@ class Server:
 
     def is_answering(self, limit: float = ANSWER_LIMIT) -> bool:
         """Whether a ping is answered in time. What was sent before it was taken off then."""
+        self.pings = (self.pings + 1) & 0xFFF
+        mid = FIRST_PING | self.pings
+        pong = messages.octets(messages.RST, messages.EMPTY, mid)
         self.asking.settimeout(limit)
         try:
-            self.asking.send(PING)
-            return self.asking.recv(MOST_READ) == PONG
+            self.asking.send(messages.octets(messages.CON, messages.EMPTY, mid))
+            while self.asking.recv(MOST_READ) != pong:  # a late one of an earlier ping
+                pass
+            return True
         except OSError:
             return False
+
+    def settle(self):
+        """Waits until it has taken off what was sent to it, as its answer to a ping shows."""
+        if not any(self.is_answering(limit) for limit in PATIENCE):
+            raise Wrong("the server does not answer a ping")
 
     def is_alive(self) -> bool:
         """Whether it has not ended."""
@@ -161,7 +198,7 @@ class Server:
     def dropped(self) -> int:
         """How many datagrams the kernel dropped since its queue was full."""
         rows = [line.split() for line in Path("/proc/net/udp").read_text().splitlines()[1:]]
-        return sum(int(row[-1]) for row in rows if row[1].endswith(f":{self.port:04X}"))
+        return sum(int(row[-1]) for row in rows if row[1].endswith(f":{self.own_port:04X}"))
 
     def end(self) -> tuple[int, str]:
         """Ends it by a signal, where it has not ended; its status and what it said."""
@@ -179,4 +216,8 @@ class Server:
         except ValueError:  # it was waited for before
             said = b""
         self.asking.close()
+        if self.relay:
+            self.relay.kill()
+            self.relay.communicate()
+            self.relay = None
         return self.process.returncode, said.decode(errors="replace").strip()

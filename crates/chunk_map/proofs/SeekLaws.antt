@@ -94,14 +94,7 @@ pub behind_three : {E : Type 0} (xs bs cs ds : List E)
 behind_three xs bs cs ds =
     ap (λ rest. xs ++ rest) (behind_two bs cs ds) ∙ behind_two xs (bs ++ cs) ds
 
-pub behind_four : {E : Type 0} (xs bs cs ds es : List E)
-    → xs ++ (bs ++ (cs ++ (ds ++ es))) ≡ (xs ++ (bs ++ (cs ++ ds))) ++ es
-behind_four xs bs cs ds es =
-    ap (λ rest. xs ++ rest) (behind_three bs cs ds es) ∙ behind_two xs (bs ++ (cs ++ ds)) es
-
-pub nested_five : {E : Type 0} (xs bs cs ds es : List E)
-    → (((xs ++ bs) ++ cs) ++ ds) ++ es ≡ xs ++ (bs ++ (cs ++ (ds ++ es)))
-nested_five xs bs cs ds es =
-    append_assoc ((xs ++ bs) ++ cs) ds es
-    ∙ append_assoc (xs ++ bs) cs (ds ++ es)
-    ∙ append_assoc xs bs (cs ++ (ds ++ es))
+pub nested_four : {E : Type 0} (xs bs cs ds : List E)
+    → ((xs ++ bs) ++ cs) ++ ds ≡ xs ++ (bs ++ (cs ++ ds))
+nested_four xs bs cs ds =
+    append_assoc (xs ++ bs) cs ds ∙ append_assoc xs bs (cs ++ ds)

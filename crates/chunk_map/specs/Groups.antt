@@ -1,4 +1,4 @@
--- The pairs that chunks, groups of chunks, sections of groups and divisions of sections show.
+-- The pairs that chunks, groups of chunks and sections of groups show.
 use Rattle.std.specs.Prelude.{List, [], ◌∷◌, ◌<◌, length}
 use Rattle.std.specs.List.{All, flat_map}
 use Rattle.std.specs.Global.{Vec}
@@ -29,12 +29,6 @@ abbrev pub section_pairs : {K V : Type 0}
     → List (K × V)
 section_pairs section = list_pairs group_pairs section
 
--- the pairs of a division, section after section
-abbrev pub division_pairs : {K V : Type 0}
-    → Arc (Vec (Arc (Vec (Arc (Vec (Arc (Vec (K × V)) Global)) Global)) Global)) Global
-    → List (K × V)
-division_pairs division = list_pairs section_pairs division
-
 -- the chunk has a pair
 abbrev pub IsWholeChunk : {K V : Type 0} → Arc (Vec (K × V)) Global → Type 0
 IsWholeChunk {K} {V} chunk = IsWholeList (λ (_ : K × V). Unit {0}) chunk
@@ -48,9 +42,3 @@ abbrev pub IsWholeSection : {K V : Type 0}
     → Arc (Vec (Arc (Vec (Arc (Vec (K × V)) Global)) Global)) Global
     → Type 0
 IsWholeSection section = IsWholeList IsWholeGroup section
-
--- the division has a section, and each of its sections is whole
-abbrev pub IsWholeDivision : {K V : Type 0}
-    → Arc (Vec (Arc (Vec (Arc (Vec (Arc (Vec (K × V)) Global)) Global)) Global)) Global
-    → Type 0
-IsWholeDivision division = IsWholeList IsWholeSection division

@@ -2,16 +2,14 @@
 use Rattle.std.specs.Prelude.{List}
 use Rattle.std.specs.List.{All, flat_map}
 use Rattle.chunk_map.specs.declared.levels.Levels.{Levels}
-use Rattle.chunk_map.specs.declared.levels.Levels.TheVariants.{Chunks, Groups, Sections, Divisions}
+use Rattle.chunk_map.specs.declared.levels.Levels.TheVariants.{Chunks, Groups, Sections}
 use Rattle.chunk_map.specs.Groups.{
   chunk_pairs,
   group_pairs,
   section_pairs,
-  division_pairs,
   IsWholeChunk,
   IsWholeGroup,
   IsWholeSection,
-  IsWholeDivision,
 }
 
 -- the pairs, part after part
@@ -19,11 +17,9 @@ abbrev pub pairs_in : {K V : Type 0} → Levels K V → List (K × V)
 pairs_in (Chunks chunks) = flat_map chunk_pairs chunks.items
 pairs_in (Groups groups) = flat_map group_pairs groups.items
 pairs_in (Sections sections) = flat_map section_pairs sections.items
-pairs_in (Divisions divisions) = flat_map division_pairs divisions.items
 
 -- no part of it is empty
 abbrev pub AreWhole : {K V : Type 0} → Levels K V → Type 0
 AreWhole (Chunks chunks) = All IsWholeChunk chunks.items
 AreWhole (Groups groups) = All IsWholeGroup groups.items
 AreWhole (Sections sections) = All IsWholeSection sections.items
-AreWhole (Divisions divisions) = All IsWholeDivision divisions.items

@@ -5,8 +5,8 @@ ghost use Rattle.std.specs.Map.{lookup};
 ghost use Rattle.std.specs.BTreeMap.{is_at};
 ghost use Rattle.chunk_map.specs.Changes.{IsChanged, IsCounted};
 ghost use Rattle.chunk_map.specs.Sorted.{IsAscending};
-ghost use Rattle.chunk_map.specs.Groups.{chunk_pairs, group_pairs, section_pairs, list_pairs};
-ghost use Rattle.chunk_map.specs.Groups.{IsWholeChunk, IsWholeGroup, IsWholeSection, IsWholeList};
+ghost use Rattle.chunk_map.specs.Groups.{chunk_pairs, group_pairs, list_pairs};
+ghost use Rattle.chunk_map.specs.Groups.{IsWholeChunk, IsWholeGroup, IsWholeList};
 ghost use Rattle.chunk_map.specs.Levels.{AreWhole, pairs_in};
 
 use crate::change::Tally;
@@ -26,9 +26,6 @@ pub(crate) type Group<K, V> = Arc<Vec<Chunk<K, V>>>;
 /// A section: one to 12 groups, whose pairs ascend from group to group.
 pub(crate) type Section<K, V> = Arc<Vec<Group<K, V>>>;
 
-/// A division: one to 12 sections, whose pairs ascend from section to section.
-pub(crate) type Division<K, V> = Arc<Vec<Section<K, V>>>;
-
 /// The pairs of a map, in the levels that they need: with too many parts for one list comes one
 /// level more.
 #[derive(Drop)]
@@ -37,10 +34,8 @@ pub(crate) enum Levels<K: Ord + Shared, V: Shared> {
     Chunks(Vec<Chunk<K, V>>),
     /// At most 12 groups of chunks.
     Groups(Vec<Group<K, V>>),
-    /// At most 12 sections of groups.
+    /// Sections of groups, as many as there are.
     Sections(Vec<Section<K, V>>),
-    /// Divisions of sections, as many as there are.
-    Divisions(Vec<Division<K, V>>),
 }
 
 /// Two parts that have these parts after a change of the value at this key; or one, where they are
@@ -104,25 +99,34 @@ fn over_groups<K: Ord + Shared, V: Shared>(
     Ok(Levels::Sections(sections))
 }
 
-/// Levels over these sections, after a change of the value at this key.
-fn over_sections<K: Ord + Shared, V: Shared>(
-    alloc: Global,
-    sections: Vec<Section<K, V>>,
-    key: &K,
-) -> Result<Levels<K, V>, Starved>
-    requires whole { All IsWholeSection sections.items }
-    ensures pairs { IfOk result
-        (λ levels. pairs_in levels ≡ flat_map section_pairs sections.items) }
-    ensures whole { IfOk result AreWhole }
-{
-    if sections.len() <= MOST_PARTS {
-        return Ok(Levels::Sections(sections));
+/// Counts the chunks of these groups.
+fn chunks_of_groups<K: Ord + Shared, V: Shared>(groups: &[Group<K, V>]) -> usize {
+    let mut count = 0;
+    for group in groups {
+        count = usize::saturating_add(count, group.len());
     }
-    let divisions = raised(alloc, sections, key)?;
-    Ok(Levels::Divisions(divisions))
+    count
+}
+
+/// Counts the chunks of these sections.
+fn chunks_of_sections<K: Ord + Shared, V: Shared>(sections: &[Section<K, V>]) -> usize {
+    let mut count = 0;
+    for section in sections {
+        count = usize::saturating_add(count, chunks_of_groups(section.as_slice()));
+    }
+    count
 }
 
 impl<K: Ord + Shared, V: Shared> Levels<K, V> {
+    /// Counts the chunks.
+    pub(crate) fn count_chunks(&self) -> usize {
+        match self {
+            Levels::Chunks(chunks) => chunks.len(),
+            Levels::Groups(groups) => chunks_of_groups(groups.as_slice()),
+            Levels::Sections(sections) => chunks_of_sections(sections.as_slice()),
+        }
+    }
+
     /// Levels that show the same pairs, and share all parts.
     pub(crate) fn again(&self, alloc: Global) -> Result<Levels<K, V>, Starved>
         requires whole { AreWhole self.now }
@@ -134,9 +138,6 @@ impl<K: Ord + Shared, V: Shared> Levels<K, V> {
             Levels::Groups(groups) => Ok(Levels::Groups(copied(alloc, groups.as_slice())?)),
             Levels::Sections(sections) => {
                 Ok(Levels::Sections(copied(alloc, sections.as_slice())?))
-            }
-            Levels::Divisions(divisions) => {
-                Ok(Levels::Divisions(copied(alloc, divisions.as_slice())?))
             }
         }
     }
@@ -152,7 +153,6 @@ impl<K: Ord + Shared, V: Shared> Levels<K, V> {
             Levels::Chunks(chunks) => get(chunks.as_slice(), key),
             Levels::Groups(groups) => get(groups.as_slice(), key),
             Levels::Sections(sections) => get(sections.as_slice(), key),
-            Levels::Divisions(divisions) => get(divisions.as_slice(), key),
         }
     }
 
@@ -185,12 +185,7 @@ impl<K: Ord + Shared, V: Shared> Levels<K, V> {
             }
             Levels::Sections(mut sections) => {
                 let tally = change_in(alloc, &mut sections, key, change)?;
-                let levels = over_sections(alloc, sections, key)?;
-                Ok((levels, tally))
-            }
-            Levels::Divisions(mut divisions) => {
-                let tally = change_in(alloc, &mut divisions, key, change)?;
-                Ok((Levels::Divisions(divisions), tally))
+                Ok((Levels::Sections(sections), tally))
             }
         }
     }

@@ -14,6 +14,3 @@ pub use change::Change;
 pub use map::ChunkMap;
 pub use range::RangeIter;
 pub use shared::Shared;
-
-#[cfg(test)]
-mod tests;

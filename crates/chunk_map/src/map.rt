@@ -74,6 +74,12 @@ impl<K: Ord + Shared, V: Shared> ChunkMap<K, V> {
         self.count
     }
 
+    /// Counts the chunks that the pairs lie in: a measure of how full they are, of which no clause
+    /// speaks. Takes time for each part that has chunks.
+    pub fn count_chunks(&self) -> usize {
+        self.levels.count_chunks()
+    }
+
     /// The value at this key, where the key is there.
     pub fn get(&self, key: &K) -> Option<&V>
         ensures { option_map (λ v. v.now) result ≡ lookup (is_at (K.cmp key.now)) self.now }
@@ -141,13 +147,5 @@ impl<K: Ord + Shared, V: Shared> ChunkMap<K, V> {
         ensures pairs { IfOk result (λ map. map ≡ remove_entry (is_at (K.cmp key.now)) self.now) }
     {
         self.change(key, Take)
-    }
-}
-
-#[cfg(test)]
-impl<K: Ord + Shared, V: Shared> ChunkMap<K, V> {
-    /// The pairs in their levels.
-    pub(crate) fn levels(&self) -> &Levels<K, V> {
-        &self.levels
     }
 }

@@ -6,13 +6,12 @@ ghost use Rattle.std.specs.Map.{lookup};
 ghost use Rattle.std.specs.BTreeMap.{is_at};
 ghost use Rattle.std.specs.BTreeMap.Range.{entries_from};
 ghost use Rattle.chunk_map.specs.Sorted.{IsAscending, begins_by, first_value};
-ghost use Rattle.chunk_map.specs.Groups.{chunk_pairs, group_pairs, section_pairs, division_pairs};
+ghost use Rattle.chunk_map.specs.Groups.{chunk_pairs, group_pairs, section_pairs};
 ghost use Rattle.chunk_map.specs.Groups.{IsWholeChunk, IsWholeGroup, IsWholeSection};
-ghost use Rattle.chunk_map.specs.Groups.{IsWholeDivision};
 ghost use Rattle.chunk_map.specs.Levels.{AreWhole, pairs_in};
 
 use crate::Shared;
-use crate::levels::{Chunk, Division, Group, Levels, Section};
+use crate::levels::{Chunk, Group, Levels, Section};
 use crate::part::Part;
 use crate::parts::{cut, find, first, parts_of};
 use rd_base::Steps;
@@ -29,31 +28,26 @@ pub struct RangeIter<'a, K: Ord + Shared, V: Shared> {
     chunks: &'a [Chunk<K, V>],
     /// The groups after that group in its section.
     groups: &'a [Group<K, V>],
-    /// The sections after that section in its division.
+    /// The sections after that section.
     sections: &'a [Section<K, V>],
-    /// The divisions after that division.
-    divisions: &'a [Division<K, V>],
 }
 
 impl<'a, K: Ord + Shared, V: Shared> Model for RangeIter<'a, K, V> {
     ghost use Rattle.std.specs.Prelude.{List, ◌++◌};
     ghost use Rattle.std.specs.List.{All, flat_map};
     ghost use Rattle.chunk_map.specs.Groups.{chunk_pairs, group_pairs, section_pairs};
-    ghost use Rattle.chunk_map.specs.Groups.{division_pairs, IsWholeChunk, IsWholeGroup};
-    ghost use Rattle.chunk_map.specs.Groups.{IsWholeSection, IsWholeDivision};
+    ghost use Rattle.chunk_map.specs.Groups.{IsWholeChunk, IsWholeGroup, IsWholeSection};
 
     ghost Value = { List (K × V) };
 
     ghost view = { λ r. r.pairs.now
         ++ (flat_map chunk_pairs r.chunks.now
         ++ (flat_map group_pairs r.groups.now
-        ++ (flat_map section_pairs r.sections.now
-        ++ flat_map division_pairs r.divisions.now))) };
+        ++ flat_map section_pairs r.sections.now)) };
 
     ghost invariant = { λ r. All IsWholeChunk r.chunks.now
         × All IsWholeGroup r.groups.now
-        × All IsWholeSection r.sections.now
-        × All IsWholeDivision r.divisions.now };
+        × All IsWholeSection r.sections.now };
 }
 
 /// The pairs from the first key that is not below this one.
@@ -82,84 +76,41 @@ fn pairs_of<'a, K: Ord + Shared, V: Shared>(chunk: &'a Chunk<K, V>) -> &'a [(K, 
     chunk.as_slice()
 }
 
-/// The next section, and the sections and divisions after it; None if and only if there is none.
-fn next_section<'a, K: Ord + Shared, V: Shared>(
-    sections: &'a [Section<K, V>],
-    divisions: &'a [Division<K, V>],
-) -> Option<(&'a Section<K, V>, &'a [Section<K, V>], &'a [Division<K, V>])>
-    requires sections { All IsWholeSection sections.now }
-    requires divisions { All IsWholeDivision divisions.now }
-    ensures pairs { IfSome result (λ next.
-        section_pairs next.0.now
-        ++ (flat_map section_pairs next.1.now ++ flat_map division_pairs next.2.now)
-        ≡ flat_map section_pairs sections.now ++ flat_map division_pairs divisions.now) }
-    ensures section { IfSome result (λ next. IsWholeSection next.0.now) }
-    ensures sections { IfSome result (λ next. All IsWholeSection next.1.now) }
-    ensures divisions { IfSome result (λ next. All IsWholeDivision next.2.now) }
-    ensures end { IfNone result
-        (flat_map section_pairs sections.now ++ flat_map division_pairs divisions.now ≡ []) }
-{
-    if !sections.is_empty() {
-        let (section, sections) = first(sections);
-        return Some((section, sections, divisions));
-    }
-    if divisions.is_empty() {
-        return None;
-    }
-    let (division, divisions) = first(divisions);
-    let (section, sections) = first(parts_of(division));
-    Some((section, sections, divisions))
-}
-
-/// The next group, and the groups, sections and divisions after it; None if and only if there is
-/// none.
+/// The next group, and the groups and sections after it; None if and only if there is none.
 fn next_group<'a, K: Ord + Shared, V: Shared>(
     groups: &'a [Group<K, V>],
     sections: &'a [Section<K, V>],
-    divisions: &'a [Division<K, V>],
-) -> Option<
-    (
-        &'a Group<K, V>,
-        &'a [Group<K, V>],
-        &'a [Section<K, V>],
-        &'a [Division<K, V>],
-    ),
->
+) -> Option<(&'a Group<K, V>, &'a [Group<K, V>], &'a [Section<K, V>])>
     requires groups { All IsWholeGroup groups.now }
     requires sections { All IsWholeSection sections.now }
-    requires divisions { All IsWholeDivision divisions.now }
     ensures pairs { IfSome result (λ next.
         group_pairs next.0.now
-        ++ (flat_map group_pairs next.1.now
-        ++ (flat_map section_pairs next.2.now
-        ++ flat_map division_pairs next.3.now))
-        ≡ flat_map group_pairs groups.now
-        ++ (flat_map section_pairs sections.now
-        ++ flat_map division_pairs divisions.now)) }
+        ++ (flat_map group_pairs next.1.now ++ flat_map section_pairs next.2.now)
+        ≡ flat_map group_pairs groups.now ++ flat_map section_pairs sections.now) }
     ensures group { IfSome result (λ next. IsWholeGroup next.0.now) }
     ensures groups { IfSome result (λ next. All IsWholeGroup next.1.now) }
     ensures sections { IfSome result (λ next. All IsWholeSection next.2.now) }
-    ensures divisions { IfSome result (λ next. All IsWholeDivision next.3.now) }
-    ensures end { IfNone result (flat_map group_pairs groups.now
-        ++ (flat_map section_pairs sections.now ++ flat_map division_pairs divisions.now)
-        ≡ []) }
+    ensures end { IfNone result
+        (flat_map group_pairs groups.now ++ flat_map section_pairs sections.now ≡ []) }
 {
     if !groups.is_empty() {
         let (group, groups) = first(groups);
-        return Some((group, groups, sections, divisions));
+        return Some((group, groups, sections));
     }
-    let (section, sections, divisions) = next_section(sections, divisions)?;
+    if sections.is_empty() {
+        return None;
+    }
+    let (section, sections) = first(sections);
     let (group, groups) = first(parts_of(section));
-    Some((group, groups, sections, divisions))
+    Some((group, groups, sections))
 }
 
-/// The pairs of the next chunk, and the chunks, groups, sections and divisions after it.
+/// The pairs of the next chunk, and the chunks, groups and sections after it.
 type Next<'a, K, V> = (
     &'a [(K, V)],
     &'a [Chunk<K, V>],
     &'a [Group<K, V>],
     &'a [Section<K, V>],
-    &'a [Division<K, V>],
 );
 
 /// The next chunk; None if and only if there is none.
@@ -167,40 +118,34 @@ fn next_chunk<'a, K: Ord + Shared, V: Shared>(
     chunks: &'a [Chunk<K, V>],
     groups: &'a [Group<K, V>],
     sections: &'a [Section<K, V>],
-    divisions: &'a [Division<K, V>],
 ) -> Option<Next<'a, K, V>>
     requires chunks { All IsWholeChunk chunks.now }
     requires groups { All IsWholeGroup groups.now }
     requires sections { All IsWholeSection sections.now }
-    requires divisions { All IsWholeDivision divisions.now }
     ensures pairs { IfSome result (λ next.
         next.0.now
         ++ (flat_map chunk_pairs next.1.now
         ++ (flat_map group_pairs next.2.now
-        ++ (flat_map section_pairs next.3.now
-        ++ flat_map division_pairs next.4.now)))
+        ++ flat_map section_pairs next.3.now))
         ≡ flat_map chunk_pairs chunks.now
         ++ (flat_map group_pairs groups.now
-        ++ (flat_map section_pairs sections.now
-        ++ flat_map division_pairs divisions.now))) }
+        ++ flat_map section_pairs sections.now)) }
     ensures any { IfSome result (λ next. 0 < length next.0.now) }
     ensures chunks { IfSome result (λ next. All IsWholeChunk next.1.now) }
     ensures groups { IfSome result (λ next. All IsWholeGroup next.2.now) }
     ensures sections { IfSome result (λ next. All IsWholeSection next.3.now) }
-    ensures divisions { IfSome result (λ next. All IsWholeDivision next.4.now) }
     ensures end { IfNone result (flat_map chunk_pairs chunks.now
         ++ (flat_map group_pairs groups.now
-        ++ (flat_map section_pairs sections.now
-        ++ flat_map division_pairs divisions.now))
+        ++ flat_map section_pairs sections.now)
         ≡ []) }
 {
     if !chunks.is_empty() {
         let (chunk, chunks) = first(chunks);
-        return Some((pairs_of(chunk), chunks, groups, sections, divisions));
+        return Some((pairs_of(chunk), chunks, groups, sections));
     }
-    let (group, groups, sections, divisions) = next_group(groups, sections, divisions)?;
+    let (group, groups, sections) = next_group(groups, sections)?;
     let (chunk, chunks) = first(parts_of(group));
-    Some((pairs_of(chunk), chunks, groups, sections, divisions))
+    Some((pairs_of(chunk), chunks, groups, sections))
 }
 
 /// The pairs of these chunks from the first key that is not below this one: those of the first
@@ -247,12 +192,7 @@ fn in_groups<'a, K: Ord + Shared, V: Shared>(
 fn in_sections<'a, K: Ord + Shared, V: Shared>(
     sections: &'a [Section<K, V>],
     from: &K,
-) -> (
-    &'a [(K, V)],
-    &'a [Chunk<K, V>],
-    &'a [Group<K, V>],
-    &'a [Section<K, V>],
-)
+) -> Next<'a, K, V>
     requires whole { All IsWholeSection sections.now }
     requires ascends { IsAscending K.cmp (flat_map section_pairs sections.now) }
     ensures pairs { result.0.now
@@ -268,32 +208,6 @@ fn in_sections<'a, K: Ord + Shared, V: Shared>(
     };
     let (pairs, chunks, groups) = in_groups(parts_of(section), from);
     (pairs, chunks, groups, sections)
-}
-
-/// The pairs of these divisions from the first key that is not below this one: those of the first
-/// chunk, and the chunks, groups, sections and divisions after it.
-fn in_divisions<'a, K: Ord + Shared, V: Shared>(
-    divisions: &'a [Division<K, V>],
-    from: &K,
-) -> Next<'a, K, V>
-    requires whole { All IsWholeDivision divisions.now }
-    requires ascends { IsAscending K.cmp (flat_map division_pairs divisions.now) }
-    ensures pairs { result.0.now
-        ++ (flat_map chunk_pairs result.1.now
-        ++ (flat_map group_pairs result.2.now
-        ++ (flat_map section_pairs result.3.now
-        ++ flat_map division_pairs result.4.now)))
-        ≡ entries_from (K.cmp from.now) (flat_map division_pairs divisions.now) }
-    ensures chunks { All IsWholeChunk result.1.now }
-    ensures groups { All IsWholeGroup result.2.now }
-    ensures sections { All IsWholeSection result.3.now }
-    ensures divisions { All IsWholeDivision result.4.now }
-{
-    let Some((division, divisions)) = cut(divisions, from) else {
-        return (&[], &[], &[], &[], &[]);
-    };
-    let (pairs, chunks, groups, sections) = in_sections(parts_of(division), from);
-    (pairs, chunks, groups, sections, divisions)
 }
 
 /// Whether the pairs of these parts begin by a key that is not above this one.
@@ -359,12 +273,7 @@ fn from_sections<'a, K: Ord + Shared, V: Shared>(
     groups: &'a [Group<K, V>],
     sections: &'a [Section<K, V>],
     from: &K,
-) -> (
-    &'a [(K, V)],
-    &'a [Chunk<K, V>],
-    &'a [Group<K, V>],
-    &'a [Section<K, V>],
-)
+) -> Next<'a, K, V>
     requires chunks { All IsWholeChunk chunks.now }
     requires groups { All IsWholeGroup groups.now }
     requires sections { All IsWholeSection sections.now }
@@ -386,44 +295,6 @@ fn from_sections<'a, K: Ord + Shared, V: Shared>(
     }
     let (pairs, chunks, groups) = from_groups(pairs, chunks, groups, from);
     (pairs, chunks, groups, sections)
-}
-
-/// The same with divisions behind the sections.
-fn from_divisions<'a, K: Ord + Shared, V: Shared>(
-    pairs: &'a [(K, V)],
-    chunks: &'a [Chunk<K, V>],
-    groups: &'a [Group<K, V>],
-    sections: &'a [Section<K, V>],
-    divisions: &'a [Division<K, V>],
-    from: &K,
-) -> Next<'a, K, V>
-    requires chunks { All IsWholeChunk chunks.now }
-    requires groups { All IsWholeGroup groups.now }
-    requires sections { All IsWholeSection sections.now }
-    requires divisions { All IsWholeDivision divisions.now }
-    requires ascends { IsAscending K.cmp
-        ((((pairs.now ++ flat_map chunk_pairs chunks.now) ++ flat_map group_pairs groups.now)
-        ++ flat_map section_pairs sections.now)
-        ++ flat_map division_pairs divisions.now) }
-    ensures pairs { result.0.now
-        ++ (flat_map chunk_pairs result.1.now
-        ++ (flat_map group_pairs result.2.now
-        ++ (flat_map section_pairs result.3.now
-        ++ flat_map division_pairs result.4.now)))
-        ≡ entries_from (K.cmp from.now) ((((pairs.now ++ flat_map chunk_pairs chunks.now)
-        ++ flat_map group_pairs groups.now)
-        ++ flat_map section_pairs sections.now)
-        ++ flat_map division_pairs divisions.now) }
-    ensures chunks { All IsWholeChunk result.1.now }
-    ensures groups { All IsWholeGroup result.2.now }
-    ensures sections { All IsWholeSection result.3.now }
-    ensures divisions { All IsWholeDivision result.4.now }
-{
-    if begin_by(divisions, from) {
-        return in_divisions(divisions, from);
-    }
-    let (pairs, chunks, groups, sections) = from_sections(pairs, chunks, groups, sections, from);
-    (pairs, chunks, groups, sections, divisions)
 }
 
 /// The value of the first pair, where it has this key.
@@ -452,7 +323,6 @@ impl<'a, K: Ord + Shared, V: Shared> RangeIter<'a, K, V> {
                     chunks,
                     groups: &[],
                     sections: &[],
-                    divisions: &[],
                 }
             }
             Levels::Groups(groups) => {
@@ -462,7 +332,6 @@ impl<'a, K: Ord + Shared, V: Shared> RangeIter<'a, K, V> {
                     chunks,
                     groups,
                     sections: &[],
-                    divisions: &[],
                 }
             }
             Levels::Sections(sections) => {
@@ -472,20 +341,6 @@ impl<'a, K: Ord + Shared, V: Shared> RangeIter<'a, K, V> {
                     chunks,
                     groups,
                     sections,
-                    divisions: &[],
-                }
-            }
-            Levels::Divisions(divisions) => {
-                let (pairs, chunks, groups, sections, divisions) = in_divisions(
-                    divisions.as_slice(),
-                    from,
-                );
-                RangeIter {
-                    pairs,
-                    chunks,
-                    groups,
-                    sections,
-                    divisions,
                 }
             }
         }
@@ -501,13 +356,11 @@ impl<'a, K: Ord + Shared, V: Shared> RangeIter<'a, K, V> {
             chunks: &[],
             groups: &[],
             sections: &[],
-            divisions: &[],
         };
         match levels {
             Levels::Chunks(chunks) => cursor.chunks = chunks.as_slice(),
             Levels::Groups(groups) => cursor.groups = groups.as_slice(),
             Levels::Sections(sections) => cursor.sections = sections.as_slice(),
-            Levels::Divisions(divisions) => cursor.divisions = divisions.as_slice(),
         }
         cursor
     }
@@ -520,17 +373,15 @@ impl<'a, K: Ord + Shared, V: Shared> RangeIter<'a, K, V> {
         if !self.pairs.is_empty() {
             return value_at(self.pairs, key);
         }
-        let (pairs, chunks, groups, sections, divisions) = next_chunk(
+        let (pairs, chunks, groups, sections) = next_chunk(
             self.chunks,
             self.groups,
             self.sections,
-            self.divisions,
         )?;
         self.pairs = pairs;
         self.chunks = chunks;
         self.groups = groups;
         self.sections = sections;
-        self.divisions = divisions;
         value_at(pairs, key)
     }
 
@@ -542,19 +393,17 @@ impl<'a, K: Ord + Shared, V: Shared> RangeIter<'a, K, V> {
         ensures left { self.new ≡ entries_from (K.cmp key.now) self.old }
         ensures found { option_map (λ v. v.now) result ≡ lookup (is_at (K.cmp key.now)) self.old }
     {
-        let (pairs, chunks, groups, sections, divisions) = from_divisions(
+        let (pairs, chunks, groups, sections) = from_sections(
             self.pairs,
             self.chunks,
             self.groups,
             self.sections,
-            self.divisions,
             key,
         );
         self.pairs = pairs;
         self.chunks = chunks;
         self.groups = groups;
         self.sections = sections;
-        self.divisions = divisions;
         self.next_value(key)
     }
 
@@ -572,18 +421,16 @@ impl<'a, K: Ord + Shared, V: Shared> RangeIter<'a, K, V> {
                 Some((&first.0, &first.1))
             }
             None => {
-                let (pairs, chunks, groups, sections, divisions) = next_chunk(
+                let (pairs, chunks, groups, sections) = next_chunk(
                     self.chunks,
                     self.groups,
                     self.sections,
-                    self.divisions,
                 )?;
                 let (first, rest) = pairs.split_first()?;
                 self.pairs = rest;
                 self.chunks = chunks;
                 self.groups = groups;
                 self.sections = sections;
-                self.divisions = divisions;
                 Some((&first.0, &first.1))
             }
         }

@@ -21,15 +21,18 @@ use Rattle.udp_link.specs.Links.{Datagram}
 use Rattle.udp_link.specs.Told.{WhereTold}
 use Rattle.rd_seat.specs.Chains.{Chain}
 use Rattle.rd_seat.specs.Callers.{CallerSeen}
-use Rattle.rd_seat.specs.Seats.{SeatSeen}
+use Rattle.rd_seat.specs.Seats.{HallSeen, SeatSeen, IsOfHall}
 use Rattle.rd_seat.proofs.ToldLaws.{told_then, told_as, told_same}
 use Rattle.rd_seat.proofs.CallLaws.{Chain-then}
+use Rattle.rd_seat.proofs.SeatRuns.{hall_after}
 use Rattle.coap_stream.specs.declared.talked.TalkFault.{TalkFault}
 use Rattle.coap_stream.specs.declared.talked.TalkFault.TheVariants as fault
 use Rattle.coap_stream.specs.declared.talked.Talked.{Talked}
 use Rattle.coap_stream.specs.declared.serving.StreamsFault.{StreamsFault}
 use Rattle.coap_stream.specs.declared.serving.StreamsFault.TheVariants as streams_fault
 use Rattle.coap_stream.specs.Asked.{asked_in, asked_in_all}
+use Rattle.coap_stream.specs.Calls.{as_they_came}
+use Rattle.coap_stream.specs.Talks.{calls_of}
 use Rattle.coap_stream.specs.Endings.{TalkSeen, Talks}
 use Rattle.coap_stream.specs.Serving.{
   Connection,
@@ -259,6 +262,25 @@ served_all sure done asked before now coming left faults f r = record {
   ends = (r.count, r.fed, r.sum, r.stands);
   unfailed = r.unfailed;
 }
+
+-- ---- its hall
+
+talk_hall : (hall : HallSeen) (c : Connection) (a b : CallerSeen) → IsOfHall hall a.seat
+    → WasServed a c b → IsOfHall hall b.seat
+talk_hall hall c a b before it =
+    let began : IsOfHall hall c.before.caller.seat =
+    subst (λ (x : CallerSeen). IsOfHall hall x.seat) (sym it.begins) before in
+    subst (λ (x : CallerSeen). IsOfHall hall x.seat) it.ends
+    (hall_after as_they_came hall (calls_of it.talks.exchanges) c.before.caller.seat
+    c.after.caller.seat it.talks.made.seat began)
+
+-- The seat is of its hall still.
+pub served_hall : (hall : HallSeen) (cs : List Connection) (a b : CallerSeen)
+    → Chain WasServed a cs b → IsOfHall hall a.seat → IsOfHall hall b.seat
+served_hall hall [] a b chain before =
+    subst (λ (x : CallerSeen). IsOfHall hall x.seat) (sym chain) before
+served_hall hall (c ∷ cs) a b chain before =
+    talk_hall hall c chain.0 b (served_hall hall cs a chain.0 chain.1 before) chain.2
 
 -- ---- what is counted
 

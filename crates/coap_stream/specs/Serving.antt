@@ -11,9 +11,8 @@ use Rattle.rd_base.specs.declared.outside.Sink as sinks
 use Rattle.udp_link.specs.Links.{Datagram}
 use Rattle.udp_link.specs.Told.{WhereTold, Stays}
 use Rattle.rd_seat.specs.Chains.{Chain}
-use Rattle.atomic_table.specs.Seated.{TableId}
 use Rattle.rd_seat.specs.Callers.{CallerSeen, ClockSeen}
-use Rattle.rd_seat.specs.Seats.{SeatSeen, new_seat}
+use Rattle.rd_seat.specs.Seats.{HallSeen, SeatSeen, IsOfHall, new_seat}
 use Rattle.coap_stream.specs.declared.talked.TalkFault.TheVariants as fault
 use Rattle.coap_stream.specs.declared.talked.TalkFault.{TalkFault}
 use Rattle.coap_stream.specs.declared.talked.Talked.{Talked}
@@ -43,6 +42,11 @@ Opens left before now opened.Failed = Stays before now
 abbrev pub CountsOpened : {S K : Type 0} → ℕ → ℕ → Opened S K → Type 0
 CountsOpened before now (opened.One peer source sink) = now ≡ before
 CountsOpened before now opened.Failed = (before ≤ now) × Rose before now
+
+-- The peer of the connection that was opened.
+abbrev pub opened_peer : {S K : Type 0} → Opened S K → Option Peer
+opened_peer (opened.One peer source sink) = Some peer
+opened_peer opened.Failed = None
 
 -- ---- connections
 
@@ -220,11 +224,14 @@ pub record OutSeen : Type 0 where
 abbrev pub out_seen : {K : Type 0} → sinks.Ghosts K → K → OutSeen
 out_seen g out = record { holds = g.holds out; faults = g.faults out }
 
--- By the seat of a new hall all connections were served, and what came of them is answered.
+-- By the seat of a new hall all connections were served, and what came of them is answered. The
+-- seat is of that hall still.
 pub record ServesBySeat (sure : Type 0) (count : ℕ) (before after : ClockSeen)
     (door door_then : DoorSeen) (out out_then : OutSeen) (result : StreamsStatus) : Type 0 where
-  pub hall : TableId
+  pub hall : HallSeen
+  pub alone : hall.workers ≡ 1
   pub seat : SeatSeen
+  pub of_hall : IsOfHall hall seat
   pub outcome : Result ℕ StreamsFault
   pub all : ServesAll sure count (record { seat = new_seat hall 0; clock = before })
       (record { seat = seat; clock = after }) door.coming door_then.coming

@@ -4,6 +4,7 @@
 mod answering;
 mod calls;
 mod carried;
+mod connections;
 mod doors;
 mod heard;
 mod memory_door;
@@ -13,7 +14,6 @@ mod serving;
 mod spoken;
 mod talked;
 mod talks;
-mod tcp_door;
 
 pub use doors::{Accept, Opened};
 pub use heard::begin_request;
@@ -25,4 +25,4 @@ pub use spoken::write_frame;
 pub use stream_reader::{Fed, Frame, StreamBad, StreamReader};
 pub use talked::{TalkEnd, TalkFault, Talked};
 pub use talks::converse;
-pub use tcp_door::TcpAccept;
+pub use tcp_door::{TcpAccept, TcpConnection, TcpSink, TcpSource};

@@ -5,6 +5,7 @@ use Rattle.std.proofs.Common.{
   ◌+◌,
   ◌<◌,
   ◌≤◌,
+  max,
   nat_le,
   true,
   List,
@@ -55,13 +56,14 @@ use Rattle.lease_queue.specs.declared.leases.Lease.{Lease}
 use Rattle.directory_core.specs.declared.names.NameSlot.{NameSlot}
 use Rattle.directory_core.specs.declared.refusals.Refusal.{Refusal}
 use Rattle.directory_core.specs.declared.refusals.Refusal.TheVariants as answer
-use Rattle.directory_core.specs.AfterEntries.{renewed, without, after_entry, IsMadeWithRoom}
+use Rattle.directory_core.specs.AfterEntries.{renewed, without, after_entry, begun, IsMadeWithRoom}
 use Rattle.directory_core.specs.Answers.{IsRefusalOf}
 use Rattle.directory_core.specs.Changes.{
   IsRegistrationOf,
   IsUpdateOf,
   IsReplacementOf,
   IsRemovalOf,
+  IsBeginning,
 }
 use Rattle.directory_core.specs.EntryAnswers.{AnswersEntry, with_number}
 use Rattle.directory_core.specs.Shown.{IsKept}
@@ -73,6 +75,7 @@ use Rattle.directory_core.proofs.FitLaws.{
   fits_update,
   fits_replacement,
   fits_removal,
+  fits_beginning,
   new_room,
   register_there,
   gone_update,
@@ -118,11 +121,30 @@ pub removal_answers : (first : ℕ) (history : List Entry) (v : Version) (names 
     → AnswersEntry first history entry v.swept made
 removal_answers first history v names leases count sum now number old entry k after_at order stands
     found live h made is =
-    answers_entry first history v names leases count sum entry 0
+    answers_entry first history v names leases count sum entry v.entries 0
     (after_entry v now.0 (without old.number v.records) v.last_number) k
     (at_moment v.at now entry h.moment after_at) (at_moment v.swept now entry h.moment order)
     stands
     (fits_removal v now number old entry found live h) refl made is
+
+-- ---- beginnings
+
+pub beginning_answers : (counted : ℕ) (history : List Entry) (v : Version) (names : List NameSlot)
+    (leases : List Lease) (count sum : ℕ) (now : Moment) (first : ℕ) (entry : Entry)
+    → IsKept v names leases count sum
+    → v.at ≤ now.0
+    → v.swept ≤ now.0
+    → VersionStandsFor counted history v
+    → IsBeginning now first entry
+    → (made : Result Version Refusal)
+    → IsMadeWithRoom 0 (max v.entries first) (begun v now.0 first) made
+    → AnswersEntry counted history entry v.swept made
+beginning_answers counted history v names leases count sum now first entry k after_at order stands h
+    made is =
+    answers_entry counted history v names leases count sum entry (max v.entries first) 0
+    (begun v now.0 first) k (at_moment v.at now entry h.moment after_at)
+    (at_moment v.swept now entry h.moment order) stands (fits_beginning v now first entry h) refl
+    made is
 
 -- ---- updates
 
@@ -156,7 +178,7 @@ pub update_answers : (first : ℕ) (history : List Entry) (v : Version) (names :
     → AnswersEntry first history entry v.swept made
 update_answers first history v names leases count sum now number given peer draft old entry k
     after_at order stands allowed found live same h made is =
-    answers_entry first history v names leases count sum entry
+    answers_entry first history v names leases count sum entry v.entries
     (text_of (renewed (recorded old.number now draft) (live_among now.0 v.records)))
     (after_entry v now.0 (renewed (recorded old.number now draft) v.records) v.last_number) k
     (at_moment v.at now entry h.moment after_at) (at_moment v.swept now entry h.moment order) stands
@@ -194,7 +216,7 @@ pub replacement_answers : (first : ℕ) (history : List Entry) (v : Version) (na
     → AnswersEntry first history entry v.swept made
 replacement_answers first history v names leases count sum now granted number links draft old entry
     k after_at order stands found live same h made is =
-    answers_entry first history v names leases count sum entry
+    answers_entry first history v names leases count sum entry v.entries
     (text_of (renewed (recorded old.number granted draft) (live_among now.0 v.records)))
     (after_entry v now.0 (renewed (recorded old.number granted draft) v.records) v.last_number) k
     (at_moment v.at now entry h.moment after_at) (at_moment v.swept now entry h.moment order) stands
@@ -220,7 +242,7 @@ pub again_answers : (first : ℕ) (history : List Entry) (v : Version) (names : 
     → AnswersEntry first history entry v.swept made
 again_answers first history v names leases count sum now draft old entry k after_at order stands
     is_draft found h made is =
-    answers_entry first history v names leases count sum entry
+    answers_entry first history v names leases count sum entry v.entries
     (text_of (renewed (recorded old.number now draft) (live_among now.0 v.records)))
     (after_entry v now.0 (renewed (recorded old.number now draft) v.records) v.last_number) k
     (at_moment v.at now entry h.moment after_at) (at_moment v.swept now entry h.moment order) stands
@@ -245,7 +267,7 @@ pub new_answers : (first : ℕ) (history : List Entry) (v : Version) (names : Li
     → AnswersEntry first history entry v.swept made
 new_answers first history v names leases count sum now draft entry k after_at order stands is_draft
     none few h made is =
-    answers_entry first history v names leases count sum entry
+    answers_entry first history v names leases count sum entry v.entries
     (text_of (live_among now.0 v.records ++ recorded (v.last_number + 1) now draft ∷ []))
     (after_entry v now.0 (v.records ++ recorded (v.last_number + 1) now draft ∷ [])
     (v.last_number + 1)) k

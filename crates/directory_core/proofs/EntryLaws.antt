@@ -14,7 +14,6 @@ use Rattle.std.proofs.Common.{
   ◌++◌,
   filter,
   length,
-  length-append,
   Some,
   None,
   Result,
@@ -56,12 +55,20 @@ use Rattle.history_model.specs.Refusals.{
   refusal_in,
   change_refusal,
 }
-use Rattle.history_model.specs.Replay.{State, number_about, apply, replay}
+use Rattle.history_model.specs.Replay.{
+  State,
+  number_about,
+  apply,
+  replay,
+  lifted,
+  count_after,
+  counted,
+}
 use Rattle.history_model.specs.Versions.{Version, state_of, VersionStandsFor}
 use Rattle.history_model.proofs.Acceptance.{accepted}
 use Rattle.history_model.proofs.NameLaws.{IsGrantedBy}
 use Rattle.history_model.proofs.NumberLaws.{HasRisingNumbers, replay-HasRisingNumbers}
-use Rattle.history_model.proofs.ReplayLaws.{replay_push, last_moment_push}
+use Rattle.history_model.proofs.ReplayLaws.{replay_push, last_moment_push, counted_push}
 use Rattle.history_model.proofs.SweepLaws.{live_among_live, only_live-apply}
 use Rattle.history_model.proofs.VersionLaws.{
   with_entry,
@@ -140,7 +147,7 @@ with_entry_stands first history v names leases count sum entry k after_at order 
     let before = replay history in
     let same : state_of v ≡ only_live v.swept before =
     state_of-VersionStandsFor first history v stands in
-    let left_accepts : refusal_in (only_live v.swept before) (first + length history) entry ≡ None
+    let left_accepts : refusal_in (only_live v.swept before) (counted first history) entry ≡ None
     = ap₂ (λ (s : State) (n : ℕ). refusal_in s n entry) (sym same) (sym stands.entries)
     ∙ change_refusal-VersionStandsFor first history v entry stands order
     ∙ accepts in
@@ -149,7 +156,7 @@ with_entry_stands first history v names leases count sum entry k after_at order 
     (λ r s. let by_then = s.granted in omega arith) v.records k.stored in
     let made : apply (state_of v) entry ≡ only_live v.swept (apply before entry)
     = ap (λ s. apply s entry) same
-    ∙ apply_left v.swept before (first + length history) entry (replay-HasRisingNumbers history)
+    ∙ apply_left v.swept before (counted first history) entry (replay-HasRisingNumbers history)
     (subst HasRisingNumbers same (kept-HasRisingNumbers v names leases count sum k)) accepts
     left_accepts lasts order
     (subst (λ (s : State). AllByRecursion (IsGrantedBy entry.moment.0) s.records) same granted) in
@@ -157,11 +164,11 @@ with_entry_stands first history v names leases count sum entry k after_at order 
     only_live v.swept (apply before entry)
     ≡ only_live v.swept (replay (history ++ entry ∷ [])) =
     ap (only_live v.swept) (sym (replay_push history entry)) in
-    let more = length-append history (entry ∷ []) in
-    let counted = stands.entries in
     record {
       records = ap (λ (s : State). s.records) (made ∙ whole);
-      entries = omega (arith, more, counted);
+      entries =
+          ap (λ count. count_after count entry) stands.entries
+          ∙ sym (counted_push first history entry);
       at = sym (last_moment_push history entry);
       last_number = ap (λ (s : State). s.last_number) (made ∙ whole);
       swept_live =
@@ -172,22 +179,40 @@ with_entry_stands first history v names leases count sum entry k after_at order 
 
 -- ---- what is answered
 
--- what an entry weighs and makes of a version
-pub record Fits (v : Version) (entry : Entry) (text : ℕ) (new : Version) : Type 0 where
+-- a version with an entry more after so many that are counted
+abbrev entered : ℕ → Version → Entry → Version
+entered count v entry = record {
+  records = (apply (state_of v) entry).records;
+  entries = count + 1;
+  at = entry.moment.0;
+  last_number = (apply (state_of v) entry).last_number;
+  swept_live = 0;
+  swept = v.swept;
+}
+
+-- what an entry weighs and makes of a version, after so many that are counted: a beginning lifts the
+-- count to them
+pub record Fits (v : Version) (entry : Entry) (entries text : ℕ) (new : Version) : Type 0 where
   pub there : is_gone (live_among entry.moment.0 v.records) entry.change ≡ false
   pub room : is_full_of_records (live_among entry.moment.0 v.records) entry.change ≡ false
   pub weighs : is_full_of_text (text_after (state_of v) entry) entry.change ≡ nat_lt max_text text
   pub text_is : max_text < text → text ≡ text_after (state_of v) entry
-  pub makes : with_entry v entry ≡ new
+  pub counts : lifted v.entries entry.change ≡ entries
+  pub makes : entered entries v entry ≡ new
   pub lasting : IsLasting entry.change
 
-refusal_of_fit : (v : Version) (entry : Entry) (text : ℕ) (new : Version) → Fits v entry text new
+refusal_of_fit : (v : Version) (entry : Entry) (entries text : ℕ) (new : Version)
+    → Fits v entry entries text new
     → refusal_in (state_of v) v.entries entry
     ≡ cond (nat_lt max_text text) (Some cause.Text)
-    (cond (nat_le max_entries v.entries) (Some cause.Entries) None)
+    (cond (nat_le max_entries entries) (Some cause.Entries) None)
 unfolding refusal_in
-refusal_of_fit v entry text new f =
-    let a = f.there in let b = f.room in let c = f.weighs in rw (a, b, c) refl
+refusal_of_fit v entry entries text new f =
+    let a = f.there in
+    let b = f.room in
+    let c = f.weighs in
+    let d = f.counts in
+    rw (a, b, c, d) refl
 
 -- a version weighs an entry as each history does that it stands for
 text_of_history : (first : ℕ) (history : List Entry) (v : Version) (entry : Entry)
@@ -204,27 +229,27 @@ text_of_history first history v entry stands order =
     with_records last_number records = record { records = records; last_number = last_number }
 
 pub answers_entry : (first : ℕ) (history : List Entry) (v : Version) (names : List NameSlot)
-    (leases : List Lease) (count sum : ℕ) (entry : Entry) (text : ℕ) (new : Version)
+    (leases : List Lease) (count sum : ℕ) (entry : Entry) (entries text : ℕ) (new : Version)
     → IsKept v names leases count sum
     → v.at ≤ entry.moment.0
     → v.swept ≤ entry.moment.0
     → VersionStandsFor first history v
-    → Fits v entry text new
+    → Fits v entry entries text new
     → new.swept ≡ v.swept
     → (made : Result Version Refusal)
-    → IsMadeWithRoom text v.entries new made
+    → IsMadeWithRoom text entries new made
     → AnswersEntry first history entry v.swept made
-answers_entry first history v names leases count sum entry text new k after_at order stands fits
-    swept made h =
+answers_entry first history v names leases count sum entry entries text new k after_at order stands
+    fits swept made h =
     by made h
   where
     refusal :
         change_refusal first history entry
         ≡ cond (nat_lt max_text text) (Some cause.Text)
-        (cond (nat_le max_entries v.entries) (Some cause.Entries) None)
+        (cond (nat_le max_entries entries) (Some cause.Entries) None)
     refusal =
         sym (change_refusal-VersionStandsFor first history v entry stands order)
-        ∙ refusal_of_fit v entry text new fits
+        ∙ refusal_of_fit v entry entries text new fits
 
     light : text ≤ max_text → nat_lt max_text text ≡ false
     light below = grind (arith, nat_tests)
@@ -232,21 +257,22 @@ answers_entry first history v names leases count sum entry text new k after_at o
     heavy : max_text < text → nat_lt max_text text ≡ true
     heavy above = grind (arith, nat_tests)
 
-    few : v.entries < max_entries → nat_le max_entries v.entries ≡ false
+    few : entries < max_entries → nat_le max_entries entries ≡ false
     few below = grind (arith, nat_tests)
 
-    many : max_entries ≤ v.entries → nat_le max_entries v.entries ≡ true
+    many : max_entries ≤ entries → nat_le max_entries entries ≡ true
     many above = grind (arith, nat_tests)
 
     by : (made : Result Version Refusal)
-        → IsMadeWithRoom text v.entries new made
+        → IsMadeWithRoom text entries new made
         → AnswersEntry first history entry v.swept made
     by (Ok version) h =
         let accepts : change_refusal first history entry ≡ None =
         refusal ∙ (rw (light (h.1), few (h.2)) refl) in
         record {
           stands =
-              subst (VersionStandsFor first (history ++ entry ∷ [])) (fits.makes ∙ sym h.0)
+              subst (VersionStandsFor first (history ++ entry ∷ []))
+              (ap (λ count. entered count v entry) fits.counts ∙ fits.makes ∙ sym h.0)
               (with_entry_stands first history v names leases count sum entry k after_at order
               stands accepts fits.lasting);
           accepted = accepts;

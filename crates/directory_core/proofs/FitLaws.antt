@@ -1,4 +1,5 @@
--- What a registration, an update, a replacement of links and a removal weigh and make of a version.
+-- What a registration, an update, a replacement of links, a removal and a beginning weigh and make
+-- of a version.
 use Rattle.std.proofs.Common.{
   ◌≡◌,
   ℕ,
@@ -10,6 +11,7 @@ use Rattle.std.proofs.Common.{
   not,
   ◌&&◌,
   ◌||◌,
+  max,
   cond,
   List,
   [],
@@ -84,12 +86,13 @@ use Rattle.history_model.specs.Versions.{Version, state_of}
 use Rattle.history_model.proofs.Acceptance.{is_same_name-Decides}
 use Rattle.history_model.proofs.NumberLaws.{IsBelow}
 use Rattle.history_model.proofs.SweepLaws.{number_named-live}
-use Rattle.directory_core.specs.AfterEntries.{renewed, without, after_entry, IsSound}
+use Rattle.directory_core.specs.AfterEntries.{renewed, without, after_entry, begun, IsSound}
 use Rattle.directory_core.specs.Changes.{
   IsRegistrationOf,
   IsUpdateOf,
   IsReplacementOf,
   IsRemovalOf,
+  IsBeginning,
 }
 use Rattle.directory_core.proofs.AgainstLaws.{draft_against}
 use Rattle.directory_core.proofs.ChangeLaws.{only_one, its_number, changed_known, numbered-filter}
@@ -232,6 +235,11 @@ removal_weighs : (text : ℕ) (c : Change) (number : ℕ)
     → is_full_of_text text c ≡ nat_lt max_text 0
 removal_weighs text c number e = rw e refl
 
+beginning_weighs : (text : ℕ) (c : Change) (first : ℕ)
+    → c ≡ change.Begin first
+    → is_full_of_text text c ≡ nat_lt max_text 0
+beginning_weighs text c first e = rw e refl
+
 -- ---- registrations
 
 pub register_there : (v : Version) (now : Moment) (draft : Draft) (entry : Entry)
@@ -319,7 +327,8 @@ pub fits_again : (v : Version) (now : Moment) (draft : Draft) (old : Record) (en
     → IsSound draft
     → find (is_live_named draft.name now.0) v.records ≡ Some old
     → IsRegistrationOf now draft entry
-    → Fits v entry (text_of (renewed (recorded old.number now draft) (live_among now.0 v.records)))
+    → Fits v entry v.entries
+    (text_of (renewed (recorded old.number now draft) (live_among now.0 v.records)))
     (after_entry v now.0 (renewed (recorded old.number now draft) v.records) v.last_number)
 fits_again v now draft old entry up sound found h =
     let name = name_draft draft entry.peer h.params h.links h.made in
@@ -369,6 +378,7 @@ fits_again v now draft old entry up sound found h =
           register_weighs (text_after (state_of v) entry) entry.change h.params h.links h.change
           ∙ ap (nat_lt max_text) text;
       text_is = λ _. sym text;
+      counts = rw h.change refl;
       makes =
           ap (λ m. with_state v m (apply (state_of v) entry)) at ∙ ap (with_state v now.0) whole;
       lasting = rw h.change lasts;
@@ -407,7 +417,7 @@ pub fits_new : (v : Version) (now : Moment) (draft : Draft) (entry : Entry)
     → find (is_live_named draft.name now.0) v.records ≡ None
     → length (live_among now.0 v.records) < max_registrations
     → IsRegistrationOf now draft entry
-    → Fits v entry
+    → Fits v entry v.entries
     (text_of (live_among now.0 v.records ++ recorded (v.last_number + 1) now draft ∷ []))
     (after_entry v now.0 (v.records ++ recorded (v.last_number + 1) now draft ∷ [])
     (v.last_number + 1))
@@ -448,6 +458,7 @@ fits_new v now draft entry up sound none few h =
           register_weighs (text_after (state_of v) entry) entry.change h.params h.links h.change
           ∙ ap (nat_lt max_text) text;
       text_is = λ _. sym text;
+      counts = rw h.change refl;
       makes =
           ap (λ m. with_state v m (apply (state_of v) entry)) at ∙ ap (with_state v now.0) whole;
       lasting = rw h.change lasts;
@@ -486,7 +497,8 @@ pub fits_update : (v : Version) (now : Moment) (number : ℕ) (given : UpdatePar
     → is_live_at now.0 old ≡ true
     → recorded old.number now draft ≡ updated now peer given old
     → IsUpdateOf now number given peer entry
-    → Fits v entry (text_of (renewed (recorded old.number now draft) (live_among now.0 v.records)))
+    → Fits v entry v.entries
+    (text_of (renewed (recorded old.number now draft) (live_among now.0 v.records)))
     (after_entry v now.0 (renewed (recorded old.number now draft) v.records) v.last_number)
 fits_update v now number given peer draft old entry up allowed found live made h =
     let new = recorded old.number now draft in
@@ -525,6 +537,7 @@ fits_update v now number given peer draft old entry up allowed found live made h
           update_weighs (text_after (state_of v) entry) entry.change number given h.change
           ∙ ap (nat_lt max_text) text;
       text_is = λ _. sym text;
+      counts = rw h.change refl;
       makes =
           ap (λ m. with_state v m (apply (state_of v) entry)) at ∙ ap (with_state v now.0) whole;
       lasting = rw h.change (lasting_change given allowed);
@@ -556,7 +569,7 @@ pub fits_replacement : (v : Version) (now granted : Moment) (number : ℕ)
     → is_live_at now.0 old ≡ true
     → recorded old.number granted draft ≡ replaced links old
     → IsReplacementOf now number links entry
-    → Fits v entry
+    → Fits v entry v.entries
     (text_of (renewed (recorded old.number granted draft) (live_among now.0 v.records)))
     (after_entry v now.0 (renewed (recorded old.number granted draft) v.records) v.last_number)
 fits_replacement v now granted number links draft old entry up found live made h =
@@ -595,6 +608,7 @@ fits_replacement v now granted number links draft old entry up found live made h
           replacement_weighs (text_after (state_of v) entry) entry.change number links h.change
           ∙ ap (nat_lt max_text) text;
       text_is = λ _. sym text;
+      counts = rw h.change refl;
       makes =
           ap (λ m. with_state v m (apply (state_of v) entry)) at ∙ ap (with_state v now.0) whole;
       lasting = rw h.change tt;
@@ -614,7 +628,8 @@ pub fits_removal : (v : Version) (now : Moment) (number : ℕ) (old : Record) (e
     → numbered number v.records ≡ Some old
     → is_live_at now.0 old ≡ true
     → IsRemovalOf now number entry
-    → Fits v entry 0 (after_entry v now.0 (without old.number v.records) v.last_number)
+    → Fits v entry v.entries 0
+    (after_entry v now.0 (without old.number v.records) v.last_number)
 fits_removal v now number old entry found live h =
     let its = its_number number old v.records found in
     let same : entry ≡ made_entry now entry.worker entry.peer (change.Remove number) =
@@ -629,6 +644,7 @@ fits_removal v now number old entry found live h =
       room = rw h.change refl;
       weighs = removal_weighs (text_after (state_of v) entry) entry.change number h.change;
       text_is = λ above. absurd (omega arith);
+      counts = rw h.change refl;
       makes =
           ap (λ m. with_state v m (apply (state_of v) entry)) at ∙ ap (with_state v now.0) whole;
       lasting = rw h.change tt;
@@ -636,6 +652,48 @@ fits_removal v now number old entry found live h =
   where
     stated : List Record → ℕ → State
     stated records last_number = record { records = records; last_number = last_number }
+
+-- ---- beginnings
+
+applied_beginning : (now : Moment) (worker : ℕ) (peer : Peer) (first : ℕ) (state : State)
+    → apply state (made_entry now worker peer (change.Begin first)) ≡ record state {
+      last_number = max state.last_number first;
+    }
+unfolding apply made_entry
+applied_beginning now worker peer first state = refl
+
+pub fits_beginning : (v : Version) (now : Moment) (first : ℕ) (entry : Entry)
+    → IsBeginning now first entry
+    → Fits v entry (max v.entries first) 0 (begun v now.0 first)
+fits_beginning v now first entry h =
+    let same : entry ≡ made_entry now entry.worker entry.peer (change.Begin first) =
+    entry_is entry now (change.Begin first) h.moment h.change in
+    let whole : apply (state_of v) entry ≡ lifted_to (max v.last_number first) =
+    ap (apply (state_of v)) same
+    ∙ applied_beginning now entry.worker entry.peer first (state_of v) in
+    let at : entry.moment.0 ≡ now.0 = ap (λ (m : Moment). m.0) h.moment in
+    record {
+      there = rw h.change refl;
+      room = rw h.change refl;
+      weighs = beginning_weighs (text_after (state_of v) entry) entry.change first h.change;
+      text_is = λ above. absurd (omega arith);
+      counts = rw h.change refl;
+      makes = ap (λ m. begun_with m (apply (state_of v) entry)) at ∙ ap (begun_with now.0) whole;
+      lasting = rw h.change tt;
+    }
+  where
+    lifted_to : ℕ → State
+    lifted_to last_number = record { records = v.records; last_number = last_number }
+
+    begun_with : ℕ → State → Version
+    begun_with moment state = record {
+      records = state.records;
+      entries = max v.entries first + 1;
+      at = moment;
+      last_number = state.last_number;
+      swept_live = 0;
+      swept = v.swept;
+    }
 
 -- what is so of each record that is found, is so of what a reference points to
 pub some_so : (o : Option (Bor Record)) (P : Record → Type 0)

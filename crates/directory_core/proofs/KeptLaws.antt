@@ -51,7 +51,7 @@ use Rattle.history_model.proofs.NumberLaws.{IsBelow, HasRisingNumbers}
 use Rattle.lease_queue.specs.declared.leases.Lease.{Lease}
 use Rattle.lease_queue.specs.Leases.{with_lease, without_lease}
 use Rattle.directory_core.specs.declared.names.NameSlot.{NameSlot}
-use Rattle.directory_core.specs.AfterEntries.{renewed, without, after_entry}
+use Rattle.directory_core.specs.AfterEntries.{renewed, without, after_entry, begun}
 use Rattle.directory_core.specs.LapseOrder.{in_order_of, in_order_of_lapse}
 use Rattle.directory_core.specs.LinksAgainst.{AreAgainst}
 use Rattle.directory_core.specs.NameSlots.{hash_of, slot_of, slots_of, with_slot, without_slot}
@@ -445,3 +445,34 @@ module _ (v : Version) (names : List NameSlot) (leases : List Lease) (count sum 
         numbers = let n = k.numbers in omega (arith, n);
         in_time = moment;
       }
+
+-- after a beginning
+pub kept_begun : (v : Version) (names : List NameSlot) (leases : List Lease) (count sum now : ℕ)
+    (first : ℕ)
+    → IsKept v names leases count sum
+    → v.at ≤ now
+    → v.swept ≤ now
+    → now ≤ 10 ^ 15
+    → max v.entries first < max_entries
+    → IsKept (begun v now first) names leases (length (live_among now v.records))
+    (text_of (live_among now v.records))
+kept_begun v names leases count sum now first k after_at after_sweep moment room =
+    let w = begun v now first in
+    let at : counted_at w ≡ now = counted_now now v.swept after_sweep in
+    let few = live_few v names leases count sum now k after_at after_sweep in
+    let light = live_light v names leases count sum now k after_at after_sweep in
+    record {
+      rising = k.rising;
+      stored =
+          each_weaker (IsStored v) (IsStored w)
+          (λ x s. stored_on v w x (omega arith) after_at refl s) v.records k.stored;
+      named = k.named;
+      leased = k.leased;
+      live = ap (λ m. length (live_among m v.records)) (sym at);
+      text = ap (λ m. text_of (live_among m v.records)) (sym at);
+      few = omega (arith, few);
+      light = light;
+      counted = omega (arith, room);
+      numbers = let n = k.numbers in omega (arith, n);
+      in_time = moment;
+    }

@@ -9,6 +9,7 @@ use Rattle.std.proofs.Common.{
   ◌^◌,
   ◌<◌,
   ◌≤◌,
+  max,
   true,
   List,
   [],
@@ -58,7 +59,13 @@ use Rattle.directory_core.specs.LiveCounts.{counts_of}
 use Rattle.directory_core.specs.NameSlots.{hash_of, slot_of, with_slot, without_slot}
 use Rattle.directory_core.specs.NumberOrder.{with_record}
 use Rattle.directory_core.specs.Shown.{IsStored, IsKept, lease_of}
-use Rattle.directory_core.proofs.KeptLaws.{IsMade, kept_renewed, kept_appended, kept_without}
+use Rattle.directory_core.proofs.KeptLaws.{
+  IsMade,
+  kept_renewed,
+  kept_appended,
+  kept_without,
+  kept_begun,
+}
 use Rattle.directory_core.proofs.ChangeLaws.{
   with_record-renewed,
   with_record-last,
@@ -389,6 +396,62 @@ removal_kept v names leases count sum now counted old k a room live text fewer l
     (subst (λ rs.
     IsKept (after_entry v now.0 rs v.last_number) (without_slot (slot_of old) names)
     (without_lease leases (lease_of old)) live text) (sym taken) whole))
+
+-- ---- a beginning
+
+-- a version after a beginning at a moment, with these records, after so many that are counted and
+-- with this last number
+abbrev pub begun_with : Version → ℕ → List Record → ℕ → ℕ → Version
+begun_with v now records entries last_number = record {
+  records = records;
+  entries = entries + 1;
+  at = now;
+  last_number = last_number;
+  swept_live = 0;
+  swept = v.swept;
+}
+
+pub beginning_kept : (v : Version) (names : List NameSlot) (leases : List Lease) (count sum : ℕ)
+    (now : Moment) (counted : Counts) (first : ℕ)
+    → IsKept v names leases count sum
+    → v.at ≤ now.0
+    → v.swept ≤ now.0
+    → now.0 ≤ 10 ^ 15
+    → counted ≡ counts_of (live_among now.0 v.records)
+    → (entries last_number : ℕ)
+    → entries ≡ max v.entries first
+    → entries < max_entries
+    → last_number ≡ max v.last_number first
+    → (records : List Record)
+    → records ≡ v.records
+    → (slots : List NameSlot)
+    → slots ≡ names
+    → (queue : List Lease)
+    → queue ≡ leases
+    → IsKept (begun_with v now.0 records entries last_number) slots queue counted.live counted.text
+beginning_kept v names leases count sum now counted first k after_at after_sweep moment counts
+    entries last_number lifted room last records shared slots named queue leased =
+    let whole =
+    kept_begun v names leases count sum now.0 first k after_at after_sweep moment
+    (omega (arith, lifted, room)) in
+    subst (λ (c : Counts).
+    IsKept (begun_with v now.0 records entries last_number) slots queue c.live c.text) (sym counts)
+    (subst (λ q.
+    IsKept (begun_with v now.0 records entries last_number) slots q
+    (length (live_among now.0 v.records)) (text_of (live_among now.0 v.records))) (sym leased)
+    (subst (λ n.
+    IsKept (begun_with v now.0 records entries last_number) n leases
+    (length (live_among now.0 v.records)) (text_of (live_among now.0 v.records))) (sym named)
+    (subst (λ rs.
+    IsKept (begun_with v now.0 rs entries last_number) names leases
+    (length (live_among now.0 v.records)) (text_of (live_among now.0 v.records))) (sym shared)
+    (subst (λ e.
+    IsKept (begun_with v now.0 v.records e last_number) names leases
+    (length (live_among now.0 v.records)) (text_of (live_among now.0 v.records))) (sym lifted)
+    (subst (λ l.
+    IsKept (begun_with v now.0 v.records (max v.entries first) l) names leases
+    (length (live_among now.0 v.records)) (text_of (live_among now.0 v.records))) (sym last)
+    whole)))))
 
 -- ---- what has room
 

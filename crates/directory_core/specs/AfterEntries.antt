@@ -9,6 +9,7 @@ use Rattle.std.specs.Prelude.{
   ◌≤◌,
   true,
   not,
+  max,
   List,
   filter,
   Result,
@@ -43,6 +44,18 @@ after_entry v now records last_number = record {
   entries = v.entries + 1;
   at = now;
   last_number = last_number;
+  swept_live = 0;
+  swept = v.swept;
+}
+
+-- a version after a beginning at a moment: its last number and its count are lifted to this number,
+-- and one entry more is counted
+abbrev pub begun : Version → ℕ → ℕ → Version
+begun v now first = record {
+  records = v.records;
+  entries = max v.entries first + 1;
+  at = now;
+  last_number = max v.last_number first;
   swept_live = 0;
   swept = v.swept;
 }

@@ -38,3 +38,8 @@ pub record IsReplacementOf (now : Moment) (number : ℕ) (links : List Submitted
 pub record IsRemovalOf (now : Moment) (number : ℕ) (entry : Entry) : Type 0 where
   pub moment : entry.moment ≡ now
   pub change : entry.change ≡ kind.Remove number
+
+-- the entry begins a run above this number, at this moment
+pub record IsBeginning (now : Moment) (first : ℕ) (entry : Entry) : Type 0 where
+  pub moment : entry.moment ≡ now
+  pub change : entry.change ≡ kind.Begin first

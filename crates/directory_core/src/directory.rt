@@ -13,8 +13,8 @@ use std::marker::Model;
 /// A version of the directory. It stands for the history of the changes that made it, and answers
 /// every lookup as replaying that history would (RFC 9176 sections 5 and 6). A version never
 /// changes: a change makes another one, which shares all that did not change. Contracts see it as
-/// what a version shows: its records, how many entries it has, the moment of the last one, and what
-/// was dropped of it.
+/// what a version shows: its records, the count of its entries, the moment of the last one, and
+/// what was dropped of it.
 #[derive(Drop)]
 pub struct Directory {
     /// The records that no sweep dropped, in ascending number.
@@ -30,7 +30,8 @@ pub struct Directory {
     pub(crate) live: u64,
     /// What those weighed together, in octets.
     pub(crate) text: u64,
-    /// How many entries there are, with those that were counted before the first.
+    /// The count of the entries: what was counted before the first and one for each, lifted by a
+    /// beginning.
     pub(crate) entries: u64,
     /// The moment of the last entry, else 0.
     pub(crate) at: Moment,
@@ -96,7 +97,8 @@ impl Directory {
         })
     }
 
-    /// How many entries there are, with those that were counted before the first. Takes no time.
+    /// The count of the entries: what was counted before the first and one for each, lifted by a
+    /// beginning. Takes no time.
     pub fn entries(&self) -> u64
         ensures { result ≡ self.now.entries }
     {

@@ -2,6 +2,7 @@
 //! sections 5 and 6).
 #![tactic(auto)]
 
+mod begin;
 mod boards;
 mod counts;
 mod directory;

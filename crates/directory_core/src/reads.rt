@@ -179,7 +179,7 @@ impl Directory {
     }
 
     /// The entity tag of every lookup at this moment (RFC 7252 section 5.10.6), which is not before
-    /// the last entry and not before the last sweep: how many entries there are, and how many
+    /// the last entry and not before the last sweep: the count of the entries, and how many
     /// registrations that were live after the last one have lapsed.
     pub fn tag(&self, now: Moment) -> Tag
         requires after_at { self.now.at ≤ now.0 }

@@ -1,39 +1,12 @@
 -- When a transition changes the lines of a query, as a desk marks it: time that passes, and then an
 -- entry.
-use Rattle.std.proofs.Common.{
-  ◌≡◌,
-  ℕ,
-  ◌+◌,
-  ◌≤◌,
-  ◌==◌,
-  Bool,
-  true,
-  false,
-  not,
-  ◌&&◌,
-  ◌||◌,
-  List,
-  [],
-  ◌∷◌,
-  ◌++◌,
-  length,
-  None,
-  Decides,
-  bytes_eq,
-  refl,
-  sym,
-  ap,
-  ap₂,
-  ◌∙◌,
-  arith,
-  eqb-true,
-}
+use Rattle.std.proofs.Common.{◌≡◌, ℕ, ◌≤◌, ◌==◌, Bool, true, false, not, ◌&&◌, ◌||◌, List, [], ◌∷◌, ◌++◌, None, Decides, bytes_eq, refl, sym, ap, ap₂, ◌∙◌, arith, eqb-true}
 use Rattle.std.proofs.lemmas.Bool.{false≢true, and_parts, and_from}
 use Rattle.std.proofs.lemmas.Slice.Eq.{bytes_eq-Decides}
 use Rattle.rd_base.specs.declared.queries.Query.{Query}
 use Rattle.history_model.specs.declared.entries.Entry.{Entry}
 use Rattle.history_model.specs.Leases.{is_live_at, live_among}
-use Rattle.history_model.specs.Replay.{State, apply, replay, numbered, number_about}
+use Rattle.history_model.specs.Replay.{State, apply, replay, numbered, number_about, counted}
 use Rattle.history_model.specs.Live.{live}
 use Rattle.history_model.specs.Listing.{lines_of, all_lines}
 use Rattle.history_model.specs.Refusals.{change_refusal}
@@ -236,8 +209,8 @@ transition_splits query place first history entry from order accepts =
         rising.ascending
         (pairs_filter IsBelow (is_live_at moment) (apply state entry).records
         (apply-HasRisingNumbers state entry rising).ascending)
-        (entry_gone moment state (first + length history) entry rising
-        (accepted state (first + length history) entry accepts) (omega arith))
+        (entry_gone moment state (counted first history) entry rising
+        (accepted state (counted first history) entry accepts) (omega arith))
         (quiet query place history from more moment e ∙ ap (lines_of query) behind)
       where
         rising : HasRisingNumbers state

@@ -54,6 +54,9 @@
 -- headline.
 --
 -- desks: TraceJournals (a journal of a trace is one of a desk).
+--
+-- Restarts: two runs of a directory, each of which begins above a number, have no number of a
+-- registration and no entity tag in common.
 pub mod notes
 pub mod entries
 pub mod sends
@@ -67,3 +70,4 @@ pub mod WrongEntries
 pub mod WrongBodies
 pub mod WrongDatagrams
 pub mod WrongSources
+pub mod Restarts

@@ -73,7 +73,8 @@ not_found_entered_falls params links before h =
     elim (h.changes.origin before (not_found_entered params links)
     (record { later = []; whole = refl }) (omega arith)) [
       | inl commit ↦ let no : step.Admit ≡ step.Commit commit.0 = commit.1 in absurd cc
-      | inr completion ↦
+      | inr (inr begin) ↦ let no : step.Admit ≡ step.Begin begin.0 = begin.1 in absurd cc
+      | inr (inl completion) ↦
           let read : reading (spelling not_found) ≡ Ok completion.answers.message =
           completion.answers.read in
           let is : not_found ≡ completion.answers.message =

@@ -390,11 +390,12 @@ unfolding messages_on_literals
 reset_entry_falls h =
     elim (h.changes.origin [] reset_entry (record { later = []; whole = refl }) (omega arith)) [
       | inl commit ↦ let no : step.Admit ≡ step.Commit commit.0 = commit.1 in absurd cc
-      | inr completion ↦ different completion.answers.message
+      | inr (inl completion) ↦ different completion.answers.message
           (same (empty_message Rst 16) completion.answers.message
           (let it :
           reading (spelling (empty_message Rst 16)) ≡ Ok completion.answers.message =
           completion.answers.read in it)) completion.answers.response
+      | inr (inr begin) ↦ let no : step.Admit ≡ step.Begin begin.0 = begin.1 in absurd cc
     ]
   where
     same : (m n : Message) → ◌≡◌ {A = Result Message Unread} (Ok m) (Ok n) → m ≡ n

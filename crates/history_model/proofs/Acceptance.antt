@@ -23,6 +23,7 @@ use Rattle.std.proofs.Common.{
   Decides,
   bytes_eq,
   nat_le,
+  max,
   refl,
   sym,
   ap,
@@ -57,6 +58,7 @@ use Rattle.history_model.specs.Replay.{
   registered_under,
   changed,
   apply,
+  lifted,
 }
 use Rattle.history_model.specs.Refusals.{
   max_entries,
@@ -115,7 +117,7 @@ pub record Accepted (state : State) (entries : ℕ) (entry : Entry) : Type 0 whe
   pub there : is_gone (live_among entry.moment.0 state.records) entry.change ≡ false
   pub room : is_full_of_records (live_among entry.moment.0 state.records) entry.change ≡ false
   pub text : is_full_of_text (text_after state entry) entry.change ≡ false
-  pub counted : nat_le max_entries entries ≡ false
+  pub counted : nat_le max_entries (lifted entries entry.change) ≡ false
 
 none_of_four : {A : Type 0} (a b c d : Bool) (w x y z : A)
     → cond a (Some w) (cond b (Some x) (cond c (Some y) (cond d (Some z) None))) ≡ None
@@ -134,8 +136,8 @@ accepted state entries entry e =
     let all =
     none_of_four (is_gone (live_among entry.moment.0 state.records) entry.change)
     (is_full_of_records (live_among entry.moment.0 state.records) entry.change)
-    (is_full_of_text (text_after state entry) entry.change) (nat_le max_entries entries) _ _ _ _
-    e in
+    (is_full_of_text (text_after state entry) entry.change)
+    (nat_le max_entries (lifted entries entry.change)) _ _ _ _ e in
     record { there = all.0; room = all.1; text = all.2; counted = all.3 }
 
 -- ---- the record that an entry is about
@@ -354,9 +356,10 @@ pub by_accepted : (P : State → Type 0) (state : State) (entries : ℕ) (entry 
     → P (record { records = state.records ++ r ∷ []; last_number = state.last_number + 1 }))
     → ((number : ℕ)
     → P (record state { records = filter (λ r. not (is_numbered number r)) state.records }))
+    → ((first : ℕ) → P (record state { last_number = max state.last_number first }))
     → P (apply state entry)
 unfolding apply registered
-by_accepted P state entries entry numbered accepts replaces appends removes =
+by_accepted P state entries entry numbered accepts replaces appends removes begins =
     of_change entry.change accepts.there
   where
     of_number : (o : Option ℕ) (params : RegParams) (links : List SubmittedLink)
@@ -387,3 +390,4 @@ by_accepted P state entries entry numbered accepts replaces appends removes =
         (live_numbered entry.moment.0 number state.records numbered.ascending
         (not-false _ there)))
     of_change (change.Remove number) there = removes number
+    of_change (change.Begin first) there = begins first

@@ -394,6 +394,7 @@ entry_apart moment other state entry away = of_change entry.change away
         replaced_apart moment entry.moment.0 other number (replaced links)
         (replaced-KeepsNumber number entry.moment.0 links) away state.records
     of_change (change.Remove number) away = removed_apart moment other number away state.records
+    of_change (change.Begin first) away = refl
 
 -- where the record that it is about has the same part, the lines are the same
 pub entry_keeps : (query : Query) (moment : ℕ) (state : State) (entry : Entry)

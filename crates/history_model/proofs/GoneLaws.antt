@@ -1,26 +1,9 @@
 -- A registration that is gone stays gone: its number is not live again.
-use Rattle.std.proofs.Common.{
-  ◌≡◌,
-  ℕ,
-  ◌+◌,
-  ◌≤◌,
-  true,
-  List,
-  [],
-  ◌∷◌,
-  ◌++◌,
-  length,
-  sym,
-  ap,
-  subst,
-  append_assoc,
-  append-nil,
-  arith,
-}
+use Rattle.std.proofs.Common.{◌≡◌, ℕ, ◌≤◌, true, List, [], ◌∷◌, ◌++◌, sym, ap, subst, append_assoc, append-nil, arith}
 use Rattle.std.specs.List.{AllByRecursion}
 use Rattle.history_model.specs.declared.entries.Entry.{Entry}
 use Rattle.history_model.specs.Leases.{is_live_at, live_among}
-use Rattle.history_model.specs.Replay.{State, is_numbered, apply, replay}
+use Rattle.history_model.specs.Replay.{State, is_numbered, apply, replay, counted}
 use Rattle.history_model.specs.Live.{live}
 use Rattle.history_model.specs.Legal.{IsLegalFrom}
 use Rattle.history_model.specs.Refusals.{has_number, only_live}
@@ -94,11 +77,11 @@ live_before first front more moment later n legal after order used there =
         (IsLegalFrom_last first (front ++ more) e whole) in
         let state = replay (front ++ more) in
         let low = known.0 in
-        let high = (apply-last_number state e).0 in
+        let high = apply-last_number state e in
         rw (split, replay_push (front ++ more) e) (
           omega (arith, low, high),
           λ now.
-              known.1 (live_before_apply moment state (first + length (front ++ more)) e n
+              known.1 (live_before_apply moment state (counted first (front ++ more)) e n
               (replay-HasRisingNumbers (front ++ more)) accepts parts.1 known.0 now),
         )
 

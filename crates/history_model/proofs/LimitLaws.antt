@@ -50,6 +50,8 @@ use Rattle.history_model.specs.Replay.{
   changed,
   apply,
   replay,
+  lifted,
+  counted,
 }
 use Rattle.history_model.specs.Live.{live, last_moment}
 use Rattle.history_model.specs.Legal.{IsLegalFrom}
@@ -65,12 +67,18 @@ use Rattle.history_model.specs.Refusals.{
 }
 use Rattle.rd_base.proofs.lemmas.Each.{each_passes}
 use Rattle.rd_base.proofs.lemmas.Filters.{length-filter-le, sum_by-filter-le}
-use Rattle.history_model.proofs.ReplayLaws.{replay-nil, replay_push, last_moment_push}
+use Rattle.history_model.proofs.ReplayLaws.{
+  replay-nil,
+  replay_push,
+  last_moment_push,
+  counted-nil,
+  counted_push,
+}
 use Rattle.history_model.proofs.LegalLaws.{by_legal_pushes}
 use Rattle.history_model.proofs.NumberLaws.{
   HasRisingNumbers,
   replay-HasRisingNumbers,
-  last_number-le-length,
+  last_number-le-counted,
 }
 use Rattle.history_model.proofs.Acceptance.{is_same_name-Decides, not_named, Accepted}
 use Rattle.history_model.proofs.NameLaws.{after_change, next-Accepted}
@@ -165,6 +173,7 @@ changed-IsBounded entry state live bounded (change.Replace number links) room te
     record { count = omega (arith, same); text = ltb-false _ _ text }
 changed-IsBounded entry state live bounded (change.Remove number) room text =
     IsBounded-filter (λ r. not (is_numbered number r)) state.records bounded
+changed-IsBounded entry state live bounded (change.Begin first) room text = bounded
 
 apply-IsBounded : (state : State) (entries : ℕ) (entry : Entry)
     → HasRisingNumbers state
@@ -192,7 +201,7 @@ replay-IsBounded first =
     by_legal_pushes first (λ h. IsBounded (live_among (last_moment h) (replay h).records))
     (rw replay-nil (record { count = omega arith; text = omega arith }))
     (λ h e legal next before. rw (replay_push h e, last_moment_push h e)
-    (apply-IsBounded (replay h) (first + length h) e (replay-HasRisingNumbers h)
+    (apply-IsBounded (replay h) (counted first h) e (replay-HasRisingNumbers h)
     (next-Accepted first h e next)
     (subst IsBounded (live_among_live (last_moment h) e.moment.0 (replay h).records next.in_time)
     (IsBounded-filter (is_live_at e.moment.0) (live_among (last_moment h) (replay h).records)
@@ -210,18 +219,17 @@ live-IsBounded first history moment legal order =
     (live_among (last_moment history) (replay history).records)
     (replay-IsBounded first history legal))
 
--- a legal history has so many entries at most, with those that were counted before its first
-pub length-le-max_entries : (first : ℕ) (history : List Entry)
+-- so many entries of a legal history are counted at most
+pub counted-le-max_entries : (first : ℕ) (history : List Entry)
     → first ≤ max_entries
     → IsLegalFrom first history
-    → first + length history ≤ max_entries
-length-le-max_entries first history low =
-    by_legal_pushes first (λ h. first + length h ≤ max_entries) (omega arith)
+    → counted first history ≤ max_entries
+counted-le-max_entries first history low =
+    by_legal_pushes first (λ h. counted first h ≤ max_entries) (rw (counted-nil first) low)
     (λ h e legal next before.
-    let below : first + length h < max_entries =
+    let below : lifted (counted first h) e.change < max_entries =
     leb-false _ _ (next-Accepted first h e next).counted in
-    let more = length-append h (e ∷ []) in
-    omega (arith, more)) history
+    rw (counted_push first h e) (omega (arith, below))) history
 
 -- so no number is higher
 -- An end theorem: nothing here cites it.
@@ -230,5 +238,5 @@ pub last_number-le-max_entries : (first : ℕ) (history : List Entry)
     → IsLegalFrom first history
     → (replay history).last_number ≤ max_entries
 last_number-le-max_entries first history low legal =
-    let last = last_number-le-length history in
-    let few = length-le-max_entries first history low legal in omega (arith, last, few)
+    let last = last_number-le-counted first history in
+    let few = counted-le-max_entries first history low legal in omega (arith, last, few)

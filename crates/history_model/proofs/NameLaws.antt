@@ -1,29 +1,11 @@
 -- The names of live records differ, and no record was granted later than the last entry.
-use Rattle.std.proofs.Common.{
-  ◌≡◌,
-  ◌≢◌,
-  ℕ,
-  ◌+◌,
-  ◌≤◌,
-  Bool,
-  true,
-  false,
-  not,
-  cond,
-  List,
-  length,
-  refl,
-  sym,
-  ◌∙◌,
-  arith,
-  eqb-true,
-}
+use Rattle.std.proofs.Common.{◌≡◌, ◌≢◌, ℕ, ◌≤◌, Bool, true, false, not, cond, List, refl, sym, ◌∙◌, arith, eqb-true}
 use Rattle.std.specs.List.{AllByRecursion}
 use Rattle.std.proofs.lemmas.Bool.{true≢false}
 use Rattle.rd_base.specs.declared.records.Record.{Record}
 use Rattle.history_model.specs.declared.entries.Entry.{Entry}
 use Rattle.history_model.specs.Leases.{is_live_at, live_among}
-use Rattle.history_model.specs.Replay.{State, is_numbered, apply, replay}
+use Rattle.history_model.specs.Replay.{State, is_numbered, apply, replay, counted}
 use Rattle.history_model.specs.Live.{HaveDistinctNames, live, last_moment}
 use Rattle.history_model.specs.Legal.{IsNext, IsLegalFrom}
 use Rattle.history_model.specs.Refusals.{change_refusal}
@@ -51,10 +33,10 @@ use Rattle.history_model.proofs.Acceptance.{is_live_before, Accepted, accepted, 
 -- an entry that may come next meets no refusal in the state that its history made
 pub next-Accepted : (first : ℕ) (history : List Entry) (entry : Entry)
     → IsNext first history entry
-    → Accepted (replay history) (first + length history) entry
+    → Accepted (replay history) (counted first history) entry
 unfolding change_refusal
 next-Accepted first history entry next =
-    accepted (replay history) (first + length history) entry next.accepted
+    accepted (replay history) (counted first history) entry next.accepted
 
 -- ---- names
 
@@ -105,6 +87,7 @@ apply-AreApart state entries entry numbered accepts before =
     none))
     (λ number. pairs_filter (AreApart moment) (λ r. not (is_numbered number r)) state.records
     before)
+    (λ first. before)
 
 apart_later : (before moment : ℕ) (records : List Record)
     → before ≤ moment
@@ -123,7 +106,7 @@ replay-AreApart first =
     by_legal_pushes first (λ h. PairsByRecursion (AreApart (last_moment h)) (replay h).records)
     (rw replay-nil tt)
     (λ h e legal next before. rw (replay_push h e, last_moment_push h e)
-    (apply-AreApart (replay h) (first + length h) e (replay-HasRisingNumbers h)
+    (apply-AreApart (replay h) (counted first h) e (replay-HasRisingNumbers h)
     (next-Accepted first h e next)
     (apart_later (last_moment h) e.moment.0 (replay h).records next.in_time before)))
 
@@ -166,6 +149,7 @@ apply-IsGrantedBy state entry before =
     (λ r next granted. each_push (IsGrantedBy moment) state.records r before (omega arith))
     (λ number. each_filter (IsGrantedBy moment) (λ r. not (is_numbered number r)) state.records
     before)
+    (λ first _. before)
   where
     granted_by : (moment number : ℕ) (new : Record → Record)
         → KeepsNumber moment number new

@@ -1,37 +1,5 @@
 -- The numbers of records: they rise, and none is used again.
-use Rattle.std.proofs.Common.{
-  ◌≡◌,
-  ℕ,
-  ◌+◌,
-  ◌<◌,
-  ◌≤◌,
-  Bool,
-  true,
-  false,
-  not,
-  ◌||◌,
-  cond,
-  List,
-  [],
-  ◌∷◌,
-  ◌++◌,
-  map,
-  filter,
-  length,
-  length-append,
-  refl,
-  sym,
-  ap,
-  subst,
-  ◌∙◌,
-  ◌⊎◌,
-  inl,
-  inr,
-  append_assoc,
-  append-nil,
-  arith,
-  ne_eqb,
-}
+use Rattle.std.proofs.Common.{◌≡◌, ℕ, ◌+◌, ◌<◌, ◌≤◌, Bool, true, false, not, ◌||◌, cond, List, [], ◌∷◌, ◌++◌, map, filter, refl, sym, ap, subst, ◌∙◌, ◌⊎◌, inl, inr, append_assoc, append-nil, arith, ne_eqb, max}
 use Rattle.std.specs.Prelude.{◌==◌}
 use Rattle.std.specs.List.{AllByRecursion, list_any}
 use Rattle.std.proofs.lemmas.Bool.{true≢false, cases_lt, or_cases}
@@ -39,7 +7,7 @@ use Rattle.std.proofs.lemmas.List.Folds.{list_any-append}
 use Rattle.rd_base.specs.declared.records.Record.{Record}
 use Rattle.history_model.specs.declared.entries.Entry.{Entry}
 use Rattle.history_model.specs.Leases.{is_live_at, live_among}
-use Rattle.history_model.specs.Replay.{State, is_numbered, with_changed, apply, replay}
+use Rattle.history_model.specs.Replay.{State, is_numbered, with_changed, apply, replay, count_after, counted}
 use Rattle.history_model.specs.Live.{AreAscending, IsFront, live}
 use Rattle.history_model.specs.Refusals.{has_number}
 use Rattle.rd_base.proofs.lemmas.Pairs.{
@@ -55,6 +23,9 @@ use Rattle.history_model.proofs.ReplayLaws.{
   KeepsNumber,
   replay-nil,
   replay_push,
+  counted-nil,
+  counted_push,
+  lifted-above,
   by_change,
   changed_number,
 }
@@ -114,6 +85,17 @@ appended-HasRisingNumbers state r next before = record {
       (omega arith, omega arith);
 }
 
+lifted-HasRisingNumbers : (state : State) (first : ℕ)
+    → HasRisingNumbers state
+    → HasRisingNumbers (record state { last_number = max state.last_number first })
+lifted-HasRisingNumbers state first before = record {
+  ascending = before.ascending;
+  each_numbered =
+      each_weaker (IsNumberedUpTo state.last_number) (IsNumberedUpTo (max state.last_number first))
+      (λ r within. let low = within.0 in let high = within.1 in (omega arith, omega arith))
+      state.records before.each_numbered;
+}
+
 pub apply-HasRisingNumbers : (state : State) (entry : Entry)
     → HasRisingNumbers state
     → HasRisingNumbers (apply state entry)
@@ -127,6 +109,7 @@ apply-HasRisingNumbers state entry before = by_change HasRisingNumbers state ent
           each_filter (IsNumberedUpTo state.last_number) (λ r. not (is_numbered number r))
           state.records before.each_numbered;
     })
+    (λ first _. lifted-HasRisingNumbers state first before)
 
 -- the records of a history stand in ascending number, each number is above 0, and none is above the
 -- last number
@@ -154,29 +137,32 @@ live-AreAscending history moment =
 
 -- ---- how many there are
 
--- an entry raises the last number by one at most
+-- no entry lowers the last number
 pub apply-last_number : (state : State) (entry : Entry)
-    → (state.last_number ≤ (apply state entry).last_number)
-    × ((apply state entry).last_number ≤ state.last_number + 1)
-apply-last_number state entry =
-    by_change (λ after.
-    (state.last_number ≤ after.last_number) × (after.last_number ≤ state.last_number + 1))
-    state entry
-    (λ number new keeps. (omega arith, omega arith)) (λ r next _. (omega arith, omega arith))
-    (λ number. (omega arith, omega arith))
+    → state.last_number ≤ (apply state entry).last_number
+apply-last_number state entry = by_change (λ after. state.last_number ≤ after.last_number) state
+    entry (λ number new keeps. omega arith) (λ r next _. omega arith) (λ number. omega arith)
+    (λ first _. omega arith)
 
--- the last number is not above the number of entries
-pub last_number-le-length : (history : List Entry) → (replay history).last_number ≤ length history
-last_number-le-length history =
-    by_pushes (λ h. (replay h).last_number ≤ length h) (rw replay-nil (omega arith)) push history
-  where
-    push : (h : List Entry) (e : Entry)
-        → (replay h).last_number ≤ length h
-        → (replay (h ++ e ∷ [])).last_number ≤ length (h ++ e ∷ [])
-    push h e before =
-        let one = (apply-last_number (replay h) e).1 in
-        let more = length-append h (e ∷ []) in
-        rw (replay_push h e) (omega (arith, one, more, before))
+-- a last number that is not above the count is not after an entry
+pub apply-last_number-counted : (state : State) (count : ℕ) (entry : Entry)
+    → state.last_number ≤ count
+    → (apply state entry).last_number ≤ count_after count entry
+apply-last_number-counted state count entry within =
+    let low = lifted-above count entry.change in
+    by_change (λ after. after.last_number ≤ count_after count entry) state entry
+    (λ number new keeps. omega (arith, low)) (λ r next _. omega (arith, low))
+    (λ number. omega (arith, low))
+    (λ first is. rw is (omega arith))
+
+-- the last number is not above the count of entries
+pub last_number-le-counted : (first : ℕ) (history : List Entry)
+    → (replay history).last_number ≤ counted first history
+last_number-le-counted first history = by_pushes (λ h. (replay h).last_number ≤ counted first h)
+    (rw (replay-nil, counted-nil first) (omega arith))
+    (λ h e before.
+    rw (replay_push h e, counted_push first h e)
+    (apply-last_number-counted (replay h) (counted first h) e before)) history
 
 -- ---- none is used again
 
@@ -210,7 +196,7 @@ pub has_number_before : (state : State) (entry : Entry) (n : ℕ)
     → has_number n state.records ≡ true
 has_number_before state entry n used =
     by_change (λ after. has_number n after.records ≡ true → has_number n state.records ≡ true) state
-    entry replaces appends removes
+    entry replaces appends removes (λ first _ there. there)
   where
     replaces : (number : ℕ) (new : Record → Record)
         → KeepsNumber entry.moment.0 number new
@@ -268,7 +254,7 @@ number_not_again front history begins n used there =
         let split : replay (front ++ (more ++ e ∷ [])) ≡ apply (replay (front ++ more)) e =
         ap replay (sym (append_assoc front more (e ∷ []))) ∙ replay_push (front ++ more) e in
         let low = before.0 in
-        let high = (apply-last_number (replay (front ++ more)) e).0 in
+        let high = apply-last_number (replay (front ++ more)) e in
         rw split (
           omega arith,
           λ later. before.1 (has_number_before (replay (front ++ more)) e n before.0 later),

@@ -19,6 +19,7 @@ use Rattle.std.proofs.Common.{
   refl,
   sym,
   eqb-true,
+  max,
   ◌≤◌,
   arith,
 }
@@ -44,6 +45,9 @@ use Rattle.history_model.specs.Replay.{
   changed,
   apply,
   replay,
+  lifted,
+  count_after,
+  counted,
 }
 use Rattle.history_model.specs.Live.{last_moment}
 
@@ -68,6 +72,36 @@ pub last_moment_push : (history : List Entry) (entry : Entry)
     → last_moment (history ++ entry ∷ []) ≡ entry.moment.0
 unfolding last_moment
 last_moment_push history entry = fold_push (λ (before : ℕ) (e : Entry). e.moment.0) 0 history entry
+
+-- ---- counts
+
+-- without an entry
+pub counted-nil : (first : ℕ) → counted first [] ≡ first
+unfolding counted
+counted-nil first = refl
+
+-- with one entry more
+pub counted_push : (first : ℕ) (history : List Entry) (entry : Entry)
+    → counted first (history ++ entry ∷ []) ≡ count_after (counted first history) entry
+unfolding counted
+counted_push first history entry = fold_push count_after first history entry
+
+-- no change follows a lower count
+pub lifted-above : (count : ℕ) (c : Change) → count ≤ lifted count c
+lifted-above count (change.Register params links) = omega arith
+lifted-above count (change.Update number given) = omega arith
+lifted-above count (change.Replace number links) = omega arith
+lifted-above count (change.Remove number) = omega arith
+lifted-above count (change.Begin first) = omega arith
+
+-- as many are counted at least as were before
+pub counted-above : (first : ℕ) (history : List Entry) → first ≤ counted first history
+unfolding counted
+counted-above first [] = omega arith
+counted-above first (e ∷ es) =
+    let low = lifted-above first e.change in
+    let more = counted-above (count_after first e) es in
+    omega (arith, low, more)
 
 -- ---- what an entry makes
 
@@ -117,6 +151,14 @@ pub apply-Remove : (state : State) (now : Moment) (worker : ℕ) (peer : Peer) (
 unfolding apply
 apply-Remove state now worker peer number = refl
 
+-- An end theorem: nothing here cites it.
+pub apply-Begin : (state : State) (now : Moment) (worker : ℕ) (peer : Peer) (first : ℕ)
+    → apply state
+    (record { moment = now; worker = worker; peer = peer; change = change.Begin first })
+    ≡ record { records = state.records; last_number = max state.last_number first }
+unfolding apply
+apply-Begin state now worker peer first = refl
+
 -- where each record of the number keeps it, and none is granted after the moment
 pub record KeepsNumber (moment number : ℕ) (new : Record → Record) : Type 0 where
   pub keeps : (r : Record) → r.number ≡ number → (new r).number ≡ r.number
@@ -158,9 +200,12 @@ pub by_change : (P : State → Type 0) (state : State) (entry : Entry)
     → P (record { records = state.records ++ r ∷ []; last_number = state.last_number + 1 }))
     → ((number : ℕ)
     → P (record state { records = filter (λ r. not (is_numbered number r)) state.records }))
+    → ((first : ℕ)
+    → entry.change ≡ change.Begin first
+    → P (record state { last_number = max state.last_number first }))
     → P (apply state entry)
 unfolding apply registered
-by_change P state entry replaces appends removes = of_change entry.change
+by_change P state entry replaces appends removes begins = of_change entry.change refl
   where
     of_number : (o : Option ℕ) (params : RegParams) (links : List SubmittedLink)
         → P (registered_under o state entry.moment entry.peer params links)
@@ -170,16 +215,17 @@ by_change P state entry replaces appends removes = of_change entry.change
     of_number None params links =
         appends (registered (state.last_number + 1) entry.moment entry.peer params links) refl refl
 
-    of_change : (c : Change) → P (changed state entry.moment entry.peer c)
-    of_change (change.Register params links) =
+    of_change : (c : Change) → entry.change ≡ c → P (changed state entry.moment entry.peer c)
+    of_change (change.Register params links) is =
         of_number (number_named params.name entry.moment.0 state.records) params links
-    of_change (change.Update number given) =
+    of_change (change.Update number given) is =
         replaces number (updated entry.moment entry.peer given)
         (updated-KeepsNumber number entry.moment entry.peer given)
-    of_change (change.Replace number links) =
+    of_change (change.Replace number links) is =
         replaces number (replaced links)
         (replaced-KeepsNumber number entry.moment.0 links)
-    of_change (change.Remove number) = removes number
+    of_change (change.Remove number) is = removes number
+    of_change (change.Begin first) is = begins first is
 
 -- a record that a change may be about keeps its number
 pub changed_number : (moment number : ℕ) (new : Record → Record)

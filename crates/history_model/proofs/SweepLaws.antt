@@ -23,6 +23,8 @@ use Rattle.std.proofs.Common.{
   ap,
   ◌∙◌,
   eqb-true,
+  max,
+  arith,
 }
 use Rattle.std.specs.List.{AllByRecursion}
 use Rattle.std.proofs.lemmas.Bool.{true≢false, and_parts, not-false}
@@ -180,3 +182,5 @@ only_live-apply swept state entries entry numbered accepts order =
         (not-false _ there)))
     of_change (change.Remove number) there =
         ap (with_records state.last_number) (removed_live swept number state.records)
+    of_change (change.Begin first) there = ap (with_records (max state.last_number first))
+        (sym (live_among_live swept swept state.records (omega arith)))

@@ -9,6 +9,9 @@ use Rattle.std.proofs.Common.{
   ◌≤◌,
   not,
   List,
+  [],
+  ◌∷◌,
+  ◌++◌,
   map,
   filter,
   length,
@@ -19,6 +22,7 @@ use Rattle.std.proofs.Common.{
   refl,
   sym,
   ap,
+  ap₂,
   subst,
   ◌∙◌,
   ◌⊎◌,
@@ -35,16 +39,17 @@ use Rattle.rd_base.specs.declared.records.Record.{Record}
 use Rattle.record_model.specs.ListingLines.{shown}
 use Rattle.history_model.specs.declared.entries.Entry.{Entry}
 use Rattle.history_model.specs.Leases.{lapse, is_live_at, live_among}
-use Rattle.history_model.specs.Replay.{numbered, replay}
+use Rattle.history_model.specs.Replay.{numbered, replay, count_after, counted}
 use Rattle.history_model.specs.Sources.{record_source, source}
 use Rattle.history_model.specs.Live.{IsFront, live, last_moment}
 use Rattle.history_model.specs.Listing.{lines_of, all_lines, listing, lapsed_since, tag_from}
 use Rattle.history_model.specs.Legal.{IsLegalFrom}
 use Rattle.history_model.specs.Refusals.{max_entries}
 use Rattle.rd_base.proofs.lemmas.Filters.{filter_full}
+use Rattle.history_model.proofs.ReplayLaws.{lifted-above, counted-above}
 use Rattle.history_model.proofs.LegalLaws.{IsLegalFrom-IsFront}
 use Rattle.history_model.proofs.SweepLaws.{live_among_live}
-use Rattle.history_model.proofs.LimitLaws.{live-IsBounded, length-le-max_entries}
+use Rattle.history_model.proofs.LimitLaws.{live-IsBounded, counted-le-max_entries}
 use Rattle.history_model.proofs.TagOctets.{tag_octets_tell}
 
 -- ---- what has lapsed and what is live
@@ -113,6 +118,34 @@ same_front history front other begins also e =
     ∙ ap (take (length front)) (begins.1 ∙ sym (also.1))
     ∙ take_at other also.0 (length front) (sym e)
 
+-- of two lists with further entries that are the same, those are the same that are counted alike
+same_count : (first : ℕ) (front further other more : List Entry)
+    → front ++ further ≡ other ++ more
+    → counted first front ≡ counted first other
+    → front ≡ other
+unfolding counted
+same_count first [] further [] more whole e = refl
+same_count first [] further (x ∷ xs) more whole e =
+    let low = lifted-above first x.change in
+    let high = counted-above (count_after first x) xs in absurd (omega (arith, low, high, e))
+same_count first (x ∷ xs) further [] more whole e =
+    let low = lifted-above first x.change in
+    let high = counted-above (count_after first x) xs in absurd (omega (arith, low, high, e))
+same_count first (x ∷ xs) further (y ∷ ys) more whole e =
+    let heads : x ≡ y = cc in
+    let rest : xs ++ further ≡ ys ++ more = cc in
+    ap₂ (λ z zs. z ∷ zs) heads (same_count (count_after first x) xs further ys more rest
+    (e ∙ ap (λ z. counted (count_after first z) ys) (sym heads)))
+
+-- fronts of one history that are counted alike are the same
+pub same_counted : (first : ℕ) (history front other : List Entry)
+    → IsFront front history
+    → IsFront other history
+    → counted first front ≡ counted first other
+    → front ≡ other
+same_counted first history front other begins also e =
+    same_count first front begins.0 other also.0 (begins.1 ∙ sym (also.1)) e
+
 -- ---- tags
 
 -- no more records have lapsed since the last entry than were live after it
@@ -137,18 +170,17 @@ pub tag_from_tells : (first : ℕ) (history front other : List Entry) (moment la
     → tag_from first front moment ≡ tag_from first other later
     → (front ≡ other) × (live front moment ≡ live other later)
 unfolding tag_from
-tag_from_tells first history front other moment later counted legal begins also low high e =
+tag_from_tells first history front other moment later low_first legal begins also low high e =
     let legal_front = IsLegalFrom-IsFront first front history begins legal in
     let legal_other = IsLegalFrom-IsFront first other history also legal in
-    let few = length-le-max_entries first front counted legal_front in
-    let fewer = length-le-max_entries first other counted legal_other in
+    let few = counted-le-max_entries first front low_first legal_front in
+    let fewer = counted-le-max_entries first other low_first legal_other in
     let numbers =
-    tag_octets_tell (first + length front) (lapsed_since front moment) (first + length other)
+    tag_octets_tell (counted first front) (lapsed_since front moment) (counted first other)
     (lapsed_since other later) (omega (arith, few)) (omega (arith, fewer))
     (lapsed_below first front moment legal_front low)
     (lapsed_below first other later legal_other high) e in
-    let as_long : length front ≡ length other = let count = numbers.0 in omega (arith, count) in
-    let same = same_front history front other begins also as_long in
+    let same = same_counted first history front other begins also numbers.0 in
     (same, of_equal_fronts front other same low high numbers.1)
   where
     of_equal_fronts : (front other : List Entry)

@@ -18,7 +18,6 @@ use Rattle.std.proofs.Common.{
   ◌++◌,
   filter,
   length,
-  length-append,
   Option,
   Some,
   None,
@@ -59,6 +58,8 @@ use Rattle.history_model.specs.Replay.{
   changed,
   apply,
   replay,
+  count_after,
+  counted,
 }
 use Rattle.history_model.specs.Live.{live, last_moment}
 use Rattle.history_model.specs.Listing.{lines_of, all_lines, lapsed_since, tag_octets, tag_from}
@@ -75,7 +76,12 @@ use Rattle.rd_base.proofs.lemmas.Each.{
 }
 use Rattle.rd_base.proofs.lemmas.Pairs.{pairs_filter}
 use Rattle.rd_base.proofs.lemmas.Filters.{filter_all, filter_stronger}
-use Rattle.history_model.proofs.ReplayLaws.{replay_push, last_moment_push}
+use Rattle.history_model.proofs.ReplayLaws.{
+  replay_push,
+  last_moment_push,
+  counted-nil,
+  counted_push,
+}
 use Rattle.history_model.proofs.NumberLaws.{
   IsBelow,
   IsNumberedUpTo,
@@ -204,6 +210,7 @@ apply-live swept state entries entry numbered accepts lasts order granted live =
     of_change (change.Remove number) there lasts =
         each_filter (λ r. is_live_at swept r ≡ true) (λ r. not (is_numbered number r)) state.records
         live
+    of_change (change.Begin first) there lasts = live
 
 -- an accepted entry, of the records that are left
 Accepted-only_live : (swept : ℕ) (state : State) (entries : ℕ) (entry : Entry)
@@ -268,7 +275,7 @@ pub empty-VersionStandsFor : (first : ℕ) → VersionStandsFor first [] (empty_
 unfolding replay last_moment lapsed_since live
 empty-VersionStandsFor first = record {
   records = refl;
-  entries = omega arith;
+  entries = sym (counted-nil first);
   at = refl;
   last_number = refl;
   swept_live = refl;
@@ -294,7 +301,7 @@ unfolding change_refusal
 change_refusal-VersionStandsFor first history version entry stands order =
     ap₂ (λ state entries. refusal_in state entries entry)
     (state_of-VersionStandsFor first history version stands) stands.entries
-    ∙ refusal_in-only_live version.swept (replay history) (first + length history) entry order
+    ∙ refusal_in-only_live version.swept (replay history) (counted first history) entry order
 
 -- the same number of a name
 -- An end theorem: nothing here cites it.
@@ -359,7 +366,7 @@ all_lines-VersionStandsFor first history version query moment stands order =
 abbrev pub with_entry : Version → Entry → Version
 with_entry version entry = record {
   records = (apply (state_of version) entry).records;
-  entries = version.entries + 1;
+  entries = count_after version.entries entry;
   at = entry.moment.0;
   last_number = (apply (state_of version) entry).last_number;
   swept_live = 0;
@@ -401,17 +408,17 @@ with_entry-VersionStandsFor first history version entry legal in_time accepted l
     (λ r by_then. omega arith) before.records (replay-IsGrantedBy first history legal) in
     let made : apply (state_of version) entry ≡ only_live version.swept (apply before entry) =
     ap (λ state. apply state entry) (state_of-VersionStandsFor first history version stands)
-    ∙ apply-only_live version.swept before (first + length history) entry
+    ∙ apply-only_live version.swept before (counted first history) entry
     (replay-HasRisingNumbers history) accepted lasts order granted in
     let whole :
     only_live version.swept (apply before entry)
     ≡ only_live version.swept (replay (history ++ entry ∷ [])) =
     ap (only_live version.swept) (sym (replay_push history entry)) in
-    let more = length-append history (entry ∷ []) in
-    let count = stands.entries in
     record {
       records = ap (λ (s : State). s.records) (made ∙ whole);
-      entries = omega (arith, more, count);
+      entries =
+          ap (λ count. count_after count entry) stands.entries
+          ∙ sym (counted_push first history entry);
       at = sym (last_moment_push history entry);
       last_number = ap (λ (s : State). s.last_number) (made ∙ whole);
       swept_live =

@@ -50,3 +50,4 @@ number_about-VersionStandsFor first history version moment (change.Replace numbe
     refl
 number_about-VersionStandsFor first history version moment (change.Remove number) stands order =
     refl
+number_about-VersionStandsFor first history version moment (change.Begin begin) stands order = refl

@@ -21,6 +21,7 @@ HasGoodBody (change.Register params links) = AreOfGoodBody links
 HasGoodBody (change.Update number given) = ⊤
 HasGoodBody (change.Replace number links) = AreOfGoodBody links
 HasGoodBody (change.Remove number) = ⊤
+HasGoodBody (change.Begin first) = ⊤
 
 -- an entry may come after a history: its moment is not below the last one, its body is not refused,
 -- and it meets no refusal
@@ -47,3 +48,4 @@ IsLasting (change.Register params links) = 0 < params.lt
 IsLasting (change.Update number given) = IfSome given.lt (λ lt. 0 < lt)
 IsLasting (change.Replace number links) = ⊤
 IsLasting (change.Remove number) = ⊤
+IsLasting (change.Begin first) = ⊤

@@ -1,12 +1,13 @@
 -- What a lookup answers from a history at a moment: the listing and its entity tag (RFC 9176
 -- section 6, RFC 7252 section 5.10.6).
-use Rattle.std.specs.Prelude.{ℕ, ◌+◌, List, ◌++◌, map, filter, flat_map, length, nat_le}
+use Rattle.std.specs.Prelude.{ℕ, List, ◌++◌, map, filter, flat_map, length, nat_le}
 use Rattle.std.specs.Int.{bytes_high_first}
 use Rattle.rd_base.specs.declared.queries.Query.{Query}
 use Rattle.rd_base.specs.declared.records.Record.{Record}
 use Rattle.record_model.specs.ListingLines.{part, shown}
 use Rattle.history_model.specs.declared.entries.Entry.{Entry}
 use Rattle.history_model.specs.Leases.{lapse}
+use Rattle.history_model.specs.Replay.{counted}
 use Rattle.history_model.specs.Live.{live, last_moment}
 
 -- the lines that a record gives to a query, each with the number of the record
@@ -38,7 +39,7 @@ tag_octets entries lapsed = bytes_high_first 6 entries ++ bytes_high_first 2 lap
 -- the tag of a history at a moment that is not below its last, where so many entries were counted
 -- before its first
 unfoldable pub tag_from : ℕ → List Entry → ℕ → List ℕ
-tag_from first history moment = tag_octets (first + length history) (lapsed_since history moment)
+tag_from first history moment = tag_octets (counted first history) (lapsed_since history moment)
 
 -- the tag of a history at a moment that is not below its last
 abbrev pub tag : List Entry → ℕ → List ℕ

@@ -1,7 +1,6 @@
 -- Why a change is refused at its moment, in the order in which it is looked for.
 use Rattle.std.specs.Prelude.{
   ℕ,
-  ◌+◌,
   Bool,
   false,
   not,
@@ -32,7 +31,7 @@ use Rattle.history_model.specs.declared.refusals.Refusal.{Refusal}
 use Rattle.history_model.specs.declared.refusals.Refusal.TheVariants as refusal
 use Rattle.history_model.specs.Leases.{live_among}
 use Rattle.history_model.specs.Names.{is_same_name}
-use Rattle.history_model.specs.Replay.{State, is_numbered, apply, replay}
+use Rattle.history_model.specs.Replay.{State, is_numbered, apply, replay, lifted, counted}
 
 -- the most registrations that are live
 abbrev pub max_registrations : ℕ
@@ -65,6 +64,7 @@ is_gone live (change.Register params links) = false
 is_gone live (change.Update number given) = not (has_number number live)
 is_gone live (change.Replace number links) = not (has_number number live)
 is_gone live (change.Remove number) = not (has_number number live)
+is_gone live (change.Begin first) = false
 
 -- a registration comes with a new name while as many records are live as may be
 abbrev pub is_full_of_records : List Record → Change → Bool
@@ -73,6 +73,7 @@ is_full_of_records live (change.Register params links) =
 is_full_of_records live (change.Update number given) = false
 is_full_of_records live (change.Replace number links) = false
 is_full_of_records live (change.Remove number) = false
+is_full_of_records live (change.Begin first) = false
 
 -- the state with those of its records alone that are live at a moment
 abbrev pub only_live : ℕ → State → State
@@ -90,6 +91,7 @@ is_full_of_text text (change.Register params links) = nat_lt max_text text
 is_full_of_text text (change.Update number given) = nat_lt max_text text
 is_full_of_text text (change.Replace number links) = nat_lt max_text text
 is_full_of_text text (change.Remove number) = false
+is_full_of_text text (change.Begin first) = false
 
 -- the first refusal of an entry in a state, where so many entries were counted before
 unfoldable pub refusal_in : State → ℕ → Entry → Option Refusal
@@ -98,10 +100,10 @@ refusal_in state entries entry =
     if is_gone live entry.change then Some refusal.Registration
     else if is_full_of_records live entry.change then Some refusal.Registrations
     else if is_full_of_text (text_after state entry) entry.change then Some refusal.Text
-    else if nat_le max_entries entries then Some refusal.Entries
+    else if nat_le max_entries (lifted entries entry.change) then Some refusal.Entries
     else None
 
 -- the first refusal of an entry after a history, where so many entries were counted before the
 -- first of the history
 unfoldable pub change_refusal : ℕ → List Entry → Entry → Option Refusal
-change_refusal first history entry = refusal_in (replay history) (first + length history) entry
+change_refusal first history entry = refusal_in (replay history) (counted first history) entry

@@ -6,6 +6,7 @@ use Rattle.std.specs.Prelude.{
   not,
   ◌&&◌,
   ◌==◌,
+  max,
   List,
   [],
   ◌∷◌,
@@ -67,12 +68,13 @@ number_for name moment state =
 abbrev pub numbered : ℕ → List Record → Option Record
 numbered number records = find (is_numbered number) records
 
--- the number that a change is about at a moment
+-- the number that a change is about at a moment; a beginning is about 0, which no record has
 abbrev pub number_about : State → ℕ → Change → ℕ
 number_about state moment (change.Register params links) = number_for params.name moment state
 number_about state moment (change.Update number given) = number
 number_about state moment (change.Replace number links) = number
 number_about state moment (change.Remove number) = number
+number_about state moment (change.Begin first) = 0
 
 -- the records, with something else for that of this number
 abbrev pub with_changed : ℕ → (Record → Record) → List Record → List Record
@@ -114,6 +116,9 @@ changed state now peer (change.Replace number links) = record state {
 changed state now peer (change.Remove number) = record state {
   records = filter (λ r. not (is_numbered number r)) state.records;
 }
+changed state now peer (change.Begin first) = record state {
+  last_number = max state.last_number first;
+}
 
 -- what an entry makes of a state
 unfoldable pub apply : State → Entry → State
@@ -122,3 +127,20 @@ apply state entry = changed state entry.moment entry.peer entry.change
 -- what the entries of a history make, oldest first
 unfoldable pub replay : List Entry → State
 replay history = fold apply empty history
+
+-- the count that a change follows, where so many entries were counted before: a beginning lifts it
+-- to its number
+abbrev pub lifted : ℕ → Change → ℕ
+lifted count (change.Register params links) = count
+lifted count (change.Update number given) = count
+lifted count (change.Replace number links) = count
+lifted count (change.Remove number) = count
+lifted count (change.Begin first) = max count first
+
+-- the count with an entry more
+abbrev pub count_after : ℕ → Entry → ℕ
+count_after count entry = lifted count entry.change + 1
+
+-- the count of the entries of a history, where so many were counted before the first
+unfoldable pub counted : ℕ → List Entry → ℕ
+counted first history = fold count_after first history

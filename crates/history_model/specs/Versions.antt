@@ -1,9 +1,9 @@
 -- What a version of the directory stands for.
-use Rattle.std.specs.Prelude.{◌≡◌, ℕ, ◌+◌, List, length}
+use Rattle.std.specs.Prelude.{◌≡◌, ℕ, List}
 use Rattle.rd_base.specs.declared.records.Record.{Record}
 use Rattle.history_model.specs.declared.entries.Entry.{Entry}
 use Rattle.history_model.specs.Leases.{live_among}
-use Rattle.history_model.specs.Replay.{State, replay}
+use Rattle.history_model.specs.Replay.{State, replay, counted}
 use Rattle.history_model.specs.Live.{last_moment}
 use Rattle.history_model.specs.Listing.{lapsed_since}
 
@@ -27,7 +27,7 @@ state_of version = record { records = version.records; last_number = version.las
 -- ones that were live after the last entry
 pub record VersionStandsFor (first : ℕ) (history : List Entry) (version : Version) : Type 0 where
   pub records : version.records ≡ live_among version.swept (replay history).records
-  pub entries : version.entries ≡ first + length history
+  pub entries : version.entries ≡ counted first history
   pub at : version.at ≡ last_moment history
   pub last_number : version.last_number ≡ (replay history).last_number
   pub swept_live : version.swept_live ≡ lapsed_since history version.swept

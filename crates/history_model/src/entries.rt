@@ -12,6 +12,8 @@ pub enum Change {
     Replace(u64, LinkedList<SubmittedLink>),
     /// The removal of the registration of this number.
     Remove(u64),
+    /// The beginning of a run: numbers and the count of entries go on above this one.
+    Begin(u64),
 }
 
 /// A change with its circumstances.

@@ -1,5 +1,5 @@
--- The words of `rd_host`: the addresses at which it listens, how many workers each has, and how
--- many turns each of them.
+-- The words of `rd_host`: the addresses at which it listens, how many workers each has, how many
+-- turns each of them, and above which number the run begins.
 use Rattle.std.specs.Prelude.{◌≡◌, ◌≤◌, ℕ, ◌+◌, ◌/◌, List, [], ◌∷◌}
 use Rattle.std.specs.Prelude.{◌++◌, length, codes}
 use Rattle.std.specs.Prelude.{Option, Some, None, Result, Ok, Err, option_and_then, option_map}
@@ -27,6 +27,10 @@ max_ends = 16
 abbrev pub max_turns : ℕ
 max_turns = 1_000_000_000_000
 
+-- the greatest number above which a run may be told to begin
+abbrev pub max_begin : ℕ
+max_begin = 100_000_000_000_000
+
 -- ---- options
 
 -- the number is from 1 on
@@ -42,7 +46,8 @@ abbrev pub name_of : List ℕ → Option OptionName
 name_of word =
     if bytes_eq word (codes "--listen") then Some option_name.Listen
     else (if bytes_eq word (codes "--workers") then Some option_name.Workers
-    else (if bytes_eq word (codes "--turns") then Some option_name.Turns else None))
+    else (if bytes_eq word (codes "--turns") then Some option_name.Turns
+    else (if bytes_eq word (codes "--begin") then Some option_name.Begin else None)))
 
 -- An option with its value: an address as it is printed (RFC 5952), with a port from 1 on, or a
 -- number from 1 to its limit.
@@ -52,6 +57,8 @@ option_of option_name.Workers value =
     option_map (λ n. host_option.Workers n) (count_of max_ends value)
 option_of option_name.Turns value =
     option_map (λ n. host_option.Turns n) (count_of max_turns value)
+option_of option_name.Begin value =
+    option_map (λ n. host_option.Begin n) (count_of max_begin value)
 
 -- what stands before the first `=`, and what stands after it
 abbrev pub cut : List ℕ → Option (List ℕ × List ℕ)
@@ -92,7 +99,7 @@ Begins words (Some next) = options_of words ≡ before (Some next.0) (options_of
 
 -- nothing is asked for
 abbrev pub nothing_asked : HostAsked
-nothing_asked = record { listen = []; workers = None; turns = None }
+nothing_asked = record { listen = []; workers = None; turns = None; begin = None }
 
 -- a number that is said once at most
 abbrev pub once : Option ℕ → ℕ → Option ℕ
@@ -101,17 +108,14 @@ once (Some earlier) n = None
 
 -- an option more: any number of addresses, each number once
 abbrev pub asked_with : HostAsked → HostOption → Option HostAsked
-asked_with asked (host_option.Listen address) = Some (record {
-  listen = asked.listen ++ address ∷ [];
-  workers = asked.workers;
-  turns = asked.turns;
-})
-asked_with asked (host_option.Workers n) = option_map
-    (λ said. record { listen = asked.listen; workers = Some said; turns = asked.turns })
-    (once asked.workers n)
-asked_with asked (host_option.Turns n) = option_map
-    (λ said. record { listen = asked.listen; workers = asked.workers; turns = Some said })
-    (once asked.turns n)
+asked_with asked (host_option.Listen address) =
+    Some (record asked { listen = asked.listen ++ address ∷ [] })
+asked_with asked (host_option.Workers n) =
+    option_map (λ said. record asked { workers = Some said }) (once asked.workers n)
+asked_with asked (host_option.Turns n) =
+    option_map (λ said. record asked { turns = Some said }) (once asked.turns n)
+asked_with asked (host_option.Begin n) =
+    option_map (λ said. record asked { begin = Some said }) (once asked.begin n)
 
 -- all options, in order
 unfoldable pub asked_from : Option HostAsked → List HostOption → Option HostAsked
@@ -141,6 +145,7 @@ plan_with asked workers =
       listen = asked.listen;
       workers = workers;
       turns = unwrap_or asked.turns max_turns;
+      begin = asked.begin;
     }) else None
 
 abbrev pub plan_of : HostAsked → Option HostPlan
@@ -185,10 +190,12 @@ abbrev pub IsOption : HostOption → Type 0
 IsOption (host_option.Listen address) = ⊤
 IsOption (host_option.Workers n) = IsCount max_ends n
 IsOption (host_option.Turns n) = IsCount max_turns n
+IsOption (host_option.Begin n) = IsCount max_begin n
 
 pub record IsAsked (asked : HostAsked) : Type 0 where
   pub workers : IfSome asked.workers (IsCount max_ends)
   pub turns : IfSome asked.turns (IsCount max_turns)
+  pub begin : IfSome asked.begin (IsCount max_begin)
 
 -- the numbers of a plan
 pub record IsPlan (plan : HostPlan) : Type 0 where
@@ -197,6 +204,7 @@ pub record IsPlan (plan : HostPlan) : Type 0 where
   pub most_workers : plan.workers ≤ most_each (length plan.listen)
   pub some_turns : 1 ≤ plan.turns
   pub most_turns : plan.turns ≤ max_turns
+  pub begin : IfSome plan.begin (IsCount max_begin)
 
 abbrev pub IsWanted : Wanted → Type 0
 IsWanted wanted.Help = ⊤

@@ -5,12 +5,14 @@ use crate::wanted::Wanted;
 const HELP: &str = "\
 Serves a CoRE Resource Directory over UDP at addresses of this machine, without DTLS
 
-Usage: rd_host --listen ADDRESS:PORT [--listen ADDRESS:PORT]... [--workers N] [--turns T]
+Usage: rd_host --listen ADDRESS:PORT [--listen ADDRESS:PORT]... [--workers N] [--turns T] [--begin N]
 
 Options:
       --listen <ADDRESS:PORT>  An address to listen at, as 192.0.2.1:5683 or [2001:db8::1]:5683
       --workers <N>            How many workers each address has, 16 in all [default: 4 or fewer]
       --turns <T>              How many receives each worker makes [default: 10^12]
+      --begin <N>              Above which number locations and entity tags count, at most 10^14
+                               [default: the milliseconds since 1970 at the start]
   -h, --help                   Print help
   -V, --version                Print version
 ";

@@ -6,12 +6,15 @@ ghost use Rattle.udp_link.specs.Links.{IsWithinLimit};
 ghost use Rattle.udp_link.specs.declared.links.TheConstants.{MAX_DATAGRAM};
 ghost use Rattle.hosting.specs.Routes as spec;
 
+use crate::crews::Crew;
 use crate::listeners::Listener;
 use crate::mapped::{mapped, plain};
 use crate::routes::Routes;
+use crate::watches::Watch;
 use rd_base::{Host, Peer, Starved};
 use std::alloc::Global;
 use std::sync::{Arc, Mutex, Wait};
+use std::time::Clock;
 use udp_link::{Came, Link, UdpLink, Went};
 
 /// An address of a server, with a link over its socket.
@@ -22,12 +25,13 @@ struct Way {
 }
 
 /// A link of a server that listens at several addresses: it receives at one of them, and sends by
-/// the one at which the peer was heard last, by whichever link of that server. It tells no
-/// datagrams.
+/// the one at which the peer was heard last, by whichever link of that server. All links of a
+/// server end together. It tells no datagrams.
 #[derive(Drop)]
 pub struct HostLink<'a, R> {
     rt: &'a R,
     routes: &'a Mutex<Routes>,
+    watch: Watch<'a>,
     ways: Vec<Way>,
     own: usize,
     /// The peer of the datagram that the last receive gave.
@@ -95,12 +99,13 @@ fn ways_over(alloc: Global, listeners: &[Listener]) -> Result<Vec<Way>, Starved>
 }
 
 impl<'a, R> HostLink<'a, R> {
-    /// A link that receives at the address of `listeners[own]`, of which no call failed yet.
-    /// `Starved`: out of memory.
+    /// A link of `crew` that receives at the address of `listeners[own]`, of which no call failed
+    /// yet. `Starved`: out of memory.
     pub fn over(
         rt: &'a R,
         alloc: Global,
         routes: &'a Mutex<Routes>,
+        crew: &'a Crew,
         listeners: &[Listener],
         own: usize,
     ) -> Result<HostLink<'a, R>, Starved>
@@ -112,6 +117,7 @@ impl<'a, R> HostLink<'a, R> {
         Ok(HostLink {
             rt,
             routes,
+            watch: Watch::of(crew),
             ways,
             own,
             heard: None,
@@ -152,10 +158,27 @@ impl<R: Wait> HostLink<'_, R> {
     }
 }
 
-impl<R: Wait> Link for HostLink<'_, R> {
+impl<R: Clock> HostLink<'_, R> {
+    /// Whether the link goes on after a receive that failed. Where it does not, the links of the
+    /// server end.
+    fn goes_on(&mut self) -> bool
+        ensures received { self.new.recv_faults ≡ self.old.recv_faults }
+        ensures sent { self.new.send_faults ≡ self.old.send_faults }
+    {
+        let way = &self.ways[self.own];
+        match way.link.fault() {
+            Some(fault) => self.watch.waits(self.rt, way.address, &fault),
+            None => false,
+        }
+    }
+}
+
+impl<R: Wait + Clock> Link for HostLink<'_, R> {
     ghost coming = { λ _. None };
 
     ghost gone = { λ _. None };
+
+    ghost order = { λ _. None };
 
     ghost recv_faults = { λ l. l.recv_faults };
 
@@ -163,21 +186,30 @@ impl<R: Wait> Link for HostLink<'_, R> {
 
     fn recv(&mut self, into: &mut [u8]) -> Came {
         self.heard = None;
-        match self.ways[self.own].link.recv(into) {
-            Came::Datagram(peer, length) => {
-                let peer = Peer {
-                    host: plain(peer.host),
-                    port: peer.port,
-                };
-                self.hear(peer);
-                Came::Datagram(peer, length)
+        if !self.watch.is_over(self.rt) {
+            match self.ways[self.own].link.recv(into) {
+                Came::Datagram(peer, length) => {
+                    let peer = Peer {
+                        host: plain(peer.host),
+                        port: peer.port,
+                    };
+                    self.watch.settle();
+                    self.hear(peer);
+                    return Came::Datagram(peer, length);
+                }
+                Came::Failed => {
+                    if self.goes_on() {
+                        return Came::Nothing;
+                    }
+                }
+                came => {
+                    self.watch.settle();
+                    return came;
+                }
             }
-            Came::Failed => {
-                self.recv_faults = self.recv_faults.saturating_add(1);
-                Came::Failed
-            }
-            came => came,
         }
+        self.recv_faults = self.recv_faults.saturating_add(1);
+        Came::Failed
     }
 
     fn send(&mut self, peer: Peer, piece: &[u8]) -> Went {

@@ -3,16 +3,19 @@
 #![tactic(auto)]
 
 mod about;
+mod crews;
+mod host_clocks;
 mod host_links;
 mod listeners;
 mod mapped;
 mod options;
 mod plans;
 mod routes;
-#[cfg(test)]
-mod tests;
 mod wanted;
+mod watches;
 
+pub use crews::{Crew, Trouble};
+pub use host_clocks::{HostClock, Origin};
 pub use host_links::HostLink;
 pub use listeners::Listener;
 pub use plans::{HostPlan, host_words};

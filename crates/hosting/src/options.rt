@@ -14,6 +14,9 @@ pub(crate) const MAX_ENDS: u64 = 16;
 /// The most turns of a worker.
 pub(crate) const MAX_TURNS: u64 = 1_000_000_000_000;
 
+/// The greatest number above which a run may be told to begin.
+pub(crate) const MAX_BEGIN: u64 = 100_000_000_000_000;
+
 /// What an option is named.
 #[derive(Clone, Copy, Debug, PartialEq, Eq)]
 pub(crate) enum OptionName {
@@ -23,6 +26,8 @@ pub(crate) enum OptionName {
     Workers,
     /// `--turns`: how many turns each worker has.
     Turns,
+    /// `--begin`: above which number the run begins.
+    Begin,
 }
 
 /// An option with its value.
@@ -34,6 +39,8 @@ pub(crate) enum HostOption {
     Workers(u8),
     /// How many turns each worker has.
     Turns(u64),
+    /// Above which number the run begins.
+    Begin(u64),
 }
 
 /// The option that a word names.
@@ -48,6 +55,9 @@ fn name_of(word: &[u8]) -> Option<OptionName>
     }
     if word == b"--turns".as_slice() {
         return Some(OptionName::Turns);
+    }
+    if word == b"--begin".as_slice() {
+        return Some(OptionName::Begin);
     }
     None
 }
@@ -84,6 +94,7 @@ fn option_of(name: OptionName, value: &[u8]) -> Option<HostOption>
         OptionName::Listen => address_of(value),
         OptionName::Workers => Some(HostOption::Workers(count_of(MAX_ENDS, value)? as u8)),
         OptionName::Turns => Some(HostOption::Turns(count_of(MAX_TURNS, value)?)),
+        OptionName::Begin => Some(HostOption::Begin(count_of(MAX_BEGIN, value)?)),
     }
 }
 

@@ -18,6 +18,8 @@ pub struct HostPlan {
     pub workers: u8,
     /// How many receives each worker makes, from 1 to 10^12: so many where nothing is said.
     pub turns: u64,
+    /// Above which number the run begins, from 1 to 10^14, where it is said.
+    pub begin: Option<u64>,
 }
 
 impl HostPlan {
@@ -42,6 +44,8 @@ pub(crate) struct HostAsked {
     pub(crate) workers: Option<u8>,
     /// How many turns each worker has, where it is said.
     pub(crate) turns: Option<u64>,
+    /// Above which number the run begins, where it is said.
+    pub(crate) begin: Option<u64>,
 }
 
 impl HostAsked {
@@ -55,6 +59,7 @@ impl HostAsked {
             mut listen,
             workers,
             turns,
+            begin,
         } = self;
         if listen.push(address).is_err() {
             return Err(HostFault::Starved);
@@ -63,6 +68,7 @@ impl HostAsked {
             listen,
             workers,
             turns,
+            begin,
         })
     }
 
@@ -98,6 +104,22 @@ impl HostAsked {
         })
     }
 
+    /// With the number above which the run begins, where it was not said.
+    fn with_begin(self, begin: u64) -> Result<HostAsked, HostFault>
+        requires asked { IsAsked self }
+        requires option { IsOption (HostOption.Begin begin) }
+        ensures read { IsRead (spec.asked_with self (HostOption.Begin begin)) result }
+        ensures within { IfOk result IsAsked }
+    {
+        if self.begin.is_some() {
+            return Err(HostFault::Usage);
+        }
+        Ok(HostAsked {
+            begin: Some(begin),
+            ..self
+        })
+    }
+
     /// With an option more.
     fn with(self, option: HostOption) -> Result<HostAsked, HostFault>
         requires asked { IsAsked self }
@@ -109,6 +131,7 @@ impl HostAsked {
             HostOption::Listen(address) => self.with_address(address),
             HostOption::Workers(workers) => self.with_workers(workers),
             HostOption::Turns(turns) => self.with_turns(turns),
+            HostOption::Begin(begin) => self.with_begin(begin),
         }
     }
 
@@ -132,6 +155,7 @@ impl HostAsked {
             listen: self.listen,
             workers,
             turns: self.turns.unwrap_or(MAX_TURNS),
+            begin: self.begin,
         })
     }
 }
@@ -145,6 +169,7 @@ fn words_ask(alloc: Global, words: &[String]) -> Result<HostAsked, HostFault>
         listen: List::new(alloc),
         workers: None,
         turns: None,
+        begin: None,
     };
     let mut left = words;
     'words: while let Some((word, rest)) = left.split_first() {
@@ -180,9 +205,9 @@ fn question_of(words: &[String]) -> Option<Wanted>
 }
 
 /// What the words of `rd_host` want: `--listen` with an address and its port, once at least,
-/// `--workers` with a number from 1 on, by which there are 16 ends at most, and `--turns` with one
-/// from 1 to 10^12, these two once at most, in any order, as two words or joined by `=`; or a
-/// question about the program alone.
+/// `--workers` with a number from 1 on, by which there are 16 ends at most, `--turns` with one from
+/// 1 to 10^12, and `--begin` with one from 1 to 10^14, these three once at most, in any order, as two
+/// words or joined by `=`; or a question about the program alone.
 ///
 /// `Usage`: they are others. `Starved`: out of memory.
 pub fn host_words(alloc: Global, words: &[String]) -> Result<Wanted, HostFault>

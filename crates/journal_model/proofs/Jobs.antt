@@ -45,6 +45,7 @@ use Rattle.journal_model.specs.Machine.{
   hears,
   goes,
   ticks,
+  begins,
 }
 use Rattle.journal_model.specs.PlacedRows.{Within, Placed, last_row}
 use Rattle.journal_model.specs.BodyFormers.{look_of}
@@ -103,6 +104,7 @@ job_not_heard worker (r ∷ before) job e =
     own (step.Commit place) h more = absurd (let no : None ≡ Some job = h in cc)
     own (step.Keep body tag) h more = absurd (let no : None ≡ Some job = h in cc)
     own step.Tick h more = more h
+    own (step.Begin first) h more = more h
 
     by : (b : Bool)
         → cond b (job_after r.step.kind r before (job_of worker before)) (job_of worker before)
@@ -124,6 +126,7 @@ heard_as_hearing rows s (goes holds) e =
     (record { kind = s.kind; peer = s.peer; datagram = s.datagram }) holds)
     ∙ e))
 heard_as_hearing rows s (ticks tick) e = absurd (false≢true (sym (ap is_heard tick) ∙ e))
+heard_as_hearing rows s (begins begin) e = absurd (false≢true (sym (ap is_heard begin) ∙ e))
 
 -- one that is admitted is no look
 pub heard_no_look : (datagram : List ℕ)
@@ -205,6 +208,7 @@ keeps_of worker (r ∷ before) job body tag e keep =
     own (step.Commit place) is same h more = absurd (let no : None ≡ Some job = h in cc)
     own (step.Keep others current) is same h more = absurd (let no : None ≡ Some job = h in cc)
     own step.Tick is same h more = after (rw is refl) (more h)
+    own (step.Begin first) is same h more = after (rw is refl) (more h)
 
     by : (b : Bool)
         → (r.step.worker == worker) ≡ b

@@ -1,4 +1,5 @@
 pub mod SilentSteps
 pub mod ChangeNotes
+pub mod BeginNotes
 pub mod StepTable
 pub mod LookupNotes

@@ -67,6 +67,7 @@ AsksRegistration rows moment s m (change.Register params links) =
 AsksRegistration rows moment s m (change.Update n given) = ⊥
 AsksRegistration rows moment s m (change.Replace n links) = ⊥
 AsksRegistration rows moment s m (change.Remove n) = ⊥
+AsksRegistration rows moment s m (change.Begin n) = ⊥
 
 -- a request on the registration of a number asks to update it by POST, to replace its links by PUT,
 -- and to remove it by DELETE
@@ -78,6 +79,7 @@ AsksOfLocation number rows moment s m (change.Replace n links) =
     (m.code ≡ codes_of.put) × (n ≡ number) × BringsLinks rows moment s m links
 AsksOfLocation number rows moment s m (change.Remove n) =
     (m.code ≡ codes_of.delete) × (n ≡ number)
+AsksOfLocation number rows moment s m (change.Begin n) = ⊥
 
 -- the change is the one that a request asks for: a registration of its links, or an update, a
 -- replacement of the links, or a removal of the registration that its location names
@@ -99,6 +101,7 @@ FetchesChange rows s m request (change.Register params links) =
 FetchesChange rows s m request (change.Update n given) = ⊥
 FetchesChange rows s m request (change.Replace n links) = ⊥
 FetchesChange rows s m request (change.Remove n) = ⊥
+FetchesChange rows s m request (change.Begin n) = ⊥
 
 -- a step that commits a write asks for the change
 pub record CommitAsks (rows : List Row) (moment : ℕ) (s : Step) (what : Change) : Type 0 where
@@ -112,14 +115,15 @@ pub record CompletionMakes (rows : List Row) (s : Step) (what : Change) : Type 0
   pub body : EndsBody rows s answers.message
   pub makes : FetchesChange rows s answers.message answers.request what
 
--- the change is what a step of this kind makes: a commit what its own request asks for, and a
--- datagram that is heard what its fetch was made for
+-- the change is what a step of this kind makes: a commit what its own request asks for, a datagram
+-- that is heard what its fetch was made for, and a beginning its own
 abbrev pub IsAskedBy : StepKind → List Row → ℕ → Step → Change → Type 0
 IsAskedBy (step.Commit place) rows moment s what = CommitAsks rows moment s what
 IsAskedBy step.Admit rows moment s what = CompletionMakes rows s what
 IsAskedBy step.Look rows moment s what = ⊥
 IsAskedBy (step.Keep body tag) rows moment s what = ⊥
 IsAskedBy step.Tick rows moment s what = ⊥
+IsAskedBy (step.Begin first) rows moment s what = what ≡ change.Begin first
 
 -- an entry has the moment, the worker and the peer of its row, and is the change that was asked for
 pub record IsEntryOf (rows : List Row) (moment : ℕ) (s : Step) (entry : Entry) : Type 0 where

@@ -66,3 +66,4 @@ answers_with_links step.Look read = seeks_links read
 answers_with_links (step.Commit place) read = seeks_links read
 answers_with_links (step.Keep body tag) read = seeks_links read
 answers_with_links step.Tick read = true
+answers_with_links (step.Begin first) read = false

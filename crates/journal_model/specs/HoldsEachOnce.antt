@@ -7,16 +7,17 @@ use Rattle.history_model.specs.Legal.{IsLegal}
 use Rattle.event_model.specs.Events.{exchange_lifetime}
 use Rattle.journal_model.specs.declared.rows.Row.{Row}
 use Rattle.journal_model.specs.Journal.{entries, entries_of}
-use Rattle.journal_model.specs.PlacedRows.{Within, Commits, admits}
+use Rattle.journal_model.specs.PlacedRows.{Within, Commits, Begins, admits}
 use Rattle.journal_model.specs.FetchCompletions.{IsCompletion}
 use Rattle.journal_model.specs.AskedChanges.{answers_change, IsEntryOf}
 use Rattle.journal_model.specs.AdmittedWrites.{EndedWithoutMemory, AdmittedAt}
 
 -- Registrations are the replay of one legal history that holds each accepted request once, despite
--- repeats: a row has at most one entry; an entry stands in the row of a commit, or of a response
--- that completed a fetch with the end of a whole body, and has the moment, the worker and the peer
--- of that row; the change of a commit is the one that its own request asks for, with its last block
--- or a whole body, and that of a response is the one that the fetch was made for; a commit whose
+-- repeats: a row has at most one entry; an entry stands in the row of a commit, of a response that
+-- completed a fetch with the end of a whole body, or of a beginning, and has the moment, the worker
+-- and the peer of that row; the change of a commit is the one that its own request asks for, with
+-- its last block or a whole body, that of a response is the one that the fetch was made for, and
+-- that of a beginning its own; a commit whose
 -- answer says that a change was made has exactly one, and any other has none; a commit is of a row
 -- that admitted its write, and each admission is committed at most once; and of two admissions with
 -- one peer and Message ID that are less than the lifetime of an exchange apart, the earlier ended
@@ -25,7 +26,7 @@ pub record HoldsEachOnce (rows : List Row) : Type 0 where
   pub legal : IsLegal (entries rows)
   pub single : (before : List Row) (r : Row) → Within rows before r → length (entries_of r) ≤ 1
   pub origin : (before : List Row) (r : Row) → Within rows before r → 0 < length (entries_of r)
-      → ((place : ℕ) × Commits r place) ⊎ IsCompletion before r
+      → ((place : ℕ) × Commits r place) ⊎ IsCompletion before r ⊎ ((first : ℕ) × Begins r first)
   pub entry : (before : List Row) (r : Row) (entry : Entry)
       → Within rows before r
       → entries_of r ≡ entry ∷ []

@@ -35,6 +35,7 @@ is_look step.Look = true
 is_look (step.Commit place) = false
 is_look (step.Keep body tag) = false
 is_look step.Tick = false
+is_look (step.Begin first) = false
 
 -- the step hears a datagram
 abbrev pub is_heard : StepKind → Bool
@@ -43,6 +44,7 @@ is_heard step.Look = true
 is_heard (step.Commit place) = false
 is_heard (step.Keep body tag) = false
 is_heard step.Tick = false
+is_heard (step.Begin first) = false
 
 -- the step of the row is no look
 abbrev pub is_desk_row : Row → Bool

@@ -41,6 +41,7 @@ pub mod Bodies
 pub mod Lookups
 pub mod Writes
 pub mod Commits
+pub mod Beginnings
 pub mod EmptyMessages
 pub mod Responses
 pub mod Ticks

@@ -92,6 +92,7 @@ job_after step.Look r before held =
 job_after (step.Commit place) r before held = None
 job_after (step.Keep body tag) r before held = None
 job_after step.Tick r before held = held
+job_after (step.Begin first) r before held = held
 
 -- the job that a worker holds: that of its last row but ticks
 unfoldable pub job_of : ℕ → List Row → Option Job
@@ -109,14 +110,15 @@ mids_drawn worker (r ∷ before) =
     then (mids_drawn worker before + r.drew) % 2 ^ 64
     else mids_drawn worker before
 
--- a step that a worker may make: a tick at any time, a datagram where it holds no job, or the job
--- that it holds
+-- a step that a worker may make: a tick or a beginning at any time, a datagram where it holds no
+-- job, or the job that it holds
 pub data MayBegin (rows : List Row) : Step → Type 0 where
   hears : {s : Step} → job_of s.worker rows ≡ None → s.kind ≡ hearing s.datagram → MayBegin rows s
   goes : {s : Step}
       → job_of s.worker rows ≡ Some (record { kind = s.kind; peer = s.peer; datagram = s.datagram })
       → MayBegin rows s
   ticks : {s : Step} → s.kind ≡ step.Tick → MayBegin rows s
+  begins : {s : Step} {first : ℕ} → s.kind ≡ step.Begin first → MayBegin rows s
 
 -- and it names how many Message IDs its worker drew before
 pub record MayMake (rows : List Row) (s : Step) : Type 0 where

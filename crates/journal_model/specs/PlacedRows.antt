@@ -16,6 +16,10 @@ pub record Within (rows before : List Row) (r : Row) : Type 0 where
 abbrev pub Commits : Row → ℕ → Type 0
 Commits r place = r.step.kind ≡ step.Commit place
 
+-- the step begins a run
+abbrev pub Begins : Row → ℕ → Type 0
+Begins r first = r.step.kind ≡ step.Begin first
+
 -- the row admits a write of a peer and a Message ID
 abbrev pub admits : Peer → ℕ → Row → Bool
 admits peer mid r = list_any (is_admission_of peer mid) r.notes

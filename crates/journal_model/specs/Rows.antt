@@ -53,6 +53,7 @@ use Rattle.journal_model.specs.Requests.{
   method_of,
   refusal_of_request,
 }
+use Rattle.journal_model.specs.Beginnings.{beginning}
 use Rattle.journal_model.specs.Looks.{look_effects, looked, keep_effects}
 use Rattle.journal_model.specs.Lookups.{lookup_effects, read_effects}
 use Rattle.journal_model.specs.Writes.{write_effects}
@@ -140,6 +141,7 @@ effects (step.Commit place) starved rows moment s =
 effects (step.Keep body tag) starved rows moment s =
     kept_body starved s (reading s.datagram) body tag
 effects step.Tick starved rows moment s = tick_effects starved rows moment s
+effects (step.Begin first) starved rows moment s = beginning starved (entries rows) moment s first
 
 -- the moment of a step: the greatest that was handed in so far
 unfoldable pub row_moment : List Row → Step → ℕ

@@ -81,13 +81,14 @@ pub record IsNotice (here : Placed) (peer : Peer) (m : Message) : Type 0 where
   pub observer : Observer
   pub named : observer_named (peer, m.token) here.before ≡ Some observer
 
--- in a tick each response is a notice, and in any other row an answer
+-- in a tick each response is a notice, a beginning sends none, and in any other row it is an answer
 abbrev pub IsAddressed : StepKind → Placed → Peer → Message → Type 0
 IsAddressed step.Admit here peer m = IsAnswer here peer m
 IsAddressed step.Look here peer m = IsAnswer here peer m
 IsAddressed (step.Commit place) here peer m = IsAnswer here peer m
 IsAddressed (step.Keep body tag) here peer m = IsAnswer here peer m
 IsAddressed step.Tick here peer m = IsNotice here peer m
+IsAddressed (step.Begin first) here peer m = ⊥
 
 -- the message is a 2.05 that carries the first block of a body: the one that its own Block2 names,
 -- and the whole body where it has none
@@ -126,6 +127,7 @@ IsForRequest step.Look m = role_of m.kind m.code ≡ role.Request
 IsForRequest (step.Commit place) m = role_of m.kind m.code ≡ role.Request
 IsForRequest (step.Keep body tag) m = (role_of m.kind m.code ≡ role.Request) × (length tag ≡ 8)
 IsForRequest step.Tick m = Unit {0}
+IsForRequest (step.Begin first) m = Unit {0}
 
 -- each look, commit and keep of a journal is made for a request, where its datagram can be read;
 -- and each keep has a tag of eight octets

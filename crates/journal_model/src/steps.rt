@@ -15,6 +15,8 @@ pub enum StepKind {
     Keep(LinkedList<u8>, LinkedList<u8>),
     /// Time passes.
     Tick,
+    /// The run begins: numbers and the count of entries go on above this one.
+    Begin(u64),
 }
 
 /// A step of a worker.

@@ -34,7 +34,14 @@ use Rattle.std.proofs.lemmas.Slice.Eq.{bytes_eq-Decides}
 use Rattle.line_model.specs.declared.lines.Line.{Line}
 use Rattle.line_model.specs.declared.lines.Line.TheVariants as line
 use Rattle.line_model.specs.declared.lines.Reason.TheVariants as reason
-use Rattle.line_model.specs.Numbers.{IsNumber, max_worker, max_moment, max_word, number_of}
+use Rattle.line_model.specs.Numbers.{
+  IsNumber,
+  max_worker,
+  max_moment,
+  max_word,
+  max_first,
+  number_of,
+}
 use Rattle.rd_base.specs.Peers.{peer_of}
 use Rattle.line_model.specs.Datagrams.{datagram_of}
 use Rattle.line_model.specs.Lines.{
@@ -44,6 +51,7 @@ use Rattle.line_model.specs.Lines.{
   come_of,
   go_of,
   tick_of,
+  begin_of,
   said_by,
   line_of,
   AreFieldsOf,
@@ -52,6 +60,7 @@ use Rattle.line_model.specs.Lines.{
   goes,
   ticks,
   ticks_alone,
+  begins,
   IsLineText,
 }
 use Rattle.line_model.proofs.Numbers.{number_of-found, number_of-IsNumber}
@@ -153,6 +162,23 @@ module _ (verb w m : List ℕ) (l : Line) where
       subst (λ v. AreFieldsOf (v ∷ w ∷ m ∷ []) l) (sym is)
       (subst (AreFieldsOf (codes "tick" ∷ w ∷ m ∷ [])) (same_Some _ l e2) spelled)
 
+  begin_found : (n : List ℕ)
+      → verb ≡ codes "begin"
+      → begin_of w m n ≡ Some l
+      → AreFieldsOf (verb ∷ w ∷ m ∷ n ∷ []) l
+  unfolding begin_of
+  begin_found n is e =
+      option_and_then_some _ (number_of max_worker w) l e λ worker ew e1.
+      option_and_then_some _ (number_of max_moment m) l e1 λ ms em e2.
+      option_and_then_some _ (number_of max_first n) l e2 λ first ef e3.
+      let spelled : AreFieldsOf (codes "begin" ∷ w ∷ m ∷ n ∷ [])
+      (line.Begin worker (record { 0 = ms }) first) =
+      begins (number_of-found max_worker w worker ew) (number_of-found max_moment m ms em)
+      (number_of-found max_first n first ef)
+      in
+      subst (λ v. AreFieldsOf (v ∷ w ∷ m ∷ n ∷ []) l) (sym is)
+      (subst (AreFieldsOf (codes "begin" ∷ w ∷ m ∷ n ∷ [])) (same_Some _ l e3) spelled)
+
 -- what the fields say is what they spell
 pub said_by-found : (parts : List (List ℕ)) (l : Line)
     → said_by parts ≡ Some l
@@ -172,7 +198,10 @@ said_by-found (verb ∷ w ∷ m ∷ []) l e =
 said_by-found (verb ∷ w ∷ m ∷ x ∷ []) l e =
     elim (either_of (bytes_eq verb (codes "tick")) _ _ (Some l) e) [
       | inl h ↦ tick_found verb w m l x (is_word verb (codes "tick") h.0) h.1
-      | inr h ↦ absurd (none-some l h.1)
+      | inr h ↦ elim (either_of (bytes_eq verb (codes "begin")) _ _ (Some l) h.1) [
+        | inl k ↦ begin_found verb w m l x (is_word verb (codes "begin") k.0) k.1
+        | inr k ↦ absurd (none-some l k.1)
+      ]
     ]
 said_by-found (verb ∷ w ∷ m ∷ p ∷ d ∷ []) l e =
     elim (either_of (bytes_eq verb (codes "in")) _ _ (Some l) e) [
@@ -190,7 +219,7 @@ said_by-found (verb ∷ w ∷ m ∷ p ∷ d ∷ x ∷ more ∷ parts) l e = absu
 pub said_by-AreFieldsOf : (parts : List (List ℕ)) (l : Line)
     → AreFieldsOf parts l
     → said_by parts ≡ Some l
-unfolding said_by come_of go_of tick_of
+unfolding said_by come_of go_of tick_of begin_of
 said_by-AreFieldsOf _ _
     (comes {w} {m} {p} {d} {x} {worker} {moment} {peer} {octets} {word} hw hm hp hd hx) =
     rw (
@@ -230,6 +259,13 @@ said_by-AreFieldsOf _ _ (ticks_alone {w} {m} {worker} {moment} hw hm) =
       number_of-IsNumber max_worker w worker hw (omega arith),
       number_of-IsNumber max_moment m
           moment.0 hm (omega arith),
+    )
+said_by-AreFieldsOf _ _ (begins {w} {m} {n} {worker} {moment} {first} hw hm hn) =
+    rw (
+      number_of-IsNumber max_worker w worker hw (omega arith),
+      number_of-IsNumber max_moment m
+          moment.0 hm (omega arith),
+      number_of-IsNumber max_first n first hn (omega arith),
     )
 
 -- a number of a line has no space
@@ -288,6 +324,14 @@ fields_of_line _ _ (ticks_alone {w} {m} {worker} {moment} hw hm) =
     fields-joined (codes "tick") (w ∷ m ∷ []) (refl, (refl, (refl, (refl, tt)))) (
       number_spaceless max_worker w worker hw (omega arith),
       (number_spaceless max_moment m moment.0 hm (omega arith), tt),
+    )
+fields_of_line _ _ (begins {w} {m} {n} {worker} {moment} {first} hw hm hn) =
+    fields-joined (codes "begin") (w ∷ m ∷ n ∷ []) (refl, (refl, (refl, (refl, (refl, tt))))) (
+      number_spaceless max_worker w worker hw (omega arith),
+      (
+        number_spaceless max_moment m moment.0 hm (omega arith),
+        (number_spaceless max_first n first hn (omega arith), tt),
+      ),
     )
 
 -- a value that stands is there

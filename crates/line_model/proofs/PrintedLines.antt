@@ -15,7 +15,6 @@ use Rattle.std.proofs.Common.{
   Ok,
   Err,
   ok_or,
-  if◌then◌else◌,
   nat_lt,
   refl,
   sym,
@@ -37,7 +36,7 @@ use Rattle.rd_base.specs.declared.peers.Peer.{Peer}
 use Rattle.line_model.specs.declared.lines.Line.{Line}
 use Rattle.line_model.specs.declared.lines.Line.TheVariants as line
 use Rattle.line_model.specs.declared.lines.Reason.TheVariants as reason
-use Rattle.line_model.specs.Numbers.{max_worker, max_moment, max_word}
+use Rattle.line_model.specs.Numbers.{max_worker, max_moment, max_word, max_first}
 use Rattle.rd_base.specs.Peers.{IsPeer, peer_text}
 use Rattle.line_model.specs.Datagrams.{max_datagram, datagram_text}
 use Rattle.line_model.specs.Lines.{
@@ -48,6 +47,7 @@ use Rattle.line_model.specs.Lines.{
   come_of,
   go_of,
   tick_of,
+  begin_of,
   said_by,
   line_of,
   word_fields,
@@ -57,6 +57,7 @@ use Rattle.line_model.specs.Lines.{
   come,
   go,
   tick,
+  begin,
 }
 use Rattle.line_model.proofs.Numbers.{number_of-decimal}
 use Rattle.rd_base.proofs.PeerTexts.{peer_of-peer_text}
@@ -224,6 +225,21 @@ tick_said worker moment word hw hm hx =
           ∙ tick_word worker moment word hw hm hx
     ]
 
+begin_said : (worker : ℕ) (moment : Moment) (first : ℕ)
+    → worker ≤ max_worker
+    → moment.0 ≤ max_moment
+    → first ≤ max_first
+    → said_by (printed_fields (line.Begin worker moment first))
+    ≡ Some (line.Begin worker moment first)
+unfolding said_by begin_of
+begin_said worker moment first hw hm hn =
+    rw (
+      number_of-decimal max_worker worker hw (omega arith),
+      number_of-decimal max_moment moment.0
+          hm (omega arith),
+      number_of-decimal max_first first hn (omega arith),
+    )
+
 -- what stands in the fields has no spaces
 small_spaceless : (n : ℕ) → n ≤ max_moment → HasNoSpace (decimal n)
 small_spaceless n h = decimal_spaceless n (omega arith)
@@ -295,6 +311,17 @@ length-line_text (line.Tick worker moment word) (tick hw hm hx) =
     length-front (codes "tick") (decimal worker) (decimal moment.0 ∷ word_fields word) 4 47
     (omega arith) w in
     omega (arith, all)
+length-line_text (line.Begin worker moment first) (begin hw hm hn) =
+    let m =
+    length-front (decimal moment.0) (decimal first) [] 15 15 (length-small moment.0 hm)
+    (length-small first (omega arith)) in
+    let w =
+    length-front (decimal worker) (decimal moment.0) (decimal first ∷ []) 15 31
+    (length-small worker (omega arith)) m in
+    let all =
+    length-front (codes "begin") (decimal worker) (decimal moment.0 ∷ decimal first ∷ []) 5 47
+    (omega arith) w in
+    omega (arith, all)
 
 -- the fields of a printed line are those that it was printed from
 pub fields-line_text : (l : Line) → IsLine l → fields (line_text l) ≡ printed_fields l
@@ -322,6 +349,12 @@ fields-line_text (line.Tick worker moment word) (tick hw hm hx) =
       small_spaceless worker (omega arith),
       (small_spaceless moment.0 hm, word_spaceless word hx),
     )
+fields-line_text (line.Begin worker moment first) (begin hw hm hn) =
+    fields-joined (codes "begin") (decimal worker ∷ decimal moment.0 ∷ decimal first ∷ [])
+    (refl, (refl, (refl, (refl, (refl, tt))))) (
+      small_spaceless worker (omega arith),
+      (small_spaceless moment.0 hm, (small_spaceless first (omega arith), tt)),
+    )
 
 -- and they say it
 pub said_by-printed_fields : (l : Line) → IsLine l → said_by (printed_fields l) ≡ Some l
@@ -330,6 +363,8 @@ said_by-printed_fields (line.Come worker moment peer octets word) (come hw hm hp
 said_by-printed_fields (line.Go worker moment) (go hw hm) = go_said worker moment hw hm
 said_by-printed_fields (line.Tick worker moment word) (tick hw hm hx) =
     tick_said worker moment word hw hm hx
+said_by-printed_fields (line.Begin worker moment first) (begin hw hm hn) =
+    begin_said worker moment first hw hm hn
 
 -- a printed line is read back as the line that it prints
 pub line_of-line_text : (l : Line) → IsLine l → line_of (line_text l) ≡ Ok l

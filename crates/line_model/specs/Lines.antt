@@ -30,7 +30,14 @@ use Rattle.line_model.specs.declared.lines.Line.{Line}
 use Rattle.line_model.specs.declared.lines.Line.TheVariants as line
 use Rattle.line_model.specs.declared.lines.Reason.{Reason}
 use Rattle.line_model.specs.declared.lines.Reason.TheVariants as reason
-use Rattle.line_model.specs.Numbers.{max_worker, max_moment, max_word, IsNumber, number_of}
+use Rattle.line_model.specs.Numbers.{
+  max_worker,
+  max_moment,
+  max_word,
+  max_first,
+  IsNumber,
+  number_of,
+}
 use Rattle.rd_base.specs.Peers.{IsPeer, IsPeerText, peer_of, peer_text}
 use Rattle.line_model.specs.Datagrams.{IsDatagramText, max_datagram, datagram_of, datagram_text}
 
@@ -85,14 +92,23 @@ tick_of worker moment word = do
   x ← word
   Some (line.Tick w (record { 0 = m }) x)
 
+-- a run that begins: `begin`, then worker, moment and the number that it begins above
+unfoldable pub begin_of : List ℕ → List ℕ → List ℕ → Option Line
+begin_of worker moment first = do
+  w ← number_of max_worker worker
+  m ← number_of max_moment moment
+  n ← number_of max_first first
+  Some (line.Begin w (record { 0 = m }) n)
+
 -- what the fields of a line say, by its first word. A datagram that comes and a tick have the word
 -- 0 where none is written
 unfoldable pub said_by : List (List ℕ) → Option Line
 said_by (verb ∷ worker ∷ moment ∷ []) =
     if bytes_eq verb (codes "go") then go_of worker moment
     else if bytes_eq verb (codes "tick") then tick_of worker moment (Some 0) else None
-said_by (verb ∷ worker ∷ moment ∷ word ∷ []) =
-    if bytes_eq verb (codes "tick") then tick_of worker moment (number_of max_word word) else None
+said_by (verb ∷ worker ∷ moment ∷ number ∷ []) =
+    if bytes_eq verb (codes "tick") then tick_of worker moment (number_of max_word number)
+    else if bytes_eq verb (codes "begin") then begin_of worker moment number else None
 said_by (verb ∷ worker ∷ moment ∷ peer ∷ octets ∷ []) =
     if bytes_eq verb (codes "in") then come_of worker moment peer octets (Some 0) else None
 said_by (verb ∷ worker ∷ moment ∷ peer ∷ octets ∷ word ∷ []) =
@@ -124,6 +140,8 @@ printed_fields (line.Come worker moment peer octets word) =
 printed_fields (line.Go worker moment) = codes "go" ∷ decimal worker ∷ decimal moment.0 ∷ []
 printed_fields (line.Tick worker moment word) =
     codes "tick" ∷ decimal worker ∷ decimal moment.0 ∷ word_fields word
+printed_fields (line.Begin worker moment first) =
+    codes "begin" ∷ decimal worker ∷ decimal moment.0 ∷ decimal first ∷ []
 
 -- a line as it is printed, without a line feed
 unfoldable pub line_text : Line → List ℕ
@@ -154,6 +172,11 @@ pub data IsLine : Line → Type 0 where
       → moment.0 ≤ max_moment
       → word ≤ max_word
       → IsLine (line.Tick worker moment word)
+  begin : {worker : ℕ} {moment : Moment} {first : ℕ}
+      → worker ≤ max_worker
+      → moment.0 ≤ max_moment
+      → first ≤ max_first
+      → IsLine (line.Begin worker moment first)
 
 -- the fields spell this line
 pub data AreFieldsOf : List (List ℕ) → Line → Type 0 where
@@ -187,6 +210,11 @@ pub data AreFieldsOf : List (List ℕ) → Line → Type 0 where
       → IsNumber max_worker w worker
       → IsNumber max_moment m moment.0
       → AreFieldsOf (codes "tick" ∷ w ∷ m ∷ []) (line.Tick worker moment 0)
+  begins : {w m n : List ℕ} {worker : ℕ} {moment : Moment} {first : ℕ}
+      → IsNumber max_worker w worker
+      → IsNumber max_moment m moment.0
+      → IsNumber max_first n first
+      → AreFieldsOf (codes "begin" ∷ w ∷ m ∷ n ∷ []) (line.Begin worker moment first)
 
 -- the text is this line: it is not too long, and its fields, single spaces between them, spell the
 -- line

@@ -14,7 +14,12 @@ use Rattle.std.specs.Prelude.{
   decimal,
 }
 use Rattle.std.specs.Str.Parse.{digits_value}
-use Rattle.line_model.specs.declared.limits.TheConstants.{MAX_WORKER, MAX_MOMENT, MAX_WORD}
+use Rattle.line_model.specs.declared.limits.TheConstants.{
+  MAX_WORKER,
+  MAX_MOMENT,
+  MAX_WORD,
+  MAX_FIRST,
+}
 
 -- the greatest number of a worker
 abbrev pub max_worker : ℕ
@@ -27,6 +32,10 @@ max_moment = MAX_MOMENT
 -- the greatest word of a tick
 abbrev pub max_word : ℕ
 max_word = MAX_WORD
+
+-- the greatest number above which a run may begin
+abbrev pub max_first : ℕ
+max_first = MAX_FIRST
 
 -- the text prints n in decimal, and n is within the limit
 pub record IsNumber (limit : ℕ) (text : List ℕ) (n : ℕ) : Type 0 where

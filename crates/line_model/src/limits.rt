@@ -14,3 +14,6 @@ pub const MAX_MOMENT: u64 = 999_999_999_999_999;
 
 /// The greatest word of a datagram that comes, and of a tick.
 pub const MAX_WORD: u64 = 4_294_967_295;
+
+/// The greatest number above which a run may begin: as many changes are counted at most.
+pub const MAX_FIRST: u64 = 281_474_976_710_655;

@@ -28,6 +28,15 @@ pub enum Line {
         /// The word that is handed in, from which waits are made.
         word: u32,
     },
+    /// A run begins at a worker.
+    Begin {
+        /// The worker.
+        worker: u8,
+        /// The moment that it is then, in milliseconds.
+        moment: Moment,
+        /// The number above which registrations are numbered and changes are counted from then on.
+        first: u64,
+    },
 }
 
 /// Why a line is bad. The first of these that applies is the reason.
@@ -35,7 +44,7 @@ pub enum Line {
 pub enum Reason {
     /// It is too long.
     Long,
-    /// It is none of the three forms.
+    /// It is none of the four forms.
     Form,
     /// It names a worker that there is not.
     Worker,

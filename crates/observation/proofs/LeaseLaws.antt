@@ -146,6 +146,7 @@ apply-IsAgainst state entry h = of_change entry.change
         changed-IsAgainst number (replaced links) (replaced-IsAgainst links) state.records h
     of_change (change.Remove number) =
         each_filter IsAgainst (λ r. not (is_numbered number r)) state.records h
+    of_change (change.Begin first) = h
 
 replay-IsAgainst : (history : List Entry) → AllByRecursion IsAgainst (replay history).records
 replay-IsAgainst history =
@@ -292,6 +293,7 @@ stays-shown rows s entry (Some old) (Some new) into update stays query = by entr
     by (change.Register params links) is e = absurd cc
     by (change.Replace number links) is e = absurd cc
     by (change.Remove number) is e = absurd cc
+    by (change.Begin first) is e = absurd cc
     by (change.Update number given) is e =
         let state : State = replay (entries rows) in
         let about : number_about state entry.moment.0 entry.change ≡ number =

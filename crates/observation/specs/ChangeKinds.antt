@@ -13,6 +13,7 @@ kind_of (change.Register params links) = kind.Registration
 kind_of (change.Update number given) = kind.Update
 kind_of (change.Replace number links) = kind.Replacement
 kind_of (change.Remove number) = kind.Removal
+kind_of (change.Begin first) = kind.Beginning
 
 -- the registration is there before and after, with the same base and the same attributes
 abbrev pub StaysAsShown : Option Record → Option Record → Type 0

@@ -18,6 +18,8 @@ pub enum ChangeKind {
     Replacement,
     /// A removal (RFC 9176 section 5.3.2).
     Removal,
+    /// The beginning of a run, which is about no registration.
+    Beginning,
 }
 
 /// Whether both states of a registration have the same base and the same attributes.

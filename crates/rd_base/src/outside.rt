@@ -1,5 +1,5 @@
 //! The outside: where octets come from and go to.
-ghost use Rattle.std.specs.Prelude.{ℕ, List, Option, true, length, take, ◌≡◌, ◌<◌, ◌^◌, IfSome};
+ghost use Rattle.std.specs.Prelude.{ℕ, List, Option, true, false, length, take, ◌≡◌, ◌<◌, ◌^◌, IfSome};
 ghost use Rattle.std.specs.Io.KnownBytes.{Appends};
 ghost use Rattle.rd_base.specs.Outside.{IsWithinRoom, Gives, RunsDown, CountsRead, IsWithinPiece};
 ghost use Rattle.rd_base.specs.Outside.{Takes, CountsWritten, CountsAll};
@@ -58,10 +58,12 @@ pub trait Sink {
 }
 
 /// Writes all of some octets, in as many pieces as the sink takes them. False where a writing
-/// failed; a front of them may then stand in the sink.
+/// failed; then the sink took a front of them, and not all.
 pub fn write_all<K: Sink>(out: &mut K, octets: &[u8]) -> bool
     ensures all { result ≡ true → Appends (K.holds out.old) (K.holds out.new) octets.now }
     ensures front { (n : ℕ) × Appends (K.holds out.old) (K.holds out.new) (take n octets.now) }
+    ensures short { result ≡ false → (n : ℕ) × (n < length octets.now)
+        × Appends (K.holds out.old) (K.holds out.new) (take n octets.now) }
     ensures cause { CountsAll (K.faults out.old) (K.faults out.new) result }
 {
     let mut at = 0;

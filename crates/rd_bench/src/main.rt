@@ -9,20 +9,27 @@
 mod attributes;
 mod blocks;
 mod datagrams;
+mod desks;
 mod exchanges;
+mod feeds;
 mod listings;
 mod looks;
 mod maps;
+mod parties;
 mod registrations;
+mod requests;
 mod sample_boards;
 mod turns;
 
 use attributes::Carried;
 use bench_rows::{Trouble, measure};
 use blocks::{KeptBodies, Uploads};
+use desks::{Admits, Looks};
 use exchanges::{Repeats, Settles};
+use feeds::{Octets, Pieces};
 use listings::{Listed, Unchanged};
 use maps::{Puts, Takes};
+use parties::{measure_hearing, measure_looks};
 use registrations::Body;
 use std::net::Net;
 use std::sync::Wait;
@@ -86,6 +93,28 @@ fn registrations_and_listings(rt: &HostRuntime) -> Result<(), Trouble> {
     measure::<Listed>(rt, "listing lines, of so many links", &LINKS)
 }
 
+/// Measures a desk, and seats beside it.
+fn seats<R: Threads + Wait + Sync>(rt: &HostRuntime, ends: &R) -> Result<(), Trouble> {
+    measure::<Looks>(rt, "rd_desk look, the version at hand, one listed of", &[1])?;
+    measure_looks(rt, ends, "rd_seat lookup, by so many seats at once")?;
+    measure::<Admits>(rt, "rd_desk admit, a ping, with so many registered", &[1])?;
+    measure_hearing(rt, ends, "rd_seat hear, a ping, by so many seats")
+}
+
+/// Measures the reader of streams.
+fn streams(rt: &HostRuntime) -> Result<(), Trouble> {
+    measure::<Pieces>(
+        rt,
+        "stream_reader feed, a message of 64 octets, in pieces of so many",
+        &[64, 1_024, 65_536],
+    )?;
+    measure::<Octets>(
+        rt,
+        "stream_reader feed, an octet of messages of 64, in pieces of so many",
+        &[1, 2, 16],
+    )
+}
+
 /// Measures all calls, one after another. `ends` starts threads, waits and opens sockets.
 fn measured<R: Threads + Wait + Net + Sync>(rt: &HostRuntime, ends: &R) -> Result<(), Trouble> {
     tables(rt)?;
@@ -93,7 +122,9 @@ fn measured<R: Threads + Wait + Net + Sync>(rt: &HostRuntime, ends: &R) -> Resul
     turns::measured(rt, ends)?;
     datagrams::measured(rt, ends)?;
     looks::measure_look(rt, ends)?;
-    looks::measure_publishing(rt, ends)
+    looks::measure_publishing(rt, ends)?;
+    seats(rt, ends)?;
+    streams(rt)
 }
 
 fn main(rt: HostRuntime) {

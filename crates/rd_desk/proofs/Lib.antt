@@ -4,8 +4,8 @@
 -- (PartLaws); tables of the empty journal (DeskLaws), writes (WriteLaws), one that is forgotten in
 -- its own row (ForgottenLaws), empty messages (EmptyMessageLaws), keeps (KeepLaws), the row of a
 -- look, which leaves what a desk stands for (LookRows), lookups with the journal (LookupLaws), how
--- a request is refused (RefusalLaws), and what an admission does and leaves by what it hears
--- (AdmissionLaws, RoleLaws, HearingLaws).
+-- a request is refused (RefusalLaws), a beginning (BeginLaws), and what an admission does and
+-- leaves by what it hears (AdmissionLaws, RoleLaws, HearingLaws).
 -- What is shown of an observer: ShownLaws.
 -- Responses to fetches (responses): the fetches that a desk keeps stay sound (FetchingLaws), and
 -- what a response does, part after part (ResponseLaws).

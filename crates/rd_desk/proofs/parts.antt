@@ -5,6 +5,7 @@ pub mod NoteTopics
 pub mod AsideLaws
 pub mod WayLaws
 pub mod PartLaws
+pub mod BeginLaws
 pub mod DeskLaws
 pub mod WriteLaws
 pub mod EmptyMessageLaws

@@ -1,7 +1,8 @@
 -- What is said of the parts of a step, which no call shows: a step under way (UnderWay); what is
 -- heard (Hearing, Responding, Lookups); what a write is answered with (Replies), what its links are
 -- for (Purposes), and a write as it is planned, settled and laid on the board (Outcomes,
--- Committing, Laying); the parts of a tick (Noticing, Planning, Resending).
+-- Committing, Laying); a beginning (Beginnings); the parts of a tick (Noticing, Planning,
+-- Resending).
 
 -- a step under way
 pub mod UnderWay
@@ -20,6 +21,8 @@ pub mod Replies
 pub mod Purposes
 -- what a part of a step lays on the board
 pub mod Laying
+-- what is ready of a beginning (this project's profile)
+pub mod Beginnings
 -- what a tick does with a notice in flight (RFC 7641 section 4.5)
 pub mod Noticing
 -- what a tick does with the requests of fetches, what is planned of its notices and how a plan is

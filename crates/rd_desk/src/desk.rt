@@ -313,6 +313,39 @@ impl<B: Board> Desk<B> {
         self.tables.tick(now, word, mids, out)
     }
 
+    /// The step in which a run begins above `first`: each registration of a new name that comes
+    /// gets a number above it, and the entries are counted above it too, so that no location and no
+    /// entity tag that comes is one of a run that gave and counted none above `first`. Numbers and
+    /// the count never fall: what is above `first` already stays. Nothing is begun where 2^48 - 1
+    /// entries are counted, or `first` is at least that. The moment, in milliseconds, is at most
+    /// 10^15; one below that of the directory is lifted to it. Nothing is sent, and no Message ID
+    /// is drawn. `Starved`: out of memory, and nothing is begun (this project's profile; RFC 9176
+    /// section 5, RFC 7252 section 5.10.6).
+    ///
+    /// Nothing is staged on the board, and its entries, where it tells them, are those of the
+    /// directory. Where the step makes its entry, its version is staged afterwards.
+    pub fn begin(&mut self, now: Moment, first: u64, mids: &Mids) -> Stepped
+        requires moment { now.0 ≤ 10 ^ 15 }
+        requires free { B.has_staged self.old.board ≡ false }
+        requires told { AreToldOf self.old.tables.version (B.told self.old.board) }
+        // The desk stands for the journal with the row of the step, which sent and drew nothing.
+        ensures made { (rows : List Row) (s : Step)
+            → s.kind ≡ step.Begin first
+            → IsCalled rows s now mids.now self.old.tables
+            → Made rows (row rows s (is_starved_step result)) self.new.tables [] mids.now
+            mids.now }
+        // Its version is staged where it makes its entry, and else nothing is.
+        ensures staged { (rows : List Row) (s : Step)
+            → s.kind ≡ step.Begin first
+            → IsCalled rows s now mids.now self.old.tables
+            → LeavesStaged (row rows s (is_starved_step result)).notes self.new.tables.version
+            (B.staged self.old.board) (B.staged self.new.board) (B.has_staged self.new.board) }
+        ensures name { B.name self.new.board ≡ B.name self.old.board }
+        ensures told { B.told self.new.board ≡ B.told self.old.board }
+    {
+        self.tables.begin(&mut self.board, now, first, mids)
+    }
+
     /// The version of the registrations now, from which a look is answered ([`crate::look`]). A
     /// desk that stands for a journal stands for it with a look more.
     pub fn version(&self) -> &Arc<Directory>

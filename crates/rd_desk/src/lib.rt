@@ -4,6 +4,7 @@
 
 mod admissions;
 mod arrivals;
+mod beginnings;
 mod desk;
 mod hear;
 mod jobs;

@@ -1,24 +1,28 @@
 //! How the program ends.
-use hosting::HostFault;
+use hosting::{HostFault, Trouble};
 use rd_base::{Peer, Starved, peer_text};
 use rd_server::{ServeStatus, WordsFault};
-use std::alloc::AllocError;
+use std::alloc::{AllocError, Global};
 use std::io::Write;
 use std::process::ExitCode;
 
 /// How the program ends.
-#[derive(Clone, Copy, Debug, PartialEq, Eq)]
+#[derive(Clone, Copy, Debug)]
 pub(crate) enum Ending {
     /// It told of itself.
     Told,
     /// It served, and the server ended so.
     Served(ServeStatus),
+    /// It served until all links of the server ended, for this trouble.
+    Link(Trouble),
     /// The words are not those of the program.
     Usage,
     /// A socket could not be made at this address.
     Socket(Peer),
     /// The system gave no random keys.
     Keys,
+    /// The system's monotonic clock could not be read.
+    Clock,
 }
 
 impl From<WordsFault> for Ending {
@@ -53,45 +57,62 @@ impl From<AllocError> for Ending {
 
 /// What is said on standard error where words are not those of the program.
 const USAGE: &str = "\
-usage: rd_host --listen ADDRESS:PORT [--listen ADDRESS:PORT]... [--workers N] [--turns T]\n";
+usage: rd_host --listen ADDRESS:PORT [--listen ADDRESS:PORT]... [--workers N] [--turns T] \
+[--begin N]\n";
 
 impl Ending {
     /// The exit status.
     fn code(self) -> u8 {
         match self {
             Ending::Told | Ending::Served(ServeStatus::Done) => 0,
-            Ending::Served(ServeStatus::Link) => 1,
+            Ending::Served(ServeStatus::Link) | Ending::Link(_) => 1,
             Ending::Served(ServeStatus::Write) => 2,
             Ending::Usage => 3,
             Ending::Served(ServeStatus::Memory) => 5,
-            Ending::Socket(_) | Ending::Keys => 6,
+            Ending::Socket(_) | Ending::Keys | Ending::Clock => 6,
         }
     }
 
-    /// What is said on standard error.
+    /// What is said on standard error, without what it tells of an address or a trouble.
     fn text(self) -> &'static str {
         match self {
             Ending::Told | Ending::Served(ServeStatus::Done) => "",
-            Ending::Served(ServeStatus::Link) => "link failed\n",
+            Ending::Served(ServeStatus::Link) | Ending::Link(_) => "link failed\n",
             Ending::Served(ServeStatus::Write) => "write failed\n",
             Ending::Usage => USAGE,
             Ending::Served(ServeStatus::Memory) => "memory\n",
             Ending::Socket(_) => "socket\n",
             Ending::Keys => "keys\n",
+            Ending::Clock => "clock\n",
         }
     }
 
-    /// Says on standard error how the program ended; of a socket at which address, where memory
-    /// allows.
+    /// The whole line that is said on standard error.
+    fn line(self, alloc: Global) -> Result<String, Starved> {
+        Ok(match self {
+            Ending::Socket(address) => {
+                let address = peer_text(alloc, &address)?;
+                format!(in alloc; "socket {}\n", address.as_str())?
+            }
+            Ending::Link(Trouble::Receives(address, fault)) => {
+                let address = peer_text(alloc, &address)?;
+                format!(in alloc; "link failed {}: {fault}\n", address.as_str())?
+            }
+            Ending::Link(Trouble::Threads(begun)) => {
+                format!(in alloc; "link failed: threads for {begun} workers alone\n")?
+            }
+            _ => String::from_str(alloc, self.text())?,
+        })
+    }
+
+    /// Says on standard error how the program ended; at which address, and for which trouble, where
+    /// memory allows.
     fn say(self, rt: &HostRuntime) {
         let mut err = rt.stderr();
-        if let Ending::Socket(address) = self
-            && let Ok(address) = peer_text(rt.alloc(), &address)
-        {
-            let _ = writeln!(err, "socket {}", address.as_str());
-            return;
-        }
-        let _ = err.write_all(self.text().as_bytes());
+        let _ = match self.line(rt.alloc()) {
+            Ok(line) => err.write_all(line.as_bytes()),
+            Err(Starved) => err.write_all(self.text().as_bytes()),
+        };
     }
 
     /// Says how the program ended, and gives its exit status.

@@ -2,23 +2,30 @@
 //! workers.
 #![tactic(auto)]
 
-ghost use Rattle.std.specs.Prelude.{◌≡◌, ◌≤◌, IfOk, length, vec_len};
+ghost use Rattle.std.specs.Prelude.{◌≡◌, ◌≤◌, ◌<◌, ◌^◌, IfOk, length, vec_len};
 ghost use Rattle.hosting.specs.Words.{IsPlan, IsWanted};
+ghost use Rattle.rd_server.specs.serving.Servers.{AreOfHall};
 
 mod endings;
 
 use endings::Ending;
-use hosting::{HostLink, HostPlan, Listener, Routes, Wanted, host_words};
-use rd_base::StdSink;
-use rd_seat::OpenGate;
-use rd_server::{End, ServeStatus, given_words, serve};
+use hosting::{Crew, HostClock, HostLink, HostPlan, Listener, Origin, Routes, Wanted, host_words};
+use rd_base::{Starved, StdSink};
+use rd_desk::Stepped;
+use rd_seat::{Hall, OpenGate};
+use rd_server::{End, ServeStatus, given_words, make_hall, serve_seats};
 use std::hash::RandomState;
+use std::io::Write;
 use std::process::ExitCode;
-use std::sync::Mutex;
-use udp_link::UdpClock;
+use std::sync::{Mutex, Wait};
+use std::thread::Threads;
+use udp_link::{Clock, Link};
+
+/// The end of one worker.
+type HostEnd<'a> = End<HostLink<'a, HostRuntime>, HostClock<'a, HostRuntime>>;
 
 /// The ends of the server: the workers of all addresses.
-type Ends<'a> = Vec<End<HostLink<'a, HostRuntime>, UdpClock<&'a HostRuntime>>>;
+type Ends<'a> = Vec<HostEnd<'a>>;
 
 /// What the words of the command line want.
 fn wanted(rt: &HostRuntime) -> Result<Wanted, Ending>
@@ -43,42 +50,65 @@ fn listeners_at(rt: &HostRuntime, plan: &HostPlan) -> Result<Vec<Listener>, Endi
     Ok(listeners)
 }
 
-/// What a server stands on.
+/// What the workers of a server share.
 #[derive(Drop)]
-struct Sockets {
+struct Shared {
     /// A socket at each address.
     listeners: Vec<Listener>,
     /// By which of them each peer was heard.
     routes: Mutex<Routes>,
+    /// How many of their links began, and why they end.
+    crew: Crew,
+    /// From when on their clocks count.
+    origin: Origin,
 }
 
-/// What a server of a plan stands on.
-fn sockets_of(rt: &HostRuntime, plan: &HostPlan) -> Result<Sockets, Ending>
-    ensures { IfOk result (λ sockets. vec_len sockets.listeners ≡ length plan.now.listen) }
+/// What the workers of a server of a plan share.
+fn shared_of(rt: &HostRuntime, plan: &HostPlan) -> Result<Shared, Ending>
+    requires { IsPlan plan.now }
+    ensures { IfOk result (λ shared. vec_len shared.listeners ≡ length plan.now.listen) }
 {
+    let Ok(origin) = Origin::read(rt) else {
+        return Err(Ending::Clock);
+    };
     let listeners = listeners_at(rt, plan)?;
     let Ok(keys) = RandomState::new(rt) else {
         return Err(Ending::Keys);
     };
     let routes = Mutex::new(Routes::new(rt.alloc(), keys)?);
-    Ok(Sockets { listeners, routes })
+    Ok(Shared {
+        listeners,
+        routes,
+        crew: Crew::of(plan.ends() as u64),
+        origin,
+    })
+}
+
+/// The end of a worker, which receives at the address of the listener `own`.
+fn end_over<'a>(rt: &'a HostRuntime, shared: &'a Shared, own: usize) -> Result<HostEnd<'a>, Ending>
+    requires { own < vec_len shared.now.listeners }
+{
+    let Shared {
+        listeners,
+        routes,
+        crew,
+        origin,
+    } = shared;
+    let link = HostLink::over(rt, rt.alloc(), routes, crew, listeners.as_slice(), own)?;
+    let Ok(clock) = HostClock::seeded(rt, origin) else {
+        return Err(Ending::Keys);
+    };
+    Ok(End::of(link, clock))
 }
 
 /// So many ends, of which the addresses have equally many.
-fn ends_over<'a>(
-    rt: &'a HostRuntime,
-    sockets: &'a Sockets,
-    number: usize,
-) -> Result<Ends<'a>, Ending>
-    requires { 1 ≤ vec_len sockets.now.listeners }
+fn ends_over<'a>(rt: &'a HostRuntime, shared: &'a Shared, number: usize) -> Result<Ends<'a>, Ending>
+    requires { 1 ≤ vec_len shared.now.listeners }
     ensures { IfOk result (λ ends. vec_len ends ≡ number) }
 {
-    let listeners = sockets.listeners.as_slice();
     let mut ends = Vec::with_capacity(rt.alloc(), number)?;
     'ends: for k in 0..number {
-        let own = k % listeners.len();
-        let link = HostLink::over(rt, rt.alloc(), &sockets.routes, listeners, own)?;
-        ends.push_reserved(End::of(link, UdpClock::new(rt)));
+        ends.push_reserved(end_over(rt, shared, k % shared.listeners.len())?);
     }
     Ok(ends)
 }
@@ -101,20 +131,88 @@ fn plan_of(rt: &HostRuntime) -> Result<HostPlan, Ending>
     }
 }
 
+/// Says on standard error above which number a run begins, where that can be written.
+fn say_begin(rt: &HostRuntime, first: u64) -> Result<(), Starved> {
+    let line = format!(in rt.alloc(); "rd_host: locations and entity tags count above {first}\n")?;
+    let _ = rt.stderr().write_all(line.as_bytes());
+    Ok(())
+}
+
+/// Begins a run above `first` by the seat of the first end, before any worker serves, and says so.
+///
+/// # Errors
+///
+/// Out of memory.
+fn begin_run<R: Wait, L, C: Clock>(
+    rt: &HostRuntime,
+    handles: &R,
+    hall: &Hall,
+    ends: &mut [End<L, C>],
+    first: u64,
+) -> Result<(), Starved>
+    requires hall { AreOfHall hall.now ends.old }
+    ensures hall { AreOfHall hall.now ends.new }
+    ensures length { length ends.new ≡ length ends.old }
+{
+    if let Some(end) = ends.first_mut() {
+        let now = end.clock.now();
+        if let Some(seat) = &mut end.seat {
+            if seat.begin(handles, hall, &OpenGate, now, first) == Stepped::Starved {
+                return Err(Starved);
+            }
+        }
+    }
+    say_begin(rt, first)
+}
+
+/// Makes a hall for the ends, begins its run above `first`, and serves as the plan says.
+///
+/// # Errors
+///
+/// Out of memory before the ends were served.
+fn serve_above<R: Threads + Wait + Sync + AllocGlobal, L: Link + Send, C: Clock + Send>(
+    rt: &HostRuntime,
+    handles: &R,
+    ends: &mut [End<L, C>],
+    first: u64,
+    turns: u64,
+) -> Result<ServeStatus, Starved>
+    requires ends { (1 ≤ length ends.old) × (length ends.old ≤ 16) }
+    requires turns { turns ≤ 10 ^ 12 }
+{
+    let hall = make_hall(handles, ends)?;
+    if let Err(starved) = begin_run(rt, handles, &hall, ends, first) {
+        hall.end(handles);
+        return Err(starved);
+    }
+    let mut out = StdSink::of(rt.stdout());
+    Ok(serve_seats(handles, hall, ends, &OpenGate, turns, &mut out))
+}
+
+/// How the program ends after the server ended so, with the trouble of its links.
+fn ending_of(status: ServeStatus, crew: &Crew) -> Ending {
+    match (status, crew.trouble()) {
+        (ServeStatus::Link, Some(trouble)) => Ending::Link(trouble),
+        _ => Ending::Served(status),
+    }
+}
+
 fn main(rt: HostRuntime) -> ExitCode {
     let plan = match plan_of(&rt) {
         Ok(plan) => plan,
         Err(ending) => return ending.exit(&rt),
     };
-    let sockets = match sockets_of(&rt, &plan) {
-        Ok(sockets) => sockets,
+    let shared = match shared_of(&rt, &plan) {
+        Ok(shared) => shared,
         Err(ending) => return ending.exit(&rt),
     };
-    let mut ends = match ends_over(&rt, &sockets, plan.ends()) {
+    let mut ends = match ends_over(&rt, &shared, plan.ends()) {
         Ok(ends) => ends,
         Err(ending) => return ending.exit(&rt),
     };
-    let mut out = StdSink::of(rt.stdout());
-    let status = serve(&rt, &mut ends, &OpenGate, plan.turns, &mut out);
-    Ending::Served(status).exit(&rt)
+    let first = plan.begin.unwrap_or(shared.origin.begin());
+    match serve_above(&rt, &rt, &mut ends, first, plan.turns) {
+        Ok(status) => ending_of(status, &shared.crew).exit(&rt),
+        Err(starved) => Ending::from(starved).exit(&rt),
+    }
 }

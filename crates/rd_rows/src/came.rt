@@ -50,14 +50,19 @@ impl Came {
         })
     }
 
-    /// The next line is told. `Differs`: it is not the one that is written.
-    pub fn tell(&mut self, line: &CaseLine) -> Result<(), Fault> {
-        let written = line.text.as_str();
+    /// The next line is told, which stands in this line of a file. `Differs`: it is not the one
+    /// that is written.
+    pub fn tell_line(&mut self, number: u64, written: &str) -> Result<(), Fault> {
         if self.next() != Some(written) {
-            return Err(self.difference(line.number, written)?);
+            return Err(self.difference(number, written)?);
         }
         self.told = self.told.saturating_add(1);
         Ok(())
+    }
+
+    /// The next line is told. `Differs`: it is not the one that is written.
+    pub fn tell(&mut self, line: &CaseLine) -> Result<(), Fault> {
+        self.tell_line(line.number, line.text.as_str())
     }
 
     /// No line is left before this line of the file. `Differs`: there is one.

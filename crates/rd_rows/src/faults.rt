@@ -2,13 +2,15 @@
 
 use rd_base::Starved;
 use std::alloc::{AllocError, AllocFailed};
-use std::fmt;
+use std::{fmt, fs, io};
 
 /// Why a case is not as it is written.
 #[derive(Drop)]
 pub enum Fault {
     /// Its file cannot be read as text.
     Unread,
+    /// There is no such kind of list.
+    Kind,
     /// This line of its file has not the form of a case.
     Form(u64),
     /// This line of its file says something else than what came.
@@ -46,6 +48,7 @@ impl fmt::Display for Fault {
     fn fmt<W: fmt::Write>(&self, f: &mut fmt::Formatter<W>) -> fmt::Result {
         match self {
             Fault::Unread => write!(f, "its file cannot be read"),
+            Fault::Kind => write!(f, "no kind of list"),
             Fault::Form(line) => write!(f, "line {line}: not the form of a case"),
             Fault::Differs {
                 line,
@@ -54,5 +57,29 @@ impl fmt::Display for Fault {
             } => write!(f, "line {line}: written {written}, came {came}"),
             Fault::Starved => write!(f, "out of memory"),
         }
+    }
+}
+
+/// Why a file is not read: `Starved` for want of memory, or else `Unread`.
+fn unread(error: &io::Error) -> Fault {
+    match error.kind() {
+        io::ErrorKind::OutOfMemory => Fault::Starved,
+        _ => Fault::Unread,
+    }
+}
+
+/// The text of a file.
+pub fn text_of(rt: &HostRuntime, path: &str) -> Result<String, Fault> {
+    match fs::read_to_string(rt, path) {
+        Ok(text) => Ok(text),
+        Err(error) => Err(unread(&error)),
+    }
+}
+
+/// The octets of a file.
+pub fn octets_of(rt: &HostRuntime, path: &str) -> Result<Vec<u8>, Fault> {
+    match fs::read(rt, path) {
+        Ok(octets) => Ok(octets),
+        Err(error) => Err(unread(&error)),
     }
 }

@@ -1,25 +1,31 @@
-//! `rd_rows`: runs stored cases of the directory, and tells of each whether what comes is as it is
-//! written.
+//! `rd_rows`: runs what is stored of the directory, and tells of each whether what comes is as it
+//! is written.
 //!
-//! Standard input names the cases, one a line, as `registration/repeated`; the file of that one is
-//! `registration/repeated.case`, in the folder where the program runs. Empty lines and those that
-//! begin with `#` are passed over.
+//! Standard input names what is run, one a line. `registration/repeated` is the case of the file
+//! `registration/repeated.case`, in the folder where the program runs. `desks FILE` are tables of a
+//! desk, `talks FILE` connections, and `recordings FILE` captures: FILE has a line for each step or
+//! call, and FILE.out what is to come of them. Empty lines and those that begin with `#` are passed
+//! over.
 #![tactic(auto)]
 
 mod braces;
 mod came;
 mod case;
+mod desks;
 mod faults;
+mod lists;
 mod reading;
+mod recordings;
 mod running;
 mod stories;
+mod talks;
 
 use crate::faults::Fault;
-use crate::running::check;
+use std::io;
 use std::process::ExitCode;
-use std::{fs, io};
+use std::sync::Wait;
 
-/// How many cases were run, and how many of them differ.
+/// How many cases and lists were run, and how many of them differ.
 #[derive(Drop)]
 struct Tally {
     /// How many were run.
@@ -28,32 +34,30 @@ struct Tally {
     differ: u64,
 }
 
-/// Reads the file of a case and runs it.
-fn run(rt: &HostRuntime, name: &str) -> Result<(), Fault> {
-    let path = format!(in rt.alloc(); "{name}.case")?;
-    match fs::read_to_string(rt, path.as_str()) {
-        Ok(text) => check(rt.alloc(), text.as_str()),
-        Err(error) if error.kind() == io::ErrorKind::OutOfMemory => Err(Fault::Starved),
-        Err(_) => Err(Fault::Unread),
+/// Runs what a line names.
+fn run<R: Wait + AllocGlobal>(rt: &HostRuntime, waits: &R, line: &str) -> Result<(), Fault> {
+    match line.split_once(' ') {
+        Some((kind, file)) => lists::check(rt, waits, kind, file),
+        None => running::check_file(rt, line),
     }
 }
 
-/// Runs a case and prints how it came out. Answers whether it is as written.
-fn tell(rt: &HostRuntime, name: &str) -> io::Result<bool> {
-    match run(rt, name) {
+/// Runs what a line names, and prints how it came out. Answers whether it is as written.
+fn tell<R: Wait + AllocGlobal>(rt: &HostRuntime, waits: &R, line: &str) -> io::Result<bool> {
+    match run(rt, waits, line) {
         Ok(()) => {
-            println!(rt; "{name}: as written")?;
+            println!(rt; "{line}: as written")?;
             Ok(true)
         }
         Err(fault) => {
-            println!(rt; "{name}: {fault}")?;
+            println!(rt; "{line}: {fault}")?;
             Ok(false)
         }
     }
 }
 
-/// Runs all cases that standard input names.
-fn tell_all(rt: &HostRuntime) -> io::Result<Tally> {
+/// Runs all that standard input names.
+fn tell_all<R: Wait + AllocGlobal>(rt: &HostRuntime, waits: &R) -> io::Result<Tally> {
     let mut tally = Tally {
         cases: 0,
         differ: 0,
@@ -65,7 +69,7 @@ fn tell_all(rt: &HostRuntime) -> io::Result<Tally> {
             continue;
         }
         tally.cases = tally.cases.saturating_add(1);
-        if !tell(rt, name)? {
+        if !tell(rt, waits, name)? {
             tally.differ = tally.differ.saturating_add(1);
         }
     }
@@ -73,7 +77,7 @@ fn tell_all(rt: &HostRuntime) -> io::Result<Tally> {
 }
 
 fn main(rt: HostRuntime) -> io::Result<ExitCode> {
-    let Tally { cases, differ } = tell_all(&rt)?;
+    let Tally { cases, differ } = tell_all(&rt, &rt)?;
     println!(rt; "{cases} cases, {differ} differ")?;
     if differ > 0 {
         return Ok(ExitCode::FAILURE);

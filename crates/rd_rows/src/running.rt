@@ -2,7 +2,7 @@
 
 use crate::came::Came;
 use crate::case::{Case, Kind};
-use crate::faults::Fault;
+use crate::faults::{Fault, text_of};
 use crate::reading::read_case;
 use crate::stories::check_steps;
 use rd_base::{Bytes, MemSink, MemSource};
@@ -58,8 +58,8 @@ fn check_lines(case: &Case, came: &mut Came) -> Result<(), Fault> {
     came.end(last)
 }
 
-/// Runs the case that a file says. `Differs`: the first line that is not as it is written.
-pub fn check(alloc: Global, text: &str) -> Result<(), Fault> {
+/// Runs the case that a text says. `Differs`: the first line that is not as it is written.
+fn check(alloc: Global, text: &str) -> Result<(), Fault> {
     let case = read_case(alloc, text)?;
     let (mut came, status) = replayed(alloc, &case)?;
     check_lines(&case, &mut came)?;
@@ -67,4 +67,12 @@ pub fn check(alloc: Global, text: &str) -> Result<(), Fault> {
         check_steps(alloc, &case, bad_line(status))?;
     }
     Ok(())
+}
+
+/// Runs the case of a name, which is that of its file without `.case`. `Differs`: the first line
+/// that is not as it is written.
+pub fn check_file(rt: &HostRuntime, name: &str) -> Result<(), Fault> {
+    let path = format!(in rt.alloc(); "{name}.case")?;
+    let text = text_of(rt, path.as_str())?;
+    check(rt.alloc(), text.as_str())
 }

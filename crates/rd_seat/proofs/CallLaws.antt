@@ -24,10 +24,10 @@ use Rattle.rd_seat.specs.declared.hearing.SeatHeard.TheVariants as heard
 use Rattle.rd_seat.specs.Heard.{is_starved_hearing, answer_left, LeavesWrite, IsKeepOf, MayBeDone}
 use Rattle.rd_seat.specs.Heard.{IsOpenWrite, go_step}
 use Rattle.rd_seat.specs.Jobs.{last_place}
-use Rattle.rd_seat.specs.Seats.{SeatSeen, seat_of, MakesStep, LooksAtMet}
+use Rattle.rd_seat.specs.Seats.{SeatSeen, IsOfHall, seat_of, MakesStep, LooksAtMet}
 use Rattle.rd_seat.specs.Steps.{tick_step, admit_step, look_step}
 use Rattle.rd_seat.specs.Chains.{Chain}
-use Rattle.rd_seat.specs.Calls.{Call, Rowed, Viewed, Does, IsLeftBy, IsHearing, IsOfJob}
+use Rattle.rd_seat.specs.Calls.{Call, Does, IsLeftBy, IsHearing, IsOfJob}
 use Rattle.rd_seat.specs.Calls.{GivesMoment, GivesWord, job_at, job_held, job_kept}
 use Rattle.rd_seat.specs.Callers.{ClockSeen, CallerSeen, CallsMade}
 use Rattle.rd_seat.proofs.ToldLaws.{told_then, told_as, told_same}
@@ -171,16 +171,17 @@ tick_call a now word starved sent = record {
 
 pub tick-made : {S : Type 0} (told : S → List Datagram) (a b : CallerSeen) (middle : ClockSeen)
     (now : Moment) (word : ℕ) (starved : Bool) (sent : S)
-    → IsFront a.seat.met b.seat.met
+    → IsOfHall a.seat.hall b.seat → IsFront a.seat.met b.seat.met
     → MakesStep a.seat (tick_step a.seat.worker now word a.seat.drawn) starved (told sent) b.seat
     → Asked now word a.clock middle b.clock
     → CallsMade told (tick_call a.seat now word starved sent ∷ []) a b
-tick-made told a b middle now word starved sent grows makes asked =
+tick-made told a b middle now word starved sent of_hall grows makes asked =
     let c : Call _ = tick_call a.seat now word starved sent in
     let left : IsLeftBy b.seat.seen None =
     none_left a.seat b.seat c.step starved (told sent) makes
     (none_ticked a.seat.worker now word a.seat.drawn starved) in
-    one_call told c a b (inl (record { grows = grows; made = makes; left = left }))
+    one_call told c a b
+    (inl (record { of_hall = of_hall; grows = grows; made = makes; left = left }))
     (one_moment c a.clock.times middle.times b.clock.times asked.moment asked.times_stay)
     (one_word c word a.clock.words middle.words b.clock.words (λ x y g. g)
     asked.words_stay asked.word_of)
@@ -206,13 +207,13 @@ handed_done a now (job.Keep j) starved sent = refl
 
 pub go-made : {S : Type 0} (told : S → List Datagram) (a b : CallerSeen) (now : Moment) (j : Job)
     (starved : Bool) (sent : S)
-    → IsFront a.seat.met b.seat.met
+    → IsOfHall a.seat.hall b.seat → IsFront a.seat.met b.seat.met
     → MakesStep a.seat (go_step a.seat.worker (last_place a.seat.seen) now j a.seat.drawn)
     starved (told sent) b.seat
     → WhereTold (GivesFirst (record { 0 = 0 }) now) a.clock.times b.clock.times
     → Stays a.clock.words b.clock.words
     → CallsMade told (go_call a.seat now j starved sent ∷ []) a b
-go-made told a b now j starved sent grows makes times words =
+go-made told a b now j starved sent of_hall grows makes times words =
     let c : Call _ = go_call a.seat now j starved sent in
     let left : IsLeftBy b.seat.seen None =
     none_left a.seat b.seat c.step starved (told sent) makes
@@ -221,7 +222,8 @@ go-made told a b now j starved sent grows makes times words =
     a.clock.times b.clock.times =
     subst (λ (m : Moment). WhereTold (GivesFirst (record { 0 = 0 }) m)
     a.clock.times b.clock.times) (sym (handed_done a.seat now j starved sent)) times in
-    one_call told c a b (inl (record { grows = grows; made = makes; left = left }))
+    one_call told c a b
+    (inl (record { of_hall = of_hall; grows = grows; made = makes; left = left }))
     (told_as (λ x y g. (x, refl, g)) a.clock.times b.clock.times gives)
     (no_word c a.clock.words b.clock.words (no_word_done a.seat now j starved sent) words)
 
@@ -258,6 +260,7 @@ hear-IsHearing false a seen now word peer datagram result sent e = record {
 -- what hearing it did, where it is a look and where it is none
 pub record WasHeard (now : Moment) (word : ℕ) (peer : Peer) (datagram : List ℕ)
     (result : SeatHeard) (out : List Datagram) (before after : SeatSeen) : Type 0 where
+  pub of_hall : IsOfHall before.hall after
   pub grows : IsFront before.met after.met
   pub makes : is_look_datagram datagram ≡ false
       → MakesStep before (admit_step before.worker now word peer datagram before.drawn)
@@ -279,6 +282,7 @@ hear-made told true a b middle now word peer datagram result sent e was asked =
     let c : Call _ = hear_call true a.seat b.seat.seen now word peer datagram result sent in
     one_call told c a b
     (inr (record {
+      of_hall = was.of_hall;
       grows = was.grows;
       held = answer_left result;
       looks = was.looks e;
@@ -291,6 +295,7 @@ hear-made told false a b middle now word peer datagram result sent e was asked =
     let c : Call _ = hear_call false a.seat b.seat.seen now word peer datagram result sent in
     one_call told c a b
     (inl (record {
+      of_hall = was.of_hall;
       grows = was.grows;
       made = was.makes e;
       left = left-held result b.seat.seen (was.leaves e);

@@ -7,7 +7,8 @@ pub mod OneTurnLaws
 -- The jobs of a seat.
 pub mod JobLaws
 -- The seats of a new hall, and what a hall keeps between turns.
-pub mod HallLaws
+pub mod OfHallLaws
+mod HallLaws
 -- What a seat shows after any calls.
 pub mod RunLaws
 -- What is told of a list, from one call to the next.

@@ -70,6 +70,7 @@ module _ {T : Type 0} {g : Ghosts T Row (List ℕ)} where
     turn-rests = turn-IsAtRest pass given looker middle after mids drew last later (seen_of begun)
         (row (seen_of begun) s starved) turn.rest
         turn.has_ended.idle (turn.has_ended.number ∙ turn.has_begun.number) turn.has_ended.own
+        turn.has_ended.below
         (turn.has_ended.label ∙ turn.has_begun.label) turn.has_ended.seen
         (turn.has_ended.name ∙ turn.has_begun.name) turn.has_ended.met_own turn.has_begun.only
         turn.has_ended.only turn.has_begun.stands.turns turn-AreTurns

@@ -4,7 +4,6 @@ use Rattle.std.specs.List.{AllByRecursion}
 use Rattle.std.proofs.lemmas.List.Elements.{All-nil, All-from_recursion, recursion_from_All}
 use Rattle.rd_base.proofs.lemmas.Each.{each_weaker}
 use Rattle.rd_base.specs.declared.peers.Peer.{Peer}
-use Rattle.atomic_table.specs.Seated.{TableId}
 use Rattle.event_model.specs.KeptAnswers.{Answer}
 use Rattle.history_model.specs.declared.entries.Entry.{Entry}
 use Rattle.history_model.specs.Live.{IsFront}
@@ -20,7 +19,8 @@ use Rattle.journal_model.proofs.SeatLaws.{
   makes_row-IsSeat,
   looks_from-IsSeat,
 }
-use Rattle.rd_seat.specs.Seats.{SeatSeen, seat_of, new_seat, MayHaveShown, MakesStep, LooksAtMet}
+use Rattle.rd_seat.specs.Seats.{HallSeen, SeatSeen, seat_of, new_seat, MayHaveShown}
+use Rattle.rd_seat.specs.Seats.{MakesStep, LooksAtMet}
 use Rattle.rd_seat.specs.Runs.{
   Call,
   turn,
@@ -57,7 +57,7 @@ abbrev first_of : Row → List Row → Row
 first_of none [] = none
 first_of none (r ∷ rows) = r
 
-after_begun : (hall : TableId) (worker : ℕ) → After [] (new_seat hall worker)
+after_begun : (hall : HallSeen) (worker : ℕ) → After [] (new_seat hall worker)
 after_begun hall worker = record {
   shown = [];
   front = [];
@@ -134,7 +134,7 @@ after_look calls before after s starved sent held b grows looks =
       );
     }
 
-after_calls : (hall : TableId) (worker : ℕ) (calls : List Call) (seat : SeatSeen)
+after_calls : (hall : HallSeen) (worker : ℕ) (calls : List Call) (seat : SeatSeen)
     → HasCalled hall worker calls seat → After calls seat
 after_calls hall worker [] seat begun = after_begun hall worker
 after_calls hall worker (c ∷ earlier) seat (turned {calls} {before} r found s starved sent later

@@ -18,7 +18,7 @@ use Rattle.rd_desk.specs.declared.jobs.Job.{Job}
 use Rattle.rd_desk.specs.declared.jobs.Job.TheVariants as job
 use Rattle.rd_seat.specs.declared.hearing.SeatHeard.{SeatHeard}
 use Rattle.rd_seat.specs.declared.hearing.SeatHeard.TheVariants as heard
-use Rattle.rd_seat.specs.Seats.{SeatSeen, MakesStep, LooksAtMet}
+use Rattle.rd_seat.specs.Seats.{SeatSeen, IsOfHall, MakesStep, LooksAtMet}
 
 -- ---- one call
 
@@ -41,10 +41,11 @@ job_kept None s = None
 job_kept (Some found) s =
     Some (record { kind = step.Keep found.body found.tag; peer = s.peer; datagram = s.datagram })
 
--- The call made a row at a turn of the seat, and what the row sends came out: `told` says which
--- datagrams those are.
+-- The call made a row at a turn of the seat, which is of its hall still, and what the row sends
+-- came out: `told` says which datagrams those are.
 pub record Rowed {S : Type 0} (told : S → List Datagram) (before : SeatSeen) (c : Call S)
     (after : SeatSeen) : Type 0 where
+  pub of_hall : IsOfHall before.hall after
   pub grows : IsFront before.met after.met
   pub made : MakesStep before c.step c.starved (told c.sent) after
   pub left : IsLeftBy after.seen c.left
@@ -52,6 +53,7 @@ pub record Rowed {S : Type 0} (told : S → List Datagram) (before : SeatSeen) (
 -- the call looked, and what the look sends came out
 pub record Viewed {S : Type 0} (told : S → List Datagram) (before : SeatSeen) (c : Call S)
     (after : SeatSeen) : Type 0 where
+  pub of_hall : IsOfHall before.hall after
   pub grows : IsFront before.met after.met
   pub held : Option Answer
   pub looks : LooksAtMet before c.step c.starved (told c.sent) held after

@@ -1,5 +1,5 @@
 -- What a hall keeps between two turns, whatever its seats do.
-use Rattle.std.specs.Prelude.{◌≡◌, ℕ, false, List, Option, Some}
+use Rattle.std.specs.Prelude.{◌≡◌, ℕ, false, List, [], Option, Some}
 use mathlib.Core.Option.{some}
 use lib.ListN.{get_elem?}
 use Rattle.std.specs.List.{AllByRecursion}
@@ -11,10 +11,11 @@ use Rattle.journal_model.specs.DeskJournal.{IsDeskJournal}
 use Rattle.journal_model.specs.Headline.{DeskHeadline}
 use Rattle.rd_desk.specs.calls.Shown.{Shown}
 use Rattle.turn_lock.specs.declared.views.View.{View}
-use Rattle.turn_lock.specs.Rule.{Kept}
+use Rattle.turn_lock.specs.declared.rows.Replays.{Ghosts}
+use Rattle.turn_lock.specs.Rule.{Kept, IsOfPasses, OfEachPass}
 use Rattle.version_board.specs.Ends.{PublisherSeen}
 use Rattle.rd_seat.specs.declared.shared_desk.SharedDesk.{SharedDesk}
-use Rattle.rd_seat.specs.Turns.{IsDeskRow, IsPublished, StandsAtTurn}
+use Rattle.rd_seat.specs.Turns.{IsDeskRow, IsPublished}
 
 -- The rows are one history of the hall: each is the row of a step of the desk after those before
 -- it, and none is of a look. The registrations are the replay of their entries, which is legal
@@ -29,10 +30,11 @@ pub record IsHistoryOfHall (rows : List Row) (desk : Shown PublisherSeen) : Type
   pub headline : DeskHeadline rows
   pub published : IsPublished (entries rows) desk.board
 
--- what the rule of the turn holds of a hall between any two steps on the lock's word and slot
-abbrev pub KeptByHall : List ℕ → State (Option SharedDesk) (View Row (List ℕ)) → Type 0
-KeptByHall name s = Kept (λ rows shared. StandsAtTurn rows shared.desk.value)
-    (λ r. r.step.worker) (λ shared. shared.desk.value.board.name) name s
+-- What the rule of the turn holds of a hall of so many workers between any two steps on the lock's
+-- word and slot. The ghosts are those by which the desk replays its rows.
+abbrev pub KeptByHall : Ghosts SharedDesk Row (List ℕ) → List ℕ → ℕ
+    → State (Option SharedDesk) (View Row (List ℕ)) → Type 0
+KeptByHall g name workers s = Kept g.stands g.number g.label name workers s
 
 -- the desk lies behind the turn, and stands for these rows, which are one history of the hall
 pub record HoldsHistory (rows : List Row) (s : State (Option SharedDesk) (View Row (List ℕ)))
@@ -42,6 +44,18 @@ pub record HoldsHistory (rows : List Row) (s : State (Option SharedDesk) (View R
   pub history : IsHistoryOfHall rows shared.desk.value
 
 -- Whenever the turn is free, the desk behind it stands for one such history.
-abbrev pub HallsHoldHistory : Type 0
-HallsHoldHistory = (name : List ℕ) (s : State (Option SharedDesk) (View Row (List ℕ)))
-    → (kept : KeptByHall name s) → kept.held ≡ false → HoldsHistory kept.history s
+abbrev pub HallsHoldHistory : Ghosts SharedDesk Row (List ℕ) → Type 0
+HallsHoldHistory g = (name : List ℕ) (workers : ℕ)
+    (s : State (Option SharedDesk) (View Row (List ℕ)))
+    → (kept : KeptByHall g name workers s) → kept.held ≡ false → HoldsHistory kept.history s
+
+-- At any time a journal is that of the hall's seats: each row is of one of the workers, whose
+-- numbers are below how many there are, and those of each are exactly what its seat made, in its
+-- order. While no seat has made a row, the journal is empty: nothing was done before the seats
+-- were handed out, and nothing is done but by them.
+abbrev pub RowsAreOfSeats : Ghosts SharedDesk Row (List ℕ) → Type 0
+RowsAreOfSeats g = (name : List ℕ) (workers : ℕ)
+    (s : State (Option SharedDesk) (View Row (List ℕ)))
+    → (kept : KeptByHall g name workers s)
+    → IsOfPasses (λ (r : Row). r.step.worker) workers s.views kept.history
+    × (OfEachPass workers s.views (λ seat. seat.mine ≡ []) → kept.history ≡ [])

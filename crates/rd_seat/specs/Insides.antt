@@ -1,24 +1,34 @@
 -- A seat between two calls.
 use Rattle.std.specs.Prelude.{◌≡◌, ℕ, ◌+◌, ◌<◌, ◌≤◌, ◌^◌, false, List, [], ◌∷◌}
 use Rattle.rd_base.specs.declared.moments.Moment.{Moment}
-use Rattle.atomic_table.specs.Seated.{TableId}
 use Rattle.history_model.specs.Live.{IsFront, last_moment}
 use Rattle.journal_model.specs.Journal.{entries}
 use Rattle.journal_model.specs.Seats.{rows_of}
 use Rattle.journal_model.specs.declared.rows.Row.{Row}
 use Rattle.turn_lock.specs.declared.rows.Replays.{Ghosts}
 use Rattle.turn_lock.specs.declared.seats.Pass.{Pass}
-use Rattle.turn_lock.specs.Shown.{lock_of, number_of, label_of, is_holding, seen_of, mine_of, IsNew}
+use Rattle.turn_lock.specs.declared.lock.TurnLock.{TurnLock}
+use Rattle.turn_lock.specs.Histories.{AllBelow}
+use Rattle.turn_lock.specs.Shown.{id_of, count_of, lock_of, passes_of, number_of, label_of}
+use Rattle.turn_lock.specs.Shown.{is_holding, seen_of, mine_of, IsNew}
 use Rattle.coap_answers.specs.declared.mids.Mids.{Mids}
 use Rattle.version_board.specs.Ends.{LookerSeen, new_looker}
-use Rattle.rd_seat.specs.Seats.{SeatSeen}
+use Rattle.rd_seat.specs.Seats.{HallSeen, SeatSeen}
+
+-- the hall of a lock
+abbrev pub hall_at : {T R L : Type 0} → TurnLock T R L → HallSeen
+hall_at lock = record { id = id_of lock; workers = count_of lock }
+
+-- the hall that a pass is of
+abbrev pub hall_of : {T : Type 0} {g : Ghosts T Row (List ℕ)} → Pass T Row (List ℕ) g → HallSeen
+hall_of pass = record { id = lock_of pass; workers = passes_of pass }
 
 -- what a seat of these parts shows
 abbrev pub seat_shown : {T : Type 0} {g : Ghosts T Row (List ℕ)} → Pass T Row (List ℕ) g
     → LookerSeen
     → Mids → Moment → SeatSeen
 seat_shown pass looker mids last = record {
-  hall = lock_of pass;
+  hall = hall_of pass;
   worker = mids.worker;
   seen = seen_of pass;
   mine = mine_of pass;
@@ -28,13 +38,14 @@ seat_shown pass looker mids last = record {
 }
 
 -- Its pass does not hold the turn and has its number, its rows are those of the journal that it
--- has seen, its looker is of the hall's board, and has met all entries that it has seen; what it
--- met is not later than its last row or look.
+-- has seen, each row there is of one of the hall's workers, its looker is of the hall's board, and
+-- has met all entries that it has seen; what it met is not later than its last row or look.
 pub record IsAtRest {T : Type 0} {g : Ghosts T Row (List ℕ)} (pass : Pass T Row (List ℕ) g)
     (looker : LookerSeen) (mids : Mids) (last : Moment) : Type 0 where
   pub idle : is_holding pass ≡ false
   pub number : number_of pass ≡ mids.worker
   pub own : mine_of pass ≡ rows_of mids.worker (seen_of pass)
+  pub below : AllBelow (λ (r : Row). r.step.worker) (passes_of pass) (seen_of pass)
   pub board : looker.name ≡ label_of pass
   pub met : IsFront (entries (seen_of pass)) looker.seen
   pub in_time : last_moment looker.seen ≤ last.0
@@ -42,14 +53,14 @@ pub record IsAtRest {T : Type 0} {g : Ghosts T Row (List ℕ)} (pass : Pass T Ro
 
 -- what a new seat is made of: a pass that has seen nothing, and a looker of its lock's board that
 -- has seen nothing
-pub record IsNewSeat {T : Type 0} {g : Ghosts T Row (List ℕ)} (hall : TableId) (worker : ℕ)
+pub record IsNewSeat {T : Type 0} {g : Ghosts T Row (List ℕ)} (hall : HallSeen) (worker : ℕ)
     (pass : Pass T Row (List ℕ) g) (looker : LookerSeen) : Type 0 where
-  pub fresh : IsNew (label_of pass) worker pass
-  pub of_hall : lock_of pass ≡ hall
+  pub fresh : IsNew (label_of pass) (passes_of pass) worker pass
+  pub of_hall : hall_of pass ≡ hall
   pub unseen : looker ≡ new_looker (label_of pass)
 
 -- passes and lookers, of which each pair makes a new seat, numbered from n
-abbrev pub AreNewFrom : {T : Type 0} {g : Ghosts T Row (List ℕ)} → TableId → ℕ
+abbrev pub AreNewFrom : {T : Type 0} {g : Ghosts T Row (List ℕ)} → HallSeen → ℕ
     → List (Pass T Row (List ℕ) g) → List LookerSeen → Type 0
 AreNewFrom hall n [] [] = Unit {0}
 AreNewFrom hall n (pass ∷ passes) (looker ∷ lookers) =

@@ -8,8 +8,11 @@ use Rattle.journal_model.specs.Seats.{rows_of, GoesOn, Agree}
 use Rattle.rd_desk.specs.calls.Shown.{Shown}
 use Rattle.turn_lock.specs.declared.rows.Replays.{Ghosts}
 use Rattle.turn_lock.specs.declared.seats.Pass.{Pass}
-use Rattle.turn_lock.specs.Shown.{lock_of, number_of, label_of, is_holding, seen_of, mine_of}
+use Rattle.turn_lock.specs.Histories.{AllBelow}
+use Rattle.turn_lock.specs.Shown.{lock_of, passes_of, number_of, label_of, is_holding}
+use Rattle.turn_lock.specs.Shown.{seen_of, mine_of}
 use Rattle.version_board.specs.Ends.{PublisherSeen, LookerSeen}
+use Rattle.rd_seat.specs.Insides.{hall_of}
 use Rattle.rd_seat.specs.Turns.{StandsAtTurn}
 
 -- what was met is what had been met, or these entries
@@ -23,6 +26,7 @@ module _ {T : Type 0} {g : Ghosts T Row (List ℕ)} where
   pub record HasBegun (before after : Pass T Row (List ℕ) g) (was looker : LookerSeen)
       (desk : Shown PublisherSeen) : Type 0 where
     pub lock : lock_of after ≡ lock_of before
+    pub hall : hall_of after ≡ hall_of before
     pub holding : is_holding after ≡ true
     pub number : number_of after ≡ number_of before
     pub label : label_of after ≡ label_of before
@@ -43,12 +47,14 @@ module _ {T : Type 0} {g : Ghosts T Row (List ℕ)} where
   pub record HasEnded (r : Row) (before after : Pass T Row (List ℕ) g) (was looker : LookerSeen)
       : Type 0 where
     pub lock : lock_of after ≡ lock_of before
+    pub hall : hall_of after ≡ hall_of before
     pub idle : is_holding after ≡ false
     pub number : number_of after ≡ number_of before
     pub label : label_of after ≡ label_of before
     pub seen : seen_of after ≡ r ∷ seen_of before
     pub mine : mine_of after ≡ r ∷ mine_of before
     pub own : mine_of after ≡ rows_of (number_of after) (seen_of after)
+    pub below : AllBelow (λ (r : Row). r.step.worker) (passes_of after) (seen_of after)
     pub name : looker.name ≡ was.name
     pub met : IsFront was.seen looker.seen
     pub met_own : IsFront (entries (seen_of after)) looker.seen

@@ -2,7 +2,6 @@
 use Rattle.std.specs.Prelude.{◌≡◌, ℕ, Bool, List, [], ◌∷◌, Option}
 use Rattle.std.specs.List.{AllByRecursion}
 use Rattle.rd_base.specs.declared.peers.Peer.{Peer}
-use Rattle.atomic_table.specs.Seated.{TableId}
 use Rattle.event_model.specs.KeptAnswers.{Answer}
 use Rattle.history_model.specs.declared.entries.Entry.{Entry}
 use Rattle.history_model.specs.Live.{IsFront}
@@ -10,7 +9,8 @@ use Rattle.journal_model.specs.declared.rows.Row.{Row}
 use Rattle.journal_model.specs.declared.steps.Step.{Step}
 use Rattle.journal_model.specs.Journal.{entries}
 use Rattle.journal_model.specs.Seats.{IsSeat}
-use Rattle.rd_seat.specs.Seats.{SeatSeen, seat_of, new_seat, MakesStep, LooksAtMet}
+use Rattle.rd_seat.specs.Seats.{HallSeen, SeatSeen, seat_of, new_seat}
+use Rattle.rd_seat.specs.Seats.{MakesStep, LooksAtMet}
 
 -- what one call of a seat did: a step at its turn, which made a row; or a look, by a seat that
 -- had seen a journal, from a front
@@ -21,7 +21,7 @@ pub data Call : Type 0 where
 -- A seat after calls, the latest first, of each of which its contract holds: it began as a new
 -- seat, a step left its row as the last one that is seen, and a look was from what is met after
 -- it.
-pub data HasCalled (hall : TableId) (worker : ℕ) : List Call → SeatSeen → Type 0 where
+pub data HasCalled (hall : HallSeen) (worker : ℕ) : List Call → SeatSeen → Type 0 where
   begun : HasCalled hall worker [] (new_seat hall worker)
   turned : {calls : List Call} {before : SeatSeen} → (r : Row) (found : List Row) (s : Step)
       (starved : Bool) (sent : List (Peer × List ℕ)) (after : SeatSeen)
@@ -66,5 +66,5 @@ pub record IsSeatAfter (calls : List Call) (seat : SeatSeen) : Type 0 where
 
 -- of each seat, whatever its calls
 abbrev pub SeatsAreSeats : Type 0
-SeatsAreSeats = (hall : TableId) (worker : ℕ) (calls : List Call) (seat : SeatSeen)
+SeatsAreSeats = (hall : HallSeen) (worker : ℕ) (calls : List Call) (seat : SeatSeen)
     → HasCalled hall worker calls seat → IsSeatAfter calls seat

@@ -1,5 +1,5 @@
 -- What contracts see of a seat.
-use Rattle.std.specs.Prelude.{ℕ, zero, suc, Bool, List, [], ◌∷◌, ◌++◌, Option}
+use Rattle.std.specs.Prelude.{◌≡◌, ℕ, zero, suc, Bool, List, [], ◌∷◌, ◌++◌, Option}
 use Rattle.std.specs.List.{All}
 use Rattle.atomic_table.specs.Seated.{TableId}
 use Rattle.history_model.specs.declared.entries.Entry.{Entry}
@@ -9,11 +9,17 @@ use Rattle.event_model.specs.KeptAnswers.{Answer}
 use Rattle.journal_model.specs.declared.rows.Row.{Row}
 use Rattle.journal_model.specs.declared.steps.Step.{Step}
 use Rattle.journal_model.specs.Seats.{Seat, MakesRow, LooksFrom}
+use Rattle.turn_lock.specs.Histories.{AllBelow}
+
+-- which hall, and how many workers it has
+pub record HallSeen : Type 0 where
+  pub id : TableId
+  pub workers : ℕ
 
 -- what a seat shows
 pub record SeatSeen : Type 0 where
   -- its hall
-  pub hall : TableId
+  pub hall : HallSeen
   -- its number, which is that of its worker
   pub worker : ℕ
   -- the journal that it has seen, up to its own last row
@@ -62,8 +68,14 @@ LooksAtMet before s starved sent held after = (shown : List (List Entry)) (front
     → LooksFrom (seat_of before shown front) s starved sent held
     (seat_of after (after.met ∷ shown) after.met)
 
+-- The seat is of this hall, and each row that it has seen is of one of the hall's workers, whose
+-- numbers are below how many there are.
+pub record IsOfHall (hall : HallSeen) (seat : SeatSeen) : Type 0 where
+  pub is : seat.hall ≡ hall
+  pub below : AllBelow (λ (r : Row). r.step.worker) hall.workers seat.seen
+
 -- a seat that made no step
-abbrev pub new_seat : TableId → ℕ → SeatSeen
+abbrev pub new_seat : HallSeen → ℕ → SeatSeen
 new_seat hall worker = record {
   hall = hall;
   worker = worker;
@@ -75,6 +87,6 @@ new_seat hall worker = record {
 }
 
 -- so many such seats, numbered from 0
-abbrev pub new_seats : TableId → ℕ → List SeatSeen
+abbrev pub new_seats : HallSeen → ℕ → List SeatSeen
 new_seats hall zero = []
 new_seats hall (suc n) = new_seats hall n ++ new_seat hall n ∷ []

@@ -4,10 +4,10 @@ use Rattle.rd_base.specs.declared.peers.Peer.{Peer}
 use Rattle.event_model.specs.KeptAnswers.{Answer}
 use Rattle.history_model.specs.Live.{IsFront}
 use Rattle.journal_model.specs.declared.steps.Step.{Step}
-use Rattle.turn_lock.specs.Shown.{lock_of, seen_of}
+use Rattle.turn_lock.specs.Shown.{seen_of}
 use Rattle.rd_desk.specs.declared.admissions.Admitted.{Admitted}
 use Rattle.rd_seat.specs.declared.shares.Share.{Share}
-use Rattle.rd_seat.specs.Insides.{IsAtRest, seat_shown}
+use Rattle.rd_seat.specs.Insides.{IsAtRest, hall_of, seat_shown}
 use Rattle.rd_seat.specs.Jobs.{LeavesJob, OpensJob}
 use Rattle.rd_seat.specs.Seats.{SeatSeen, MakesStep, LooksAtMet}
 
@@ -21,7 +21,7 @@ Rests share = IsAtRest share.pass share.looker share.mids share.last
 
 -- it is of the same hall, is at rest again, and has met all that it had met
 pub record GoesOnAs (before after : Share) : Type 0 where
-  pub hall : lock_of after.pass ≡ lock_of before.pass
+  pub hall : hall_of after.pass ≡ hall_of before.pass
   pub rest : Rests after
   pub met : IsFront before.looker.seen after.looker.seen
 

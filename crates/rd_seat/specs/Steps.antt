@@ -9,7 +9,7 @@ use Rattle.journal_model.specs.declared.steps.Step.{Step}
 use Rattle.journal_model.specs.declared.steps.StepKind.TheVariants as step
 use Rattle.rd_look.specs.KeepJobs.{Keep}
 
--- the peer of a tick, which has none
+-- the peer of a tick and of a beginning, which have none
 abbrev pub nobody : Peer
 nobody = record { host = host.V4 (0 ∷ 0 ∷ 0 ∷ 0 ∷ []); port = 0 }
 
@@ -20,6 +20,18 @@ tick_step worker moment word drawn = record {
   worker = worker;
   handed = moment;
   word = word;
+  peer = nobody;
+  datagram = [];
+  drawn = drawn;
+}
+
+-- a run begins above a number
+abbrev pub begin_step : ℕ → Moment → ℕ → ℕ → Step
+begin_step worker moment first drawn = record {
+  kind = step.Begin first;
+  worker = worker;
+  handed = moment;
+  word = 0;
   peer = nobody;
   datagram = [];
   drawn = drawn;

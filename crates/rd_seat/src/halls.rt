@@ -1,38 +1,37 @@
 //! A hall: a desk and a board that many workers share.
 ghost use Rattle.std.specs.Prelude.{◌≡◌, ◌≤◌, [], length, IfOk, All, replicate};
 ghost use Rattle.std.specs.Vec.{vec_capacity};
-ghost use Rattle.atomic_table.specs.Seated.{TableId};
-ghost use Rattle.turn_lock.specs.Shown.{id_of, lock_of, label_of, list_of, IsNew};
+ghost use Rattle.turn_lock.specs.Shown.{list_of};
 ghost use Rattle.version_board.specs.Ends.{new_looker};
 ghost use Rattle.rd_seat.specs.Seats.{new_seats};
-ghost use Rattle.rd_seat.specs.Insides.{AreNewFrom};
+ghost use Rattle.rd_seat.specs.Insides.{AreNewFrom, hall_at};
 ghost use Rattle.rd_seat.specs.Turns.{StandsAtTurn};
 
 use crate::seat_lists::Seats;
 use crate::seats::Seat;
 use crate::shared_desk::SharedDesk;
 use directory_core::Directory;
-use rd_base::{Moment, Starved};
-use rd_desk::{Desk, Mids};
+use rd_base::Starved;
+use rd_desk::Desk;
 use std::alloc::Global;
 use std::marker::Model;
 use std::sync::{Arc, Wait};
 use turn_lock::{Ended, Passes, TurnLock};
 use version_board::{Lookers, Publisher, board};
 
-/// A directory that workers share, each by a seat of its own. Contracts see which hall it is. It
-/// cannot be dropped: `end` ends it.
+/// A directory that workers share, each by a seat of its own. Contracts see which hall it is, and
+/// how many workers it has. It cannot be dropped: `end` ends it.
 pub struct Hall {
     lock: TurnLock<SharedDesk>,
 }
 
 impl Model for Hall {
-    ghost use Rattle.atomic_table.specs.Seated.{TableId};
-    ghost use Rattle.turn_lock.specs.Shown.{id_of};
+    ghost use Rattle.rd_seat.specs.Seats.{HallSeen};
+    ghost use Rattle.rd_seat.specs.Insides.{hall_at};
 
-    ghost Value = { TableId };
+    ghost Value = { HallSeen };
 
-    ghost view = { λ h. id_of h.lock };
+    ghost view = { λ h. hall_at h.lock };
 }
 
 /// A desk that nobody shares any more ends with its board.
@@ -90,8 +89,8 @@ fn seats_of(
     requires room { workers ≤ vec_capacity room }
     requires workers { workers ≤ 16 }
     requires count { length (list_of passes) ≡ workers }
-    requires new { AreNewFrom (id_of lock.now) 0 (list_of passes) lookers }
-    ensures { result.items ≡ new_seats (id_of lock.now) workers }
+    requires new { AreNewFrom (hall_at lock.now) 0 (list_of passes) lookers }
+    ensures { result.items ≡ new_seats (hall_at lock.now) workers }
 {
     let mut seats = room;
     let mut passes = passes;
@@ -113,6 +112,7 @@ impl Hall {
     /// registered. It waits while the first version is shown. `Starved`: out of memory.
     pub fn make<R: Wait>(alloc: Global, rt: &R, workers: u32) -> Result<(Hall, Seats), Starved>
         requires workers { (1 ≤ workers) × (workers ≤ 16) }
+        ensures workers { IfOk result (λ made. made.0.workers ≡ workers) }
         ensures seats { IfOk result (λ made. made.1 ≡ new_seats made.0 workers) }
         ensures hall { IfOk result (λ made. All (λ seat. seat.hall ≡ made.0) made.1) }
     {
@@ -132,7 +132,7 @@ impl Hall {
 
     /// Its lock.
     pub(crate) fn lock(&self) -> &TurnLock<SharedDesk>
-        ensures { id_of result.now ≡ self.now }
+        ensures { hall_at result.now ≡ self.now }
     {
         &self.lock
     }

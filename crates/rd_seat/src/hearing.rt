@@ -10,7 +10,7 @@ ghost use Rattle.rd_seat.specs.Jobs.{LeavesJob, OpensJob};
 ghost use Rattle.rd_seat.specs.Looks.{answer_held, IsJobOf};
 ghost use Rattle.rd_seat.specs.Heard.{is_starved_hearing, answer_left, go_step};
 ghost use Rattle.rd_seat.specs.Heard.{LeavesWrite, IsKeepOf, IsOpenWrite, MayBeDone};
-ghost use Rattle.rd_seat.specs.Seats.{SeatSeen, MakesStep, LooksAtMet};
+ghost use Rattle.rd_seat.specs.Seats.{SeatSeen, IsOfHall, MakesStep, LooksAtMet};
 ghost use Rattle.rd_seat.specs.Steps.{admit_step, look_step};
 
 use crate::gates::{Gate, Place};
@@ -81,6 +81,7 @@ impl Seat {
         requires moment { now.0 ≤ 10 ^ 15 }
         requires empty { out.old ≡ [] }
         ensures hall { self.new.hall ≡ self.old.hall }
+        ensures of_hall { IsOfHall self.old.hall self.new }
         ensures met { IsFront self.old.met self.new.met }
         ensures made { is_look_datagram datagram.now ≡ false → MakesStep self.old
             (admit_step self.old.worker now word peer datagram.now self.old.drawn)
@@ -127,6 +128,7 @@ impl Seat {
         requires empty { out.old ≡ [] }
         requires opened { IsOpenWrite place self.old job }
         ensures hall { self.new.hall ≡ self.old.hall }
+        ensures of_hall { IsOfHall self.old.hall self.new }
         ensures met { IsFront self.old.met self.new.met }
         ensures made { MakesStep self.old (go_step self.old.worker place now job self.old.drawn)
             (is_starved_step result) out.new self.new }

@@ -4,6 +4,7 @@
 #![tactic(auto)]
 
 mod admissions;
+mod beginnings;
 mod commits;
 mod gates;
 mod halls;
@@ -22,7 +23,7 @@ mod turns;
 pub use gates::{Gate, OpenGate, Place};
 pub use halls::Hall;
 pub use hearing::SeatHeard;
-pub use runs::{halls_hold_history, seats_are_seats};
+pub use runs::{halls_hold_history, rows_are_of_seats, seats_are_seats};
 pub use seat_lists::Seats;
 pub use seats::Seat;
 pub use shared_desk::SharedDesk;

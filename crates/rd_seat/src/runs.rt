@@ -1,6 +1,9 @@
 //! What holds of seats whatever their calls, and of a hall between any two turns.
-ghost use Rattle.rd_seat.specs.Halls.{HallsHoldHistory};
+ghost use Rattle.rd_seat.specs.Halls.{HallsHoldHistory, RowsAreOfSeats};
 ghost use Rattle.rd_seat.specs.Runs.{SeatsAreSeats};
+
+use crate::shared_desk::SharedDesk;
+use turn_lock::Replays;
 
 /// A law: whenever the turn of a hall is free, the desk behind it stands for one history.
 ///
@@ -9,7 +12,14 @@ ghost use Rattle.rd_seat.specs.Runs.{SeatsAreSeats};
 /// notice due was last given the listing now; equal tags mean one state; and the version that is
 /// published stands for the same entries (RFC 9176 sections 5 and 6, RFC 7641).
 pub fn halls_hold_history()
-    ensures { HallsHoldHistory }
+    ensures { HallsHoldHistory ⟦<SharedDesk as Replays>⟧ }
+{}
+
+/// A law: the journal of a hall is that of its seats. Each row is of one of its workers, and those
+/// of each are exactly the rows that its seat made, in their order; while no seat has made a row,
+/// it is empty.
+pub fn rows_are_of_seats()
+    ensures { RowsAreOfSeats ⟦<SharedDesk as Replays>⟧ }
 {}
 
 /// A law: whatever calls a seat has made, its own rows are those of its worker in the journal that

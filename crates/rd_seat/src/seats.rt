@@ -11,12 +11,14 @@ ghost use Rattle.rd_request.specs.Incoming.{IsIncoming};
 ghost use Rattle.rd_look.specs.Looking.{is_starved_look};
 ghost use Rattle.rd_desk.specs.calls.Admitting.{is_starved_admission};
 ghost use Rattle.rd_desk.specs.calls.Stepping.{is_starved_step};
-ghost use Rattle.turn_lock.specs.Shown.{lock_of, number_of, label_of, is_holding, seen_of, mine_of};
+ghost use Rattle.turn_lock.specs.Shown.{number_of, label_of, is_holding, seen_of, mine_of};
 ghost use Rattle.version_board.specs.Ends.{new_looker};
 ghost use Rattle.rd_seat.specs.Jobs.{IsOpenJob, LeavesJob, OpensJob};
 ghost use Rattle.rd_seat.specs.Looks.{answer_held, IsJobOf};
-ghost use Rattle.rd_seat.specs.Seats.{new_seat, MakesStep, LooksAtMet};
-ghost use Rattle.rd_seat.specs.Steps.{tick_step, admit_step, commit_step, keep_step, look_step};
+ghost use Rattle.rd_seat.specs.Insides.{hall_of};
+ghost use Rattle.rd_seat.specs.Seats.{new_seat, IsOfHall, MakesStep, LooksAtMet};
+ghost use Rattle.rd_seat.specs.Steps.{tick_step, begin_step, admit_step};
+ghost use Rattle.rd_seat.specs.Steps.{commit_step, keep_step, look_step};
 
 use crate::gates::Gate;
 use crate::halls::Hall;
@@ -60,7 +62,7 @@ impl Seat {
         requires seen { seen_of pass ≡ [] }
         requires mine { mine_of pass ≡ [] }
         requires looker { looker ≡ new_looker (label_of pass) }
-        ensures { result ≡ new_seat (lock_of pass) worker }
+        ensures { result ≡ new_seat (hall_of pass) worker }
     {
         let share = Share {
             alloc,
@@ -91,11 +93,40 @@ impl Seat {
         requires moment { now.0 ≤ 10 ^ 15 }
         requires empty { out.old ≡ [] }
         ensures hall { self.new.hall ≡ self.old.hall }
+        ensures of_hall { IsOfHall self.old.hall self.new }
         ensures met { IsFront self.old.met self.new.met }
         ensures made { MakesStep self.old (tick_step self.old.worker now word self.old.drawn)
             (is_starved_step result) out.new self.new }
     {
         self.share.tick(rt, hall.lock(), gate, now, word, out)
+    }
+
+    /// The step in which a run begins above `first`, at a turn of the seat, whatever job its worker
+    /// holds: each registration of a new name that comes gets a number above `first`, and the
+    /// entries are counted above it too, so that no location and no entity tag that comes is one of
+    /// a run that gave and counted none above `first`. Numbers and the count never fall: what is
+    /// above `first` already stays. Nothing is begun where 2^48 - 1 entries are counted, or `first`
+    /// is at least that. The moment, in milliseconds, is at most 10^15; one below that of the
+    /// directory is lifted to it. Nothing is sent. `Starved`: out of memory, and nothing is begun.
+    /// It waits for the turn (this project's profile; RFC 9176 section 5, RFC 7252 section
+    /// 5.10.6).
+    pub fn begin<R: Wait, G: Gate>(
+        &mut self,
+        rt: &R,
+        hall: &Hall,
+        gate: &G,
+        now: Moment,
+        first: u64,
+    ) -> Stepped
+        requires hall { self.old.hall ≡ hall.now }
+        requires moment { now.0 ≤ 10 ^ 15 }
+        ensures hall { self.new.hall ≡ self.old.hall }
+        ensures of_hall { IsOfHall self.old.hall self.new }
+        ensures met { IsFront self.old.met self.new.met }
+        ensures made { MakesStep self.old (begin_step self.old.worker now first self.old.drawn)
+            (is_starved_step result) [] self.new }
+    {
+        self.share.begin(rt, hall.lock(), gate, now, first)
     }
 
     /// The step that hears a datagram which is no look, at a turn of the seat.
@@ -113,6 +144,7 @@ impl Seat {
         requires other { is_look_datagram arrival.datagram.now ≡ false }
         requires empty { out.old ≡ [] }
         ensures hall { self.new.hall ≡ self.old.hall }
+        ensures of_hall { IsOfHall self.old.hall self.new }
         ensures met { IsFront self.old.met self.new.met }
         ensures made { MakesStep self.old
             (admit_step self.old.worker arrival.entry.moment arrival.entry.word arrival.entry.peer
@@ -141,6 +173,7 @@ impl Seat {
         requires empty { out.old ≡ [] }
         requires opened { IsOpenJob place self.old job }
         ensures hall { self.new.hall ≡ self.old.hall }
+        ensures of_hall { IsOfHall self.old.hall self.new }
         ensures met { IsFront self.old.met self.new.met }
         ensures made { MakesStep self.old
             (commit_step self.old.worker place now job.peer job.datagram self.old.drawn)
@@ -163,6 +196,7 @@ impl Seat {
         requires moment { now.0 ≤ 10 ^ 15 }
         requires empty { out.old ≡ [] }
         ensures hall { self.new.hall ≡ self.old.hall }
+        ensures of_hall { IsOfHall self.old.hall self.new }
         ensures met { IsFront self.old.met self.new.met }
         ensures made { MakesStep self.old (keep_step self.old.worker now job self.old.drawn)
             (is_starved_step result) out.new self.new }
@@ -184,6 +218,7 @@ impl Seat {
         requires moment { now.0 ≤ 10 ^ 15 }
         requires empty { out.old ≡ [] }
         ensures hall { self.new.hall ≡ self.old.hall }
+        ensures of_hall { IsOfHall self.old.hall self.new }
         ensures met { IsFront self.old.met self.new.met }
         ensures looks { LooksAtMet self.old
             (look_step self.old.worker now 0 peer datagram.now self.old.drawn)
@@ -209,6 +244,7 @@ impl Seat {
         requires moment { now.0 ≤ 10 ^ 15 }
         requires empty { out.old ≡ [] }
         ensures hall { self.new.hall ≡ self.old.hall }
+        ensures of_hall { IsOfHall self.old.hall self.new }
         ensures met { IsFront self.old.met self.new.met }
         ensures looks { LooksAtMet self.old
             (look_step self.old.worker now 0 peer (spelling (message_of request.now))

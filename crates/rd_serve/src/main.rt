@@ -96,12 +96,27 @@ fn ends_of(rt: &HostRuntime, plan: ServePlan) -> Result<Ends<'_>, Ending>
     Ok(ends)
 }
 
+/// The connections that are made to a port of loopback.
+type Door<'a> = TcpAccept<&'a HostRuntime>;
+
 /// A listener on a port of loopback.
-fn door_of(rt: &HostRuntime, port: u16) -> Result<TcpAccept, Ending> {
+fn door_of(rt: &HostRuntime, port: u16) -> Result<Door<'_>, Ending> {
     let Ok(listener) = TcpListener::bind(rt, (Ipv4Addr::LOCALHOST, port)) else {
         return Err(Ending::Socket);
     };
-    Ok(TcpAccept::of(listener))
+    Ok(TcpAccept::of(rt, rt.alloc(), listener))
+}
+
+/// Says on standard error how many connections were passed over and how often the system had no
+/// room for one, where there is something to say.
+fn tell_counts(rt: &HostRuntime, door: &Door<'_>) {
+    let (passed, waits) = (door.passed(), door.waits());
+    if passed == 0 && waits == 0 {
+        return;
+    }
+    if let Ok(text) = format!(in rt.alloc(); "passed over {passed}, waited {waits} times\n") {
+        let _ = rt.stderr().write_all(text.as_bytes());
+    }
 }
 
 /// Serves over UDP as the plan says.
@@ -142,6 +157,7 @@ fn over_tcp<R: Wait + AllocGlobal>(rt: &HostRuntime, handles: &R, port: u16, cou
             let mut clock = UdpClock::new(rt);
             let mut out = StdSink::of(rt.stdout());
             let status = serve_streams(handles, &mut door, &mut clock, &OpenGate, count, &mut out);
+            tell_counts(rt, &door);
             Ending::Served(status_of(status))
         }
         Err(ending) => ending,

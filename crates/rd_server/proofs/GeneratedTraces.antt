@@ -191,6 +191,7 @@ job-ends worker (r ∷ before) job e =
     own (step.Commit place) h more = absurd (let no : None ≡ Some job = h in cc)
     own (step.Keep body tag) h more = absurd (let no : None ≡ Some job = h in cc)
     own step.Tick h more = more h
+    own (step.Begin first) h more = more h
 
     by : (b : Bool)
         → cond b (job_after r.step.kind r before (job_of worker before)) (job_of worker before)
@@ -209,6 +210,7 @@ after_end step.Look r rows held e = absurd (false≢true e)
 after_end (step.Commit place) r rows held e = refl
 after_end (step.Keep body tag) r rows held e = refl
 after_end step.Tick r rows held e = absurd (false≢true e)
+after_end (step.Begin first) r rows held e = absurd (false≢true e)
 
 -- where all but one hold no job, and the row leaves that one none, nobody holds one
 idle_after : (rows : List Row) (s : Step)

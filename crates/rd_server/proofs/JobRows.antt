@@ -42,6 +42,7 @@ use Rattle.journal_model.specs.Machine.{
   hears,
   goes,
   ticks,
+  begins,
 }
 use Rattle.journal_model.specs.Machine as machine
 use Rattle.journal_model.specs.UnfinishedRow.{drawing}
@@ -151,3 +152,4 @@ hearer-idle rows s (goes holds) e =
     (record { kind = s.kind; peer = s.peer; datagram = s.datagram }) holds)
     ∙ e))
 hearer-idle rows s (ticks tick) e = absurd (false≢true (sym (ap is_heard tick) ∙ e))
+hearer-idle rows s (begins begin) e = absurd (false≢true (sym (ap is_heard begin) ∙ e))

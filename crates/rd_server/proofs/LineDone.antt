@@ -22,9 +22,10 @@ use Rattle.std.proofs.Common.{
   subst,
   append-nil,
 }
-use Rattle.std.specs.Prelude.{IsOkAnd, nat_lt, ⊤}
+use Rattle.std.specs.Prelude.{IsOkAnd, IsErrAnd, nat_lt, ⊤}
 use Rattle.line_model.specs.declared.lines.Line.{Line}
 use Rattle.line_model.specs.declared.lines.Line.TheVariants as line
+use Rattle.line_model.specs.declared.lines.LineBad.{LineBad}
 use Rattle.line_model.specs.declared.lines.Reason.{Reason}
 use Rattle.line_model.specs.Lines.{line_of}
 use Rattle.journal_model.specs.declared.rows.Row.{Row}
@@ -69,6 +70,7 @@ worker_names rows (line.Go worker moment) = by (job_of worker rows)
     by (Some job) = refl
     by None = tt
 worker_names rows (line.Tick worker moment word) = refl
+worker_names rows (line.Begin worker moment first) = refl
 
 -- the step of a line is of the worker that it names
 pub line_names : (workers : ℕ) (rows : List Row) (l : Line)
@@ -156,3 +158,13 @@ line_done workers rows number line session old new worker (Some stop.Unwritten) 
     subst (λ (r : Result (List Row) Reason). IsOkAnd r P) (sym p.1) here
 line_done workers rows number line session old new worker (Some stop.Starved) next done written =
     written
+
+-- why a line is bad is why the journal ends at it
+pub line_bad : (workers : ℕ) (rows : List Row) (said : Result (Option Step) Reason)
+    (machine : Machine) (number : ℕ) (why : Reason)
+    → PerformsFor workers rows said machine (Err (trouble.Bad why))
+    → IsErrAnd (rows_after rows said) (λ (other : Reason).
+    ◌≡◌ {A = LineBad} (record { line = number; why = why }) (record { line = number; why = other }))
+line_bad workers rows (Ok made) machine number why h = absurd h
+line_bad workers rows (Err other) machine number why h =
+    ap (λ (w : Reason). record { line = number; why = w }) h

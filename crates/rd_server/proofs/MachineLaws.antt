@@ -46,6 +46,7 @@ use Rattle.rd_base.specs.declared.peers.Peer.{Peer}
 use Rattle.line_model.specs.declared.lines.Line.TheVariants as line
 use Rattle.history_model.specs.declared.entries.Entry.{Entry}
 use Rattle.history_model.specs.Live.{live}
+use Rattle.history_model.specs.Replay.{counted}
 use Rattle.history_model.specs.Versions.{VersionStandsFor}
 use Rattle.event_model.specs.Observers.{observers}
 use Rattle.line_model.specs.declared.lines.Reason.{Reason}
@@ -61,6 +62,7 @@ use Rattle.journal_model.specs.Machine.{
   hears,
   goes,
   ticks,
+  begins,
   MayMake,
   is_look_datagram,
   job_of,
@@ -386,6 +388,28 @@ ticked workers rows number moment word now old new before after at lent does =
     s : Step
     s = step_after rows step.Tick number moment.0 word nobody []
 
+-- a run began at a worker, which is as it was
+pub began : (workers : ℕ) (rows : List Row) (number : ℕ) (moment : Moment) (first : ℕ)
+    (now : Moment) (old new : Machine) (worker : Worker)
+    → IsMachineAt workers rows old
+    → Lent number moment.0 now old new worker worker
+    → new.sent ≡ []
+    → ((rows : List Row) (s : Step)
+    → s.kind ≡ step.Begin first
+    → MayStep rows s now old.desk.tables worker
+    → Steps rows s new.desk.tables worker [])
+    → Performs workers rows (step_of_line workers rows (Ok (line.Begin number moment first))) new
+    (Ok tt)
+began workers rows number moment first now old new worker at lent silent does =
+    subst (λ b. Performs workers rows (if_worker b rows (line.Begin number moment first)) new
+    (Ok tt)) (sym (lt-ltb number workers (there_is workers rows old number worker at lent.found)))
+    (made_step workers rows s moment.0 now old new worker worker at lent
+    (record { begin = begins refl; drawn = refl }) refl (λ ending. absurd (false≢true ending))
+    (λ may. subst (Steps rows s new.desk.tables worker) (sym silent) (does rows s refl may)))
+  where
+    s : Step
+    s = step_after rows (step.Begin first) number moment.0 0 nobody []
+
 -- ---- the last line
 
 -- its text, with a line feed
@@ -399,7 +423,7 @@ end_text entries lives observing =
     ∙ ap (λ (l : List ℕ). entries ++ (codes " " ++ l))
     (append_assoc lives (codes " " ++ observing) (10 ∷ []))))
 
--- what ends the output of a machine, by how many entries its version has, how many registrations
+-- what ends the output of a machine, by the count of its version's entries, how many registrations
 -- are live in it and how many watch
 pub end_is : (workers : ℕ) (rows : List Row) (machine : Machine) (entered lives observing : ℕ)
     → IsMachineAt workers rows machine
@@ -414,8 +438,8 @@ pub end_is : (workers : ℕ) (rows : List Row) (machine : Machine) (entered live
     ≡ last_line rows
 unfolding last_line
 end_is workers rows machine entered lives observing at enters lives_are watch =
-    let counted = at.desk.directory.history.entries in
-    let entries_are : entered ≡ length (entries rows) = omega (arith, enters, counted) in
+    let count = at.desk.directory.history.entries in
+    let entries_are : entered ≡ counted 0 (entries rows) = enters ∙ count in
     let live_are : lives ≡ length (live (entries rows) (latest rows)) =
     lives_are 0 (entries rows) at.desk.directory.history
     ∙ ap (λ n. length (live (entries rows) n)) at.moment in
@@ -429,11 +453,11 @@ end_is workers rows machine entered lives observing at enters lives_are watch =
     entries_are
     ∙ (ap (λ n.
     ended (codes "end "
-    ++ (decimal (length (entries rows))
+    ++ (decimal (counted 0 (entries rows))
     ++ (codes " " ++ (decimal n ++ (codes " " ++ decimal observing)))))) live_are
     ∙ ap (λ n.
     ended (codes "end "
-    ++ (decimal (length (entries rows))
+    ++ (decimal (counted 0 (entries rows))
     ++ (codes " "
     ++ (decimal (length (live (entries rows) (latest rows)))
     ++ (codes " " ++ decimal n)))))) observers_are))

@@ -172,6 +172,26 @@ ticked rows s moment desk after worker later out starved fed same kind it made =
     (sym same)
     (held-more rows (row rows s false) (job_of s.worker rows) worker.job it.worker_at.holds)))
 
+-- ---- beginnings
+
+-- the worker keeps its job, and draws nothing
+pub begun : (rows : List Row) (s : Step) (moment : Moment) (desk after : Seen) (worker : Worker)
+    (first : ℕ) (starved : Bool)
+    → starved ≡ false
+    → s.kind ≡ step.Begin first
+    → MayStep rows s moment desk worker
+    → (IsCalled rows s moment worker.mids desk
+    → Made rows (row rows s starved) after [] worker.mids worker.mids)
+    → Steps rows s after worker []
+begun rows s moment desk after worker first starved fed kind it made =
+    made-Steps rows s moment desk after worker worker [] it
+    (subst (λ (b : Bool). Made rows (row rows s b) after [] worker.mids worker.mids) fed
+    (made (called rows s moment desk worker (ap is_look kind) it)))
+    (subst (λ (k : StepKind).
+    HoldsJob (row rows s false ∷ rows)
+    (job_after k (row rows s false) rows (job_of s.worker rows)) worker.job) (sym kind)
+    (held-more rows (row rows s false) (job_of s.worker rows) worker.job it.worker_at.holds))
+
 -- ---- jobs that are done
 
 -- a commit or a keep leaves no job

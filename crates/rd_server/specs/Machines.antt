@@ -64,7 +64,7 @@ HoldsJob rows (Some held) (Some job) = IsJobOf rows held job
 HoldsJob rows _ _ = ⊥
 
 -- a worker of a number after a journal: it drew what its rows drew, and holds the job of its last
--- row but ticks
+-- row but ticks and beginnings
 pub record IsWorkerAt (rows : List Row) (number : ℕ) (worker : Worker) : Type 0 where
   pub worker_is : worker.mids.worker ≡ number
   pub drawn : worker.mids.drawn ≡ mids_drawn number rows

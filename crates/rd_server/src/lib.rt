@@ -21,7 +21,7 @@ pub use replays::{replay, report};
 pub use serving::ends::End;
 pub use serving::plans::{ServePlan, serve_words};
 pub use serving::served::{ServeFault, Served};
-pub use serving::servers::serve;
+pub use serving::servers::{make_hall, serve, serve_seats};
 pub use serving::statuses::ServeStatus;
 pub use serving::workers::serve_worker;
 pub use trace_text::{LineBad, Reason};

@@ -141,6 +141,23 @@ impl Machine {
         Ok(ticker.tick(&mut self.desk, self.latest, word, &mut self.sent)?)
     }
 
+    /// A run begins above a number, at a worker. The line is bad where there is no such worker.
+    fn begin(&mut self, worker: u8, moment: Moment, first: u64) -> Result<(), Trouble>
+        requires stands { IsMachine self.old }
+        requires moment { moment.0 ≤ 10 ^ 15 }
+        requires empty { self.old.sent ≡ [] }
+        ensures { (workers : ℕ) (rows : List Row)
+            → IsMachineAt workers rows self.old
+            → Performs workers rows (steps.step_of_line workers rows
+            (Ok (kind.Begin worker moment first))) self.new result }
+    {
+        let Some(beginner) = self.workers.get_mut(usize::from(worker)) else {
+            return Err(Trouble::Bad(Reason::Worker));
+        };
+        self.latest = self.latest.later(moment);
+        Ok(beginner.begin(&mut self.desk, self.latest, first)?)
+    }
+
     /// Does what a line says, as one step of the worker that it names, and has what that step sent.
     /// A moment, in milliseconds and at most 10^15, is lifted to the greatest that came before.
     /// `Bad`: there is no such worker, or a datagram comes to one that holds a job; then the
@@ -167,6 +184,11 @@ impl Machine {
                 moment,
                 word,
             } => self.tick(worker, moment, word),
+            Line::Begin {
+                worker,
+                moment,
+                first,
+            } => self.begin(worker, moment, first),
         }
     }
 
@@ -210,8 +232,9 @@ impl Machine {
         Ok(text)
     }
 
-    /// The line that ends the output: how many changes were accepted, how many registrations are
-    /// live at the greatest moment that was handed in, and how many observers there are.
+    /// The line that ends the output: the count of the changes that were accepted, how many
+    /// registrations are live at the greatest moment that was handed in, and how many observers
+    /// there are.
     pub fn end_line(&self) -> Result<Bytes, Starved>
         requires { IsMachine self.now }
         ensures { IfOk result (λ text. (workers : ℕ) (rows : List Row)

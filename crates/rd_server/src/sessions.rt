@@ -41,6 +41,7 @@ fn worker_of(line: &Line) -> u8
         Line::Come { worker, .. } => *worker,
         Line::Go(worker, _) => *worker,
         Line::Tick { worker, .. } => *worker,
+        Line::Begin { worker, .. } => *worker,
     }
 }
 

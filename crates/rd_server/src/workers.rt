@@ -205,4 +205,15 @@ impl Worker {
     {
         unstarved(desk.tick(now, word, &mut self.mids, out))
     }
+
+    /// A run begins above a number. `Starved`: out of memory.
+    pub fn begin(&self, desk: &mut Desk<NoBoard>, now: Moment, first: u64) -> Result<(), Starved>
+        requires { now.0 ≤ 10 ^ 15 }
+        ensures { IfOk result (λ _. (rows : List Row) (s : Step)
+            → s.kind ≡ step.Begin first
+            → MayStep rows s now desk.old.tables self.now
+            → Steps rows s desk.new.tables self.now []) }
+    {
+        unstarved(desk.begin(now, first, &self.mids))
+    }
 }

@@ -42,7 +42,7 @@ impl Change {
                 sender: None,
                 message: None,
             },
-            Line::Tick { moment, .. } => Change {
+            Line::Tick { moment, .. } | Line::Begin { moment, .. } => Change {
                 moment: Some(*moment),
                 worker: None,
                 sender: None,

@@ -8,9 +8,9 @@ use super::forms::Form;
 use super::pending::Pending;
 use super::repeats::{Arrivals, Sendings};
 use super::serving::Serving;
-use super::words::Asked;
 use rd_base::Starved;
 use rd_server::{Machine, Status, Trouble};
+use show_text::Asked;
 use std::alloc::Global;
 use trace_text::{Line, LineBad, LineFault, Reason, line_read};
 

@@ -1,7 +1,6 @@
 //! A trace as a sequence diagram, in the text that Mermaid draws.
 
 use super::changes::Change;
-use super::escapes::write_escaped;
 use super::lines;
 use super::moments::write_seconds;
 use super::participants::{Participants, write_participant};
@@ -10,6 +9,7 @@ use super::serving::Serving;
 use message_text::write_datagram;
 use rd_base::{Moment, Peer, Starved};
 use rd_desk::Outbox;
+use show_text::write_escaped;
 use std::alloc::Global;
 use trace_text::{Line, LineBad};
 

@@ -62,6 +62,10 @@ pub(crate) fn write_line(
             write_moment(page, *moment)?;
             Ok(page.push_str("(time passes)\n")?)
         }
+        Line::Begin { moment, first, .. } => {
+            write_moment(page, *moment)?;
+            Ok(writeln!(page, "(the run begins above {first})")?)
+        }
     }
 }
 

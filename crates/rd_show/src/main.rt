@@ -8,7 +8,6 @@ ghost use Rattle.rd_server.specs.Machines.{IsMachine};
 mod changes;
 mod conversation;
 mod diagrams;
-mod escapes;
 mod forms;
 mod lines;
 mod moments;
@@ -18,17 +17,14 @@ mod pending;
 mod repeats;
 mod serving;
 mod stops;
-#[cfg(test)]
-mod tests;
-mod words;
 
 use clap::Error;
 use conversation::Conversation;
 use rd_base::{Got, Source, StdSink, StdSource};
 use rd_server::{Status, WordsFault, given_words, report};
+use show_text::{Asked, Otherwise, words_read};
 use std::process::ExitCode;
 use stops::Stop;
-use words::{Asked, Otherwise, words_read};
 
 /// What is said where the words are not those of the program.
 const USAGE: &str = "usage: rd_show [--workers N] [--mermaid]\n";

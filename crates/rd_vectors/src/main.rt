@@ -2,6 +2,7 @@
 //! the name of a call and what it is given; headings begin with `#`.
 #![tactic(auto)]
 
+mod shows;
 mod vectors;
 
 use std::io;

@@ -1,5 +1,6 @@
 //! The calls of all crates, and their answers.
 
+use crate::shows;
 use rd_base::Starved;
 use std::alloc::Global;
 use table_vectors::Tables;
@@ -36,6 +37,12 @@ impl Vectors {
             return Ok(Some(answer));
         }
         if let Some(answer) = text_vectors::answer(self.alloc, call, said)? {
+            return Ok(Some(answer));
+        }
+        if let Some(answer) = stream_vectors::answer(self.alloc, call, said)? {
+            return Ok(Some(answer));
+        }
+        if let Some(answer) = shows::answer(self.alloc, call, said)? {
             return Ok(Some(answer));
         }
         self.tables.answer(call, said)

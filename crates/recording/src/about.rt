@@ -4,10 +4,12 @@
 const HELP: &str = "\
 Reads a capture of the network as a trace, or writes a trace and its output as a capture
 
-Usage: rd_capture [--port P] [--replies | --pcap] < CAPTURE > OUTPUT
+Usage: rd_capture [--port P] [--begin N] [--workers] [--replies | --pcap] < CAPTURE > OUTPUT
 
 Options:
       --port <P>  The server's port, from 1 to 65535 [default: 5683]
+      --begin <N> Write first that the run begins above N, at most 281474976710655
+      --workers   Put each datagram at the worker that answered it, of several
       --replies   Write what the server sent, as lines of the output of a trace
       --pcap      Read a trace and its output, and write a capture
   -h, --help      Print help

@@ -4,14 +4,18 @@
 
 mod about;
 mod challenges;
+mod crews;
 mod endings;
 mod fields;
+mod heads;
+mod heard;
 mod lines;
 mod pages;
 mod peers;
 mod recorders;
 mod runs;
 mod servers;
+mod steps;
 mod timelines;
 mod transcripts;
 mod waiting;

@@ -3,18 +3,19 @@ ghost use Rattle.std.specs.Prelude.{◌≤◌, length, IfOk};
 ghost use Rattle.rd_base.specs.Peers.{IsPeer};
 ghost use Rattle.line_model.specs.Lines.{IsLine};
 
-use line_model::limits::{MAX_DATAGRAM, MAX_MOMENT};
+use line_model::limits::{MAX_DATAGRAM, MAX_FIRST, MAX_MOMENT};
 use message_model::codes::{EMPTY, LAST_REQUEST};
 use rd_base::{Bytes, Moment, Peer, Starved};
 use std::alloc::Global;
 use trace_text::Line;
 
-/// The one worker of a recording.
+/// The one worker of a recording, where it is not asked for several.
 pub(crate) const WORKER: u8 = 0;
 
-/// The line of a datagram that comes, with the word that its step is handed.
+/// The line of a datagram that comes to a worker, with the word that its step is handed.
 pub(crate) fn come_line(
     alloc: Global,
+    worker: u8,
     moment: Moment,
     peer: Peer,
     payload: &[u8],
@@ -27,7 +28,7 @@ pub(crate) fn come_line(
 {
     let datagram = Bytes::copy_of(alloc, payload)?;
     Ok(Line::Come {
-        worker: WORKER,
+        worker,
         moment,
         peer,
         datagram,
@@ -35,24 +36,36 @@ pub(crate) fn come_line(
     })
 }
 
-/// The line of time that passes.
-pub(crate) fn tick_line(moment: Moment) -> Line
+/// The line of time that passes at a worker.
+pub(crate) fn tick_line(worker: u8, moment: Moment) -> Line
     requires { moment.0 ≤ MAX_MOMENT }
     ensures { IsLine result }
 {
     Line::Tick {
-        worker: WORKER,
+        worker,
         moment,
         word: 0,
     }
 }
 
-/// The line of a job that is done.
-pub(crate) fn go_line(moment: Moment) -> Line
+/// The line of a worker's job that is done.
+pub(crate) fn go_line(worker: u8, moment: Moment) -> Line
     requires { moment.0 ≤ MAX_MOMENT }
     ensures { IsLine result }
 {
-    Line::Go(WORKER, moment)
+    Line::Go(worker, moment)
+}
+
+/// The line of a run that begins above a number, before anything comes.
+pub(crate) fn begin_line(first: u64) -> Line
+    requires { first ≤ MAX_FIRST }
+    ensures { IsLine result }
+{
+    Line::Begin {
+        worker: WORKER,
+        moment: Moment(0),
+        first,
+    }
 }
 
 /// Whether a datagram is a request by its code, so that it may leave a job (RFC 7252 section 3).

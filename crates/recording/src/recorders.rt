@@ -3,13 +3,15 @@ ghost use Rattle.std.specs.Prelude.{◌≤◌, length};
 ghost use Rattle.rd_base.specs.Peers.{IsPeer};
 
 use crate::challenges::{challengeable, response, word_of};
+use crate::crews::Crew;
 use crate::endings::Stop;
-use crate::lines::{WORKER, come_line, go_line, is_request};
+use crate::lines::{WORKER, begin_line, come_line, go_line, is_request};
 use crate::pages::Pages;
 use crate::peers::peer_of;
 use crate::servers::{Server, Way};
 use crate::timelines::Timeline;
 use crate::waiting::Waiting;
+use crate::words::{First, Words};
 use capture_file::{
     CaptureFault, Datagram, Found, MAX_PART, Packet, PacketFault, Reader, datagram_of,
 };
@@ -29,8 +31,12 @@ pub(crate) struct Recorder {
     written: Way,
     /// The server of the recording.
     server: Server,
+    /// The number above which the run begins, where that is known.
+    first: Option<First>,
     /// The time of the recording.
     timeline: Timeline,
+    /// The workers of the server, where each datagram is put at the worker that answered it.
+    crew: Option<Crew>,
     /// How many packets were read.
     packets: u64,
     /// What reads the capture.
@@ -64,20 +70,39 @@ const BLOCK: &str = "block";
 const PORT: &str = "port";
 
 impl Recorder {
-    /// A recorder before a capture, of what came to a port or of what was sent from it.
-    pub(crate) fn new(alloc: Global, port: u16, written: Way) -> Recorder {
+    /// A recorder before a capture, of what came to the port that the words ask for, or of what was
+    /// sent from it.
+    pub(crate) fn new(alloc: Global, words: &Words, written: Way) -> Recorder {
         let reader = Reader::new(alloc);
         let missing = reader.wanted();
+        let crew = if words.has_workers {
+            Some(Crew::new(alloc, written))
+        } else {
+            None
+        };
         Recorder {
             alloc,
             written,
-            server: Server::new(alloc, port),
+            server: Server::new(alloc, words.port),
+            first: words.first,
             timeline: Timeline::new(alloc),
+            crew,
             packets: 0,
             reader,
             part: Bytes::new(alloc),
             missing,
             is_over: false,
+        }
+    }
+
+    /// The capture begins: a trace first says above which number its run does, where that is known.
+    pub(crate) fn begin(&self, pages: &mut Pages) -> Result<(), Starved> {
+        match (self.written, self.first) {
+            (Way::Came, Some(first)) => {
+                let line = line_print(self.alloc, &begin_line(first.number))?;
+                pages.put_line(line.as_slice())
+            }
+            _ => Ok(()),
         }
     }
 
@@ -95,7 +120,7 @@ impl Recorder {
         requires payload { length payload.now ≤ MAX_DATAGRAM }
     {
         let Some(request) = challengeable(payload) else {
-            let line = come_line(self.alloc, moment, peer, payload, 0)?;
+            let line = come_line(self.alloc, WORKER, moment, peer, payload, 0)?;
             return pages.put_line(line_print(self.alloc, &line)?.as_slice());
         };
         let token = request.token.octets;
@@ -117,15 +142,15 @@ impl Recorder {
         let moment = self.timeline.hear(moment, pages)?;
         self.write_heard(moment, peer, payload, pages)?;
         if is_request(payload) {
-            let line = line_print(self.alloc, &go_line(moment))?;
+            let line = line_print(self.alloc, &go_line(WORKER, moment))?;
             pages.put_line(line.as_slice())?;
         }
         Ok(())
     }
 
-    /// A datagram that can stand in a line is written, where those on its way are. Others let
-    /// time pass.
-    fn write_datagram(
+    /// A datagram that can stand in a line is written by one worker, where those on its way are.
+    /// Others let time pass.
+    fn write_alone(
         &mut self,
         moment: Moment,
         way: Way,
@@ -150,6 +175,28 @@ impl Recorder {
                 pages.put_line(line.as_slice())
             }
             (Way::Sent, Way::Came) => Ok(()),
+        }
+    }
+
+    /// A datagram that can stand in a line is written, by the workers of the server where they
+    /// are asked for.
+    fn write_datagram(
+        &mut self,
+        moment: Moment,
+        way: Way,
+        peer: Peer,
+        payload: &[u8],
+        pages: &mut Pages,
+    ) -> Result<(), Starved>
+        requires peer { IsPeer peer }
+        requires payload { length payload.now ≤ MAX_DATAGRAM }
+    {
+        let Some(crew) = &mut self.crew else {
+            return self.write_alone(moment, way, peer, payload, pages);
+        };
+        match way {
+            Way::Came => crew.hear(moment, peer, payload, pages),
+            Way::Sent => crew.send(moment, peer, payload, pages),
         }
     }
 
@@ -271,6 +318,9 @@ impl Recorder {
         }
         if !self.is_over && self.is_cut() {
             self.give_up(name_of(PacketFault::Cut), pages)?;
+        }
+        if let Some(crew) = &mut self.crew {
+            return Ok(crew.end(pages)?);
         }
         self.timeline.end(pages)?;
         Ok(pages.release()?)

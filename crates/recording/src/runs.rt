@@ -28,8 +28,8 @@ impl Task {
     /// What words ask for.
     fn of(alloc: Global, words: Words) -> Task {
         match words.output {
-            Output::Trace => Task::Record(Recorder::new(alloc, words.port, Way::Came)),
-            Output::Replies => Task::Record(Recorder::new(alloc, words.port, Way::Sent)),
+            Output::Trace => Task::Record(Recorder::new(alloc, &words, Way::Came)),
+            Output::Replies => Task::Record(Recorder::new(alloc, &words, Way::Sent)),
             Output::Pcap => Task::Transcribe(Transcript::new(alloc, words.port)),
         }
     }
@@ -37,7 +37,7 @@ impl Task {
     /// The input begins.
     fn begin(&self, pages: &mut Pages) -> Result<(), Stop> {
         match self {
-            Task::Record(_) => Ok(()),
+            Task::Record(recorder) => Ok(recorder.begin(pages)?),
             Task::Transcribe(transcript) => transcript.begin(pages),
         }
     }
@@ -143,7 +143,7 @@ pub fn report<E: Sink>(err: &mut E, status: Status) {
         Status::WriteFault => say(err, &[b"write failed\n"]),
         Status::Usage => say(
             err,
-            &[b"usage: rd_capture [--port P] [--replies | --pcap]\n"],
+            &[b"usage: rd_capture [--port P] [--begin N] [--workers] [--replies | --pcap]\n"],
         ),
         Status::NoCapture => say(err, &[b"no capture\n"]),
         Status::Line(bad) => say_line(err, bad),
@@ -181,7 +181,9 @@ fn run<S: Source, K: Sink, E: Sink>(
 
 /// Reads a capture from `source` and writes to `out` the trace of what came to a port, or with
 /// `--replies` the lines of the output for what was sent from it; with `--pcap` it reads a trace
-/// and its output and writes a capture. `--port` names the port, 5683 where it is not named.
+/// and its output and writes a capture. `--port` names the port, 5683 where it is not named. With
+/// `--workers` each datagram stands at the worker that answered it, and with `--begin` the trace
+/// first says above which number its run begins.
 /// `--help` and `--version`, as the only word, write a text about the program and read nothing.
 /// What cannot be read is said on `err`, and so is how the run ends.
 ///

@@ -1,7 +1,7 @@
 //! The time of a recording, and its ticks.
 ghost use Rattle.std.specs.Prelude.{◌≤◌, IfOk};
 
-use crate::lines::tick_line;
+use crate::lines::{WORKER, tick_line};
 use crate::pages::Pages;
 use line_model::limits::MAX_MOMENT;
 use rd_base::{Moment, Starved};
@@ -52,7 +52,7 @@ impl Timeline {
             return Ok(());
         }
         self.ticked = Some(moment);
-        let line = line_print(self.alloc, &tick_line(moment))?;
+        let line = line_print(self.alloc, &tick_line(WORKER, moment))?;
         pages.put_line(line.as_slice())
     }
 

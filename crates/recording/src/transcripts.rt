@@ -182,6 +182,7 @@ impl Transcript {
             }
             Line::Go(_, moment) => self.reach(moment),
             Line::Tick { moment, .. } => self.reach(moment),
+            Line::Begin { moment, .. } => self.reach(moment),
         }
         Ok(())
     }
@@ -196,6 +197,7 @@ impl Transcript {
             }
             Line::Go(_, _) => {}
             Line::Tick { .. } => {}
+            Line::Begin { .. } => {}
         }
         Ok(())
     }

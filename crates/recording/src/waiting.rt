@@ -2,7 +2,7 @@
 ghost use Rattle.std.specs.Prelude.{◌≤◌, length};
 ghost use Rattle.rd_base.specs.Peers.{IsPeer};
 
-use crate::lines::come_line;
+use crate::lines::{WORKER, come_line};
 use line_model::limits::{MAX_DATAGRAM, MAX_MOMENT};
 use rd_base::{Bytes, Moment, Peer, Starved};
 use std::alloc::Global;
@@ -93,6 +93,7 @@ impl Waiting {
     pub(crate) fn text(&self, alloc: Global, word: u32) -> Result<Bytes, Starved> {
         let line = come_line(
             alloc,
+            WORKER,
             self.moment,
             self.peer,
             self.datagram.as_slice(),

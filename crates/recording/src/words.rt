@@ -1,6 +1,8 @@
 //! The words of the command line.
 ghost use Rattle.std.specs.Prelude.{◌≤◌, ◌<◌, length, IfSome};
+ghost use Rattle.line_model.specs.Numbers.{max_first};
 
+use line_model::limits::MAX_FIRST;
 use trace_text::number_read;
 
 /// The port of CoAP (RFC 7252 section 6.1).
@@ -20,13 +22,25 @@ pub(crate) enum Output {
     Pcap,
 }
 
+/// A number above which a run may begin.
+#[derive(Clone, Copy, Debug)]
+pub(crate) struct First {
+    /// The number.
+    pub number: u64,
+    ghost within: { number ≤ max_first },
+}
+
 /// What the words ask for.
-#[derive(Clone, Copy, Debug, PartialEq, Eq)]
+#[derive(Clone, Copy, Debug)]
 pub(crate) struct Words {
     /// The port of the server.
     pub port: u16,
     /// What is written.
     pub output: Output,
+    /// The number above which the run of a trace begins, where it was said.
+    pub first: Option<First>,
+    /// Whether each datagram is put at the worker that answered it.
+    pub has_workers: bool,
 }
 
 /// What words said so far.
@@ -36,7 +50,17 @@ struct Said {
     port: Option<u16>,
     /// What is written, where it was said.
     output: Option<Output>,
+    /// The number above which the run begins, where it was said.
+    first: Option<First>,
+    /// Whether several workers were said.
+    has_workers: bool,
 }
+
+/// A word that a value follows.
+const PORT: &str = "--port";
+
+/// Another one.
+const BEGIN: &str = "--begin";
 
 /// The port that a text names in decimal, without a leading zero: 1 to 65,535.
 fn port_of(text: &str) -> Option<u16> {
@@ -47,27 +71,74 @@ fn port_of(text: &str) -> Option<u16> {
     Some(port as u16)
 }
 
+/// The number above which a run may begin that a text names in decimal, without a leading zero.
+fn first_of(text: &str) -> Option<First> {
+    let number = number_read(MAX_FIRST, text.as_bytes())?;
+    Some(First { number })
+}
+
 impl Said {
+    /// Nothing.
+    fn nothing() -> Said {
+        Said {
+            port: None,
+            output: None,
+            first: None,
+            has_workers: false,
+        }
+    }
+
     /// With a port more. None: one was said before, or it is none.
-    fn with_port(self, text: &str) -> Option<Said> {
+    fn with_port(mut self, text: &str) -> Option<Said> {
         if self.port.is_some() {
             return None;
         }
-        Some(Said {
-            port: Some(port_of(text)?),
-            output: self.output,
-        })
+        self.port = Some(port_of(text)?);
+        Some(self)
+    }
+
+    /// With the number above which the run begins. None: one was said before, or it is none.
+    fn with_first(mut self, text: &str) -> Option<Said> {
+        if self.first.is_some() {
+            return None;
+        }
+        self.first = Some(first_of(text)?);
+        Some(self)
     }
 
     /// With what is written more. None: it was said before.
-    fn with_output(self, output: Output) -> Option<Said> {
+    fn with_output(mut self, output: Output) -> Option<Said> {
         if self.output.is_some() {
             return None;
         }
-        Some(Said {
-            port: self.port,
-            output: Some(output),
-        })
+        self.output = Some(output);
+        Some(self)
+    }
+
+    /// With several workers. None: they were said before.
+    fn with_workers(mut self) -> Option<Said> {
+        if self.has_workers {
+            return None;
+        }
+        self.has_workers = true;
+        Some(self)
+    }
+
+    /// With the value of a word: of one that a value follows.
+    fn with_value(self, word: &str, value: &str) -> Option<Said> {
+        if word == PORT {
+            return self.with_port(value);
+        }
+        self.with_first(value)
+    }
+
+    /// With a word and its value, joined by `=`.
+    fn with_joined(self, text: &str) -> Option<Said> {
+        let (word, value) = text.split_once('=')?;
+        if !takes_value(word) {
+            return None;
+        }
+        self.with_value(word, value)
     }
 
     /// With a word more that stands for itself.
@@ -75,31 +146,46 @@ impl Said {
         match word {
             "--replies" => self.with_output(Output::Replies),
             "--pcap" => self.with_output(Output::Pcap),
-            _ => self.with_port(word.strip_prefix("--port=")?),
+            "--workers" => self.with_workers(),
+            _ => self.with_joined(word),
         }
+    }
+
+    /// What was asked for. None: of what is written as a capture more was asked.
+    fn words(self) -> Option<Words> {
+        let output = self.output.unwrap_or(Output::Trace);
+        if output == Output::Pcap && (self.first.is_some() || self.has_workers) {
+            return None;
+        }
+        Some(Words {
+            port: self.port.unwrap_or(COAP_PORT),
+            output,
+            first: self.first,
+            has_workers: self.has_workers,
+        })
     }
 }
 
-/// What the words ask for: `--port` with a port from 1 to 65,535, as two words or joined by `=`,
-/// and `--replies` or `--pcap`, each once at most, in any order. None: they are others.
+/// Whether a value follows a word.
+fn takes_value(word: &str) -> bool {
+    word == PORT || word == BEGIN
+}
+
+/// What the words ask for: `--port` with a port from 1 to 65,535 and `--begin` with a number of at
+/// most 2^48 - 1, each as two words or joined by `=`, `--workers`, and `--replies` or `--pcap`,
+/// each once at most, in any order; with `--pcap` the port alone. None: they are others.
 pub(crate) fn words_read(words: &[String]) -> Option<Words> {
-    let mut said = Said {
-        port: None,
-        output: None,
-    };
+    let mut said = Said::nothing();
     let mut left = words;
     'words: while let Some((word, rest)) = left.split_first() {
         left = rest;
-        if word.as_str() == "--port" {
+        if takes_value(word.as_str()) {
             let (value, behind) = rest.split_first()?;
-            said = said.with_port(value.as_str())?;
+            said = said.with_value(word.as_str(), value.as_str())?;
             left = behind;
         } else {
             said = said.with_word(word.as_str())?;
         }
     }
-    Some(Words {
-        port: said.port.unwrap_or(COAP_PORT),
-        output: said.output.unwrap_or(Output::Trace),
-    })
+    said.words()
 }

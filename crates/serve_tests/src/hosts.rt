@@ -1,7 +1,7 @@
 //! A server at two addresses, one of IPv4 and one of IPv6, in one process.
 use crate::loopback::is_answered;
 use crate::requests::{CREATED, REGISTRATION, sink_of};
-use hosting::{HostLink, Listener, Routes};
+use hosting::{Crew, HostClock, HostLink, Listener, Origin, Routes};
 use rd_base::{Host, Peer};
 use rd_seat::OpenGate;
 use rd_server::{End, ServeStatus, serve};
@@ -11,7 +11,6 @@ use std::sync::Mutex;
 use std::test::Fail;
 use std::time::Duration;
 use std::{io, thread};
-use udp_link::UdpClock;
 
 /// The address 127.0.0.1, where the system chooses the port.
 const LOOPBACK_V4: Peer = Peer {
@@ -65,11 +64,13 @@ fn who_asked_one_address_is_told_from_there(rt: HostRuntime) -> Result<(), Fail>
     let observer = client_of(&rt, "127.0.0.1:0", &listeners[0])?;
     let device = client_of(&rt, "[::1]:0", &listeners[1])?;
     let routes = Mutex::new(Routes::new(rt.alloc(), RandomState::new(&rt)?)?);
-    let first = HostLink::over(&rt, rt.alloc(), &routes, &listeners, 0)?;
-    let second = HostLink::over(&rt, rt.alloc(), &routes, &listeners, 1)?;
+    let crew = Crew::of(2);
+    let origin = Origin::read(&rt)?;
+    let first = HostLink::over(&rt, rt.alloc(), &routes, &crew, &listeners, 0)?;
+    let second = HostLink::over(&rt, rt.alloc(), &routes, &crew, &listeners, 1)?;
     let mut ends = [
-        End::of(first, UdpClock::new(&rt)),
-        End::of(second, UdpClock::new(&rt)),
+        End::of(first, HostClock::seeded(&rt, &origin)?),
+        End::of(second, HostClock::seeded(&rt, &origin)?),
     ];
     let mut out = sink_of(rt.alloc(), b"")?;
     let (status, observed) = thread::join(
@@ -79,6 +80,7 @@ fn who_asked_one_address_is_told_from_there(rt: HostRuntime) -> Result<(), Fail>
     );
     assert_eq!(rt; status, ServeStatus::Done);
     assert!(rt; observed?);
+    assert!(rt; crew.trouble().is_none());
     assert_eq!(rt; out.as_slice(), b"served 2 3 0\n".as_slice());
     Ok(())
 }

@@ -4,6 +4,14 @@
 #[cfg(test)]
 mod ends;
 #[cfg(test)]
+mod gates;
+#[cfg(test)]
+mod host_clocks;
+#[cfg(test)]
+mod host_links;
+#[cfg(test)]
+mod host_words;
+#[cfg(test)]
 mod hosts;
 #[cfg(test)]
 mod loopback;

@@ -20,6 +20,9 @@ pub(crate) const CREATED: &[u8] = b"\x61\x41\x00\x01\xa1\x82rd\x011";
 /// A lookup of the second link (RFC 9176 section 6).
 pub(crate) const LOOKUP: &[u8] = b"\x41\x01\x00\x02\xb2\xb9rd-lookup\x03res\x4crt=light-lux";
 
+/// Its answer where nothing is registered.
+pub(crate) const NOTHING: &[u8] = b"\x61\x45\x00\x02\xb2\x48\0\0\0\0\0\0\0\0\x81\x28";
+
 /// Its answer after the registration.
 pub(crate) const LISTED: &[u8] = b"\x61\x45\x00\x02\xb2\x48\0\0\0\0\0\x01\0\0\x81\x28\xff\
       <coap://192.0.2.10/light>;rt=\"light-lux\";if=\"sensor\"";

@@ -25,7 +25,7 @@ fn asks(alloc: Global, client: TcpStream) -> io::Result<bool> {
 fn a_client_is_served_over_tcp(rt: HostRuntime) -> Result<(), Fail> {
     let listener = TcpListener::bind(&rt, "127.0.0.1:0")?;
     let client = TcpStream::connect(&rt, listener.local_addr()?)?;
-    let mut door = TcpAccept::of(listener);
+    let mut door = TcpAccept::of(&rt, rt.alloc(), listener);
     let mut clock = UdpClock::new(&rt);
     let alloc = rt.alloc();
     let mut out = sink_of(alloc, b"")?;

@@ -77,6 +77,16 @@ fn put_pairs(page: &mut String, pairs: &[u64]) -> Result<(), Starved> {
     Ok(())
 }
 
+/// Writes whether chunks are at most so many, and how many they are where they are more.
+fn put_bound(page: &mut String, chunks: u64, most: u64) -> Result<(), Starved> {
+    if chunks > most {
+        write!(page, "no, {chunks}")?;
+        return Ok(());
+    }
+    page.push_str("yes")?;
+    Ok(())
+}
+
 /// The keys of a walk: the first, and each of the others the one before it and the step more,
 /// modulo a number.
 #[derive(Clone, Copy)]
@@ -246,6 +256,10 @@ impl<V: MapValue> Maps<V> {
                 let pairs = self.pairs(said)?;
                 put_sum(page, pairs.len() as u64 / 2, sum_of(pairs.as_slice()))?;
             }
+            "chunks" => {
+                let most = number_of(said, u64::MAX)?;
+                put_bound(page, self.versions.now.count_chunks() as u64, most)?;
+            }
             _ => return Err(NoAnswer::Form),
         }
         Ok(())
@@ -329,10 +343,6 @@ pub(crate) fn bound_chunks(
 ) -> Result<(), NoAnswer> {
     let most = number_of(said, u64::MAX)?;
     let chunks = count_chunks::<Brand>(Blank::new(1), map)?;
-    if chunks > most {
-        write!(page, "no, {chunks}")?;
-        return Ok(());
-    }
-    page.push_str("yes")?;
+    put_bound(page, chunks, most)?;
     Ok(())
 }

@@ -4,6 +4,8 @@
 #[cfg(test)]
 mod boards;
 #[cfg(test)]
+mod lingering;
+#[cfg(test)]
 mod links;
 #[cfg(test)]
 mod memory_links;

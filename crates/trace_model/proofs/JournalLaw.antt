@@ -33,6 +33,7 @@ use Rattle.journal_model.specs.Machine.{
   hears,
   goes,
   ticks,
+  begins,
   unstarved,
   MayMake,
   MayRun,
@@ -77,6 +78,8 @@ step_of_worker-MayGive rows (line.Go worker moment) = by (job_of worker rows) re
     by None e = no_step
 step_of_worker-MayGive rows (line.Tick worker moment word) =
     gives (record { begin = ticks refl; drawn = refl })
+step_of_worker-MayGive rows (line.Begin worker moment first) =
+    gives (record { begin = begins refl; drawn = refl })
 
 -- the step of a line
 step_of_line-MayGive : (workers : ℕ) (rows : List Row) (said : Result Line Reason)

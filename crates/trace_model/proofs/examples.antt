@@ -9,6 +9,7 @@ mod FullTableTraces
 mod StepTraces
 mod TableTraces
 mod DueExamples
+mod BeginTraces
 mod BadLineTraces
 mod GeneratedTraces
 mod SeatExamples

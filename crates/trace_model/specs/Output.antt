@@ -17,6 +17,7 @@ use Rattle.line_model.specs.declared.lines.LineBad.{LineBad}
 use Rattle.line_model.specs.Lines.{out_text}
 use Rattle.line_model.specs.Texts.{line_feed}
 use Rattle.history_model.specs.Live.{live}
+use Rattle.history_model.specs.Replay.{counted}
 use Rattle.event_model.specs.Observers.{observers}
 use Rattle.journal_model.specs.declared.rows.Row.{Row}
 use Rattle.journal_model.specs.Journal.{events, entries, latest}
@@ -35,11 +36,11 @@ unfoldable pub text : List Row → List ℕ
 text [] = []
 text (r ∷ before) = text before ++ out_lines r
 
--- the last line: how many changes were accepted, how many registrations are live at the greatest
--- moment that was handed in, and how many observers there are
+-- the last line: the count of the changes that were accepted, how many registrations are live at
+-- the greatest moment that was handed in, and how many observers there are
 unfoldable pub last_line : List Row → List ℕ
 last_line rows =
-    ended (codes "end " ++ (decimal (length (entries rows)) ++ (codes " "
+    ended (codes "end " ++ (decimal (counted 0 (entries rows)) ++ (codes " "
     ++ (decimal (length (live (entries rows) (latest rows)))
     ++ (codes " " ++ decimal (length (observers (events rows))))))))
 

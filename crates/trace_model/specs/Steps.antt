@@ -35,7 +35,7 @@ use Rattle.journal_model.specs.Journal.{latest}
 use Rattle.journal_model.specs.Rows.{row}
 use Rattle.journal_model.specs.Machine.{Job, hearing, job_of, mids_drawn, run, unstarved}
 
--- the peer of a tick, which has none
+-- the peer of a tick and of a beginning, which have none
 abbrev pub nobody : Peer
 nobody = record { host = host.V4 (0 ∷ 0 ∷ 0 ∷ 0 ∷ []); port = 0 }
 
@@ -78,12 +78,15 @@ step_of_worker rows (line.Come worker moment peer datagram word) =
 step_of_worker rows (line.Go worker moment) = go_step (job_of worker rows) rows worker moment.0
 step_of_worker rows (line.Tick worker moment word) =
     Ok (Some (step_after rows step.Tick worker moment.0 word nobody []))
+step_of_worker rows (line.Begin worker moment first) =
+    Ok (Some (step_after rows (step.Begin first) worker moment.0 0 nobody []))
 
 -- the worker of a line
 abbrev pub worker_of : Line → ℕ
 worker_of (line.Come worker moment peer datagram word) = worker
 worker_of (line.Go worker moment) = worker
 worker_of (line.Tick worker moment word) = worker
+worker_of (line.Begin worker moment first) = worker
 
 -- the step of a line, where there is its worker
 abbrev pub if_worker : Bool → List Row → Line → Result (Option Step) Reason

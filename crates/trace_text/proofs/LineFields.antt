@@ -35,12 +35,14 @@ use Rattle.line_model.specs.Lines.{
   come,
   go,
   tick,
+  begin,
   AreFieldsOf,
   comes,
   comes_alone,
   goes,
   ticks,
   ticks_alone,
+  begins,
 }
 use Rattle.line_model.proofs.PrintedLines.{line_of-line_text}
 
@@ -109,6 +111,7 @@ spelled_line _ _ (comes_alone {w} {m} {p} {d} {worker} {moment} {peer} {octets} 
 spelled_line _ _ (goes hw hm) = go hw.within hm.within
 spelled_line _ _ (ticks hw hm hx) = tick hw.within hm.within hx.within
 spelled_line _ _ (ticks_alone hw hm) = tick hw.within hm.within (omega arith)
+spelled_line _ _ (begins hw hm hn) = begin hw.within hm.within hn.within
 
 -- what is printed is read back
 pub read_back : (text : List ℕ) (l : Line) → IsLine l → text ≡ line_text l → line_of text ≡ Ok l

@@ -6,7 +6,7 @@ use rd_base::Starved;
 pub enum LineFault {
     /// It has more than 8,600 bytes.
     Long,
-    /// It is not too long, and it is none of the three forms.
+    /// It is not too long, and it is none of the four forms.
     Form,
     /// Out of memory.
     Starved,

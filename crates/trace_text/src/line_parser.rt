@@ -9,7 +9,7 @@ use crate::faults::{FieldFault, LineFault};
 use crate::fields::cut;
 use crate::numbers::number_read;
 use line_model::Line;
-use line_model::limits::{MAX_LINE, MAX_MOMENT, MAX_WORD, MAX_WORKER};
+use line_model::limits::{MAX_FIRST, MAX_LINE, MAX_MOMENT, MAX_WORD, MAX_WORKER};
 use rd_base::{Moment, Peer, peer_read_ascii};
 use std::alloc::Global;
 
@@ -87,6 +87,21 @@ fn tick_word_read(worker: &[u8], moment: &[u8], word: &[u8]) -> Option<Line>
     })
 }
 
+/// What the fields of a run that begins say.
+#[tactic(auto, unfolding(line_model::specs::Lines::begin_of))]
+fn begin_read(worker: &[u8], moment: &[u8], first: &[u8]) -> Option<Line>
+    ensures { result ≡ lines.begin_of worker.now moment.now first.now }
+{
+    let worker = number_read(MAX_WORKER, worker)?;
+    let moment = number_read(MAX_MOMENT, moment)?;
+    let first = number_read(MAX_FIRST, first)?;
+    Some(Line::Begin {
+        worker: worker as u8,
+        moment: Moment(moment),
+        first,
+    })
+}
+
 /// What three fields say.
 #[tactic(auto, unfolding(line_model::specs::Lines::said_by))]
 fn three_read(verb: &[u8], worker: &[u8], moment: &[u8]) -> Option<Line>
@@ -103,11 +118,14 @@ fn three_read(verb: &[u8], worker: &[u8], moment: &[u8]) -> Option<Line>
 
 /// What four fields say.
 #[tactic(auto, unfolding(line_model::specs::Lines::said_by))]
-fn four_read(verb: &[u8], worker: &[u8], moment: &[u8], word: &[u8]) -> Option<Line>
-    ensures { result ≡ lines.said_by (verb.now ∷ worker.now ∷ moment.now ∷ word.now ∷ []) }
+fn four_read(verb: &[u8], worker: &[u8], moment: &[u8], number: &[u8]) -> Option<Line>
+    ensures { result ≡ lines.said_by (verb.now ∷ worker.now ∷ moment.now ∷ number.now ∷ []) }
 {
     if verb == b"tick".as_slice() {
-        return tick_word_read(worker, moment, word);
+        return tick_word_read(worker, moment, number);
+    }
+    if verb == b"begin".as_slice() {
+        return begin_read(worker, moment, number);
     }
     None
 }
@@ -193,9 +211,9 @@ fn read(alloc: Global, line: &[u8]) -> Result<Line, LineFault>
 }
 
 /// The line that a text is, without its line feed. `Starved`: out of memory. `Long` comes exactly
-/// where it has more than 8,600 bytes, and `Form` exactly where it has not and is none of the three
+/// where it has more than 8,600 bytes, and `Form` exactly where it has not and is none of the four
 /// forms: `in`, a worker, a moment, a peer, octets and maybe a word; `go`, a worker and a moment;
-/// `tick`, a worker, a moment and maybe a word.
+/// `tick`, a worker, a moment and maybe a word; `begin`, a worker, a moment and a number.
 pub fn line_read(alloc: Global, line: &[u8]) -> Result<Line, LineFault>
     ensures answered { IsAnswered line.now result }
     ensures read { IsRead result (lines.line_of line.now) }

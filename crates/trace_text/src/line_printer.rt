@@ -69,6 +69,16 @@ pub(crate) fn tick_print(
     Ok(format!(in alloc; "tick {worker} {at} {word}")?)
 }
 
+/// The line of a run that begins above a number.
+fn begin_print(alloc: Global, worker: u8, moment: Moment, first: u64) -> Result<String, Starved>
+    ensures { IfOk result (λ text.
+        string_bytes text
+        ≡ lines.joined (lines.printed_fields (line_kind.Begin worker moment first))) }
+{
+    let Moment(at) = moment;
+    Ok(format!(in alloc; "begin {worker} {at} {first}")?)
+}
+
 /// A line as it is printed.
 #[tactic(auto, unfolding(line_model::specs::Lines::line_text))]
 fn printed(alloc: Global, line: &Line) -> Result<String, Starved>
@@ -88,6 +98,11 @@ fn printed(alloc: Global, line: &Line) -> Result<String, Starved>
             moment,
             word,
         } => tick_print(alloc, *worker, *moment, *word),
+        Line::Begin {
+            worker,
+            moment,
+            first,
+        } => begin_print(alloc, *worker, *moment, *first),
     }
 }
 

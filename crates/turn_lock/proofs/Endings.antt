@@ -20,10 +20,10 @@ use mathlib.Core.Option.{some, some-injective, some-ne-none}
 use lib.ListN.{get_elem?}
 use Rattle.atomic_table.specs.Table.{State, Final, Seen}
 use Rattle.atomic_table.specs.declared.owned.Closed.{Closed}
-use Rattle.turn_lock.specs.Histories.{Extends, rows_of}
+use Rattle.turn_lock.specs.Histories.{Extends, rows_of, AllBelow}
 use Rattle.turn_lock.specs.Rule.{Kept, IsHome}
 use Rattle.turn_lock.specs.Endings.{IfFree, IsFree, HasValue, IsFreeWith}
-use Rattle.turn_lock.proofs.TakeMoves.{held_is}
+use Rattle.turn_lock.proofs.TakeMoves.{held_is, below_more}
 use Rattle.turn_lock.specs.declared.views.View.{View}
 use Rattle.turn_lock.specs.declared.lock.Ended.{Ended}
 use Rattle.turn_lock.specs.declared.lock.Ended.TheVariants as ended
@@ -42,12 +42,12 @@ if_free (ended.Free value) implies holds = implies value holds
 if_free (ended.Held found) implies holds = tt
 
 module _ {T R L A : Type 0} (stands : List R → T → Type 0) (number : R → ℕ) (label : T → L)
-    (lab : L) (closed : Closed (Option T) A) where
+    (lab : L) (passes : ℕ) (closed : Closed (Option T) A) where
   abbrev LastOf : (State (Option T) (View R L) → Type 0) → Type 0
   LastOf holds = Final holds (slots_items closed.words) (slots_items closed.slots)
 
-  module _ (left : LastOf (Kept stands number label lab)) where
-    abbrev kept : Kept stands number label lab left.0
+  module _ (left : LastOf (Kept stands number label lab passes)) where
+    abbrev kept : Kept stands number label lab passes left.0
     kept = left.1
 
     same_word : (free : IsFree closed) → get_or left.0.words 0 0 ≡ free.0
@@ -73,18 +73,21 @@ module _ {T R L A : Type 0} (stands : List R → T → Type 0) (number : R → �
       has_label : label value ≡ lab
       has_label = ap label (sym is_value) ∙ (home found.0).label_is
 
-  module _ (id : ℕ) (v : View R L) (left : LastOf (Seen (Kept stands number label lab) id v)) where
+  module _ (id : ℕ) (v : View R L) (left : LastOf (Seen (Kept stands number label lab passes) id v)) where
     -- the same, with no word of the pass
-    abbrev unseen : LastOf (Kept stands number label lab)
+    abbrev unseen : LastOf (Kept stands number label lab passes)
     unseen = (left.0, left.1.0, left.2, left.3, left.4)
 
     module _ (value : T) (found : IsFreeWith closed value) where
       pub left_value : (history : List R) × Extends v.seen history
-          × (v.mine ≡ rows_of number v.number history) × stands history value
+          × (v.mine ≡ rows_of number v.number history) × AllBelow number v.passes history
+          × stands history value
       left_value = let k = left.1.0 in (
         k.history,
         k.seen id v left.1.1,
         k.only id v left.1.1,
+        subst (λ (n : ℕ). AllBelow number n k.history) (sym (k.passes_is id v left.1.1))
+            (below_more stands number label (length left.0.views) passes k.history k.few k.rows),
         stands_for unseen value found,
       )
 

@@ -5,6 +5,7 @@ use Rattle.std.proofs.Common.{
   ℕ,
   ◌+◌,
   ◌<◌,
+  ◌≤◌,
   ◌==◌,
   Bool,
   true,
@@ -36,7 +37,7 @@ use Rattle.atomic_table.proofs.Lists.{at_set, set_here}
 use Rattle.turn_lock.specs.Histories.{rows_of, AllBelow}
 use Rattle.turn_lock.specs.Rule.{word_of, Kept}
 use Rattle.turn_lock.specs.Steps.{IsReady, Gives}
-use Rattle.turn_lock.proofs.TakeMoves.{within, Fits, fits}
+use Rattle.turn_lock.proofs.TakeMoves.{within, below_more, Fits, fits}
 use Rattle.turn_lock.specs.declared.views.View.{View}
 
 not_true : (b : Bool) → b ≢ true → b ≡ false
@@ -51,6 +52,7 @@ module _ {T R L : Type 0} (stands : List R → T → Type 0) (number : R → ℕ
     seen = added ∷ v.seen;
     mine = added ∷ v.mine;
     label = v.label;
+    passes = v.passes;
     holding = false;
     last = v.last;
   }
@@ -69,9 +71,9 @@ module _ {T R L : Type 0} (stands : List R → T → Type 0) (number : R → ℕ
       let t : (number added == n) ≡ false = grind (arith, nat_tests) in
       ap (λ b. cond b (added ∷ rows_of number n xs) (rows_of number n xs)) t
 
-  module _ (lab : L) (id : ℕ) (m : Me (Option T) (View R L)) (added : R) (new : ℕ)
+  module _ (lab : L) (passes : ℕ) (id : ℕ) (m : Me (Option T) (View R L)) (added : R) (new : ℕ)
       (r : IsReady stands number label added m)
-      (s : State (Option T) (View R L)) (k : Kept stands number label lab s)
+      (s : State (Option T) (View R L)) (k : Kept stands number label lab passes s)
       (at : get_elem? s.views id ≡ some m.0) (word : new ≡ word_of (length m.0.seen + 1) false)
     where
       whole : m.0.seen ≡ k.history
@@ -88,7 +90,7 @@ module _ {T R L : Type 0} (stands : List R → T → Type 0) (number : R → ℕ
           ap (λ xs. added ∷ xs) (k.mine id m.0 at)
           ∙ sym (own_row m.0.number added m.0.seen r.number_is)
 
-      fits_given : Fits stands number label lab (added ∷ m.0.seen) id (given m.0 added)
+      fits_given : Fits stands number label lab passes (added ∷ m.0.seen) id (given m.0 added)
       fits_given = record {
         seen = ([], refl);
         whole = λ h. absurd (true≢false (sym h));
@@ -96,6 +98,7 @@ module _ {T R L : Type 0} (stands : List R → T → Type 0) (number : R → ℕ
         mine = own_rows;
         only = own_rows;
         label_is = k.label_is id m.0 at;
+        passes_is = k.passes_is id m.0 at;
       }
 
       nobody : (j : ℕ) (w : View R L) → j ≢ id → get_elem? s.views j ≡ some w → w.holding ≡ false
@@ -104,9 +107,9 @@ module _ {T R L : Type 0} (stands : List R → T → Type 0) (number : R → ℕ
       fits_other : (j : ℕ) (w : View R L)
           → j ≢ id
           → get_elem? s.views j ≡ some w
-          → Fits stands number label lab (added ∷ m.0.seen) j w
+          → Fits stands number label lab passes (added ∷ m.0.seen) j w
       fits_other j w apart e =
-          let f = fits stands number label lab s k j w e in
+          let f = fits stands number label lab passes s k j w e in
           let differs : number added ≢ w.number =
           λ q. apart (sym f.number_is ∙ (sym q ∙ names_id))
           in
@@ -120,15 +123,16 @@ module _ {T R L : Type 0} (stands : List R → T → Type 0) (number : R → ℕ
                 ∙ (ap (rows_of number w.number) (sym whole)
                 ∙ sym (other_row w.number added m.0.seen differs));
             label_is = f.label_is;
+            passes_is = f.passes_is;
           }
 
       fits_each : (j : ℕ) (w : View R L)
           → get_elem? views' j ≡ some w
-          → Fits stands number label lab (added ∷ m.0.seen) j w
+          → Fits stands number label lab passes (added ∷ m.0.seen) j w
       fits_each j w e = ⊎_elim
           (λ (t : (j ≡ id) × (given m.0 added ≡ w)). subst
-          (Fits stands number label lab (added ∷ m.0.seen) j) t.1
-          (subst (λ (i : ℕ). Fits stands number label lab (added ∷ m.0.seen) i (given m.0 added))
+          (Fits stands number label lab passes (added ∷ m.0.seen) j) t.1
+          (subst (λ (i : ℕ). Fits stands number label lab passes (added ∷ m.0.seen) i (given m.0 added))
           (sym t.0) fits_given))
           (λ (t : (j ≢ id) × (get_elem? s.views j ≡ some w)). fits_other j w t.0 t.1)
           (at_set s.views id j (given m.0 added) w e)
@@ -142,7 +146,18 @@ module _ {T R L : Type 0} (stands : List R → T → Type 0) (number : R → ℕ
       wide : length s.views ≡ length views'
       wide = sym (length-set s.views id (given m.0 added))
 
-      kept_given : Kept stands number label lab
+      below : AllBelow number (length s.views) (added ∷ m.0.seen)
+      below = (
+        subst (λ (n : ℕ). n < length s.views) (sym names_id) (within s.views id m.0 at),
+        subst (AllBelow number (length s.views)) (sym whole) k.rows,
+      )
+
+      below_passes : AllBelow number m.0.passes (added ∷ m.0.seen)
+      below_passes =
+          subst (λ (n : ℕ). AllBelow number n (added ∷ m.0.seen)) (sym (k.passes_is id m.0 at))
+          (below_more stands number label (length s.views) passes (added ∷ m.0.seen) k.few below)
+
+      kept_given : Kept stands number label lab passes
           (stepped s 0 new id ((0, Some r.value) ∷ []) (given m.0 added) gives)
       kept_given = record {
         history = added ∷ m.0.seen;
@@ -167,15 +182,13 @@ module _ {T R L : Type 0} (stands : List R → T → Type 0) (number : R → ℕ
           label_is = r.label_is ∙ k.label_is id m.0 at;
         };
         whole = λ j w e. (fits_each j w e).whole;
-        rows = subst (λ (n : ℕ). AllBelow number n (added ∷ m.0.seen)) wide (
-          subst (λ (n : ℕ). n < length s.views) (sym names_id) (within s.views id m.0 at),
-          subst
-              (AllBelow number (length s.views)) (sym whole) k.rows,
-        );
+        rows = subst (λ (n : ℕ). AllBelow number n (added ∷ m.0.seen)) wide below;
         number_is = λ j w e. (fits_each j w e).number_is;
         mine = λ j w e. (fits_each j w e).mine;
         only = λ j w e. (fits_each j w e).only;
         label_is = λ j w e. (fits_each j w e).label_is;
+        few = subst (λ (n : ℕ). n ≤ passes) wide k.few;
+        passes_is = λ j w e. (fits_each j w e).passes_is;
         last = λ j w e x. ⊎_elim
             (λ (t : (j ≡ id) × (given m.0 added ≡ w)).
             (ap (λ (i : ℕ). i + 1) t.0 ∙ k.last id m.0 at (ap (λ (u : View R L). u.last) t.1 ∙ x))
@@ -184,20 +197,20 @@ module _ {T R L : Type 0} (stands : List R → T → Type 0) (number : R → ℕ
             (at_set s.views id j (given m.0 added) w e);
       }
 
-  pub gives_allowed : (lab : L) (id : ℕ) (m : Me (Option T) (View R L)) (added : R) (new : ℕ)
+  pub gives_allowed : (lab : L) (passes : ℕ) (id : ℕ) (m : Me (Option T) (View R L)) (added : R) (new : ℕ)
       → IsReady stands number label added m
       → new ≡ word_of (length m.0.seen + 1) false
       → (picked : Option R) → picked ≡ Some added
-      → Allows (Kept stands number label lab) 1 id m 0 (λ _. new)
+      → Allows (Kept stands number label lab passes) 1 id m 0 (λ _. new)
       (Gives stands number label picked (step 1 0 new 0 none) m)
-  gives_allowed lab id m added new r word picked pick s k wide at small = (
+  gives_allowed lab passes id m added new r word picked pick s k wide at small = (
     given m.0 added,
     gives,
     tt,
     subst (λ (xs : List (ℕ × Option T)).
-        Kept stands number label lab (stepped s 0 new id xs (given m.0 added) gives))
+        Kept stands number label lab passes (stepped s 0 new id xs (given m.0 added) gives))
         (sym r.slot)
-        (kept_given lab id m added new r s k at word),
+        (kept_given lab passes id m added new r s k at word),
     (
       added,
       pick,
@@ -206,9 +219,11 @@ module _ {T R L : Type 0} (stands : List R → T → Type 0) (number : R → ℕ
         holding = refl;
         seen = refl;
         mine = refl;
-        own = own_rows lab id m added new r s k at word;
+        own = own_rows lab passes id m added new r s k at word;
         number_is = refl;
         label_is = refl;
+        passes_is = refl;
+        below = below_passes lab passes id m added new r s k at word;
       },
     ),
   )

@@ -4,3 +4,4 @@ mod SplitMoves
 mod NewPasses
 mod Endings
 mod SeenLaws
+pub mod HistoryLaws

@@ -36,24 +36,26 @@ get_end (x ∷ xs) a b zero e = inl e
 get_end (x ∷ xs) a b (suc i) e =
     ⊎_elim (λ t. inl t) (λ t. inr (omega (arith, t.0), t.1)) (get_end xs a b i e)
 
-module _ {T R L : Type 0} (lab : L) (n : ℕ) (m : Me (Option T) (View R L)) (f : IsFresh lab n m)
-  where
-    pub fresh_kept : IsFresh {T = T} lab n (kept_view m.0, m.1)
-    fresh_kept = record {
-      number_is = f.number_is;
-      label_is = f.label_is;
-      idle = f.idle;
-      seen = f.seen;
-      mine = f.mine;
-      slot = f.slot;
-    }
+module _ {T R L : Type 0} (lab : L) (passes n : ℕ) (m : Me (Option T) (View R L))
+    (f : IsFresh lab passes n m) where
+  pub fresh_kept : IsFresh {T = T} lab passes n (kept_view m.0, m.1)
+  fresh_kept = record {
+    number_is = f.number_is;
+    label_is = f.label_is;
+    passes_is = f.passes_is;
+    idle = f.idle;
+    seen = f.seen;
+    mine = f.mine;
+    slot = f.slot;
+  }
 
-    pub fresh_next : IsFresh {T = T} lab (n + 1) (next_view m.0, [])
-    fresh_next = record {
-      number_is = ap (λ (k : ℕ). k + 1) f.number_is;
-      label_is = f.label_is;
-      idle = refl;
-      seen = f.seen;
-      mine = refl;
-      slot = refl;
-    }
+  pub fresh_next : IsFresh {T = T} lab passes (n + 1) (next_view m.0, [])
+  fresh_next = record {
+    number_is = ap (λ (k : ℕ). k + 1) f.number_is;
+    label_is = f.label_is;
+    passes_is = f.passes_is;
+    idle = refl;
+    seen = f.seen;
+    mine = refl;
+    slot = refl;
+  }

@@ -17,7 +17,7 @@ two_ends (a ∷ front) (b ∷ back) xs ys e = two_ends front back xs ys (ap behi
 
 pub seen_ordered : {T R L : Type 0} (stands : List R → T → Type 0) (number : R → ℕ) (label : T → L)
     → SeenInOrder stands number label
-seen_ordered stands number label lab s k i j v w at there =
+seen_ordered stands number label lab passes s k i j v w at there =
     let older = k.seen i v at in
     let newer = k.seen j w there in
     two_ends older.0 newer.0 v.seen w.seen (sym older.1 ∙ newer.1)

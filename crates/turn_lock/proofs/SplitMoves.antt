@@ -5,6 +5,7 @@ use Rattle.std.proofs.Common.{
   ℕ,
   ◌+◌,
   ◌≤◌,
+  ◌<◌,
   ◌==◌,
   ◌⊎◌,
   true,
@@ -41,7 +42,7 @@ use Rattle.atomic_table.proofs.Lists.{at_set, set_here, set_else, at_longer}
 use Rattle.turn_lock.specs.Histories.{rows_of, AllBelow}
 use Rattle.turn_lock.specs.Rule.{Kept, first_view}
 use Rattle.turn_lock.specs.Steps.{kept_view, next_view}
-use Rattle.turn_lock.proofs.TakeMoves.{within, Fits, fits}
+use Rattle.turn_lock.proofs.TakeMoves.{within, below_more, Fits, fits}
 use Rattle.turn_lock.specs.declared.views.View.{View}
 
 -- a member of a list with one more at its end
@@ -62,10 +63,6 @@ same_or_not (suc i) (suc j) =
     ⊎_elim (λ e. inl (ap suc e)) (λ n. inr (λ e. n (omega (arith, e)))) (same_or_not i j)
 
 module _ {T R L : Type 0} (stands : List R → T → Type 0) (number : R → ℕ) (label : T → L) where
-  below_more : (n m : ℕ) (xs : List R) → n ≤ m → AllBelow number n xs → AllBelow number m xs
-  below_more n m [] le h = tt
-  below_more n m (x ∷ xs) le h = (omega (arith, h.0), below_more n m xs le h.1)
-
   below_rest : (n : ℕ) (more old : List R) → AllBelow number n (more ++ old) → AllBelow number n old
   below_rest n [] old h = h
   below_rest n (x ∷ xs) old h = below_rest n xs old h.1
@@ -77,9 +74,10 @@ module _ {T R L : Type 0} (stands : List R → T → Type 0) (number : R → ℕ
       let t : (number x == n) ≡ false = grind (arith, nat_tests) in
       none_named n xs h.1 ∙ sym (ap (λ b. cond b (x ∷ rows_of number n xs) (rows_of number n xs)) t)
 
-  module _ (lab : L) (id : ℕ) (v : View R L) (s : State (Option T) (View R L))
-      (k : Kept stands number label lab s)
-      (at : get_elem? s.views id ≡ some v) (last : v.last ≡ true) (idle : v.holding ≡ false) where
+  module _ (lab : L) (passes : ℕ) (id : ℕ) (v : View R L) (s : State (Option T) (View R L))
+      (k : Kept stands number label lab passes s)
+      (at : get_elem? s.views id ≡ some v) (last : v.last ≡ true) (idle : v.holding ≡ false)
+      (room : v.number + 1 < passes) where
     abbrev front : List (View R L)
     front = set s.views id (kept_view v)
 
@@ -100,20 +98,21 @@ module _ {T R L : Type 0} (stands : List R → T → Type 0) (number : R → ℕ
         let e = k.seen id v at in
         below_rest (length s.views) e.0 v.seen (subst (AllBelow number (length s.views)) e.1 k.rows)
 
-    fits_kept : Fits stands number label lab k.history id (kept_view v)
-    fits_kept = let f = fits stands number label lab s k id v at in record {
+    fits_kept : Fits stands number label lab passes k.history id (kept_view v)
+    fits_kept = let f = fits stands number label lab passes s k id v at in record {
       seen = f.seen;
       whole = f.whole;
       number_is = f.number_is;
       mine = f.mine;
       only = f.only;
       label_is = f.label_is;
+      passes_is = f.passes_is;
     }
 
     named : v.number + 1 ≡ length s.views
     named = ap (λ (n : ℕ). n + 1) (k.number_is id v at) ∙ end_is
 
-    fits_next : Fits stands number label lab k.history (length s.views) (next_view v)
+    fits_next : Fits stands number label lab passes k.history (length s.views) (next_view v)
     fits_next = record {
       seen = k.seen id v at;
       whole = λ h. absurd (true≢false (sym h));
@@ -125,6 +124,7 @@ module _ {T R L : Type 0} (stands : List R → T → Type 0) (number : R → ℕ
           subst (λ (n : ℕ). [] ≡ rows_of number n k.history) (sym named)
           (none_named (length s.views) k.history k.rows);
       label_is = k.label_is id v at;
+      passes_is = k.passes_is id v at;
     }
 
     -- each view is the part kept, the next one or as before
@@ -143,10 +143,10 @@ module _ {T R L : Type 0} (stands : List R → T → Type 0) (number : R → ℕ
 
     fits_each : (j : ℕ) (w : View R L)
         → get_elem? views' j ≡ some w
-        → Fits stands number label lab k.history j w
+        → Fits stands number label lab passes k.history j w
     fits_each =
-        by_view (λ j w. Fits stands number label lab k.history j w) fits_kept fits_next
-        (λ j w apart e. fits stands number label lab s k j w e)
+        by_view (λ j w. Fits stands number label lab passes k.history j w) fits_kept fits_next
+        (λ j w apart e. fits stands number label lab passes s k j w e)
 
     held_before : (j : ℕ) (w : View R L)
         → get_elem? views' j ≡ some w
@@ -193,7 +193,7 @@ module _ {T R L : Type 0} (stands : List R → T → Type 0) (number : R → ℕ
         ))
         (same_or_not some_view.0 id)
 
-    split_kept : Kept stands number label lab record {
+    split_kept : Kept stands number label lab passes record {
       words = s.words;
       homes = s.homes;
       views = views';
@@ -216,11 +216,13 @@ module _ {T R L : Type 0} (stands : List R → T → Type 0) (number : R → ℕ
         label_is = f.label_is;
       };
       whole = λ j w e. (fits_each j w e).whole;
-      rows = below_more (length s.views) (length views') k.history (omega (arith, long)) k.rows;
+      rows = below_more stands number label (length s.views) (length views') k.history (omega (arith, long)) k.rows;
       number_is = λ j w e. (fits_each j w e).number_is;
       mine = λ j w e. (fits_each j w e).mine;
       only = λ j w e. (fits_each j w e).only;
       label_is = λ j w e. (fits_each j w e).label_is;
+      few = omega (arith, long, named, room);
+      passes_is = λ j w e. (fits_each j w e).passes_is;
       last = by_view (λ j w. w.last ≡ true → j + 1 ≡ length views')
           (λ h. absurd (true≢false (sym h)))
           (λ h. sym long)
@@ -228,59 +230,66 @@ module _ {T R L : Type 0} (stands : List R → T → Type 0) (number : R → ℕ
           (apart (let a = k.last j w e h in let b = end_is in omega arith)));
     }
 
-  pub splits : (lab : L) (id : ℕ) (v : View R L)
+  pub splits : (lab : L) (passes : ℕ) (id : ℕ) (v : View R L)
       → v.last ≡ true
       → v.holding ≡ false
-      → Splits (Kept stands number label lab) id v (kept_view v) (next_view v)
-  splits lab id v last idle s k at = split_kept lab id v s k at last idle
+      → v.number + 1 < passes
+      → Splits (Kept stands number label lab passes) id v (kept_view v) (next_view v)
+  splits lab passes id v last idle room s k at = split_kept lab passes id v s k at last idle room
 
-  only_one : (lab : L) (P : ℕ → View R L → Type 0)
-      → P 0 (first_view lab)
+  only_one : (lab : L) (passes : ℕ) (P : ℕ → View R L → Type 0)
+      → P 0 (first_view lab passes)
       → (j : ℕ) (w : View R L)
-      → get_elem? (first_view lab ∷ []) j ≡ some w
+      → get_elem? (first_view lab passes ∷ []) j ≡ some w
       → P j w
-  only_one lab P p zero w e = subst (P 0) (some-injective (first_view lab) w e) p
-  only_one lab P p (suc j) w e = absurd (some-ne-none w (sym e))
+  only_one lab passes P p zero w e = subst (P 0) (some-injective (first_view lab passes) w e) p
+  only_one lab passes P p (suc j) w e = absurd (some-ne-none w (sym e))
 
-  fits_first : (lab : L) (j : ℕ) (w : View R L)
-      → get_elem? (first_view lab ∷ []) j ≡ some w
-      → Fits stands number label lab [] j w
-  fits_first lab = only_one lab (λ j w. Fits stands number label lab [] j w) (record {
-    seen = ([], refl);
-    whole = λ h. refl;
-    number_is = refl;
-    mine = refl;
-    only = refl;
-    label_is = refl;
-  })
+  fits_first : (lab : L) (passes : ℕ) (j : ℕ) (w : View R L)
+      → get_elem? (first_view lab passes ∷ []) j ≡ some w
+      → Fits stands number label lab passes [] j w
+  fits_first lab passes =
+      only_one lab passes (λ j w. Fits stands number label lab passes [] j w) (record {
+        seen = ([], refl);
+        whole = λ h. refl;
+        number_is = refl;
+        mine = refl;
+        only = refl;
+        label_is = refl;
+        passes_is = refl;
+      })
 
-  pub opens : (value : T) (slots : List (Option T))
+  pub opens : (value : T) (passes : ℕ) (slots : List (Option T))
       → slots ≡ Some value ∷ []
       → stands [] value
-      → Kept stands number label (label value) (opening (0 ∷ []) slots (first_view (label value)))
-  opens value slots e st =
+      → 1 ≤ passes
+      → Kept stands number label (label value) passes
+      (opening (0 ∷ []) slots (first_view (label value) passes))
+  opens value passes slots e st some_passes =
       subst (λ (xs : List (Option T)).
-      Kept stands number label (label value)
-      (opening (0 ∷ []) xs (first_view (label value)))) (sym e) (record {
+      Kept stands number label (label value) passes
+      (opening (0 ∷ []) xs (first_view (label value) passes))) (sym e) (record {
         history = [];
         held = false;
         words = refl;
         slots = refl;
         word = refl;
-        seen = λ j w e. (fits_first (label value) j w e).seen;
-        all_seen = (0, first_view (label value), refl, refl);
+        seen = λ j w e. (fits_first (label value) passes j w e).seen;
+        all_seen = (0, first_view (label value) passes, refl, refl);
         holder = λ h. absurd (true≢false (sym h));
-        idle = λ h. only_one (label value) (λ j w. w.holding ≡ false) refl;
+        idle = λ h. only_one (label value) passes (λ j w. w.holding ≡ false) refl;
         one =
             λ i j a b p q x y.
             absurd
-            (true≢false (sym x ∙ only_one (label value) (λ j w. w.holding ≡ false) refl i a p));
+            (true≢false (sym x ∙ only_one (label value) passes (λ j w. w.holding ≡ false) refl i a p));
         home = λ h. record { value = value; home = refl; stands_for = st; label_is = refl };
-        whole = λ j w e. (fits_first (label value) j w e).whole;
+        whole = λ j w e. (fits_first (label value) passes j w e).whole;
         rows = tt;
-        number_is = λ j w e. (fits_first (label value) j w e).number_is;
-        mine = λ j w e. (fits_first (label value) j w e).mine;
-        only = λ j w e. (fits_first (label value) j w e).only;
-        label_is = λ j w e. (fits_first (label value) j w e).label_is;
-        last = only_one (label value) (λ j w. w.last ≡ true → j + 1 ≡ 1) (λ h. refl);
+        number_is = λ j w e. (fits_first (label value) passes j w e).number_is;
+        mine = λ j w e. (fits_first (label value) passes j w e).mine;
+        only = λ j w e. (fits_first (label value) passes j w e).only;
+        label_is = λ j w e. (fits_first (label value) passes j w e).label_is;
+        few = some_passes;
+        passes_is = λ j w e. (fits_first (label value) passes j w e).passes_is;
+        last = only_one (label value) passes (λ j w. w.last ≡ true → j + 1 ≡ 1) (λ h. refl);
       })

@@ -5,6 +5,7 @@ use Rattle.std.proofs.Common.{
   ◌+◌,
   ◌%◌,
   ◌<◌,
+  ◌≤◌,
   ◌==◌,
   Bool,
   true,
@@ -70,26 +71,33 @@ odd_word : (n : ℕ) → word_of n false + 1 ≡ word_of n true
 odd_word n = omega arith
 
 module _ {T R L : Type 0} (stands : List R → T → Type 0) (number : R → ℕ) (label : T → L) where
+  pub below_more : (n m : ℕ) (xs : List R) → n ≤ m → AllBelow number n xs → AllBelow number m xs
+  below_more n m [] le h = tt
+  below_more n m (x ∷ xs) le h = (omega (arith, h.0), below_more n m xs le h.1)
+
   -- what the rule says of one view
-  pub record Fits (lab : L) (history : List R) (id : ℕ) (v : View R L) : Type 0 where
+  pub record Fits (lab : L) (passes : ℕ) (history : List R) (id : ℕ) (v : View R L) : Type 0 where
     pub seen : Extends v.seen history
     pub whole : v.holding ≡ true → v.seen ≡ history
     pub number_is : v.number ≡ id
     pub mine : v.mine ≡ rows_of number v.number v.seen
     pub only : v.mine ≡ rows_of number v.number history
     pub label_is : v.label ≡ lab
+    pub passes_is : v.passes ≡ passes
 
-  pub fits : (lab : L) (s : State (Option T) (View R L)) (k : Kept stands number label lab s)
+  pub fits : (lab : L) (passes : ℕ) (s : State (Option T) (View R L))
+      (k : Kept stands number label lab passes s)
       (id : ℕ) (v : View R L)
       → get_elem? s.views id ≡ some v
-      → Fits lab k.history id v
-  fits lab s k id v at = record {
+      → Fits lab passes k.history id v
+  fits lab passes s k id v at = record {
     seen = k.seen id v at;
     whole = k.whole id v at;
     number_is = k.number_is id v at;
     mine = k.mine id v at;
     only = k.only id v at;
     label_is = k.label_is id v at;
+    passes_is = k.passes_is id v at;
   }
 
   -- the holder's view after it took the turn
@@ -99,24 +107,26 @@ module _ {T R L : Type 0} (stands : List R → T → Type 0) (number : R → ℕ
     seen = history;
     mine = v.mine;
     label = v.label;
+    passes = v.passes;
     holding = true;
     last = v.last;
   }
 
-  fits_taken : (lab : L) (history : List R) (id : ℕ) (v : View R L)
-      → Fits lab history id v
-      → Fits lab history id (taken v history)
-  fits_taken lab history id v f = record {
+  fits_taken : (lab : L) (passes : ℕ) (history : List R) (id : ℕ) (v : View R L)
+      → Fits lab passes history id v
+      → Fits lab passes history id (taken v history)
+  fits_taken lab passes history id v f = record {
     seen = ([], refl);
     whole = λ h. refl;
     number_is = f.number_is;
     mine = f.only;
     only = f.only;
     label_is = f.label_is;
+    passes_is = f.passes_is;
   }
 
-  module _ (lab : L) (id : ℕ) (m : Me (Option T) (View R L)) (old : ℕ)
-      (s : State (Option T) (View R L)) (k : Kept stands number label lab s)
+  module _ (lab : L) (passes : ℕ) (id : ℕ) (m : Me (Option T) (View R L)) (old : ℕ)
+      (s : State (Option T) (View R L)) (k : Kept stands number label lab passes s)
       (at : get_elem? s.views id ≡ some m.0) (free : k.held ≡ false)
       (here : get_or s.words 0 0 ≡ old) where
     abbrev views' : List (View R L)
@@ -125,12 +135,13 @@ module _ {T R L : Type 0} (stands : List R → T → Type 0) (number : R → ℕ
     there : get_elem? views' id ≡ some (taken m.0 k.history)
     there = set_here s.views id (taken m.0 k.history) (within s.views id m.0 at)
 
-    fits_each : (j : ℕ) (w : View R L) → get_elem? views' j ≡ some w → Fits lab k.history j w
+    fits_each : (j : ℕ) (w : View R L) → get_elem? views' j ≡ some w
+        → Fits lab passes k.history j w
     fits_each j w e = ⊎_elim
-        (λ t. subst (Fits lab k.history j) t.1
-        (subst (λ (i : ℕ). Fits lab k.history i (taken m.0 k.history)) (sym t.0)
-        (fits_taken lab k.history id m.0 (fits lab s k id m.0 at))))
-        (λ t. fits lab s k j w t.1)
+        (λ t. subst (Fits lab passes k.history j) t.1
+        (subst (λ (i : ℕ). Fits lab passes k.history i (taken m.0 k.history)) (sym t.0)
+        (fits_taken lab passes k.history id m.0 (fits lab passes s k id m.0 at))))
+        (λ t. fits lab passes s k j w t.1)
         (at_set s.views id j (taken m.0 k.history) w e)
 
     wide : length s.views ≡ length views'
@@ -139,7 +150,7 @@ module _ {T R L : Type 0} (stands : List R → T → Type 0) (number : R → ℕ
     even : old ≡ word_of (length k.history) false
     even = sym here ∙ (k.word ∙ ap (word_of (length k.history)) free)
 
-    kept_taken : Kept stands number label lab
+    kept_taken : Kept stands number label lab passes
         (stepped s 0 (old + 1) id m.1 (taken m.0 k.history) (takes 0 (Some (k.home free).value)))
     kept_taken = record {
       history = k.history;
@@ -165,6 +176,8 @@ module _ {T R L : Type 0} (stands : List R → T → Type 0) (number : R → ℕ
       mine = λ j w e. (fits_each j w e).mine;
       only = λ j w e. (fits_each j w e).only;
       label_is = λ j w e. (fits_each j w e).label_is;
+      few = subst (λ (n : ℕ). n ≤ passes) wide k.few;
+      passes_is = λ j w e. (fits_each j w e).passes_is;
       last = λ j w e x. ⊎_elim
           (λ t.
           (ap (λ (i : ℕ). i + 1) t.0 ∙ k.last id m.0 at (ap (λ (u : View R L). u.last) t.1 ∙ x))
@@ -183,25 +196,26 @@ module _ {T R L : Type 0} (stands : List R → T → Type 0) (number : R → ℕ
     views = sym (set_again s.views id m.0 at) i;
   }
 
-  kept_same : (lab : L) (id : ℕ) (m : Me (Option T) (View R L)) (s : State (Option T) (View R L))
-      → Kept stands number label lab s
+  kept_same : (lab : L) (passes : ℕ) (id : ℕ) (m : Me (Option T) (View R L))
+      (s : State (Option T) (View R L))
+      → Kept stands number label lab passes s
       → get_elem? s.views id ≡ some m.0
-      → Kept stands number label lab (stepped s 0 (get_or s.words 0 0) id m.1 m.0 keeps)
-  kept_same lab id m s k at =
-      subst (λ (x : State (Option T) (View R L)). Kept stands number label lab x)
+      → Kept stands number label lab passes (stepped s 0 (get_or s.words 0 0) id m.1 m.0 keeps)
+  kept_same lab passes id m s k at =
+      subst (λ (x : State (Option T) (View R L)). Kept stands number label lab passes x)
       (state_same s id m at k.words) k
 
-  allowed_by : (lab : L) (id : ℕ) (m : Me (Option T) (View R L)) (old : ℕ) → old % 2 ≡ 0 → m.1 ≡ []
+  allowed_by : (lab : L) (passes : ℕ) (id : ℕ) (m : Me (Option T) (View R L)) (old : ℕ) → old % 2 ≡ 0 → m.1 ≡ []
       → (s : State (Option T) (View R L))
-      → Kept stands number label lab s
+      → Kept stands number label lab passes s
       → get_elem? s.views id ≡ some m.0
       → (b : Bool) → (get_or s.words 0 0 == old) ≡ b
       → (w : View R L) × (a : Act (Option T)) × Valid s.homes m.1 a
-      × Kept stands number label lab
+      × Kept stands number label lab passes
       (stepped s 0 (either b (old + 1) (get_or s.words 0 0)) id m.1 w a)
       × MatchBool b (Took stands number label m (w, carried_after m.1 a) (get_or s.words 0 0))
       (DidNotTake stands number label m (w, carried_after m.1 a))
-  allowed_by lab id m old even bare s k at true found =
+  allowed_by lab passes id m old even bare s k at true found =
       let here : get_or s.words 0 0 ≡ old = grind (arith, nat_tests) in
       let free : k.held ≡ false =
       held_is (length k.history) (get_or s.words 0 0) k.held k.word
@@ -210,7 +224,7 @@ module _ {T R L : Type 0} (stands : List R → T → Type 0) (number : R → ℕ
         taken m.0 k.history,
         takes 0 (Some f.value),
         f.home,
-        kept_taken lab id m old s k at free here,
+        kept_taken lab passes id m old s k at free here,
         record {
           value = f.value;
           slot = ap (λ (xs : List (ℕ × Option T)). (0, Some f.value) ∷ xs) bare;
@@ -222,16 +236,20 @@ module _ {T R L : Type 0} (stands : List R → T → Type 0) (number : R → ℕ
           mine = refl;
           own = k.only id m.0 at;
           label_is = refl;
+          passes_is = refl;
+          below =
+              subst (λ (n : ℕ). AllBelow number n k.history) (sym (k.passes_is id m.0 at))
+              (below_more (length s.views) passes k.history k.few k.rows);
           word = k.word ∙ ap (word_of (length k.history)) free;
         },
       )
-  allowed_by lab id m old even bare s k at false found =
-      (m.0, keeps, tt, kept_same lab id m s k at, refl)
+  allowed_by lab passes id m old even bare s k at false found =
+      (m.0, keeps, tt, kept_same lab passes id m s k at, refl)
 
-  pub takes_allowed : (lab : L) (id : ℕ) (m : Me (Option T) (View R L)) (old : ℕ)
+  pub takes_allowed : (lab : L) (passes : ℕ) (id : ℕ) (m : Me (Option T) (View R L)) (old : ℕ)
       → old % 2 ≡ 0
       → m.1 ≡ []
-      → Allows (Kept stands number label lab) 1 id m 0 (λ n. either (n == old) (old + 1) n)
+      → Allows (Kept stands number label lab passes) 1 id m 0 (λ n. either (n == old) (old + 1) n)
       (Takes stands number label (step 1 0 old (old + 1) none) m)
-  takes_allowed lab id m old even bare s k wide at small =
-      allowed_by lab id m old even bare s k at (get_or s.words 0 0 == old) refl
+  takes_allowed lab passes id m old even bare s k wide at small =
+      allowed_by lab passes id m old even bare s k at (get_or s.words 0 0 == old) refl

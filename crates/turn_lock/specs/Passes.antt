@@ -8,10 +8,11 @@ abbrev pub slots_of : {T : Type 0} → Bool → List (ℕ × Option T)
 slots_of holding = cond holding ((0, None) ∷ []) []
 
 -- a pass that has seen nothing
-pub record IsFresh {T R L : Type 0} (lab : L) (number : ℕ) (me : Me (Option T) (View R L)) : Type 0
+pub record IsFresh {T R L : Type 0} (lab : L) (passes number : ℕ) (me : Me (Option T) (View R L)) : Type 0
   where
     pub number_is : me.0.number ≡ number
     pub label_is : me.0.label ≡ lab
+    pub passes_is : me.0.passes ≡ passes
     pub idle : me.0.holding ≡ false
     pub seen : me.0.seen ≡ []
     pub mine : me.0.mine ≡ []

@@ -7,6 +7,8 @@ use Rattle.std.specs.Prelude.{
   ◌*◌,
   ◌%◌,
   ◌^◌,
+  ◌<◌,
+  ◌≤◌,
   Bool,
   true,
   false,
@@ -29,15 +31,28 @@ abbrev pub word_of : ℕ → Bool → ℕ
 word_of n held = 2 * (n % 2 ^ 62) + cond held 1 0
 
 -- what the first pass knows
-abbrev pub first_view : {R L : Type 0} → L → View R L
-first_view lab = record {
+abbrev pub first_view : {R L : Type 0} → L → ℕ → View R L
+first_view lab passes = record {
   number = 0;
   seen = [];
   mine = [];
   label = lab;
+  passes = passes;
   holding = false;
   last = true;
 }
+
+-- Each row of a history is of one of so many passes, and those of each are its own, in its order.
+pub record IsOfPasses {R L : Type 0} (number : R → ℕ) (passes : ℕ) (views : List (View R L))
+    (history : List R) : Type 0 where
+  pub below : AllBelow number passes history
+  pub own : (id : ℕ) (v : View R L) → get_elem? views id ≡ some v
+      → rows_of number id history ≡ v.mine
+
+-- each pass of a lock is there, and this holds of what it knows
+abbrev pub OfEachPass : {R L : Type 0} → ℕ → List (View R L) → (View R L → Type 0) → Type 0
+OfEachPass passes views P = (id : ℕ) → id < passes
+    → (v : View _ _) × (get_elem? views id ≡ some v) × P v
 
 module _ {T R L : Type 0} (stands : List R → T → Type 0) (number : R → ℕ) (label : T → L) where
   -- the slot is at home, and its value stands for the history and has the lock's label
@@ -48,7 +63,7 @@ module _ {T R L : Type 0} (stands : List R → T → Type 0) (number : R → ℕ
     pub stands_for : stands history value
     pub label_is : label value ≡ lab
 
-  pub record Kept (lab : L) (s : State (Option T) (View R L)) : Type 0 where
+  pub record Kept (lab : L) (passes : ℕ) (s : State (Option T) (View R L)) : Type 0 where
     pub history : List R
     pub held : Bool
     -- There is one word, which has the length of the history and whether the turn is held, and one
@@ -92,6 +107,9 @@ module _ {T R L : Type 0} (stands : List R → T → Type 0) (number : R → ℕ
         → v.mine ≡ rows_of number v.number history
     -- 6. All views have the lock's label, and so has the value at home.
     pub label_is : (id : ℕ) (v : View R L) → get_elem? s.views id ≡ some v → v.label ≡ lab
+    -- 7. There are no more views than the lock has passes, and each view tells that number.
+    pub few : length s.views ≤ passes
+    pub passes_is : (id : ℕ) (v : View R L) → get_elem? s.views id ≡ some v → v.passes ≡ passes
     -- The mark of the view that was made last: while passes are made, each is cut off it.
     pub last : (id : ℕ) (v : View R L)
         → get_elem? s.views id ≡ some v
@@ -101,9 +119,18 @@ module _ {T R L : Type 0} (stands : List R → T → Type 0) (number : R → ℕ
   -- of what two views have seen, one is the other as it once was
   abbrev pub SeenInOrder : Type 0
   SeenInOrder =
-      (lab : L) (s : State (Option T) (View R L))
-      → Kept lab s
+      (lab : L) (passes : ℕ) (s : State (Option T) (View R L))
+      → Kept lab passes s
       → (i j : ℕ) (v w : View R L)
       → get_elem? s.views i ≡ some v
       → get_elem? s.views j ≡ some w
       → Extends v.seen w.seen ⊎ Extends w.seen v.seen
+
+  -- A history is that of the lock's passes, whatever they do; and while none of them has a row of
+  -- its own, it is empty.
+  abbrev pub HistoryOfPasses : Type 0
+  HistoryOfPasses =
+      (lab : L) (passes : ℕ) (s : State (Option T) (View R L))
+      → (kept : Kept lab passes s)
+      → IsOfPasses number passes s.views kept.history
+      × (OfEachPass passes s.views (λ v. v.mine ≡ []) → kept.history ≡ [])

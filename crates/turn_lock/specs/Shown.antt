@@ -14,6 +14,10 @@ use Rattle.turn_lock.specs.Passes.{IsFresh}
 abbrev pub id_of : {T R L : Type 0} → TurnLock T R L → TableId
 id_of lock = lock.table.shared.table_id
 
+-- how many passes it has
+abbrev pub count_of : {T R L : Type 0} → TurnLock T R L → ℕ
+count_of lock = lock.table.shared.key.passes
+
 module _ {T R L : Type 0} {g : Ghosts T R L} where
   -- its seat at the lock's table
   abbrev pub seat_of : Pass T R L g → Seat (Option T) (View R L)
@@ -31,6 +35,10 @@ module _ {T R L : Type 0} {g : Ghosts T R L} where
   abbrev pub label_of : Pass T R L g → L
   label_of pass = (seat_of pass).me.0.label
 
+  -- how many passes its lock has
+  abbrev pub passes_of : Pass T R L g → ℕ
+  passes_of pass = (seat_of pass).me.0.passes
+
   -- whether it holds the turn
   abbrev pub is_holding : Pass T R L g → Bool
   is_holding pass = (seat_of pass).me.0.holding
@@ -43,9 +51,9 @@ module _ {T R L : Type 0} {g : Ghosts T R L} where
   abbrev pub mine_of : Pass T R L g → List R
   mine_of pass = (seat_of pass).me.0.mine
 
-  -- the pass has seen nothing, and its lock has the label
-  abbrev pub IsNew : L → ℕ → Pass T R L g → Type 0
-  IsNew label number pass = IsFresh label number (seat_of pass).me
+  -- the pass has seen nothing, and its lock has the label and so many passes
+  abbrev pub IsNew : L → ℕ → ℕ → Pass T R L g → Type 0
+  IsNew label passes number pass = IsFresh label passes number (seat_of pass).me
 
   -- the passes, in the order of their numbers
   abbrev pub list_of : Passes T R L g → List (Pass T R L g)

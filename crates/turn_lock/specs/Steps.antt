@@ -17,7 +17,7 @@ use Rattle.std.specs.Prelude.{
 }
 use Rattle.std.specs.Bool.{MatchBool}
 use Rattle.atomic_table.specs.Table.{Me, Step}
-use Rattle.turn_lock.specs.Histories.{Extends, rows_of}
+use Rattle.turn_lock.specs.Histories.{Extends, rows_of, AllBelow}
 use Rattle.turn_lock.specs.Rule.{word_of}
 use Rattle.turn_lock.specs.declared.views.View.{View}
 
@@ -28,6 +28,7 @@ kept_view v = record {
   seen = v.seen;
   mine = v.mine;
   label = v.label;
+  passes = v.passes;
   holding = v.holding;
   last = false;
 }
@@ -39,6 +40,7 @@ next_view v = record {
   seen = v.seen;
   mine = [];
   label = v.label;
+  passes = v.passes;
   holding = false;
   last = true;
 }
@@ -57,6 +59,8 @@ module _ {T R L : Type 0} (stands : List R → T → Type 0) (number : R → ℕ
     pub mine : n.0.mine ≡ m.0.mine
     pub own : n.0.mine ≡ rows_of number n.0.number n.0.seen
     pub label_is : n.0.label ≡ m.0.label
+    pub passes_is : n.0.passes ≡ m.0.passes
+    pub below : AllBelow number n.0.passes n.0.seen
     pub word : found ≡ word_of (length n.0.seen) false
 
   -- Failed take, on the word: nothing changes.
@@ -103,6 +107,8 @@ module _ {T R L : Type 0} (stands : List R → T → Type 0) (number : R → ℕ
     pub own : n.0.mine ≡ rows_of number n.0.number n.0.seen
     pub number_is : n.0.number ≡ m.0.number
     pub label_is : n.0.label ≡ m.0.label
+    pub passes_is : n.0.passes ≡ m.0.passes
+    pub below : AllBelow number n.0.passes n.0.seen
 
   abbrev pub Gives : Option R
       → Step (Option T)

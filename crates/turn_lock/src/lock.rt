@@ -1,11 +1,11 @@
 //! The lock: a value behind one word and one slot.
 ghost use Rattle.std.specs.Prelude.{◌≡◌, ℕ, ◌+◌, false, [], ◌∷◌, Some};
 ghost use Rattle.std.specs.Mem.{manually_drop_value};
-ghost use Rattle.turn_lock.specs.Rule.{word_of, SeenInOrder};
+ghost use Rattle.turn_lock.specs.Rule.{word_of, SeenInOrder, HistoryOfPasses};
 
 use crate::rows::{Added, Replays};
 use crate::seats::{Pass, Passes};
-use crate::views::{Give, Next, Take, Turn, View};
+use crate::views::{About, Give, Next, Take, Turn, View};
 use atomic_table::{Closed, Refused, Seat, Table};
 use rd_base::Starved;
 use std::alloc::Global;
@@ -18,7 +18,7 @@ use std::sync::atomic::{AtomicU64, Ordering};
 /// Any other is taken apart, by `end` or `into_inner`.
 #[derive(Drop)]
 pub struct TurnLock<T: Replays> {
-    table: Table<Option<T>, View<T::Row, T::Label>, Snapshot<T>, Turn<T>, Global>,
+    table: Table<Option<T>, View<T::Row, T::Label>, About<T>, Turn<T>, Global>,
     /// How many workers sleep until the turn is given back, or are about to. Where it is 0, a give
     /// wakes nobody.
     sleepers: AtomicU64,
@@ -81,14 +81,14 @@ impl<T: Replays> TurnLock<T> {
     ghost use Rattle.std.specs.Prelude.{IfSome, IsSome, slice_get, slice_index_or, All};
     ghost use Rattle.std.specs.Bool.{MatchBool};
     ghost use Rattle.std.specs.Vec.{vec_capacity};
-    ghost use Rattle.turn_lock.specs.Histories.{Extends, rows_of};
+    ghost use Rattle.turn_lock.specs.Histories.{Extends, rows_of, AllBelow};
     ghost use Rattle.std.specs.Mem.Slots.{slots_len, IsFull};
     ghost use Rattle.turn_lock.specs.Endings.{IfFree, HasValueWhereFree, IsFreeWith};
     ghost use Rattle.turn_lock.specs.Steps.{Took, DidNotTake, CameOut, WentIn, IsReady, Gave};
     ghost use Rattle.turn_lock.specs.Steps.{WasSplit};
     ghost use Rattle.turn_lock.specs.Passes.{IsFresh};
     ghost use Rattle.turn_lock.specs.Shown.{id_of, lock_of, number_of, label_of, is_holding};
-    ghost use Rattle.turn_lock.specs.Shown.{seen_of, mine_of, list_of, IsNew};
+    ghost use Rattle.turn_lock.specs.Shown.{count_of, passes_of, seen_of, mine_of, list_of, IsNew};
 
     /// Waits for the turn and takes the value out. It stands for all that the pass has seen then.
     pub fn take<R: Wait>(&self, rt: &R, pass: &mut Pass<T>) -> T
@@ -98,7 +98,9 @@ impl<T: Replays> TurnLock<T> {
         ensures holding { is_holding pass.new ≡ true }
         ensures number { number_of pass.new ≡ number_of pass.old }
         ensures label { label_of pass.new ≡ label_of pass.old }
+        ensures passes { passes_of pass.new ≡ passes_of pass.old }
         ensures seen { Extends (seen_of pass.old) (seen_of pass.new) }
+        ensures below { AllBelow T.number (passes_of pass.new) (seen_of pass.new) }
         ensures mine { mine_of pass.new ≡ mine_of pass.old }
         ensures own { mine_of pass.new ≡ rows_of T.number (number_of pass.new) (seen_of pass.new) }
         ensures value { T.stands (seen_of pass.new) result }
@@ -189,6 +191,8 @@ impl<T: Replays> TurnLock<T> {
         ensures idle { is_holding pass.new ≡ false }
         ensures number { number_of pass.new ≡ number_of pass.old }
         ensures label { label_of pass.new ≡ label_of pass.old }
+        ensures passes { passes_of pass.new ≡ passes_of pass.old }
+        ensures below { AllBelow T.number (passes_of pass.new) (seen_of pass.new) }
         ensures seen { IfSome S.added (λ row. seen_of pass.new ≡ row ∷ seen_of pass.old) }
         ensures mine { IfSome S.added (λ row. mine_of pass.new ≡ row ∷ mine_of pass.old) }
         ensures own { mine_of pass.new ≡ rows_of T.number (number_of pass.new) (seen_of pass.new) }
@@ -230,6 +234,7 @@ impl<T: Replays> TurnLock<T> {
         requires lock { last.old.table_id ≡ self.now.table.shared.table_id }
         requires last { last.old.me.0.last ≡ true }
         requires idle { last.old.me.0.holding ≡ false }
+        requires room { last.old.me.0.number + 1 < count_of self.now }
         ensures lock { (last.new.table_id ≡ last.old.table_id)
             × (result.table_id ≡ last.old.table_id) }
         ensures split { WasSplit last.old.me last.new.me result.me }
@@ -247,12 +252,13 @@ impl<T: Replays> TurnLock<T> {
         requires none { passes.items ≡ [] }
         requires room { seats ≤ vec_capacity passes }
         requires some { 0 < seats }
+        requires all { seats ≡ count_of self.now }
         requires lock { first.table_id ≡ self.now.table.shared.table_id }
-        requires fresh { IsFresh (T.label self.now.table.shared.key.value) 0 first.me }
+        requires fresh { IsFresh (T.label self.now.table.shared.key.value.value) seats 0 first.me }
         requires last { first.me.0.last ≡ true }
         ensures count { length result.items ≡ seats }
         ensures passes { (i : ℕ) (pass : _) → slice_get result.items i ≡ Some pass
-            → IsNew (T.label self.now.table.shared.key.value) i pass
+            → IsNew (T.label self.now.table.shared.key.value.value) seats i pass
             × (lock_of pass ≡ id_of self.now) }
     {
         let mut last = first;
@@ -275,10 +281,11 @@ impl<T: Replays> TurnLock<T> {
         requires seats { (1 ≤ seats) × (seats ≤ 16) }
         requires value { T.stands [] value }
         ensures count { IfOk result (λ made. length (list_of made.1) ≡ seats) }
+        ensures passes { IfOk result (λ made. count_of made.0 ≡ seats) }
         ensures fresh { IfOk result (λ made.
             (i : ℕ) (d : _)
             → i < length (list_of made.1)
-            → IsNew (T.label value) i (slice_index_or (list_of made.1) i d)) }
+            → IsNew (T.label value) seats i (slice_index_or (list_of made.1) i d)) }
         ensures lock { IfOk result
             (λ made. All (λ pass. lock_of pass ≡ id_of made.0) (list_of made.1)) }
         ensures back { IfErr result (λ unmade. unmade.value ≡ value) }
@@ -289,7 +296,11 @@ impl<T: Replays> TurnLock<T> {
         let Ok(mut slots) = Vec::with_capacity(alloc, 1) else {
             return Err(Unmade { value });
         };
-        let about = Snapshot::of(&value);
+        let first = Snapshot::of(&value);
+        let about = About {
+            value: first,
+            passes: seats,
+        };
         slots.push_reserved(Some(value));
         let (table, seat) = match Table::new(alloc, &[0], slots, &about) {
             Ok(made) => made,
@@ -329,6 +340,7 @@ impl<T: Replays> TurnLock<T> {
         ensures value { IfFree result (λ value. (history : List T.Row) ×
             Extends (seen_of pass) history ×
             (mine_of pass ≡ rows_of T.number (number_of pass) history) ×
+            AllBelow T.number (passes_of pass) history ×
             T.stands history value) }
         ensures value_label { IfFree result (λ value. T.label value ≡ label_of pass) }
     {
@@ -353,19 +365,26 @@ pub fn seen_in_order<T: Replays>()
     ensures { SeenInOrder T.stands T.number T.label }
 {}
 
+/// The history of a lock is that of its passes: each row is of one of them, and those of each are
+/// its own, in its order. While none of them has a row of its own, it is empty.
+pub fn history_is_of_passes<T: Replays>()
+    ensures { HistoryOfPasses T.stands T.number T.label }
+{}
+
 impl<T: Replays + Drop> TurnLock<T> {
     ghost use Rattle.std.specs.Prelude.{◌≤◌, ◌<◌, length, IfOk, slice_index_or, All};
-    ghost use Rattle.turn_lock.specs.Shown.{id_of, lock_of, list_of, IsNew};
+    ghost use Rattle.turn_lock.specs.Shown.{id_of, lock_of, count_of, list_of, IsNew};
 
     /// The lock round the value, and its passes, numbered from 0.
     pub fn make(alloc: Global, seats: u32, value: T) -> Result<(TurnLock<T>, Passes<T>), Starved>
         requires seats { (1 ≤ seats) × (seats ≤ 16) }
         requires value { T.stands [] value }
         ensures count { IfOk result (λ made. length (list_of made.1) ≡ seats) }
+        ensures passes { IfOk result (λ made. count_of made.0 ≡ seats) }
         ensures fresh { IfOk result (λ made.
             (i : ℕ) (d : _)
             → i < length (list_of made.1)
-            → IsNew (T.label value) i (slice_index_or (list_of made.1) i d)) }
+            → IsNew (T.label value) seats i (slice_index_or (list_of made.1) i d)) }
         ensures lock { IfOk result
             (λ made. All (λ pass. lock_of pass ≡ id_of made.0) (list_of made.1)) }
     {

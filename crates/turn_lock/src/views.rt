@@ -16,10 +16,21 @@ pub struct View<R, L> {
     pub mine: LinkedList<R>,
     /// The label of the lock.
     pub label: L,
+    /// How many passes the lock has.
+    pub passes: u64,
     /// Whether the pass holds the turn.
     pub holding: bool,
     /// Whether it is the pass that was made last.
     pub last: bool,
+}
+
+/// What a lock is about.
+#[derive(Drop)]
+pub(crate) struct About<T> {
+    /// Its first value.
+    pub(crate) value: Snapshot<T>,
+    /// How many passes it has.
+    pub(crate) passes: u32,
 }
 
 /// The rule of the turn. No value of it is made.
@@ -27,12 +38,12 @@ pub struct Turn<T> {
     marker: PhantomData<T>,
 }
 
-impl<T: Replays> TableRule<Option<T>, View<T::Row, T::Label>, Snapshot<T>> for Turn<T> {
+impl<T: Replays> TableRule<Option<T>, View<T::Row, T::Label>, About<T>> for Turn<T> {
     ghost use Rattle.turn_lock.specs.Rule.{Kept, first_view};
 
-    ghost holds = { λ key. Kept T.stands T.number T.label (T.label key.value) };
+    ghost holds = { λ key. Kept T.stands T.number T.label (T.label key.value.value) key.passes };
 
-    ghost first = { λ key. first_view (T.label key.value) };
+    ghost first = { λ key. first_view (T.label key.value.value) key.passes };
 }
 
 /// The step that takes the turn, or fails to.

@@ -8,3 +8,4 @@ pub mod Addresses
 pub mod Links
 -- what these are made of
 pub mod Plans
+pub mod Orders

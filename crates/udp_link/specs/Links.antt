@@ -1,12 +1,14 @@
 -- What a call on a link may answer, and what is then known of the link.
-use Rattle.std.specs.Prelude.{◌≡◌, ℕ, ◌<◌, ◌≤◌, List, [], ◌∷◌, ◌++◌, length, take, ⊤}
+use Rattle.std.specs.Prelude.{◌≡◌, ℕ, ◌<◌, ◌≤◌, List, [], ◌∷◌, ◌++◌, length, take, Option, ⊤}
 use Rattle.rd_base.specs.Outside.{Rose}
 use Rattle.rd_base.specs.declared.peers.Peer.{Peer}
 use Rattle.udp_link.specs.declared.links.TheConstants.{MAX_DATAGRAM}
 use Rattle.udp_link.specs.declared.links.Came.{Came}
 use Rattle.udp_link.specs.declared.links.Came.TheVariants as came
+use Rattle.udp_link.specs.declared.links.LinkCall.{LinkCall}
 use Rattle.udp_link.specs.declared.links.Went.{Went}
 use Rattle.udp_link.specs.declared.links.Went.TheVariants as went
+use Rattle.udp_link.specs.Told.{WhereTold}
 
 -- a datagram: the peer that it comes from or goes to, and its octets
 abbrev pub Datagram : Type 0
@@ -44,6 +46,10 @@ CountsReceived before now came.Failed = (before ≤ now) × Rose before now
 abbrev pub CountsSent : ℕ → ℕ → Went → Type 0
 CountsSent before now went.Sent = now ≡ before
 CountsSent before now went.Failed = (before ≤ now) × Rose before now
+
+-- where the calls of a link are known, this one was made of it, and no other
+abbrev pub Calls : LinkCall → Option (List LinkCall) → Option (List LinkCall) → Type 0
+Calls call before now = WhereTold (λ old new. new ≡ call ∷ old) before now
 
 -- this datagram was handed over whole, or it is longer than the limit
 abbrev pub IsDelivered : Came → Datagram → List ℕ → Type 0

@@ -1,8 +1,10 @@
 //! Links: where datagrams come from and go to.
 ghost use Rattle.std.specs.Prelude.{◌≡◌, ◌≤◌, ℕ, List, Option, length};
+ghost use Rattle.udp_link.specs.declared.links.LinkCall.{LinkCall};
 ghost use Rattle.udp_link.specs.Told.{WhereTold, Stays};
+ghost use Rattle.udp_link.specs.declared.links.LinkCall.{LinkCall};
 ghost use Rattle.udp_link.specs.Links.{Datagram, IsWithinLimit, TakesFirst, AddsLast};
-ghost use Rattle.udp_link.specs.Links.{CountsReceived, CountsSent};
+ghost use Rattle.udp_link.specs.Links.{CountsReceived, CountsSent, Calls};
 
 use rd_base::Peer;
 
@@ -31,6 +33,15 @@ pub enum Went {
     Failed,
 }
 
+/// A call of a link.
+#[derive(Clone, Copy, Debug, PartialEq, Eq)]
+pub enum LinkCall {
+    /// A call of `Link::recv`.
+    Receive,
+    /// A call of `Link::send`.
+    Send,
+}
+
 /// Where datagrams come from and go to.
 pub trait Link {
     /// The datagrams that are still to come, where they are known.
@@ -38,6 +49,9 @@ pub trait Link {
 
     /// The datagrams that were sent so far, where they are known.
     ghost gone: { Self → Option (List Datagram) };
+
+    /// The calls that were made so far, the last first, where they are known.
+    ghost order: { Self → Option (List LinkCall) };
 
     /// How many receives failed so far. It never falls, and stands at the last value of 64 bits.
     ghost recv_faults: { Self → ℕ };
@@ -52,7 +66,8 @@ pub trait Link {
         ensures takes { WhereTold (TakesFirst result into.new) (coming self.old) (coming self.new) }
         ensures cause { CountsReceived (recv_faults self.old) (recv_faults self.new) result }
         ensures sent_stays { Stays (gone self.old) (gone self.new) }
-        ensures sends_stand { send_faults self.new ≡ send_faults self.old };
+        ensures sends_stand { send_faults self.new ≡ send_faults self.old }
+        ensures called { Calls LinkCall.Receive (order self.old) (order self.new) };
 
     /// Sends `piece` to `peer` as one datagram.
     fn send(&mut self, peer: Peer, piece: &[u8]) -> Went
@@ -60,5 +75,6 @@ pub trait Link {
             (gone self.new) }
         ensures cause { CountsSent (send_faults self.old) (send_faults self.new) result }
         ensures coming_stays { Stays (coming self.old) (coming self.new) }
-        ensures receives_stand { recv_faults self.new ≡ recv_faults self.old };
+        ensures receives_stand { recv_faults self.new ≡ recv_faults self.old }
+        ensures called { Calls LinkCall.Send (order self.old) (order self.new) };
 }

@@ -1,5 +1,5 @@
 //! A link in memory, of which chosen calls fail.
-ghost use Rattle.std.specs.Prelude.{◌≡◌, ◌↔◌, ◌≤◌, true, Some, [], length, drop};
+ghost use Rattle.std.specs.Prelude.{◌≡◌, ◌↔◌, ◌≤◌, ◌∷◌, true, Some, [], length, drop};
 ghost use Rattle.udp_link.specs.Links.{IsWithinLimit, TakesFirst, AddsLast, CountsReceived};
 ghost use Rattle.udp_link.specs.Links.{CountsSent};
 ghost use Rattle.udp_link.specs.Plans.{is_planned, Advanced};
@@ -7,7 +7,8 @@ ghost use Rattle.udp_link.specs.declared.links.TheConstants.{MAX_DATAGRAM};
 
 use crate::datagrams::deliver;
 use crate::failures::{Plan, raised};
-use crate::{Arrivals, Came, Link, Went};
+use crate::link_orders::LinkOrder;
+use crate::{Arrivals, Came, Link, LinkCall, Went};
 use rd_base::{Bytes, Peer};
 use std::alloc::Global;
 
@@ -18,6 +19,7 @@ pub struct MemLink {
     coming: Arrivals,
     taken: usize,
     gone: Arrivals,
+    order: LinkOrder,
     receives: Plan,
     sends: Plan,
     recv_faults: u64,
@@ -31,6 +33,7 @@ impl MemLink {
     pub fn of(alloc: Global, coming: Arrivals, fail_recv: Bytes, fail_send: Bytes) -> MemLink
         ensures coming { ⟦<MemLink as Link>⟧.coming result ≡ Some coming }
         ensures gone { ⟦<MemLink as Link>⟧.gone result ≡ Some [] }
+        ensures order { ⟦<MemLink as Link>⟧.order result ≡ Some [] }
         ensures received { ⟦<MemLink as Link>⟧.recv_faults result ≡ 0 }
         ensures sent { ⟦<MemLink as Link>⟧.send_faults result ≡ 0 }
         ensures receives { result.receives ≡ record { calls = 0; fail = fail_recv } }
@@ -41,6 +44,7 @@ impl MemLink {
             coming,
             taken: 0,
             gone: Arrivals::new(alloc),
+            order: LinkOrder::new(),
             receives: Plan::of(fail_recv),
             sends: Plan::of(fail_send),
             recv_faults: 0,
@@ -61,6 +65,8 @@ impl Link for MemLink {
 
     ghost gone = { λ l. Some l.gone };
 
+    ghost order = { λ l. Some l.order };
+
     ghost recv_faults = { λ l. l.recv_faults };
 
     ghost send_faults = { λ l. l.send_faults };
@@ -74,10 +80,12 @@ impl Link for MemLink {
         ensures cause { CountsReceived self.old.recv_faults self.new.recv_faults result }
         ensures sent_stays { self.new.gone ≡ self.old.gone }
         ensures sends_stand { self.new.send_faults ≡ self.old.send_faults }
+        ensures called { self.new.order ≡ LinkCall.Receive ∷ self.old.order }
         ensures planned { (is_planned self.old.receives ≡ true) ↔ (result ≡ Came.Failed) }
         ensures advanced { Advanced self.old.receives self.new.receives }
         ensures sends_stay { self.new.sends ≡ self.old.sends }
     {
+        self.order.add(LinkCall::Receive);
         if self.receives.fails_now() {
             self.recv_faults = raised(self.recv_faults);
             return Came::Failed;
@@ -98,10 +106,12 @@ impl Link for MemLink {
         ensures coming_stays { drop self.new.taken self.new.coming
             ≡ drop self.old.taken self.old.coming }
         ensures receives_stand { self.new.recv_faults ≡ self.old.recv_faults }
+        ensures called { self.new.order ≡ LinkCall.Send ∷ self.old.order }
         ensures planned { is_planned self.old.sends ≡ true → result ≡ Went.Failed }
         ensures advanced { Advanced self.old.sends self.new.sends }
         ensures receives_stay { self.new.receives ≡ self.old.receives }
     {
+        self.order.add(LinkCall::Send);
         if !self.sends.fails_now() && self.gone.push_copy(self.alloc, peer, piece).is_ok() {
             return Went::Sent;
         }

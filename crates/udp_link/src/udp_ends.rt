@@ -1,6 +1,7 @@
 //! A link over a UDP socket, and a clock over the machine's time.
-ghost use Rattle.std.specs.Prelude.{◌≡◌, ◌<◌, None, length};
+ghost use Rattle.std.specs.Prelude.{◌≡◌, ◌<◌, ◌≤◌, ◌↔◌, false, None, IsSome, length};
 ghost use Rattle.udp_link.specs.Clocks.{IsHandedIn};
+ghost use Rattle.udp_link.specs.Links.{IsWithinLimit, CountsReceived};
 ghost use Rattle.udp_link.specs.declared.links.TheConstants.{MAX_DATAGRAM};
 
 use crate::datagrams::deliver;
@@ -12,8 +13,8 @@ use rd_base::{Moment, Peer};
 use std::io::ErrorKind;
 use std::net::UdpSocket;
 use std::sync::Arc;
-use std::time;
 use std::time::Duration;
+use std::{io, time};
 
 /// How long a receive waits for a datagram, in milliseconds.
 const WAIT: u64 = 50;
@@ -28,10 +29,13 @@ pub struct UdpLink {
     socket: Arc<UdpSocket>,
     /// Whether a receive waits no longer than it is to.
     limited: bool,
+    /// Why the last receive failed, where it did; at first why the socket takes no limit.
+    fault: Option<io::Error>,
     room: [u8; ROOM],
     recv_faults: u64,
     send_faults: u64,
     ghost longer_is_told: { MAX_DATAGRAM < length room },
+    ghost unlimited_is_told: { limited ≡ false → IsSome fault },
 }
 
 impl UdpLink {
@@ -43,21 +47,30 @@ impl UdpLink {
         ensures received { ⟦<UdpLink as Link>⟧.recv_faults result ≡ 0 }
         ensures sent { ⟦<UdpLink as Link>⟧.send_faults result ≡ 0 }
     {
-        let limited = socket
-            .set_read_timeout(Some(Duration::from_millis(WAIT)))
-            .is_ok();
+        let wait = Duration::from_millis(WAIT);
+        let fault = socket.set_read_timeout(Some(wait)).err();
         ask_for_room(&socket);
         UdpLink {
             socket,
-            limited,
+            limited: fault.is_none(),
+            fault,
             room: [0; ROOM],
             recv_faults: 0,
             send_faults: 0,
         }
     }
+
+    /// Gives the system's reason why the last receive failed, or nothing where it did not. Before
+    /// the first receive, why the socket takes no limit of waiting, where it takes none.
+    pub fn fault(&self) -> Option<io::Error>
+        ensures { result ≡ self.now.fault }
+    {
+        self.fault
+    }
 }
 
-/// Whether an error of a receive is no fault of the link: no datagram came in time, or an earlier
+/// Whether an error of a receive is no fault of the link: no datagram came in time, a signal
+/// interrupted the wait (the system restarts no receive that has a time limit), or an earlier
 /// datagram of this socket did not reach its peer (RFC 792, destination unreachable), which the
 /// system tells by a later receive.
 fn is_no_fault(kind: ErrorKind) -> bool {
@@ -65,6 +78,7 @@ fn is_no_fault(kind: ErrorKind) -> bool {
         kind,
         ErrorKind::WouldBlock
             | ErrorKind::TimedOut
+            | ErrorKind::Interrupted
             | ErrorKind::ConnectionRefused
             | ErrorKind::HostUnreachable
             | ErrorKind::NetworkUnreachable
@@ -76,16 +90,26 @@ impl Link for UdpLink {
 
     ghost gone = { λ _. None };
 
+    ghost order = { λ _. None };
+
     ghost recv_faults = { λ l. l.recv_faults };
 
     ghost send_faults = { λ l. l.send_faults };
 
-    fn recv(&mut self, into: &mut [u8]) -> Came {
+    /// Receives a datagram. Where that fails, the link keeps the system's reason.
+    fn recv(&mut self, into: &mut [u8]) -> Came
+        requires { MAX_DATAGRAM ≤ length into.old }
+        ensures within { IsWithinLimit result }
+        ensures cause { CountsReceived self.old.recv_faults self.new.recv_faults result }
+        ensures sends_stand { self.new.send_faults ≡ self.old.send_faults }
+        ensures told { (result ≡ Came.Failed) ↔ IsSome self.new.fault }
+    {
         if self.limited {
+            self.fault = None;
             match self.socket.recv_from(&mut self.room) {
                 Ok((n, from)) => return deliver(peer_of(from), &self.room[..n], into),
                 Err(e) if is_no_fault(e.kind()) => return Came::Nothing,
-                Err(_) => {}
+                Err(e) => self.fault = Some(e),
             }
         }
         self.recv_faults = raised(self.recv_faults);

@@ -3,6 +3,7 @@ use Rattle.std.proofs.Common.{
   ◌≡◌,
   inl,
   inr,
+  ℕ,
   ◌≤◌,
   List,
   [],
@@ -19,6 +20,10 @@ use Rattle.std.proofs.Common.{
 }
 use Rattle.std.proofs.lemmas.List.{append-nil}
 use mathlib.Core.List.{IsPrefix}
+use Rattle.history_model.specs.declared.entries.Entry.{Entry}
+use Rattle.history_model.specs.Replay.{count_after, counted}
+use Rattle.history_model.proofs.ReplayLaws.{counted-above}
+use Rattle.history_model.proofs.TagLaws.{same_counted}
 use Rattle.version_board.specs.Books.{InOrder}
 
 -- each list is its own beginning
@@ -48,23 +53,38 @@ two_beginnings (x ∷ xs) (y ∷ ys) (z ∷ zs) p q =
     (λ r. inr (r.0, cc (heads, r.1)))
     (two_beginnings xs ys zs (p.0, cc (p.1)) (q.0, cc (q.1)))
 
--- a beginning as long as the whole is the whole
-pub prefix_whole : {A : Type 0} (xs ys : List A) → IsPrefix xs ys → length ys ≤ length xs → xs ≡ ys
-prefix_whole [] [] p le = refl
-prefix_whole [] (y ∷ ys) p le = absurd (omega arith)
-prefix_whole (x ∷ xs) [] p le = absurd (cc (p.1))
-prefix_whole (x ∷ xs) (y ∷ ys) p le =
-    let rest = prefix_whole xs ys (p.0, cc (p.1)) (omega arith) in cc (p.1, rest)
+-- entries are counted one after the other
+counted-append : (first : ℕ) (xs ys : List Entry)
+    → counted first (xs ++ ys) ≡ counted (counted first xs) ys
+unfolding counted
+counted-append first [] ys = refl
+counted-append first (x ∷ xs) ys = counted-append (count_after first x) xs ys
 
--- of two lists in order the one that is not longer is the beginning
-pub shorter_first : {A : Type 0} (xs ys : List A)
+-- of a beginning no more are counted
+prefix_count : (xs ys : List Entry) → IsPrefix xs ys → counted 0 xs ≤ counted 0 ys
+prefix_count xs ys p =
+    let above = counted-above (counted 0 xs) p.0 in
+    let all : counted (counted 0 xs) p.0 ≡ counted 0 ys =
+    sym (counted-append 0 xs p.0) ∙ ap (counted 0) p.1 in
+    omega (arith, above, all)
+
+-- of two lists in order the one of which no more are counted is the beginning
+pub shorter_first : (xs ys : List Entry)
     → InOrder xs ys
-    → length xs ≤ length ys
+    → counted 0 xs ≤ counted 0 ys
     → IsPrefix xs ys
 shorter_first xs ys order le = ⊎_elim
     (λ p. p)
-    (λ (p : IsPrefix ys xs). let e = prefix_whole ys xs p le in ([], append-nil xs ∙ sym e))
+    (λ (p : IsPrefix ys xs).
+    let few = prefix_count ys xs p in
+    let e : ys ≡ xs = same_counted 0 xs ys xs p (prefix_self xs) (omega (arith, le, few)) in
+    ([], append-nil xs ∙ sym e))
     order
+
+-- the other way round they are in order too
+pub swapped : {A : Type 0} (xs ys : List A) → InOrder xs ys → InOrder ys xs
+swapped xs ys (inl p) = inr p
+swapped xs ys (inr p) = inl p
 
 -- what begins the first of two lists in order is in order with the second
 pub beginning_in_order : {A : Type 0} (front xs ys : List A)

@@ -16,6 +16,7 @@ use Rattle.std.proofs.Common.{
   refl,
   ap,
   sym,
+  ◌∙◌,
   subst,
   arith,
   inl,
@@ -29,7 +30,10 @@ use prog.Atomic.{either}
 use Rattle.logbook.specs.Pages.{Cell, cell, keeps, no_nib, step, Moves, Goes}
 use Rattle.history_model.specs.declared.entries.Entry.{Entry}
 use Rattle.version_board.specs.Books.{IsKept, Enters}
-use Rattle.version_board.proofs.Fronts.{prefix_whole}
+use Rattle.history_model.specs.Replay.{count_after, counted}
+use Rattle.history_model.proofs.ReplayLaws.{counted_push}
+use Rattle.history_model.proofs.TagLaws.{same_counted}
+use Rattle.version_board.proofs.Fronts.{prefix_self}
 
 -- the rule of a book shows nothing, and no answer moves anything
 abbrev pub shown : List Entry → List Entry
@@ -40,17 +44,17 @@ moved xs ys n = Unit {0}
 
 -- in a book with these entries the step enters one more, or finds another number than it expects
 pub enters_goes : (log v : List Entry) (e : Entry) (old new : ℕ)
-    → length v ≡ old
-    → new ≡ old + 1
+    → counted 0 v ≡ old
+    → new ≡ count_after old e
     → IsPrefix v log
-    → (b : Bool) → (length log == old) ≡ b
+    → (b : Bool) → (counted 0 log == old) ≡ b
     → Goes IsKept shown moved 0 (v, (no_nib, None)) (λ n. either (n == old) new n)
-    (Enters (step 0 old new e) (v, (no_nib, None))) ((length log, true) ∷ (0, true) ∷ []) log
+    (Enters (step 0 old new e) (v, (no_nib, None))) ((counted 0 log, true) ∷ (0, true) ∷ []) log
 enters_goes log v e old new len next pre true is =
-    let here : length log ≡ old = grind (arith, nat_tests) in
-    let same : v ≡ log = prefix_whole v log pre (omega arith) in
-    let n : either (length log == old) new (length log) ≡ length (log ++ e ∷ []) =
-    rw is (omega (arith, length-append log (e ∷ []))) in (
+    let here : counted 0 log ≡ old = grind (arith, nat_tests) in
+    let same : v ≡ log = same_counted 0 log v log pre (prefix_self log) (len ∙ sym here) in
+    let n : either (counted 0 log == old) new (counted 0 log) ≡ counted 0 (log ++ e ∷ []) =
+    rw is (next ∙ ap (λ k. count_after k e) (sym here) ∙ sym (counted_push 0 log e)) in (
       keeps,
       e ∷ [],
       None,
@@ -61,20 +65,21 @@ enters_goes log v e old new len next pre true is =
     )
 enters_goes log v e old new len next pre false is =
     let all : log ++ [] ≡ log = append-nil log in
-    let n : either (length log == old) new (length log) ≡ length (log ++ []) =
-    rw is (ap length (sym all)) in (
+    let n : either (counted 0 log == old) new (counted 0 log) ≡ counted 0 (log ++ []) =
+    rw is (ap (counted 0) (sym all)) in (
       keeps,
       [],
       None,
       tt,
       ap (λ (k : ℕ). (k, true) ∷ (0, true) ∷ []) n,
       inl (refl, refl),
-      rw is (ap length all),
+      rw is (ap (counted 0) all),
     )
 
 -- whatever the book is, the step enters the entry after all that was seen, or finds that the book
 -- is longer
-pub enters_moves : (v : List Entry) (e : Entry) (old new : ℕ) → length v ≡ old → new ≡ old + 1
+pub enters_moves : (v : List Entry) (e : Entry) (old new : ℕ) → counted 0 v ≡ old
+    → new ≡ count_after old e
     → Moves IsKept shown moved 0 (v, (no_nib, None)) (λ n. either (n == old) new n)
     (Enters (step 0 old new e) (v, (no_nib, None)))
 enters_moves v e old new len next cs log kept pre away =
@@ -85,4 +90,4 @@ enters_moves v e old new len next cs log kept pre away =
     × Goes IsKept shown moved 0 (v, (no_nib, None)) (λ n. either (n == old) new n)
     (Enters (step 0 old new e) (v, (no_nib, None))) c log in
     subst P (sym kept)
-    (omega arith, refl, enters_goes log v e old new len next pre (length log == old) refl)
+    (omega arith, refl, enters_goes log v e old new len next pre (counted 0 log == old) refl)

@@ -1,26 +1,27 @@
 -- The book of a board: its rule, the step that enters an entry, and what two beginnings of one list
 -- have to do with one another.
-use Rattle.std.specs.Prelude.{◌≡◌, ◌⊎◌, ℕ, ◌==◌, true, List, [], ◌∷◌, ◌++◌, length}
+use Rattle.std.specs.Prelude.{◌≡◌, ◌⊎◌, ℕ, ◌==◌, true, List, [], ◌∷◌, ◌++◌}
 use Rattle.std.specs.Bool.{MatchBool}
 use mathlib.Core.List.{IsPrefix}
 use Rattle.logbook.specs.Pages.{Cell, Step, View, Book, Named}
 use Rattle.history_model.specs.declared.entries.Entry.{Entry}
+use Rattle.history_model.specs.Replay.{counted}
 
 -- of two lists one is the beginning of the other
 abbrev pub InOrder : {A : Type 0} → List A → List A → Type 0
 InOrder one other = IsPrefix one other ⊎ IsPrefix other one
 
--- the first word of a book is the number of its entries; the second one, which each book has, stays
+-- the first word of a book is the count of its entries; the second one, which each book has, stays
 -- 0
 abbrev pub IsKept : List Cell → List Entry → Type 0
-IsKept cells log = cells ≡ (length log, true) ∷ (0, true) ∷ []
+IsKept cells log = cells ≡ (counted 0 log, true) ∷ (0, true) ∷ []
 
 -- the first word of a book
 abbrev pub head_of : Book → Named
 head_of book = record { tracked = true; key = 0; book = book }
 
--- the entry came after all that had been seen, where the number of entries was found as it was
+-- the entry came after all that had been seen, where the count of entries was found as it was
 -- expected; otherwise the book was seen as it is
 abbrev pub Enters : Step Entry → View Entry ℕ → ℕ → View Entry ℕ → Type 0
 Enters step before found after =
-    MatchBool (found == step.old) (after.0 ≡ before.0 ++ step.ask ∷ []) (length after.0 ≡ found)
+    MatchBool (found == step.old) (after.0 ≡ before.0 ++ step.ask ∷ []) (counted 0 after.0 ≡ found)

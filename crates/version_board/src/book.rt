@@ -1,6 +1,7 @@
 //! The book of a board: the list of the entries that were published, which only grows. It exists in
-//! contracts alone; of it the code has one word, the number of its entries.
-ghost use Rattle.std.specs.Prelude.{◌≡◌, ◌≢◌, ◌+◌, ◌∷◌, ◌++◌, [], true, false, length};
+//! contracts alone; of it the code has one word, the count of its entries.
+ghost use Rattle.std.specs.Prelude.{◌≡◌, ◌≢◌, ◌∷◌, ◌++◌, [], true, false};
+ghost use Rattle.history_model.specs.Replay.{count_after, counted};
 ghost use Rattle.version_board.specs.Books.{head_of, InOrder};
 
 use crate::entering::Entering;
@@ -33,7 +34,7 @@ impl Rule<Entry, u64> for BookRule {
 /// The first entries of a book. It has no bytes.
 pub type Front = Seen<Entry, u64, BookRule>;
 
-/// The word of a book: the number of its entries.
+/// The word of a book: the count of its entries.
 pub(crate) type Head = Word<Entry, u64, BookRule>;
 
 /// What a step that enters an entry gains: nothing. No value of it is made.
@@ -83,14 +84,14 @@ pub(crate) fn compare(one: &Front, other: &Front)
 }
 
 /// Enters the entry after those of the front, if the book has no others. Whether it did; if not,
-/// the front has the others too. The front has `old` entries.
+/// the front has the others too. Of the front `old` entries are counted, and `new` with the entry.
 fn try_enter<E: Entering>(head: &Head, front: &mut Front, old: u64, new: u64) -> bool
     requires head { head.now ≡ head_of front.old.book }
-    requires old { old ≡ length front.old.log }
-    requires new { new ≡ old + 1 }
+    requires old { old ≡ counted 0 front.old.log }
+    requires new { new ≡ count_after old E.entered }
     ensures book { front.new.book ≡ front.old.book }
     ensures entered { result ≡ true → front.new.log ≡ front.old.log ++ E.entered ∷ [] }
-    ensures longer { result ≡ false → length front.new.log ≢ old }
+    ensures longer { result ≡ false → counted 0 front.new.log ≢ old }
 {
     let mut offer: Offer<Entry, u64, BookRule, Nothing> = front.plain::<
         Nothing,
@@ -101,8 +102,8 @@ fn try_enter<E: Entering>(head: &Head, front: &mut Front, old: u64, new: u64) ->
     head.compare_exchange::<EnteringStep<E>, Nothing>(old, new, front, &mut offer, &mut pen) == old
 }
 
-/// Enters the entry after those of the front, of which there are `old`. Who enters is alone, so it
-/// takes one step.
+/// Enters the entry after those of the front, of which `old` are counted, and `new` with it. Who
+/// enters is alone, so it takes one step.
 pub(crate) fn enter<E: Entering, R: Wait>(
     rt: &R,
     head: &Head,
@@ -111,8 +112,8 @@ pub(crate) fn enter<E: Entering, R: Wait>(
     new: u64,
 ) -> Front
     requires head { head.now ≡ head_of front.now.book }
-    requires old { old ≡ length front.now.log }
-    requires new { new ≡ old + 1 }
+    requires old { old ≡ counted 0 front.now.log }
+    requires new { new ≡ count_after old E.entered }
     ensures book { result.book ≡ front.now.book }
     ensures entered { result.log ≡ front.now.log ++ E.entered ∷ [] }
 {

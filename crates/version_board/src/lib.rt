@@ -20,6 +20,3 @@ pub use looker::Looker;
 pub use lookers::Lookers;
 pub use opening::board;
 pub use publisher::Publisher;
-
-#[cfg(test)]
-mod tests;

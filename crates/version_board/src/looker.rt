@@ -12,7 +12,7 @@ ghost use Rattle.version_board.specs.Ends.{new_looker};
 
 use crate::book::{Front, compare};
 use crate::publisher::Publisher;
-use crate::readers::{BoardReader, read};
+use crate::readers::{BoardReader, read, stay};
 use directory_core::Directory;
 use rd_base::Starved;
 use std::marker::Model;
@@ -34,7 +34,8 @@ pub struct Looker {
 }
 
 impl Model for Looker {
-    ghost use Rattle.std.specs.Prelude.{◌≡◌, ◌≤◌, length, is_some, IsSome, IfSome};
+    ghost use Rattle.std.specs.Prelude.{◌≡◌, ◌≤◌, is_some, IsSome, IfSome};
+    ghost use Rattle.history_model.specs.Replay.{counted};
     ghost use Rattle.std.specs.Arc.{arc_value};
     ghost use Rattle.left_right.specs.Sides.{view as known_at};
     ghost use Rattle.history_model.specs.Versions.{VersionStandsFor};
@@ -51,7 +52,7 @@ impl Model for Looker {
 
     ghost invariant = { λ l. IsSome l.reader
         × IfSome l.reader (λ reader. known_at reader.place ≡ knowing (name_of l.front.book))
-        × (l.entries ≡ length l.front.log)
+        × (l.entries ≡ counted 0 l.front.log)
         × IfSome l.version (λ version. VersionStandsFor 0 l.front.log (arc_value version)
         × ((arc_value version).swept ≤ (arc_value version).at)) };
 }
@@ -158,6 +159,22 @@ impl Looker {
             (arc_value version.now).swept ≤ (arc_value version.now).at) }
     {
         self.version.as_ref()
+    }
+
+    /// Reads what is shown for as long as `during` runs, as a look does whose worker the system
+    /// sets aside: until then the publishing after the next one waits, and no look of another
+    /// looker does. After the end of the board `during` does not run.
+    ///
+    /// # Requires
+    ///
+    /// `during` may be called.
+    pub fn linger<F: FnOnce()>(&mut self, during: F)
+        requires during { F.IsAlwaysCallable during }
+        ensures same { self.new ≡ self.old }
+    {
+        let held = mem::replace(&mut self.reader, None);
+        let Some(reader) = held else { unreachable!() };
+        self.reader = Some(stay(reader, during));
     }
 
     /// The looker has seen, from then on, all that the publisher has published.

@@ -1,6 +1,7 @@
 //! A publisher: it shows one version after another, each with one entry more.
 ghost use Rattle.std.specs.Prelude.{◌≡◌, ◌∷◌, ◌++◌, [], None, Some};
-ghost use Rattle.std.specs.Prelude.{IsSome, IfSome, is_some, drop, length};
+ghost use Rattle.std.specs.Prelude.{IsSome, IfSome, is_some, drop};
+ghost use Rattle.history_model.specs.Replay.{counted};
 ghost use Rattle.std.specs.Arc.{arc_value};
 ghost use Rattle.left_right.specs.Sides.{view};
 ghost use Rattle.history_model.specs.Versions.{VersionStandsFor};
@@ -29,14 +30,15 @@ pub struct Publisher {
     head: Head,
     /// The entries of what is published. They have no bytes.
     front: Front,
-    /// How many they are.
+    /// Their count.
     entries: u64,
     /// The version that comes next, where one is staged.
     staged: Option<Arc<Directory>>,
 }
 
 impl Model for Publisher {
-    ghost use Rattle.std.specs.Prelude.{◌≡◌, ◌≤◌, [], length, drop, option_map, IsSome, IfSome};
+    ghost use Rattle.std.specs.Prelude.{◌≡◌, ◌≤◌, [], drop, option_map, IsSome, IfSome};
+    ghost use Rattle.history_model.specs.Replay.{counted};
     ghost use Rattle.std.specs.Arc.{arc_value};
     ghost use Rattle.left_right.specs.Sides.{view as known_at};
     ghost use Rattle.version_board.specs.Books.{head_of};
@@ -58,7 +60,7 @@ impl Model for Publisher {
         × (writer.desk.shown.value.front.log ≡ p.front.log)
         × (drop writer.behind writer.log.items ≡ []))
         × (p.head ≡ head_of p.front.book)
-        × (p.entries ≡ length p.front.log)
+        × (p.entries ≡ counted 0 p.front.log)
         × IfSome p.staged (λ version. (arc_value version).swept ≤ (arc_value version).at) };
 }
 
@@ -85,11 +87,11 @@ impl Publisher {
         }
     }
 
-    /// The entries of what is published, and how many they are.
+    /// The entries of what is published, and their count.
     pub(crate) fn front(&self) -> (&Front, u64)
         ensures book { name_of result.0.now.book ≡ self.now.name }
         ensures told { result.0.now.log ≡ self.now.told }
-        ensures count { result.1 ≡ length self.now.told }
+        ensures count { result.1 ≡ counted 0 self.now.told }
     {
         (&self.front, self.entries)
     }

@@ -54,6 +54,21 @@ pub(crate) fn take(reader: BoardReader) -> Result<BoardReading, BoardReader>
     reader.enter_as::<TakeShown>()
 }
 
+/// Reads while `during` runs, where something is shown.
+pub(crate) fn stay<F: FnOnce()>(reader: BoardReader, during: F) -> BoardReader
+    requires known { (view reader.place).known ≡ true }
+    requires during { F.IsAlwaysCallable during }
+    ensures { view result.place ≡ view reader.place }
+{
+    match take(reader) {
+        Ok(reading) => {
+            during();
+            reading.leave()
+        }
+        Err(reader) => reader,
+    }
+}
+
 /// A copy of what is shown, unless it has just so many entries.
 fn other_than(has: Option<u64>, shown: &Published) -> Result<Option<Published>, Starved>
     ensures front { IfOk result (λ other. IfSome other (λ copy. copy.front ≡ shown.now.front)) }

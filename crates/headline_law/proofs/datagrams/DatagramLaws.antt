@@ -51,8 +51,13 @@ use Rattle.headline_law.proofs.sends.ValidLaw.{LooksAt, a_look_reads, looked_a_l
 use Rattle.headline_law.proofs.rows.AnswersAsFormed.{answer_formed, desk_answer_formed}
 use Rattle.journal_model.proofs.sends.BodyAnswers.{tag-length, same_message}
 use Rattle.journal_model.proofs.observers.ObserversKnow.{IsNoTick}
-use Rattle.journal_model.proofs.datagrams.SentRows.{AllSent, rows_sent}
-use Rattle.journal_model.proofs.datagrams.DatagramRows.{sent-fitting, sent-formed, sent-answer}
+use Rattle.journal_model.proofs.datagrams.SentRows.{AllSent, rows_sent, IsSentBy}
+use Rattle.journal_model.proofs.datagrams.DatagramRows.{
+  sent-fitting,
+  sent-formed,
+  sent-answer,
+  sent_by,
+}
 use Rattle.journal_model.proofs.datagrams.DatagramRows.{sent-content, desk_sent}
 
 -- what a look held has a tag of eight octets
@@ -106,6 +111,7 @@ journal_requests rows journal before r m within read = by r.step.kind refl
         kept body current (keep_of before it.step m body current it.journal it.may.begin
         (kind (step.Keep body current) is) reads)
     by step.Tick is = tt
+    by (step.Begin first) is = tt
 
 journal_sent : (rows : List Row) → IsJournal rows → AllSent rows
 journal_sent rows journal =
@@ -158,6 +164,10 @@ addressed rows all sent formed responds = by sent.here.row.step.kind refl
     by (step.Commit place) is = answers (subst IsNoTick (sym is) tt)
     by (step.Keep body current) is = answers (subst IsNoTick (sym is) tt)
     by step.Tick is = notifies is (sent-content rows all sent is responds)
+    by (step.Begin first) is =
+        subst (λ k. IsSentBy k sent.here.before sent.here.row.step (sent.peer, sent.octets)) is
+        (sent_by rows sent.here.before sent.here.row (sent.peer, sent.octets) all sent.within
+        sent.among)
 
 -- so it is of rows of which each datagram is known
 rows-SendsToWhoAsked : (rows : List Row) → AllSent rows

@@ -106,6 +106,11 @@ step_of_worker-handed rows (line.Tick worker moment word) within = record {
   worker = within;
   word = λ ending. absurd (false≢true ending);
 }
+step_of_worker-handed rows (line.Begin worker moment first) within = record {
+  in_time = step_in_time rows moment.0;
+  worker = within;
+  word = λ ending. absurd (false≢true ending);
+}
 
 -- the step of a line
 step_of_line-handed : (workers : ℕ) (rows : List Row) (said : Result Line Reason)

@@ -30,10 +30,11 @@ use Rattle.event_model.specs.Same.{is_same_peer}
 use Rattle.event_model.specs.Events.{Event}
 use Rattle.event_model.specs.Repeats.{is_admission_of, repeated, settled, is_full_of_exchanges}
 use Rattle.event_model.proofs.SameLaws.{is_same_peer-Decides}
+use Rattle.journal_model.proofs.notes.BeginNotes.{beginning-notes}
 use Rattle.journal_model.specs.declared.steps.Step.{Step}
 use Rattle.journal_model.specs.declared.steps.StepKind.{StepKind}
 use Rattle.journal_model.specs.declared.rows.Row.{Row}
-use Rattle.journal_model.specs.Journal.{events}
+use Rattle.journal_model.specs.Journal.{events, entries}
 use Rattle.journal_model.specs.Effects.{answering}
 use Rattle.journal_model.specs.Writes.{
   again_answered,
@@ -158,6 +159,10 @@ effects_admit kind starved rows moment s peer mid =
     by ns (noted.tick ticks is) =
         never_of of_tick (λ p n. refl) rows moment peer mid ns
         (ap (are of_tick) is ∙ tick_effects-notes starved rows moment s)
+    by ns (noted.begins first begins is) =
+        never_of of_commit (λ p n. refl) rows moment peer mid ns
+        (ap (are of_commit) is
+        ∙ beginning-notes of_commit (λ entry. refl) starved (entries rows) moment s first)
 
 -- a row that admits a write of a peer and a Message ID finds none that is kept before it
 pub row_admits : (rows : List Row) (s : Step) (starved : Bool) (peer : Peer) (mid : ℕ)

@@ -53,6 +53,7 @@ use Rattle.journal_model.specs.Machine.{
   IsJournal,
   begun,
   made,
+  begins,
 }
 use Rattle.journal_model.specs.PlacedRows.{Within, Commits}
 use Rattle.journal_model.proofs.entries.JournalLaws.{Made, each_row}
@@ -113,6 +114,8 @@ begun_may_commit rows s place jobs (goes holds) e =
     jobs s.worker place (record { kind = s.kind; peer = s.peer; datagram = s.datagram }) holds e
 begun_may_commit rows s place jobs (ticks tick) e =
     absurd (let h : step.Tick ≡ step.Commit place = sym tick ∙ e in cc)
+begun_may_commit rows s place jobs (begins {first = first} begin) e =
+    absurd (let h : step.Begin first ≡ step.Commit place = sym begin ∙ e in cc)
 
 -- what a worker may commit, it may after a row that does not commit it
 MayCommit-row : (rows : List Row) (r : Row) (worker place : ℕ)
@@ -207,6 +210,10 @@ jobs_step rows s starved below jobs may worker place job held commits =
     own step.Tick kind e same =
         MayCommit-row rows (row rows s starved) worker place (jobs worker place job e commits)
         (λ commit. absurd (let h : step.Tick ≡ step.Commit place = sym kind ∙ commit in cc))
+    own (step.Begin first) kind e same =
+        MayCommit-row rows (row rows s starved) worker place (jobs worker place job e commits)
+        (λ commit. absurd
+        (let h : step.Begin first ≡ step.Commit place = sym kind ∙ commit in cc))
 
     by : (b : Bool)
         → (s.worker == worker) ≡ b

@@ -37,6 +37,7 @@ use Rattle.event_model.specs.Fetches.{
   fetches,
   is_fetching,
 }
+use Rattle.journal_model.specs.Beginnings.{beginning, entered_alone, begin_entry}
 use Rattle.journal_model.specs.declared.steps.Step.{Step}
 use Rattle.journal_model.specs.declared.rows.Row.{Row}
 use Rattle.journal_model.specs.Journal.{events, entries, entries_of}
@@ -500,6 +501,27 @@ step_enters starved rows moment s ns it = by it
         }
         one _ h = tt
 
+    -- what a beginning enters
+    begun : (first : ℕ)
+        → s.kind ≡ step.Begin first
+        → (b : Bool)
+        → AllEnter P (beginning b (entries rows) moment s first).notes
+    begun first kind true = tt
+    begun first kind false = unless (change_refusal 0 (entries rows) (begin_entry moment s first))
+      where
+        unless : (o : Option Refusal)
+            → AllEnter P (entered_alone o (begin_entry moment s first)).notes
+        unless (Some why) = tt
+        unless None = (
+          record {
+            stamped = refl;
+            asked =
+                subst (λ (k : StepKind). IsAskedBy k rows moment s (change.Begin first)) (sym kind)
+                refl;
+          },
+          tt,
+        )
+
     by : StepNoted s.kind starved rows moment s ns → AllEnter P ns
     by (noted.nothing blank) = none_enter P ns (ap entries_in blank)
     by (noted.write m here read asks is) =
@@ -536,6 +558,8 @@ step_enters starved rows moment s ns it = by it
         none_enter P ns (ap entries_in is ∙ keep_effects-entries_in s m body tag)
     by (noted.tick ticks is) =
         none_enter P ns (ap entries_in is ∙ tick_effects-entries_in starved rows moment s)
+    by (noted.begins first begins is) =
+        subst (AllEnter P) (sym is) (begun first begins starved)
 
 -- whatever a row enters
 row_enters : (rows : List Row) (s : Step) (starved : Bool)

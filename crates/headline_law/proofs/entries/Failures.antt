@@ -36,11 +36,12 @@ use Rattle.event_model.specs.declared.notes.Note.TheVariants as note
 use Rattle.event_model.specs.Events.{Event, noted, has_event}
 use Rattle.event_model.specs.Repeats.{is_failure_of}
 use Rattle.event_model.proofs.NotedLaws.{event_at}
+use Rattle.journal_model.proofs.notes.BeginNotes.{beginning-notes}
 use Rattle.journal_model.specs.declared.steps.Step.{Step}
 use Rattle.journal_model.specs.declared.steps.StepKind.{StepKind}
 use Rattle.journal_model.specs.declared.steps.StepKind.TheVariants as step
 use Rattle.journal_model.specs.declared.rows.Row.{Row}
-use Rattle.journal_model.specs.Journal.{events}
+use Rattle.journal_model.specs.Journal.{events, entries}
 use Rattle.journal_model.specs.Effects.{answering}
 use Rattle.journal_model.specs.Commits.{commit_effects}
 use Rattle.journal_model.specs.Rows.{done, effects, row_moment, row, AreRows}
@@ -128,6 +129,10 @@ commit_of_failure kind starved rows moment s place ns it h = by it
     by (noted.tick ticks is) =
         no (never_of of_tick (λ p. refl) place ns
         (ap (are of_tick) is ∙ tick_effects-notes starved rows moment s))
+    by (noted.begins first begins is) =
+        no (never_of of_done (λ q. refl) place ns
+        (ap (are of_done) is
+        ∙ beginning-notes of_done (λ entry. refl) starved (entries rows) moment s first))
 
 -- and then 5.00 is sent
 failure_sent : (starved : Bool) (rows : List Row) (moment place : ℕ) (s : Step)

@@ -9,7 +9,7 @@ use Rattle.journal_model.specs.Journal.{entries, entries_of}
 use Rattle.journal_model.specs.Rows.{effects, row_moment, row, AreRows}
 use Rattle.journal_model.specs.Machine.{IsJournal}
 use Rattle.journal_model.specs.DeskJournal.{IsDeskJournal}
-use Rattle.journal_model.specs.PlacedRows.{Within, Commits, code_sent}
+use Rattle.journal_model.specs.PlacedRows.{Within, Commits, code_sent, Begins}
 use Rattle.journal_model.specs.HoldsEachOnce.{HoldsEachOnce}
 use Rattle.journal_model.specs.FetchCompletions.{IsCompletion}
 use Rattle.journal_model.specs.AskedChanges.{is_code_of_change, names_location, answers_change}
@@ -97,10 +97,12 @@ rows-HoldsEachOnce rows all placed once = record {
     origin : (before : List Row) (r : Row)
         → Within rows before r
         → 0 < length (entries_of r)
-        → ((place : ℕ) × Commits r place) ⊎ IsCompletion before r
+        → ((place : ℕ) × Commits r place) ⊎ IsCompletion before r ⊎ ((first : ℕ) × Begins r first)
     origin before r within some =
         let it : RowMade before r = each_made rows before r all within in
-        subst (λ (x : Row). ((place : ℕ) × Commits x place) ⊎ IsCompletion before x) (sym it.is)
+        subst (λ (x : Row).
+        ((place : ℕ) × Commits x place) ⊎ IsCompletion before x ⊎ ((first : ℕ) × Begins x first))
+        (sym it.is)
         (row-origin before it.step it.starved
         (subst (λ (x : Row). 0 < length (entries_of x)) it.is some))
 

@@ -74,6 +74,8 @@ former_holds_seen k peer mid here former formed new asker asks = by k formed new
     by step.Look f n a = own (reads_further_block (reading here.row.step.datagram) here) _ f n a
     by (step.Commit place) f n a =
         own (reads_further_block (reading here.row.step.datagram) here) _ f n a
+    by (step.Begin first) f n a =
+        own (reads_further_block (reading here.row.step.datagram) here) _ f n a
 
 -- ---- observers
 

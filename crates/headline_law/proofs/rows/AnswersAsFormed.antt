@@ -54,6 +54,7 @@ use Rattle.headline_law.proofs.sends.StepOutcomes.{
   looked_outcome,
   done_outcome,
   kept_outcome,
+  beginning_outcome,
 }
 use Rattle.headline_law.proofs.rows.RowCarries.{NoteAsFormed, RowCarries, asks_as_noted, plain_row}
 use Rattle.headline_law.proofs.rows.RowCarries.{look_row, own_notes_as_formed}
@@ -239,6 +240,9 @@ row_step keeps rows s starved made_so known all = by s.kind refl
         is) tt
     by step.Tick is = tick_step keeps rows (row rows s starved) starved
         (asked_plain rows facts) all is (sent_of step.Tick is) (notes_of step.Tick is)
+    by (step.Begin first) is =
+        with_outcome (step.Begin first) is
+        (beginning_outcome starved rows (row_moment rows s) s first) tt
 
 -- all rows of steps
 rows_carry : (keeps : Bool) (rows : List Row) → AreRows rows → KeepsKnown keeps rows

@@ -45,6 +45,7 @@ use Rattle.journal_model.specs.Machine.{
   is_look_datagram,
   is_look_reading,
   IsJournal,
+  begins,
 }
 use Rattle.journal_model.specs.PlacedRows.{Placed}
 use Rattle.journal_model.specs.BodyFormers.{look_of, former_of_body, former_at, is_keep}
@@ -199,6 +200,8 @@ keep_job_of rows s body current (hears none heard) kind =
 keep_job_of rows s body current (goes holds) kind = holds
 keep_job_of rows s body current (ticks tick) kind =
     absurd (let h : step.Tick ≡ step.Keep body current = sym tick ∙ kind in cc)
+keep_job_of rows s body current (begins {first = first} begin) kind =
+    absurd (let h : step.Begin first ≡ step.Keep body current = sym begin ∙ kind in cc)
 
 -- so it is of each keep
 pub keep_of : (rows : List Row) (s : Step) (m : Message) (body current : List ℕ)

@@ -225,6 +225,7 @@ row_of_lookup keeps rows r m e all heard read sent notes silent as_asked outcome
     known_by (step.Commit place) h known reads = absurd (false≢true h)
     known_by (step.Keep body current) h known reads = absurd (false≢true h)
     known_by step.Tick h known reads = absurd (false≢true h)
+    known_by (step.Begin first) h known reads = absurd (false≢true h)
 
     by : (keeps || is_formed_in_rows r.step.kind here) ≡ true
         → LookupOutcome rows r.moment.0 r.step m e

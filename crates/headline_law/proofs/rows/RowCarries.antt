@@ -121,6 +121,7 @@ heard_former step.Look peer mid here h = refl
 heard_former (step.Commit place) peer mid here h = absurd (false≢true h)
 heard_former (step.Keep body current) peer mid here h = absurd (false≢true h)
 heard_former step.Tick peer mid here h = absurd (false≢true h)
+heard_former (step.Begin first) peer mid here h = absurd (false≢true h)
 
 -- what is asked for is what the request asks for
 pub heard_asked : (k : StepKind) (name : RequestName) (here : Placed)
@@ -131,6 +132,7 @@ heard_asked step.Look name here h = refl
 heard_asked (step.Commit place) name here h = absurd (false≢true h)
 heard_asked (step.Keep body current) name here h = absurd (false≢true h)
 heard_asked step.Tick name here h = absurd (false≢true h)
+heard_asked (step.Begin first) name here h = absurd (false≢true h)
 
 -- where the answer has its peer and its token
 pub asked_in-own : (peer : Peer) (m : Message) (sought : Sought) (name : RequestName)
@@ -155,6 +157,7 @@ heard_forms_itself step.Look here h = refl
 heard_forms_itself (step.Commit place) here h = absurd (false≢true h)
 heard_forms_itself (step.Keep body current) here h = absurd (false≢true h)
 heard_forms_itself step.Tick here h = absurd (false≢true h)
+heard_forms_itself (step.Begin first) here h = absurd (false≢true h)
 
 -- a row that reads no kept answer reads no further block
 reads_none : (here : Placed) (read : Result Message Unread)
@@ -266,6 +269,7 @@ look_row keeps rows r m hears read sent notes = record {
     no_links (step.Commit place) h without = absurd (false≢true h)
     no_links (step.Keep body current) h without = absurd (false≢true h)
     no_links step.Tick h without = absurd (false≢true h)
+    no_links (step.Begin first) h without = absurd (false≢true h)
 
     by : LookOutcome r.step.peer m (entries rows) r.moment.0
         (look_effects (entries rows) r.moment.0 r.step m).sent

@@ -106,6 +106,9 @@ stands_body (step.Commit place) here p e =
 stands_body step.Tick here p e =
     subst (λ (x : Placed). Stands (here.row ∷ here.before) x) (same_Some here p e)
     (stands_newest here)
+stands_body (step.Begin first) here p e =
+    subst (λ (x : Placed). Stands (here.row ∷ here.before) x) (same_Some here p e)
+    (stands_newest here)
 
 -- the row that formed a kept answer
 stands_kept : (name : RequestName) (rows : List Row) (p : Placed)
@@ -157,6 +160,7 @@ stands_former k peer mid here p e = by k e
     by step.Admit h = heard h
     by step.Look h = heard h
     by (step.Commit place) h = heard h
+    by (step.Begin first) h = heard h
 
 -- ---- the law
 

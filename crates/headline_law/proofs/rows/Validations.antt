@@ -293,6 +293,7 @@ sent_validates rows journal sent valid = by (is_look sent.here.row.step.kind) re
     looks (step.Commit place) h = absurd (false≢true h)
     looks (step.Keep body tag) h = absurd (false≢true h)
     looks step.Tick h = absurd (false≢true h)
+    looks (step.Begin first) h = absurd (false≢true h)
 
     Each : Row → Peer × List ℕ → Type 0
     Each r d =

@@ -39,6 +39,8 @@ use Rattle.rd_base.proofs.lemmas.Each.{each_weaker}
 use Rattle.event_model.specs.declared.notes.Note.{Note}
 use Rattle.event_model.specs.declared.notes.Note.TheVariants as note
 use Rattle.event_model.specs.Repeats.{settled}
+use Rattle.journal_model.specs.Beginnings.{beginning}
+use Rattle.journal_model.proofs.notes.BeginNotes.{beginning-notes, beginning-sent}
 use Rattle.journal_model.specs.declared.steps.Step.{Step}
 use Rattle.journal_model.specs.declared.steps.StepKind.{StepKind}
 use Rattle.journal_model.specs.declared.steps.StepKind.TheVariants as step
@@ -400,6 +402,11 @@ role_facts role.Response false rows moment s m =
     (response_effects-notes rows moment s m))).facts
 role_facts role.Ignored starved rows moment s m = tt
 
+-- of beginnings
+abbrev of_begin : Note → Bool
+of_begin (note.Entered entry) = true
+of_begin _ = false
+
 -- any step
 pub step_facts : (kind : StepKind) (starved : Bool) (rows : List Row) (moment : ℕ) (s : Step)
     → AllByRecursion (NoteFact (effects kind starved rows moment s).sent)
@@ -421,6 +428,10 @@ step_facts (step.Keep body tag) starved rows moment s =
 step_facts step.Tick starved rows moment s =
     quiet_facts of_tick (λ place octets. refl) (λ peer token mid params number. refl) _
     (tick_effects starved rows moment s).notes (tick_effects-notes starved rows moment s)
+step_facts (step.Begin first) starved rows moment s =
+    quiet_facts of_begin (λ place octets. refl) (λ peer token mid params number. refl) _
+    (beginning starved (entries rows) moment s first).notes
+    (beginning-notes of_begin (λ entry. refl) starved (entries rows) moment s first)
 
 -- what any step sends and notes: a look notes nothing
 pub record StepSends (kind : StepKind) (sent : List (Peer × List ℕ)) (notes : List Note) : Type 0
@@ -489,3 +500,11 @@ effects_send step.Tick starved rows moment s past admits =
     (tick_effects starved rows moment s).sent (tick_effects starved rows moment s).notes
     (tick_not_valid starved rows moment s past.confirmables past.asked)
     (tick_effects-notes starved rows moment s))
+effects_send (step.Begin first) starved rows moment s past admits =
+    of_sends (step.Begin first) (beginning starved (entries rows) moment s first).sent
+    (beginning starved (entries rows) moment s first).notes
+    (quiet_sends of_begin (λ place octets. refl) (λ peer token mid params number. refl)
+    (beginning starved (entries rows) moment s first).sent
+    (beginning starved (entries rows) moment s first).notes
+    (subst NoneValid (sym (beginning-sent starved (entries rows) moment s first)) tt)
+    (beginning-notes of_begin (λ entry. refl) starved (entries rows) moment s first))

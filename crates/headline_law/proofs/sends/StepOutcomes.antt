@@ -18,6 +18,7 @@ use Rattle.std.proofs.Common.{
   sym,
   ap,
   ◌∙◌,
+  subst,
 }
 use Rattle.std.specs.List.{list_any}
 use Rattle.std.proofs.lemmas.Bool.{false≢true}
@@ -35,6 +36,8 @@ use Rattle.message_model.specs.Spelling.{header_spelling, spelling}
 use Rattle.event_model.specs.declared.notes.Note.{Note}
 use Rattle.event_model.specs.declared.notes.Note.TheVariants as note
 use Rattle.event_model.specs.declared.notes.Observer.{Observer}
+use Rattle.journal_model.specs.Beginnings.{beginning}
+use Rattle.journal_model.proofs.notes.BeginNotes.{beginning-notes, beginning-sent}
 use Rattle.journal_model.specs.declared.steps.Step.{Step}
 use Rattle.journal_model.specs.declared.steps.StepKind.TheVariants as step
 use Rattle.journal_model.specs.declared.rows.Row.{Row}
@@ -250,3 +253,12 @@ unfolding answering
 kept_outcome starved rows moment s (Err fault) body tag read kind = plain tt refl
 kept_outcome true rows moment s (Ok m) body tag read kind = plain (starved_plain s m) refl
 kept_outcome false rows moment s (Ok m) body tag read kind = keep m body tag read kind refl
+
+-- a beginning
+pub beginning_outcome : (starved : Bool) (rows : List Row) (moment : ℕ) (s : Step) (first : ℕ)
+    → StepOutcome rows moment s (beginning starved (entries rows) moment s first)
+beginning_outcome starved rows moment s first =
+    plain (subst ArePlain (sym (beginning-sent starved (entries rows) moment s first)) tt)
+    (keeps_none of_commit (λ p k b c. refl) (λ o. refl)
+    (beginning starved (entries rows) moment s first).notes
+    (beginning-notes of_commit (λ entry. refl) starved (entries rows) moment s first))

@@ -237,6 +237,7 @@ row_is_valid rows s may sends = by s.kind refl sends.others
     by (step.Commit place) is others = first_not_valid _ (others refl)
     by (step.Keep body current) is others = first_not_valid _ (others refl)
     by step.Tick is others = first_not_valid _ (others refl)
+    by (step.Begin first) is others = first_not_valid _ (others refl)
 
 -- 2.03 is sent exactly where a look names the tag at its own row
 pub looks_are_validated : (rows before : List Row) (r : Row)

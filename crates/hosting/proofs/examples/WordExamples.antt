@@ -29,6 +29,7 @@ one : wanted_of (codes "--listen" ∷ codes "192.0.2.1:5683" ∷ [])
       listen = inner ∷ [];
       workers = 4;
       turns = 1_000_000_000_000;
+      begin = None;
     }))
 unfolding on_literals
 one = refl
@@ -36,7 +37,7 @@ one = refl
 -- two, both spellings, and as many workers as they may have
 two : wanted_of (codes "--workers=8" ∷ codes "--listen=[2001:db8::1]:61616" ∷ codes "--turns"
     ∷ codes "1" ∷ codes "--listen" ∷ codes "192.0.2.1:5683" ∷ [])
-    ≡ Some (wanted.Serve (record { listen = outer ∷ inner ∷ []; workers = 8; turns = 1 }))
+    ≡ Some (wanted.Serve (record { listen = outer ∷ inner ∷ []; workers = 8; turns = 1; begin = None }))
 unfolding on_literals
 two = refl
 
@@ -91,13 +92,18 @@ beside = refl
 -- sixteen addresses have a worker each, five three, and seventeen are too many
 abbrev plan_at : ℕ → Option HostPlan
 plan_at addresses =
-    plan_of (record { listen = replicate addresses inner; workers = None; turns = Some 7 })
+    plan_of (record {
+      listen = replicate addresses inner;
+      workers = None;
+      turns = Some 7;
+      begin = Some 9;
+    })
 
 sixteen : plan_at 16
-    ≡ Some (record { listen = replicate 16 inner; workers = 1; turns = 7 })
+    ≡ Some (record { listen = replicate 16 inner; workers = 1; turns = 7; begin = Some 9 })
 sixteen = refl
 
-five : plan_at 5 ≡ Some (record { listen = replicate 5 inner; workers = 3; turns = 7 })
+five : plan_at 5 ≡ Some (record { listen = replicate 5 inner; workers = 3; turns = 7; begin = Some 9 })
 five = refl
 
 seventeen : plan_at 17 ≡ None

@@ -58,6 +58,7 @@ fits_by step.Look before s d h = h.fits
 fits_by (step.Commit place) before s d h = h.fits
 fits_by (step.Keep body current) before s d h = h.fits
 fits_by step.Tick before s d h = h.fits
+fits_by (step.Begin first) before s d h = absurd h
 
 pub sent-fitting : (rows : List Row)
     → AllSent rows
@@ -111,6 +112,7 @@ sent-answer rows all it no_tick responds =
     by (step.Commit place) none h = own h
     by (step.Keep body current) none h = own h
     by step.Tick none h = absurd none
+    by (step.Begin first) none h = absurd h
 
 -- and one of a tick is a 2.05
 pub sent-content : (rows : List Row)

@@ -1,37 +1,6 @@
 -- Replies that can be read when they are sent, and fit a datagram: refusals, changes, bodies and
 -- 2.03.
-use Rattle.std.proofs.Common.{
-  ◌≡◌,
-  ℕ,
-  ◌+◌,
-  ◌^◌,
-  ◌<◌,
-  ◌≤◌,
-  Bool,
-  true,
-  false,
-  cond,
-  List,
-  [],
-  ◌∷◌,
-  ◌++◌,
-  length,
-  Option,
-  Some,
-  None,
-  unwrap_or,
-  option_map,
-  find,
-  codes,
-  decimal,
-  nat_lt,
-  nat_le,
-  Ok,
-  refl,
-  subst,
-  arith,
-  length-append,
-}
+use Rattle.std.proofs.Common.{◌≡◌, ℕ, ◌+◌, ◌^◌, ◌<◌, ◌≤◌, Bool, true, false, cond, List, [], ◌∷◌, ◌++◌, length, Option, Some, None, unwrap_or, option_map, find, codes, decimal, nat_lt, nat_le, Ok, refl, subst, arith}
 use Rattle.std.specs.List.{AllByRecursion}
 use Rattle.std.proofs.lemmas.Bool.{leb-false}
 use Rattle.std.proofs.lemmas.Fmt.{length-decimal-le_wide}
@@ -61,12 +30,13 @@ use Rattle.history_model.specs.declared.entries.Entry.{Entry}
 use Rattle.history_model.specs.declared.refusals.Refusal.{Refusal}
 use Rattle.history_model.specs.declared.refusals.Refusal.TheVariants as refusal
 use Rattle.history_model.specs.Refusals.{max_entries, refusal_in, change_refusal}
-use Rattle.history_model.specs.Replay.{replay, is_live_named}
+use Rattle.history_model.specs.Replay.{replay, is_live_named, lifted, counted}
+use Rattle.history_model.proofs.ReplayLaws.{counted_push}
 use Rattle.history_model.proofs.Acceptance.{accepted}
 use Rattle.history_model.proofs.NumberLaws.{
   IsNumberedUpTo,
   replay-HasRisingNumbers,
-  last_number-le-length,
+  last_number-le-counted,
 }
 use Rattle.event_model.specs.declared.notes.Note.{Note}
 use Rattle.event_model.specs.declared.notes.Note.TheVariants as note
@@ -396,12 +366,12 @@ found_numbered test limit (r ∷ rs) all = by (test r) (found_numbered test limi
     by false h = h
 
 number_after-most : (name : Name) (moment : ℕ) (history : List Entry)
-    → number_after name moment history ≤ length history
+    → number_after name moment history ≤ counted 0 history
 number_after-most name moment history =
     let found =
     found_numbered (is_live_named name moment) (replay history).last_number
     (replay history).records (replay-HasRisingNumbers history).each_numbered in
-    let last = last_number-le-length history in
+    let last = last_number-le-counted 0 history in
     omega (arith, found, last)
 
 -- further options of an answer to a registration: Block1 or none
@@ -455,7 +425,7 @@ good_registration history moment s params body further notes few = by (linked_re
 
         opened : (entry : Entry)
             → change_refusal 0 history entry ≡ None
-            → refusal_in (replay history) (0 + length history) entry ≡ None
+            → refusal_in (replay history) (counted 0 history) entry ≡ None
         opened entry e = e
 
         low : (entry : Entry)
@@ -463,10 +433,10 @@ good_registration history moment s params body further notes few = by (linked_re
             → number_after params.name moment (history ++ entry ∷ []) < 10 ^ 60
         low entry e =
             let most = number_after-most params.name moment (history ++ entry ∷ []) in
-            let size = length-append history (entry ∷ []) in
-            let few : 0 + length history < max_entries =
-            not_full (0 + length history)
-            (accepted (replay history) (0 + length history) entry (opened entry e)).counted
+            let size = counted_push 0 history entry in
+            let few : lifted (counted 0 history) entry.change < max_entries =
+            not_full (lifted (counted 0 history) entry.change)
+            (accepted (replay history) (counted 0 history) entry (opened entry e)).counted
             in
             omega (arith, most, size, few)
 

@@ -58,6 +58,8 @@ use Rattle.event_model.specs.declared.notes.Note.TheVariants as note
 use Rattle.event_model.specs.KeptAnswers.{Answer, kept_answer}
 use Rattle.event_model.specs.Observers.{observers, is_observer, has_room_for, observe_value}
 use Rattle.event_model.specs.Fetches.{max_fetches, fetches, is_fetching}
+use Rattle.journal_model.proofs.notes.BeginNotes.{beginning-notes}
+use Rattle.journal_model.specs.Beginnings.{beginning}
 use Rattle.journal_model.specs.declared.steps.Step.{Step}
 use Rattle.journal_model.specs.declared.steps.StepKind.{StepKind}
 use Rattle.journal_model.specs.declared.steps.StepKind.TheVariants as step
@@ -741,3 +743,16 @@ effects_facts (step.Keep body current) starved rows moment s no_tick fair =
     by true (Ok m) e = tt
     by false (Ok m) e = ((fair m e).1, tt)
 effects_facts step.Tick starved rows moment s no_tick fair = absurd no_tick
+effects_facts (step.Begin first) starved rows moment s no_tick fair =
+    quiet_facts of_begin quiet (step.Begin first) s
+    (beginning starved (entries rows) moment s first).sent
+    (beginning starved (entries rows) moment s first).notes
+    (beginning-notes of_begin (λ entry. refl) starved (entries rows) moment s first)
+  where
+    of_begin : Note → Bool
+    of_begin (note.Entered entry) = true
+    of_begin _ = false
+
+    quiet : (n : Note) → of_begin n ≡ true → is_telling n ≡ false
+    quiet (note.Entered entry) e = refl
+    quiet _ e = absurd (false≢true e)

@@ -86,6 +86,7 @@ use Rattle.event_model.specs.Fetches.{
   collected,
   request_of,
 }
+use Rattle.journal_model.proofs.notes.BeginNotes.{beginning-sent}
 use Rattle.journal_model.specs.declared.steps.Step.{Step}
 use Rattle.journal_model.specs.declared.steps.StepKind.{StepKind}
 use Rattle.journal_model.specs.declared.steps.StepKind.TheVariants as step
@@ -832,3 +833,12 @@ effects_own (step.Keep body current) starved rows moment s no_tick fair past =
         (fair m e).0
         (good_body_reply (Some current) None (asked_block m) body (fair m e).1 (usable m))
 effects_own step.Tick starved rows moment s no_tick fair past = absurd no_tick
+effects_own (step.Begin first) starved rows moment s no_tick fair past =
+    subst (AreOwn rows s) (sym (beginning-sent starved (entries rows) moment s first)) tt
+
+-- a beginning sends nothing
+pub effects_begin-sent : (first : ℕ) (starved : Bool) (rows : List Row) (moment : ℕ) (s : Step)
+    → (effects (step.Begin first) starved rows moment s).sent ≡ []
+unfolding effects
+effects_begin-sent first starved rows moment s =
+    beginning-sent starved (entries rows) moment s first

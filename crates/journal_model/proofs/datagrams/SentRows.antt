@@ -78,7 +78,12 @@ use Rattle.journal_model.proofs.desks.OpenAdmissions.{OwnAdmission}
 use Rattle.journal_model.proofs.notes.LookupNotes.{IsAsking, OfWatched, observers_all}
 use Rattle.journal_model.proofs.flights.NoticesAgain.{events_after_again, stood}
 use Rattle.journal_model.proofs.sends.BodyAnswers.{same_message}
-use Rattle.journal_model.proofs.datagrams.OwnSends.{IsOwn, KnownBefore, effects_own}
+use Rattle.journal_model.proofs.datagrams.OwnSends.{
+  IsOwn,
+  KnownBefore,
+  effects_begin-sent,
+  effects_own,
+}
 use Rattle.journal_model.proofs.datagrams.NotedSends.{SettledBy, NoteFact, NoteFacts, effects_facts}
 use Rattle.journal_model.proofs.datagrams.TickedSends.{
   IsTicked,
@@ -95,6 +100,7 @@ IsSentBy step.Look before s d = IsOwn before s d
 IsSentBy (step.Commit place) before s d = IsOwn before s d
 IsSentBy (step.Keep body current) before s d = IsOwn before s d
 IsSentBy step.Tick before s d = IsTicked d
+IsSentBy (step.Begin first) before s d = ⊥
 
 -- what a row sends, and what it notes of that
 pub record RowSent (before : List Row) (r : Row) : Type 0 where
@@ -179,6 +185,7 @@ resendable rows all place r at =
     by (step.Commit n) before h = own before r.step r.sent h
     by (step.Keep body current) before h = own before r.step r.sent h
     by step.Tick before h = each_weaker IsTicked IsResendable (λ d t con. t) r.sent h
+    by (step.Begin first) before h = each_weaker (λ d. ⊥) IsResendable (λ d no. absurd no) r.sent h
 
 -- the fact of a note of a row
 fact_of : (rows before : List Row) (r : Row) (n : Note)
@@ -504,6 +511,12 @@ row_sent rows s starved made placed fair all = by s.kind refl
           rw
               (effects-Tick starved rows (row_moment rows s) s) ticks.facts,
         )
+    by (step.Begin first) is = whole (step.Begin first) is (
+      subst (AllByRecursion (λ d. ⊥))
+          (sym (effects_begin-sent first starved rows (row_moment rows s) s)) tt,
+      effects_facts (step.Begin first) starved rows (row_moment rows s) s tt
+          (requests (step.Begin first) is),
+    )
 
 -- the observers that a row adds ask for their queries
 asking_row : (rows : List Row) (r : Row)

@@ -235,6 +235,8 @@ effects_write (step.Keep body tag) starved rows moment s is some =
     absurd (let h : step.Keep body tag ≡ step.Admit = is in cc)
 effects_write step.Tick starved rows moment s is some =
     absurd (let h : step.Tick ≡ step.Admit = is in cc)
+effects_write (step.Begin first) starved rows moment s is some =
+    absurd (let h : step.Begin first ≡ step.Admit = is in cc)
 
 row_writes : (rows : List Row) (s : Step) (starved : Bool)
     → list_any is_admitting (row rows s starved).notes ≡ true

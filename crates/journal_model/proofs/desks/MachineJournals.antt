@@ -51,6 +51,7 @@ use Rattle.journal_model.specs.Machine.{
   goes,
   ticks,
   IsJournal,
+  begins,
 }
 use Rattle.journal_model.specs.Machine as machine
 use Rattle.journal_model.specs.DeskJournal.{
@@ -106,7 +107,9 @@ begun_open rows s jobs (goes holds) = by s.kind holds
     by step.Look held = tt
     by (step.Keep body tag) held = tt
     by step.Tick held = tt
+    by (step.Begin first) held = tt
 begun_open rows s jobs (ticks tick) = subst (CommitsOpen rows s) (sym tick) tt
+begun_open rows s jobs (begins begin) = subst (CommitsOpen rows s) (sym begin) tt
 
 -- a row that does not end it leaves it open
 still_open : (rows : List Row) (r : Row) (t : Step) (place : ℕ)
@@ -285,6 +288,11 @@ jobs_step rows s starved journal jobs commits t place held = by (s.worker == t.w
         still_open rows (row rows s starved) t place
         (ends_none s.kind rows (row rows s starved).moment.0 s (row rows s starved).notes place
         (λ q commit. absurd (let h : step.Tick ≡ step.Commit q = sym is ∙ commit in cc))
+        (row-Touches rows s starved)) (jobs t place e)
+    own (step.Begin first) is same e =
+        still_open rows (row rows s starved) t place
+        (ends_none s.kind rows (row rows s starved).moment.0 s (row rows s starved).notes place
+        (λ q commit. absurd (let h : step.Begin first ≡ step.Commit q = sym is ∙ commit in cc))
         (row-Touches rows s starved)) (jobs t place e)
 
     differs : (s.worker == t.worker) ≡ false

@@ -40,7 +40,7 @@ use Rattle.journal_model.specs.declared.steps.Step.{Step}
 use Rattle.journal_model.specs.declared.steps.StepKind.{StepKind}
 use Rattle.journal_model.specs.declared.steps.StepKind.TheVariants as step
 use Rattle.journal_model.specs.declared.rows.Row.{Row}
-use Rattle.journal_model.specs.Journal.{events}
+use Rattle.journal_model.specs.Journal.{events, entries}
 use Rattle.journal_model.specs.Effects.{answer, answering}
 use Rattle.journal_model.specs.Changes.{Outcome}
 use Rattle.journal_model.specs.Registrations.{registering}
@@ -80,6 +80,7 @@ use Rattle.journal_model.proofs.notes.ChangeNotes.{
   location-notes,
   response_effects-notes,
 }
+use Rattle.journal_model.proofs.notes.BeginNotes.{beginning-notes}
 use Rattle.journal_model.proofs.notes.StepTable.{StepNoted, effects-StepNoted}
 use Rattle.journal_model.proofs.notes.StepTable as noted
 use Rattle.journal_model.specs.Requests.{method_of}
@@ -231,6 +232,9 @@ effects-Touches kind starved rows moment s =
     by ns (noted.tick ticks is) =
         aside (are-weaker of_tick is_aside tick_aside ns
         (ap (are of_tick) is ∙ tick_effects-notes starved rows moment s))
+    by ns (noted.begins first begins is) =
+        aside (ap (are is_aside) is
+        ∙ beginning-notes is_aside (λ entry. refl) starved (entries rows) moment s first)
 
 -- the row of a step
 pub row-Touches : (rows : List Row) (s : Step) (starved : Bool)

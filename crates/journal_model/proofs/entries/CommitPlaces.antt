@@ -49,6 +49,7 @@ use Rattle.journal_model.specs.Machine.{
   goes,
   ticks,
   IsJournal,
+  begins,
 }
 use Rattle.journal_model.specs.PlacedRows.{Within, Commits, admits}
 use Rattle.journal_model.specs.AdmittedWrites.{AdmittedAt}
@@ -165,6 +166,7 @@ job_from worker (r ∷ before) place job e commits =
     own (step.Commit q) same h more = absurd (let no : None ≡ Some job = h in cc)
     own (step.Keep body tag) same h more = absurd (let no : None ≡ Some job = h in cc)
     own step.Tick same h more = from_more r before worker place job (more h)
+    own (step.Begin first) same h more = from_more r before worker place job (more h)
 
     by : (b : Bool)
         → (r.step.worker == worker) ≡ b
@@ -225,6 +227,8 @@ begun_admitted rows s place all (goes holds) e =
     }
 begun_admitted rows s place all (ticks tick) e =
     absurd (let h : step.Tick ≡ step.Commit place = sym tick ∙ e in cc)
+begun_admitted rows s place all (begins {first = first} begin) e =
+    absurd (let h : step.Begin first ≡ step.Commit place = sym begin ∙ e in cc)
 
 -- in each journal of the machine
 pub journal-place : (rows before : List Row) (r : Row) (place : ℕ)

@@ -1,5 +1,5 @@
--- Which steps note an entry, and where it comes from: commits, and responses that complete a fetch;
--- it comes next after the history. Each other step notes none.
+-- Which steps note an entry, and where it comes from: commits, responses that complete a fetch, and
+-- beginnings; it comes next after the history. Each other step notes none.
 use Rattle.std.proofs.Common.{
   ◌≡◌,
   ℕ,
@@ -33,6 +33,7 @@ use Rattle.journal_model.specs.Rows.{effects}
 use Rattle.journal_model.specs.FetchCompletions.{EndsBody}
 use Rattle.journal_model.proofs.NoteKinds.{empty-entries_in}
 use Rattle.journal_model.proofs.EntriesNoted.{entries_in, NotesNext, none}
+use Rattle.journal_model.proofs.notes.BeginNotes.{beginning-NotesNext}
 use Rattle.journal_model.proofs.notes.StepTable.{StepNoted, effects-StepNoted}
 use Rattle.journal_model.proofs.notes.StepTable as noted
 use Rattle.journal_model.proofs.entries.QuietSteps.{
@@ -71,6 +72,10 @@ pub data EntryOrigin (kind : StepKind) (rows : List Row) (moment : ℕ) (s : Ste
       → fetch_of s m (events rows) ≡ Some request
       → EndsBody rows s m
       → ends_fetch_of s.peer notes ≡ true
+      → NotesNext (entries rows) moment notes
+      → EntryOrigin kind rows moment s notes
+  begun : (first : ℕ)
+      → kind ≡ step.Begin first
       → NotesNext (entries rows) moment notes
       → EntryOrigin kind rows moment s notes
 
@@ -121,6 +126,9 @@ effects-EntryOrigin kind starved rows moment s =
         nowhere (ap entries_in is ∙ keep_effects-entries_in s m body tag)
     by ns (noted.tick ticks is) =
         nowhere (ap entries_in is ∙ tick_effects-entries_in starved rows moment s)
+    by ns (noted.begins first begins is) = begun first begins
+        (subst (NotesNext (entries rows) moment) (sym is)
+        (beginning-NotesNext starved (entries rows) moment s first))
 
 -- so the notes have no entry, or one that comes next
 pub EntryOrigin-NotesNext : (kind : StepKind) (rows : List Row) (moment : ℕ) (s : Step)
@@ -132,3 +140,4 @@ EntryOrigin-NotesNext kind rows moment s notes (commit place e next) = next
 EntryOrigin-NotesNext kind rows moment s notes
     (completion e m read responds request fetch body h next) =
     next
+EntryOrigin-NotesNext kind rows moment s notes (begun first e next) = next

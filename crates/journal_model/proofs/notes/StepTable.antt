@@ -1,6 +1,6 @@
 -- The one table of what each step notes: nothing, or what a write, a lookup, a read of a
--- registration, an empty message, a response, a commit, a keep or a tick notes, or that a commit
--- failed, where it ran out of memory.
+-- registration, an empty message, a response, a commit, a keep, a tick or a beginning notes, or that
+-- a commit failed, where it ran out of memory.
 use Rattle.std.proofs.Common.{
   ◌≡◌,
   ℕ,
@@ -54,6 +54,7 @@ use Rattle.journal_model.specs.Lookups.{lookup_effects, read_effects}
 use Rattle.journal_model.specs.Writes.{write_effects}
 use Rattle.journal_model.specs.Responses.{response_effects}
 use Rattle.journal_model.specs.Commits.{commit_effects}
+use Rattle.journal_model.specs.Beginnings.{beginning}
 use Rattle.journal_model.specs.Ticks.{tick_effects}
 use Rattle.journal_model.specs.Rows.{
   served_on_location,
@@ -113,6 +114,10 @@ pub data StepNoted (kind : StepKind) (starved : Bool) (rows : List Row) (moment 
       → StepNoted kind starved rows moment s notes
   tick : kind ≡ step.Tick
       → notes ≡ (tick_effects starved rows moment s).notes
+      → StepNoted kind starved rows moment s notes
+  begins : (first : ℕ)
+      → kind ≡ step.Begin first
+      → notes ≡ (beginning starved (entries rows) moment s first).notes
       → StepNoted kind starved rows moment s notes
 
 -- a request on a registration as it is heard
@@ -209,3 +214,4 @@ effects-StepNoted (step.Keep body tag) starved rows moment s = by starved (readi
     by true (Ok m) = nothing refl
     by false (Ok m) = keep m body tag refl refl
 effects-StepNoted step.Tick starved rows moment s = tick refl refl
+effects-StepNoted (step.Begin first) starved rows moment s = begins first refl refl

@@ -91,6 +91,7 @@ use Rattle.journal_model.proofs.StepNotes.{
 }
 use Rattle.journal_model.proofs.entries.QuietSteps.{lookup_effects-entries_in}
 use Rattle.journal_model.proofs.notes.SilentSteps.{looked_notes}
+use Rattle.journal_model.proofs.notes.BeginNotes.{beginning-notes}
 use Rattle.journal_model.proofs.notes.StepTable.{StepNoted, effects-StepNoted}
 use Rattle.journal_model.proofs.notes.StepTable as noted
 use Rattle.journal_model.proofs.notes.ChangeNotes.{commit_effects-notes, response_effects-notes}
@@ -265,6 +266,10 @@ step_observer_notes kind starved rows moment s no_tick =
     by ns (noted.keep m body tag keeps is) =
         quiet (ap (list_any is_observing) (is ∙ keep_effects-notes s m body tag))
     by ns (noted.tick ticks is) = absurd (subst IsNoTick ticks no_tick)
+    by ns (noted.begins first begins is) =
+        quiet_kind of_commit (λ o. refl) (λ p t b n. refl) (λ p t. refl) ns
+        (ap (are of_commit) is
+        ∙ beginning-notes of_commit (λ entry. refl) starved (entries rows) moment s first)
 
 -- after a row with such notes, each observer that stands knows
 observer_notes_row : (rows : List Row) (r : Row)
@@ -325,6 +330,7 @@ row-AllKnown rows s starved all = by s.kind refl
     by step.Tick e =
         tick_row rows (row rows s starved) starved (desk step.Tick e refl) (notes_of step.Tick e)
         all
+    by (step.Begin first) e = no_tick (step.Begin first) e refl tt
 
 -- among rows of steps
 pub rows-AllKnown : (rows : List Row) → AreRows rows → AllKnown rows

@@ -76,6 +76,35 @@ tick_word_too_great : line_of (codes "tick 1 5 4294967296") ≡ Err reason.Form
 unfolding trace_on_literals
 tick_word_too_great = refl
 
+-- a run begins above 0, and above the greatest number
+begin_at_0 : line_of (codes "begin 0 0 0") ≡ Ok (line.Begin 0 (record { 0 = 0 }) 0)
+unfolding trace_on_literals
+begin_at_0 = refl
+
+begin_greatest :
+    line_of (codes "begin 255 7 281474976710655")
+    ≡ Ok (line.Begin 255 (record { 0 = 7 }) 281_474_976_710_655)
+unfolding trace_on_literals
+begin_greatest = refl
+
+-- one more
+begin_too_great : line_of (codes "begin 0 0 281474976710656") ≡ Err reason.Form
+unfolding trace_on_literals
+begin_too_great = refl
+
+-- a leading zero, a number is missing, and one too many
+begin_with_leading_zero : line_of (codes "begin 0 0 01") ≡ Err reason.Form
+unfolding trace_on_literals
+begin_with_leading_zero = refl
+
+begin_without_number : line_of (codes "begin 0 0") ≡ Err reason.Form
+unfolding trace_on_literals
+begin_without_number = refl
+
+begin_with_two_numbers : line_of (codes "begin 0 0 1 2") ≡ Err reason.Form
+unfolding trace_on_literals
+begin_with_two_numbers = refl
+
 -- a dash is the empty datagram
 come_empty :
     line_of (codes "in 0 10 192.0.2.10:5683 -")
@@ -286,6 +315,11 @@ printed_tick = refl
 printed_word : line_text (line.Tick 3 (record { 0 = 10 }) 7) ≡ codes "tick 3 10 7"
 unfolding trace_on_literals
 printed_word = refl
+
+-- the number above which a run begins is printed, 0 too
+printed_begin : line_text (line.Begin 3 (record { 0 = 10 }) 0) ≡ codes "begin 3 10 0"
+unfolding trace_on_literals
+printed_begin = refl
 
 -- what is sent
 printed_out : out_text 0 device (0x61 ∷ 0x41 ∷ []) ≡ codes "out 0 192.0.2.10:5683 6141"

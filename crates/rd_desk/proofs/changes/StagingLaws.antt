@@ -3,6 +3,8 @@
 use Rattle.std.proofs.Common.{
   ◌≡◌,
   ◌≤◌,
+  ◌<◌,
+  ◌+◌,
   ℕ,
   Bool,
   true,
@@ -30,16 +32,18 @@ use Rattle.std.proofs.Common.{
   arith,
 }
 use Rattle.std.proofs.lemmas.Bool.{false≢true, true≢false}
-use Rattle.std.proofs.lemmas.List.{length-append}
+use Rattle.std.proofs.lemmas.List.{append-nil}
 use Rattle.std.specs.Arc.{arc_value}
 use Rattle.rd_base.specs.declared.out_of_memory.Starved.{Starved}
 use Rattle.rd_base.specs.declared.peers.Host.TheVariants as host
 use Rattle.rd_base.specs.declared.peers.Peer.{Peer}
 use Rattle.history_model.specs.declared.entries.Entry.{Entry}
+use Rattle.history_model.specs.Replay.{count_after, counted}
 use Rattle.history_model.specs.Versions.{Version, VersionStandsFor}
+use Rattle.history_model.proofs.ReplayLaws.{lifted-above}
 use Rattle.event_model.specs.declared.notes.Note.{Note}
 use Rattle.journal_model.specs.Changes as changes
-use Rattle.journal_model.specs.Journal.{entries, entry_noted}
+use Rattle.journal_model.specs.Journal.{entries, entry_noted, entries_of}
 use Rattle.journal_model.specs.declared.rows.Row.{Row}
 use Rattle.journal_model.specs.declared.steps.Step.{Step}
 use Rattle.journal_model.specs.declared.steps.StepKind.TheVariants as step
@@ -192,20 +196,43 @@ one_left : (es : List Entry) (version : Version)
 one_left [] version n o = absurd (omega (arith, n))
 one_left (e ∷ es) version n o = refl
 
--- a version stood for a history, and then one for that with the entries of these notes: it is
--- staged where there is one
+-- with entries more at least as many more are counted
+counted_more : (first : ℕ) (history es : List Entry)
+    → counted first history + length es ≤ counted first (history ++ es)
+unfolding counted
+counted_more first [] [] = omega arith
+counted_more first [] (e ∷ es) =
+    let low = lifted-above first e.change in
+    let more = counted_more (count_after first e) [] es in omega (arith, low, more)
+counted_more first (e ∷ history) es = counted_more (count_after first e) history es
+
+-- where more is counted with entries more, there are some
+some_more : (history es : List Entry)
+    → counted 0 history < counted 0 (history ++ es)
+    → 0 < length es
+some_more history [] more =
+    let same : counted 0 (history ++ []) ≡ counted 0 history =
+    ap (counted 0) (append-nil history) in
+    absurd (omega (arith, more, same))
+some_more history (e ∷ es) more = omega arith
+
+-- a version stood for a history, and then one for that with the entries of these notes, of which
+-- there is one at most: it is staged where there is one
 leaves_staged : (history : List Entry) (notes : List Note) (old new : Version)
-    (before after : Option (Option Version)) (is_staged : Bool) → VersionStandsFor 0 history old
+    (before after : Option (Option Version)) (is_staged : Bool)
+    → length (filter_map entry_noted notes) ≤ 1
+    → VersionStandsFor 0 history old
     → VersionStandsFor 0 (history ++ filter_map entry_noted notes) new
     → IsLaid old new before after is_staged → LeavesStaged notes new before after is_staged
-leaves_staged history notes old new before after is_staged stood stands laid = by laid.entered refl
+leaves_staged history notes old new before after is_staged few stood stands laid =
+    by laid.entered refl
   where
     by : (entered : Bool) → laid.entered ≡ entered → LeavesStaged notes new before after is_staged
     by false is =
         let was = stood.entries in
         let are = stands.entries in
         let same = ap (λ (v : Version). v.entries) (laid.kept is) in
-        let longer = length-append history (filter_map entry_noted notes) in (
+        let longer = counted_more 0 history (filter_map entry_noted notes) in (
           carried after (λ o. o) (λ o. staged_after (filter_map entry_noted notes) new o)
               (none_left (filter_map entry_noted notes) new (omega (arith, was, are, same, longer)))
               before
@@ -217,22 +244,26 @@ leaves_staged history notes old new before after is_staged stood stands laid = b
         let more = laid.made is history stood in
         let was = more.stands.entries in
         let are = stands.entries in
-        let longer = length-append history (filter_map entry_noted notes) in
-        let once = length-append history (more.entry ∷ []) in (
+        let longer = counted_more 0 history (filter_map entry_noted notes) in
+        let once = counted_more 0 history (more.entry ∷ []) in
+        let some : 0 < length (filter_map entry_noted notes) =
+        some_more history (filter_map entry_noted notes) (omega (arith, was, are, once)) in (
           carried after (λ o. Some new) (λ o. staged_after (filter_map entry_noted notes) new o)
-              (one_left (filter_map entry_noted notes) new (omega (arith, was, are, longer, once)))
+              (one_left (filter_map entry_noted notes) new (omega (arith, few, some)))
               before
               (subst (λ (b : Bool). IfSome before
               (λ staged. after ≡ Some (if b then Some new else staged))) is laid.staged),
-          λ none. let no = ap length none in absurd (omega (arith, was, are, longer, once, no)),
+          λ none. let no = ap length none in absurd (omega (arith, some, no)),
         )
 
--- a step that was made leaves its version staged where it made an entry
+-- a step that was made, whose row has one entry at most, leaves its version staged where it made
+-- one
 pub made_staged : (rows : List Row) (r : Row) (d e : Seen) (before after : Option (Option Version))
-    (is_staged : Bool) → StandsFor rows d → StandsFor (r ∷ rows) e
+    (is_staged : Bool) → length (entries_of r) ≤ 1
+    → StandsFor rows d → StandsFor (r ∷ rows) e
     → IsLaid d.version e.version before after is_staged
     → LeavesStaged r.notes e.version before after is_staged
 unfolding entries
-made_staged rows r d e before after is_staged stood stands laid =
-    leaves_staged (entries rows) r.notes d.version e.version before after is_staged
+made_staged rows r d e before after is_staged few stood stands laid =
+    leaves_staged (entries rows) r.notes d.version e.version before after is_staged few
     stood.directory.history stands.directory.history laid

@@ -83,6 +83,7 @@ use Rattle.event_model.proofs.ObserverEvents.{
   observers-Unwatched,
   observers-quiet,
 }
+use Rattle.journal_model.proofs.notes.BeginNotes.{beginning-notes}
 use Rattle.journal_model.specs.declared.steps.Step.{Step}
 use Rattle.journal_model.specs.declared.steps.StepKind.{StepKind}
 use Rattle.journal_model.specs.declared.rows.Row.{Row}
@@ -202,6 +203,7 @@ use Rattle.journal_model.proofs.notes.StepTable.{
   keep,
   tick,
   effects-StepNoted,
+  begins,
 }
 use Rattle.observation.proofs.FoundObservers.{request_turned}
 
@@ -467,6 +469,10 @@ adds_by kind starved rows moment s notes (keep m body current of is) =
 adds_by kind starved rows moment s notes (tick of is) =
     adds_none (none_of of_tick is_watching tick_adds notes
     (ap (are of_tick) is ∙ tick_effects-notes starved rows moment s))
+adds_by kind starved rows moment s notes (begins first of is) =
+    adds_none (none_of of_commit is_watching commit_adds notes
+    (ap (are of_commit) is
+    ∙ beginning-notes of_commit (λ entry. refl) starved (entries rows) moment s first))
 
 -- No more observe than may.
 pub few_observers : (rows : List Row)
@@ -749,6 +755,14 @@ tick_starts : (n : Note) → of_tick n ≡ true → is_start n ≡ false
 tick_starts (note.Asked p token mid params number) h = absurd (false≢true h)
 tick_starts _ h = refl
 
+abbrev of_begin : Note → Bool
+of_begin (note.Entered entry) = true
+of_begin _ = false
+
+begin_starts : (n : Note) → of_begin n ≡ true → is_start n ≡ false
+begin_starts (note.Entered entry) h = refl
+begin_starts _ h = absurd (false≢true h)
+
 -- No more are fetched from than may be.
 pub few_fetches : (rows : List Row) → IsDeskJournal rows → length (fetches (events rows)) ≤ 64
 unfolding events fetches row
@@ -799,3 +813,8 @@ few_fetches (r ∷ before) (made {rows} s starved journal may) =
     by notes few (tick of is) =
         quiet notes few (none_of of_tick is_start tick_starts notes
         (ap (are of_tick) is ∙ tick_effects-notes starved before (row_moment before s) s))
+    by notes few (begins first of is) =
+        quiet notes few (none_of of_begin is_start begin_starts notes
+        (ap (are of_begin) is
+        ∙ beginning-notes of_begin (λ entry. refl) starved (entries before)
+        (row_moment before s) s first))

@@ -77,6 +77,7 @@ use Rattle.event_model.specs.Fetches.{
   request_of,
 }
 use Rattle.event_model.proofs.AsideLaws.{each_noted}
+use Rattle.journal_model.proofs.notes.BeginNotes.{beginning-notes, beginning-sent}
 use Rattle.journal_model.specs.declared.steps.Step.{Step}
 use Rattle.journal_model.specs.declared.steps.StepKind.{StepKind}
 use Rattle.journal_model.specs.declared.steps.StepKind.TheVariants as step
@@ -226,6 +227,7 @@ use Rattle.journal_model.proofs.notes.StepTable.{
   keep,
   tick,
   effects-StepNoted,
+  begins,
 }
 use Rattle.journal_model.proofs.sends.BodyAnswers.{block_value-length, same_message}
 use Rattle.journal_model.proofs.sends.TickSends.{sent_by-FoundSent, confirmable_of}
@@ -668,6 +670,8 @@ step_sends (step.Keep body current) starved rows moment s all ticked =
     by true (Ok m) = one_answer s m _ _
     by false (Ok m) = one_answer s m _ _
 step_sends step.Tick starved rows moment s all ticked = ticked
+step_sends (step.Begin first) starved rows moment s all ticked =
+    subst AreResendable (sym (beginning-sent starved (entries rows) moment s first)) tt
 
 -- ---- what settles writes
 
@@ -764,6 +768,15 @@ unfolding not_settling
 of_tick_other (note.Settled place octets) h = absurd (false≢true h)
 of_tick_other _ h = refl
 
+abbrev of_begin : Note → Bool
+of_begin (note.Entered entry) = true
+of_begin _ = false
+
+of_begin_other : (n : Note) → of_begin n ≡ true → not_settling n ≡ true
+unfolding not_settling
+of_begin_other (note.Entered entry) h = refl
+of_begin_other _ h = absurd (false≢true h)
+
 step_settles : (kind : StepKind) (starved : Bool) (rows : List Row) (moment : ℕ) (s : Step)
     (notes : List Note)
     → StepNoted kind starved rows moment s notes
@@ -793,6 +806,10 @@ step_settles kind starved rows moment s notes (keep m body current of is) =
 step_settles kind starved rows moment s notes (tick of is) =
     of_kind of_tick of_tick_other notes
     (ap (are of_tick) is ∙ tick_effects-notes starved rows moment s)
+step_settles kind starved rows moment s notes (begins first of is) =
+    of_kind of_begin of_begin_other notes
+    (ap (are of_begin) is
+    ∙ beginning-notes of_begin (λ entry. refl) starved (entries rows) moment s first)
 
 -- ---- all rows
 

@@ -13,7 +13,6 @@ use Rattle.std.proofs.Common.{
   length,
   take,
   Option,
-  None,
   Some,
   refl,
   sym,
@@ -26,11 +25,13 @@ use Rattle.std.specs.List.{slice_get}
 use Rattle.std.proofs.lemmas.List.{append_assoc, append-nil, length-append}
 use Rattle.rd_base.proofs.lemmas.Options.{some_same, none_some}
 use Rattle.udp_link.specs.Links.{Datagram}
+use Rattle.udp_link.specs.declared.links.LinkCall.{LinkCall}
 use Rattle.udp_link.specs.declared.links.Went.{Went}
 use Rattle.udp_link.specs.declared.links.Went.TheVariants as went
 use Rattle.rd_seat.proofs.ToldLaws.{told_then, told_same, Stays-then}
 use Rattle.rd_server.specs.serving.Sendings.{Sending, all_sent, all_went, number_lost}
-use Rattle.rd_server.specs.serving.Workers.{LinkSeen, Goes, RisesBy, Sends}
+use Rattle.rd_server.specs.serving.Sendings.{sendings_order}
+use Rattle.rd_server.specs.serving.Workers.{LinkSeen, Goes, Orders, RisesBy, Sends}
 use Rattle.rd_server.specs.serving.Sums.{CountsMore, CountsSendings, IsBelow}
 use Rattle.rd_server.specs.declared.serving.served.Served.{Served}
 
@@ -40,6 +41,11 @@ pub Goes-then : (xs ys : List Datagram) (a b c : Option (List Datagram)) → Goe
     → Goes ys b c → Goes (xs ++ ys) a c
 Goes-then xs ys a b c r s = told_then (λ x y z e f. f
     ∙ (ap (λ (l : List Datagram). l ++ ys) e ∙ append_assoc x xs ys)) a b c r s
+
+pub Orders-then : (xs ys : List LinkCall) (a b c : Option (List LinkCall)) → Orders xs a b
+    → Orders ys b c → Orders (ys ++ xs) a c
+Orders-then xs ys a b c r s = told_then (λ x y z e f. f
+    ∙ (ap (λ (l : List LinkCall). ys ++ l) e ∙ sym (append_assoc ys xs x))) a b c r s
 
 pub RisesBy-then : (m n a b c : ℕ) → RisesBy m a b → RisesBy n b c → RisesBy (m + n) a c
 RisesBy-then m n a b c r s = record {
@@ -64,6 +70,7 @@ lost_one (d, went.Failed) sendings = omega arith
 pub Sends-none : (l : LinkSeen) → Sends [] l l
 Sends-none l = record {
   gone = told_same (λ old new. new ≡ old ++ []) (λ x. sym (append-nil x)) l.gone;
+  order = told_same (λ old new. new ≡ old) (λ x. refl) l.order;
   lost = record { kept = omega arith; rose = λ below. omega arith };
   coming = told_same (λ old new. new ≡ old) (λ x. refl) l.coming;
   received = refl;
@@ -74,6 +81,8 @@ pub Sends-more : (s : Sending) (sendings : List Sending) (a b c : LinkSeen) → 
 Sends-more s sendings a b c r t = record {
   gone = subst (λ (l : List Datagram). Goes l a.gone c.gone) (sym (went_one s sendings))
       (Goes-then (all_went sendings) (all_went (s ∷ [])) a.gone b.gone c.gone r.gone t.gone);
+  order = Orders-then (sendings_order sendings) (sendings_order (s ∷ [])) a.order b.order c.order
+      r.order t.order;
   lost = subst (λ (n : ℕ). RisesBy n a.send_faults c.send_faults) (sym (lost_one s sendings))
       (RisesBy-then (number_lost sendings) (number_lost (s ∷ [])) a.send_faults b.send_faults
       c.send_faults r.lost t.lost);

@@ -2,9 +2,11 @@
 use Rattle.std.proofs.Common.{◌≡◌, ℕ, ◌+◌, ◌%◌, ◌==◌, ◌<◌, true, false, List, [], ◌∷◌}
 use Rattle.std.proofs.Common.{◌++◌, length, Option, Ok, Err}
 use Rattle.std.proofs.Common.{refl, sym, ap, ◌∙◌, subst, arith}
-use Rattle.std.proofs.lemmas.List.{append-nil}
+use Rattle.std.proofs.lemmas.List.{append_assoc, append-nil}
 use Rattle.udp_link.specs.Told.{WhereTold, Stays}
-use Rattle.udp_link.specs.Links.{Datagram, TakesFirst}
+use Rattle.udp_link.specs.Links.{Datagram, TakesFirst, Calls}
+use Rattle.udp_link.specs.declared.links.LinkCall.{LinkCall}
+use Rattle.udp_link.specs.declared.links.LinkCall.TheVariants as link
 use Rattle.udp_link.specs.declared.links.Came.TheVariants as came
 use Rattle.rd_base.specs.Outside.{Rose}
 use Rattle.rd_server.specs.declared.serving.served.Served.{Served}
@@ -14,15 +16,16 @@ use Rattle.rd_seat.specs.Calls.{GivesMoment, GivesWord}
 use Rattle.rd_seat.specs.Callers.{Ticks, TicksWhere}
 use Rattle.rd_seat.proofs.ToldLaws.{told_then, told_as, told_same}
 use Rattle.rd_seat.proofs.CallLaws.{Chain-then}
-use Rattle.rd_server.specs.serving.Calls.{Call, Does, calls_went, calls_lost}
-use Rattle.rd_server.specs.serving.Workers.{WorkerSeen, RisesBy, CallsMade}
+use Rattle.rd_server.specs.serving.Calls.{Call, Does, calls_went, calls_lost, calls_order}
+use Rattle.rd_server.specs.serving.Workers.{WorkerSeen, Orders, RisesBy, CallsMade}
 use Rattle.rd_server.specs.serving.Turns.{Turn, TooLong, Follows, Comes}
-use Rattle.rd_server.specs.serving.Turns.{TurnComes, AllCame, calls_of, turns_heard}
+use Rattle.rd_server.specs.serving.Turns.{TurnComes, AllCame, calls_of, turns_heard, turns_order}
 use Rattle.rd_server.specs.serving.Turns.{heard_more, long_more}
 use Rattle.rd_server.specs.serving.Sums.{CountsCalls, CountsTurn, IsSumOf}
 use Rattle.rd_server.specs.serving.Service.{TurnMade, Works, GoesOn, Serves}
 use Rattle.rd_server.proofs.service.CallLaws.{Goes-calls, RisesBy-calls, lost-then}
 use Rattle.rd_server.proofs.service.CallLaws.{starved-then, went_length}
+use Rattle.rd_server.proofs.service.SendLaws.{Orders-then}
 
 -- ---- one turn
 
@@ -37,6 +40,7 @@ pub CallsMade-none : (a : WorkerSeen) → CallsMade [] a a
 CallsMade-none a = record {
   seat = refl;
   gone = told_same (λ old new. new ≡ old ++ []) (λ x. sym (append-nil x)) a.link.gone;
+  order = told_same (λ old new. new ≡ old) (λ x. refl) a.link.order;
   lost = record { kept = omega arith; rose = λ below. omega arith };
   coming = told_same (λ old new. new ≡ old) (λ x. refl) a.link.coming;
   received = refl;
@@ -49,8 +53,9 @@ pub turn-made : (earlier : ℕ) (t : Turn) (a m b : WorkerSeen) → Follows earl
     → m.seat ≡ a.seat → m.clock ≡ a.clock
     → WhereTold (λ old new. Comes old t.came new) a.link.coming m.link.coming
     → Stays a.link.gone m.link.gone → m.link.send_faults ≡ a.link.send_faults
+    → Calls link.Receive a.link.order m.link.order
     → CallsMade t.calls m b → TurnMade earlier t a b
-turn-made earlier t a m b follows seat clock comes stays stand made = record {
+turn-made earlier t a m b follows seat clock comes stays stand called made = record {
   follows = follows;
   coming = told_then
       (λ x y z c e. subst (λ (w : List Datagram). Comes x t.came w) (sym e) c)
@@ -58,6 +63,8 @@ turn-made earlier t a m b follows seat clock comes stays stand made = record {
   gone = told_then
       (λ x y z e f. f ∙ ap (λ (w : List Datagram). w ++ calls_went t.calls) e)
       a.link.gone m.link.gone b.link.gone stays made.gone;
+  order = Orders-then (link.Receive ∷ []) (calls_order t.calls) a.link.order m.link.order
+      b.link.order called made.order;
   lost = subst (λ (f : ℕ). RisesBy (calls_lost t.calls) f b.link.send_faults) stand made.lost;
   seat = subst (λ s. Chain Does s t.calls b.seat) seat made.seat;
   moments = subst (λ k. WhereTold (λ old new. Chain GivesMoment old t.calls new)
@@ -94,6 +101,7 @@ Works-none a =
       turned = tt;
       coming = told_same (λ old new. Chain TurnComes old [] new) (λ x. refl) a.link.coming;
       gone = none.gone;
+      order = none.order;
       lost = none.lost;
       seat = none.seat;
       moments = none.moments;
@@ -107,6 +115,10 @@ Works-more t ts a b c r s = record {
   coming = told_then (λ x y z f e. (y, f, e)) a.link.coming b.link.coming c.link.coming
       r.coming s.coming;
   gone = Goes-calls (calls_of ts) t.calls a.link.gone b.link.gone c.link.gone r.gone s.gone;
+  order = subst (λ (l : List LinkCall). Orders l a.link.order c.link.order)
+      (append_assoc (calls_order t.calls) (link.Receive ∷ []) (turns_order ts))
+      (Orders-then (turns_order ts) (calls_order t.calls ++ link.Receive ∷ [])
+      a.link.order b.link.order c.link.order r.order s.order);
   lost = RisesBy-calls (calls_of ts) t.calls
       a.link.send_faults b.link.send_faults c.link.send_faults r.lost s.lost;
   seat = Chain-then Does a.seat b.seat c.seat (calls_of ts) t.calls r.seat s.seat;

@@ -1,9 +1,11 @@
 -- The calls that a worker makes on its seat, and what it sends after each. The last stands first.
 use Rattle.std.specs.Prelude.{ℕ, ◌+◌, Bool, true, false, List, [], ◌∷◌, ◌++◌}
 use Rattle.udp_link.specs.Links.{Datagram}
+use Rattle.udp_link.specs.declared.links.LinkCall.{LinkCall}
 use Rattle.rd_seat.specs.Seats.{SeatSeen}
 use Rattle.rd_seat.specs.Calls as of_seat
 use Rattle.rd_server.specs.serving.Sendings.{Sending, all_sent, all_went, number_lost}
+use Rattle.rd_server.specs.serving.Sendings.{sendings_order}
 
 -- a call of the seat, and what was sent of what came out of it
 abbrev pub Call : Type 0
@@ -19,6 +21,11 @@ Does before c after = of_seat.Does all_sent before c after
 abbrev pub calls_went : List Call → List Datagram
 calls_went [] = []
 calls_went (c ∷ earlier) = calls_went earlier ++ all_went c.sent
+
+-- the calls of the link: the sends of each
+abbrev pub calls_order : List Call → List LinkCall
+calls_order [] = []
+calls_order (c ∷ earlier) = sendings_order c.sent ++ calls_order earlier
 
 -- how many datagrams were lost
 abbrev pub calls_lost : List Call → ℕ

@@ -1,6 +1,6 @@
 -- How a server ends: the sums of its workers, the line that is written of them, and its status.
-use Rattle.std.specs.Prelude.{◌≡◌, ℕ, ◌+◌, ◌≤◌, List, [], ◌∷◌, ◌++◌, codes, Option, take}
-use Rattle.std.specs.Prelude.{Result, Ok, Err}
+use Rattle.std.specs.Prelude.{◌≡◌, ℕ, ◌+◌, ◌<◌, ◌≤◌, List, [], ◌∷◌, ◌++◌, codes, length, take}
+use Rattle.std.specs.Prelude.{Option, Result, Ok, Err}
 use Rattle.std.specs.Fmt.{decimal}
 use Rattle.std.specs.Io.KnownBytes.{Appends}
 use Rattle.rd_base.specs.Outside.{Rose}
@@ -51,13 +51,13 @@ served_line s = codes "served " ++ (decimal s.heard ++ (codes " " ++ (decimal s.
     ++ (codes " " ++ (decimal s.lost ++ codes "\n")))))
 
 -- How a server ends, by the outcomes of its workers: what it wrote, and that the count of the
--- output's faults rose exactly where not all was written.
+-- output's faults rose exactly where the line was not written whole.
 abbrev pub Concludes : Result Served ServeFault → Option (List ℕ) → Option (List ℕ) → ℕ → ℕ
     → ServeStatus → Type 0
 Concludes (Ok sums) old new faults faults_then status.Done =
     Appends old new (served_line sums) × (faults_then ≡ faults)
 Concludes (Ok sums) old new faults faults_then status.Write =
-    ((n : ℕ) × Appends old new (take n (served_line sums)))
+    ((n : ℕ) × (n < length (served_line sums)) × Appends old new (take n (served_line sums)))
     × (faults ≤ faults_then) × Rose faults faults_then
 Concludes (Ok sums) old new faults faults_then status.Memory =
     Appends old new [] × (faults_then ≡ faults)

@@ -1,6 +1,8 @@
 -- The datagrams that a worker sends, and what came of each. The last stands first.
 use Rattle.std.specs.Prelude.{ℕ, ◌+◌, List, [], ◌∷◌, ◌++◌}
 use Rattle.udp_link.specs.Links.{Datagram}
+use Rattle.udp_link.specs.declared.links.LinkCall.{LinkCall}
+use Rattle.udp_link.specs.declared.links.LinkCall.TheVariants as link
 use Rattle.udp_link.specs.declared.links.Went.{Went}
 use Rattle.udp_link.specs.declared.links.Went.TheVariants as went
 
@@ -12,6 +14,11 @@ Sending = Datagram × Went
 abbrev pub all_sent : List Sending → List Datagram
 all_sent [] = []
 all_sent (s ∷ earlier) = all_sent earlier ++ s.0 ∷ []
+
+-- the calls of the link: one send each
+abbrev pub sendings_order : List Sending → List LinkCall
+sendings_order [] = []
+sendings_order (s ∷ earlier) = link.Send ∷ sendings_order earlier
 
 -- the datagrams that went, in order, without those that were lost
 abbrev pub went_more : List Datagram → Datagram → Went → List Datagram

@@ -5,13 +5,14 @@ use Rattle.rd_base.specs.Outside.{Rose}
 use Rattle.udp_link.specs.Links.{Datagram}
 use Rattle.udp_link.specs.Told.{WhereTold}
 use Rattle.udp_link.specs.declared.links.TheConstants.{MAX_DATAGRAM}
+use Rattle.udp_link.specs.declared.links.LinkCall.TheVariants as link
 use Rattle.rd_server.specs.declared.serving.served.Served.{Served}
 use Rattle.rd_server.specs.declared.serving.served.ServeFault.{ServeFault}
 use Rattle.rd_server.specs.declared.serving.served.ServeFault.TheVariants as fault
 use Rattle.rd_seat.specs.Chains.{Chain}
 use Rattle.rd_seat.specs.Calls.{GivesMoment, GivesWord}
-use Rattle.rd_server.specs.serving.Calls.{Does, calls_went, calls_lost}
-use Rattle.rd_server.specs.serving.Workers.{WorkerSeen, LinkSeen, Goes, RisesBy}
+use Rattle.rd_server.specs.serving.Calls.{Does, calls_went, calls_lost, calls_order}
+use Rattle.rd_server.specs.serving.Workers.{WorkerSeen, LinkSeen, Goes, Orders, RisesBy}
 use Rattle.rd_server.specs.serving.Turns.{
   Turn,
   Failed,
@@ -22,6 +23,7 @@ use Rattle.rd_server.specs.serving.Turns.{
   Follows,
   TurnComes,
   calls_of,
+  turns_order,
 }
 use Rattle.rd_server.specs.serving.Sums.{IsSumOf}
 
@@ -32,6 +34,8 @@ pub record TurnMade (earlier : ℕ) (t : Turn) (before after : WorkerSeen) : Typ
   pub follows : Follows earlier t.came t.calls
   pub coming : WhereTold (λ old new. Comes old t.came new) before.link.coming after.link.coming
   pub gone : Goes (calls_went t.calls) before.link.gone after.link.gone
+  -- the receive comes first, and what the calls send goes out within the turn
+  pub order : Orders (calls_order t.calls ++ link.Receive ∷ []) before.link.order after.link.order
   pub lost : RisesBy (calls_lost t.calls) before.link.send_faults after.link.send_faults
   pub seat : Chain Does before.seat t.calls after.seat
   pub moments : WhereTold (λ old new. Chain GivesMoment old t.calls new)
@@ -48,6 +52,9 @@ pub record Works (turns : List Turn) (before after : WorkerSeen) : Type 0 where
       before.link.coming after.link.coming
   -- what went is what the rows and looks of the calls send, in order, without what was lost
   pub gone : Goes (calls_went (calls_of turns)) before.link.gone after.link.gone
+  -- Where the link tells its calls: turn after turn one receive, and then the sends of its calls.
+  -- So what a turn sends goes out before the next receive.
+  pub order : Orders (turns_order turns) before.link.order after.link.order
   -- what was lost raised the count of sends that failed
   pub lost : RisesBy (calls_lost (calls_of turns)) before.link.send_faults after.link.send_faults
   -- each call led the seat from where the one before it had led it

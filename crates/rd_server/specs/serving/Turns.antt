@@ -4,8 +4,10 @@ use Rattle.std.specs.Prelude.{List, [], ◌∷◌, ◌++◌, length, ⊤}
 use Rattle.rd_base.specs.declared.peers.Peer.{Peer}
 use Rattle.udp_link.specs.Links.{Datagram}
 use Rattle.udp_link.specs.declared.links.TheConstants.{MAX_DATAGRAM}
+use Rattle.udp_link.specs.declared.links.LinkCall.{LinkCall}
+use Rattle.udp_link.specs.declared.links.LinkCall.TheVariants as link
 use Rattle.rd_seat.specs.Callers.{Ticks, TicksWhere, Hears}
-use Rattle.rd_server.specs.serving.Calls.{Call}
+use Rattle.rd_server.specs.serving.Calls.{Call, calls_order}
 
 -- what a receive gave
 pub data Outcome : Type 0 where
@@ -62,6 +64,11 @@ Came _ = ⊤
 abbrev pub calls_of : List Turn → List Call
 calls_of [] = []
 calls_of (t ∷ earlier) = t.calls ++ calls_of earlier
+
+-- The calls of the link: turn after turn one receive, and then the sends of its calls.
+abbrev pub turns_order : List Turn → List LinkCall
+turns_order [] = []
+turns_order (t ∷ earlier) = calls_order t.calls ++ link.Receive ∷ turns_order earlier
 
 -- how many datagrams were heard
 abbrev pub heard_more : ℕ → Outcome → ℕ

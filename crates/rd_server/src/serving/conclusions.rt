@@ -1,5 +1,5 @@
 //! How a server ends: the sums of its workers are written.
-ghost use Rattle.std.specs.Prelude.{◌≡◌, ◌≤◌, ◌^◌, Ok, All, IfOk, length, map};
+ghost use Rattle.std.specs.Prelude.{◌≡◌, ◌≤◌, Ok, All, IfOk, length, map};
 ghost use Rattle.rd_server.specs.serving.Sums.{IsBelow, server_most, worker_most};
 ghost use Rattle.rd_server.specs.serving.Endings as spec;
 ghost use Rattle.rd_server.specs.serving.Endings.{Concludes, served_line};

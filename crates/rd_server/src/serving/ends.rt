@@ -1,9 +1,10 @@
 //! Ends of a server: each worker with its link and its clock.
 ghost use Rattle.std.specs.Prelude.{◌≡◌, ◌≤◌, ◌<◌, ◌^◌, ℕ, None, Err};
-ghost use Rattle.std.specs.Prelude.{All, IfOk, IfSome, length, slice_get, slice_index_or};
+ghost use Rattle.std.specs.Prelude.{All, IfNone, IfOk, IfSome, length, slice_get};
+ghost use Rattle.std.specs.Prelude.{slice_index_or};
 ghost use Rattle.rd_server.specs.declared.serving.served.ServeFault.TheVariants as fault;
 ghost use Rattle.rd_server.specs.serving.Sums.{IsBelow, worker_most};
-ghost use Rattle.rd_server.specs.serving.Servers.{EndServes, IsUnserved, seated};
+ghost use Rattle.rd_server.specs.serving.Servers.{AreOfHall, EndServes, IsUnserved, seated};
 
 use crate::serving::served::{ServeFault, Served};
 use crate::serving::workers::serve_worker;
@@ -62,7 +63,9 @@ pub(crate) fn seat_ends<L, C>(ends: &mut [End<L, C>], seats: Seats)
 
 /// Leaves each end without a seat.
 pub(crate) fn unseat_ends<L, C>(ends: &mut [End<L, C>])
-    ensures { All IsUnserved ends.new }
+    ensures unserved { All IsUnserved ends.new }
+    ensures left { (i : ℕ) (d : End L C) → i < length ends.old
+        → slice_index_or ends.new i d ≡ seated (slice_index_or ends.old i d) None }
 {
     'ends: for end in ends {
         end.seat = None;
@@ -70,7 +73,7 @@ pub(crate) fn unseat_ends<L, C>(ends: &mut [End<L, C>])
     }
 }
 
-/// Serves one end, where it has a seat.
+/// Serves one end, where it has a seat. One that has none is not served.
 fn work<R: Wait + AllocGlobal, L: Link, C: Clock, G: Gate>(
     rt: &R,
     hall: &Hall,
@@ -80,11 +83,12 @@ fn work<R: Wait + AllocGlobal, L: Link, C: Clock, G: Gate>(
 )
     requires hall { IfSome end.old.seat (λ seat. seat.hall ≡ hall.now) }
     requires turns { turns ≤ 10 ^ 12 }
-    requires few { IfOk end.old.outcome (IsBelow worker_most) }
     ensures few { IfOk end.new.outcome (IsBelow worker_most) }
     ensures served { IfSome end.old.seat
         (λ seat. EndServes L.Link.own C.Clock.own turns seat end.old end.new) }
+    ensures unserved { IfNone end.old.seat (end.new ≡ seated end.old None) }
 {
+    end.outcome = Err(ServeFault::Memory);
     if let Some(seat) = &mut end.seat {
         end.outcome = serve_worker(rt, hall, seat, &mut end.link, &mut end.clock, gate, turns);
     }
@@ -97,13 +101,15 @@ pub(crate) fn serve_ends<
     C: Clock + Send,
     G: Gate + Sync,
 >(rt: &R, hall: &Hall, ends: &mut [End<L, C>], gate: &G, turns: u64)
-    requires hall { All (λ end. IfSome end.seat (λ seat. seat.hall ≡ hall.now)) ends.old }
+    requires hall { AreOfHall hall.now ends.old }
     requires turns { turns ≤ 10 ^ 12 }
-    requires few { All (λ end. IfOk end.outcome (IsBelow worker_most)) ends.old }
     ensures few { All (λ end. IfOk end.outcome (IsBelow worker_most)) ends.new }
     ensures served { (i : ℕ) (d : End L C) → i < length ends.old
         → IfSome (slice_index_or ends.old i d).seat (λ seat. EndServes L.Link.own C.Clock.own
         turns seat (slice_index_or ends.old i d) (slice_index_or ends.new i d)) }
+    ensures unserved { (i : ℕ) (d : End L C) → i < length ends.old
+        → IfNone (slice_index_or ends.old i d).seat
+        (slice_index_or ends.new i d ≡ seated (slice_index_or ends.old i d) None) }
 {
     thread::for_each_mut(
         rt,

@@ -15,7 +15,8 @@ returns-clause-made g c =
       go-IsOfJob seat.worker (last_place seat.seen) c.now-now.result c.args.job seat.drawn,
       go-made as_they_came (caller_seen g.C.Clock seat c.args.clock.now)
           (caller_seen g.C.Clock c.go-stepped.new.self c.now-now.new.self) c.now-now.result
-          c.args.job starved out c.go-stepped.ensures.met c.go-stepped.ensures.made
+          c.args.job starved out c.go-stepped.ensures.of_hall
+          c.go-stepped.ensures.met c.go-stepped.ensures.made
           c.now-now.ensures.gives c.now-now.ensures.words_stay,
       c.carry_all-tally.ensures,
     )

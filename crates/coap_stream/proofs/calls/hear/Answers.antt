@@ -29,6 +29,7 @@ returns-clause-made g c =
           (clock_seen g.C.Clock c.now-now.new.self) c.now-now.result
           c.word-word.result peer c.args.datagram.now result out refl
           (record {
+            of_hall = c.hear-heard.ensures.of_hall;
             grows = c.hear-heard.ensures.met;
             makes = c.hear-heard.ensures.made;
             leaves = c.hear-heard.ensures.left;

@@ -15,7 +15,8 @@ returns-clause-made g c =
       tick-made as_they_came (caller_seen g.C.Clock c.args.seat.now c.args.clock.now)
           (caller_seen g.C.Clock c.tick-stepped.new.self c.word-word.new.self)
           (clock_seen g.C.Clock c.now-now.new.self) c.now-now.result
-          c.word-word.result starved out c.tick-stepped.ensures.met c.tick-stepped.ensures.made
+          c.word-word.result starved out c.tick-stepped.ensures.of_hall
+          c.tick-stepped.ensures.met c.tick-stepped.ensures.made
           (record {
             moment = c.now-now.ensures.gives;
             words_stay = c.now-now.ensures.words_stay;

@@ -1,8 +1,8 @@
-use Rattle.std.proofs.Common.{◌≡◌, inl, sym, subst, ◌∙◌}
+use Rattle.std.proofs.Common.{◌≡◌, inl, refl, sym, subst, ◌∙◌}
 use Rattle.rd_seat.specs.Callers.{clock_seen}
 use Rattle.rd_seat.specs.Seats.{SeatSeen, new_seat}
 use Rattle.coap_stream.specs.Serving.{NeverFail, ServesAll}
-use Rattle.coap_stream.proofs.ServingLaws.{all_counted, first_seat}
+use Rattle.coap_stream.proofs.ServingLaws.{all_counted, first_seat, served_hall}
 use Rattle.coap_stream.proofs.serving.serve_streams.Goals as goal
 
 pub returns : goal.returns
@@ -25,7 +25,10 @@ returns g c =
     record {
       serves = inl (record {
         hall = hall;
+        alone = c.in-Ok.ensures.workers;
         seat = new.seat;
+        of_hall = served_hall hall all.connections _ _ all.serves.served
+            (record { is = refl; below = tt });
         outcome = c.serve_all-served.result;
         all = all;
         counts = λ sure. all_counted _ c.args.count _ _ _ _ _ _ c.serve_all-served.result all

@@ -17,6 +17,10 @@ returns g c =
     ap (λ (d : Shown PublisherSeen). d.board.told) c.deref_mut.ensures.value
     ∙ c.take-shared.ensures.value.told in record {
       lock = c.take-shared.ensures.lock;
+      hall = λ i. record {
+        id = c.take-shared.ensures.lock i;
+        workers = c.take-shared.ensures.passes i;
+      };
       holding = c.take-shared.ensures.holding;
       number = c.take-shared.ensures.number;
       label = c.take-shared.ensures.label;

@@ -84,12 +84,17 @@ returns g c =
     ∙ ap entries (sym seen)) in
     record {
       lock = c.give.ensures.lock;
+      hall = λ i. record {
+        id = c.give.ensures.lock i;
+        workers = c.give.ensures.passes i;
+      };
       idle = c.give.ensures.idle;
       number = c.give.ensures.number;
       label = c.give.ensures.label;
       seen = seen;
       mine = mine;
       own = c.give.ensures.own;
+      below = c.give.ensures.below;
       name = c.meet.ensures.name;
       met = c.meet.ensures.seen;
       met_own = subst (λ (h : List Entry). IsFront h c.meet.new.looker.seen) told

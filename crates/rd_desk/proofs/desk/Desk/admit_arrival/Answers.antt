@@ -1,6 +1,7 @@
 use Rattle.std.proofs.Common.{sym, subst, ap}
 use Rattle.journal_model.specs.Rows.{row}
 use Rattle.rd_desk.specs.calls.Admitting.{is_starved_admission}
+use Rattle.journal_model.proofs.entries.RowLaws.{row-single}
 use Rattle.rd_desk.specs.calls.Desks.{Seen}
 use Rattle.rd_desk.specs.calls.Shown.{AreToldOf}
 use Rattle.rd_desk.specs.calls.Staging.{LeavesStaged}
@@ -42,4 +43,5 @@ returns-clause-staged g c rows s kind of datagram worded called =
     (g.B.Board.staged x.board) (g.B.Board.staged c.admit.new.board)
     (g.B.Board.has_staged c.admit.new.board)) c.self.view_is
     (made_staged rows (row rows s (is_starved_admission c.admit.result)) _ c.admit.new.self _ _ _
-    here.stands made.stands c.admit.ensures.laid)
+    (row-single rows s (is_starved_admission c.admit.result)) here.stands made.stands
+    c.admit.ensures.laid)

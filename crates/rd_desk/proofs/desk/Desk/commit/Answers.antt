@@ -1,5 +1,6 @@
 use Rattle.std.proofs.Common.{sym, subst, ap}
 use Rattle.journal_model.specs.Rows.{row}
+use Rattle.journal_model.proofs.entries.RowLaws.{row-single}
 use Rattle.rd_desk.specs.calls.Desks.{Seen}
 use Rattle.rd_desk.specs.calls.Shown.{AreToldOf}
 use Rattle.rd_desk.specs.calls.Stepping.{is_starved_step}
@@ -30,4 +31,5 @@ returns-clause-staged g c rows s place m kind of datagram word read opened calle
     (g.B.Board.staged x.board) (g.B.Board.staged c.commit.new.board)
     (g.B.Board.has_staged c.commit.new.board)) c.self.view_is
     (made_staged rows (row rows s (is_starved_step c.commit.result)) _ c.commit.new.self _ _ _
-    here.stands made.stands c.commit.ensures.laid)
+    (row-single rows s (is_starved_step c.commit.result)) here.stands made.stands
+    c.commit.ensures.laid)

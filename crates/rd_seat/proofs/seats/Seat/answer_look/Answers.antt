@@ -4,9 +4,10 @@ use Rattle.history_model.specs.Live.{IsFront}
 use Rattle.rd_request.specs.Accepted.{message_of}
 use Rattle.rd_look.specs.Looking.{is_starved_look}
 use Rattle.rd_seat.specs.Looks.{answer_held}
-use Rattle.rd_seat.specs.Seats.{SeatSeen, LooksAtMet}
+use Rattle.rd_seat.specs.Seats.{SeatSeen, IsOfHall, LooksAtMet}
 use Rattle.rd_seat.specs.Shares.{share_shown}
 use Rattle.rd_seat.specs.Steps.{look_step}
+use Rattle.rd_seat.proofs.OfHallLaws.{goes_on-IsOfHall}
 use Rattle.rd_seat.proofs.seats.Seat.answer_look.Goals as goal
 
 -- what it had met it has met still
@@ -22,3 +23,9 @@ returns-clause-looks c =
     c.look.result) c.look.new.out
     (answer_held c.look.result) (share_shown c.look.new.self)) c.self.view_is
     c.look.ensures.looked.looks
+
+-- it is of its hall still
+pub returns-clause-of_hall : goal.returns-clause-of_hall
+returns-clause-of_hall c =
+    subst (λ (v : SeatSeen). IsOfHall v.hall (share_shown c.look.new.self)) c.self.view_is
+    (goes_on-IsOfHall _ _ c.look.ensures.looked.goes_on)

@@ -2,8 +2,9 @@ use Rattle.std.proofs.Common.{subst}
 use Rattle.history_model.specs.Live.{IsFront}
 use Rattle.rd_desk.specs.calls.Stepping.{is_starved_step}
 use Rattle.rd_seat.specs.Steps.{tick_step}
-use Rattle.rd_seat.specs.Seats.{SeatSeen, MakesStep}
+use Rattle.rd_seat.specs.Seats.{SeatSeen, IsOfHall, MakesStep}
 use Rattle.rd_seat.specs.Shares.{share_shown}
+use Rattle.rd_seat.proofs.OfHallLaws.{goes_on-IsOfHall}
 use Rattle.rd_seat.proofs.seats.Seat.tick.Goals as goal
 
 -- what it had met it has met still
@@ -17,3 +18,9 @@ returns-clause-made g c =
     subst (λ (v : SeatSeen). MakesStep v (tick_step v.worker c.args.now c.args.word v.drawn)
     (is_starved_step c.tick.result) c.tick.new.out (share_shown c.tick.new.self))
     c.self.view_is c.tick.ensures.made
+
+-- it is of its hall still
+pub returns-clause-of_hall : goal.returns-clause-of_hall
+returns-clause-of_hall g c =
+    subst (λ (v : SeatSeen). IsOfHall v.hall (share_shown c.tick.new.self)) c.self.view_is
+    (goes_on-IsOfHall _ _ c.tick.ensures.goes_on)

@@ -134,7 +134,7 @@ returns g c =
     record {
       turned = record {
         goes_on = record {
-          hall = c.end.ensures.lock ∙ c.begin-shared.ensures.lock;
+          hall = c.end.ensures.hall ∙ c.begin-shared.ensures.hall;
           rest =
               turn-rests turn;
           met = turn-met turn;

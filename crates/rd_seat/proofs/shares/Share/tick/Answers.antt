@@ -110,7 +110,7 @@ returns g c =
     } in
     record {
       goes_on = record {
-        hall = c.end.ensures.lock ∙ c.begin-shared.ensures.lock;
+        hall = c.end.ensures.hall ∙ c.begin-shared.ensures.hall;
         rest =
             turn-rests turn;
         met = turn-met turn;

@@ -16,7 +16,8 @@ returns-clause-made g c =
       made,
       go-IsOfJob seat.worker (last_place seat.seen) c.now-now.result c.args.job seat.drawn,
       go-made _ _ c.now-now.result c.args.job (is_starved_step c.go-stepped.result)
-          c.go-stepped.new.out sent.0 c.go-stepped.ensures.met c.go-stepped.ensures.made
+          c.go-stepped.new.out sent.0 c.go-stepped.ensures.of_hall c.go-stepped.ensures.met
+          c.go-stepped.ensures.made
           sent.1 sent.2 c.now-now.ensures.gives c.now-now.ensures.words_stay,
       one_count made c.args.tally.now.served c.finish.new.served
           (subst (λ (b : Bool). CountsSendings sent.0 (one_if b) c.args.tally.now.served

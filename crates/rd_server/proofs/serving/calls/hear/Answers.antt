@@ -29,6 +29,7 @@ returns-clause-made g c =
           c.word-word.result c.args.peer c.args.datagram.now result c.hear-heard.new.out sent.0
           refl
           (record {
+            of_hall = c.hear-heard.ensures.of_hall;
             grows = c.hear-heard.ensures.met;
             makes = c.hear-heard.ensures.made;
             leaves = c.hear-heard.ensures.left;

@@ -16,7 +16,8 @@ returns-clause-made g c =
       refl,
       tick-made _ _ (clock_seen g.C.Clock c.now-now.new.self) c.now-now.result
           c.word-word.result (is_starved_step c.tick-stepped.result) c.tick-stepped.new.out
-          sent.0 c.tick-stepped.ensures.met c.tick-stepped.ensures.made sent.1 sent.2
+          sent.0 c.tick-stepped.ensures.of_hall c.tick-stepped.ensures.met
+          c.tick-stepped.ensures.made sent.1 sent.2
           (record {
             moment = c.now-now.ensures.gives;
             words_stay = c.now-now.ensures.words_stay;

@@ -20,7 +20,8 @@ returns-in-Datagram-clause-made g c =
       t,
       turn-made c.args.tally.now.served.heard t _ m _ c.hear_datagram.ensures.made.1 refl refl
           c.in-Datagram.ensures.takes c.in-Datagram.ensures.sent_stays
-          c.in-Datagram.ensures.sends_stand c.hear_datagram.ensures.made.2,
+          c.in-Datagram.ensures.sends_stand c.in-Datagram.ensures.called
+          c.hear_datagram.ensures.made.2,
       CountsTurn-calls t c.args.tally.now.served _ c.hear_datagram.new.tally.served
           refl refl refl refl refl c.hear_datagram.ensures.made.3,
       (tt, c.hear_datagram.ensures.made.2.received ∙ c.in-Datagram.ensures.cause),
@@ -38,7 +39,7 @@ returns-in-TooLong-clause-made g c =
           (long_comes (g.L.Link.coming c.args.link.now) (g.L.Link.coming c.recv.new.self)
           c.recv.new.into c.in-TooLong.ensures.takes)
           c.in-TooLong.ensures.sent_stays c.in-TooLong.ensures.sends_stand
-          c.tick.ensures.made.2,
+          c.in-TooLong.ensures.called c.tick.ensures.made.2,
       CountsTurn-calls t c.args.tally.now.served _ c.tick.new.tally.served
           refl refl refl refl refl c.tick.ensures.made.3,
       (tt, c.tick.ensures.made.2.received ∙ c.in-TooLong.ensures.cause),
@@ -54,7 +55,7 @@ returns-in-Nothing-clause-made g c =
       turn-made c.args.tally.now.served.heard t _ m _
           (record { tick = ticked.0; alone = refl; kind = ticked.1 }) refl refl
           c.in-Nothing.ensures.takes c.in-Nothing.ensures.sent_stays
-          c.in-Nothing.ensures.sends_stand ticked.2,
+          c.in-Nothing.ensures.sends_stand c.in-Nothing.ensures.called ticked.2,
       CountsTurn-calls t c.args.tally.now.served _ c.tick-in-Nothing.new.tally.served
           refl refl refl refl refl ticked.3,
       (tt, ticked.2.received ∙ c.in-Nothing.ensures.cause),
@@ -68,7 +69,7 @@ returns-in-Failed-clause-made g c =
       t,
       turn-made c.args.tally.now.served.heard t _ m m refl refl refl
           c.in-Failed.ensures.takes c.in-Failed.ensures.sent_stays
-          c.in-Failed.ensures.sends_stand (CallsMade-none m),
+          c.in-Failed.ensures.sends_stand c.in-Failed.ensures.called (CallsMade-none m),
       record {
         heard_then = refl;
         sent_then = omega arith;

@@ -1,4 +1,10 @@
-use Rattle.rd_server.proofs.LineDone.{line_done}
+use Rattle.std.proofs.Common.{Err, subst}
+use Rattle.std.proofs.KnownBytes.{Appends-nil}
+use Rattle.line_model.specs.Lines.{line_of}
+use Rattle.trace_model.specs.Steps.{step_of_line}
+use Rattle.rd_server.specs.declared.troubles.Trouble.{Trouble}
+use Rattle.rd_server.specs.Machines.{PerformsFor}
+use Rattle.rd_server.proofs.LineDone.{line_done, line_bad}
 use Rattle.rd_server.proofs.sessions.Session.do_line.Goals as goal
 
 pub returns-in-Ok-clause-done : goal.returns-in-Ok-clause-done
@@ -11,3 +17,13 @@ returns-in-Ok-clause-done g c workers rows st =
           c.args.self.now.pending;
     }) _ _ c.in-Ok.worker c.send.result
     c.in-Some.ensures.1 (c.in-Ok.ensures workers rows st) c.send.ensures.written
+
+pub returns-in-Err-Bad-clause-done : goal.returns-in-Err-Bad-clause-done
+returns-in-Err-Bad-clause-done g c workers rows st =
+    let said = step_of_line workers rows (line_of c.args.line.now) in
+    let done = c.perform.new.machine in (
+      line_bad workers rows said done c.args.self.now.line c.in-Err-Bad.why
+          (subst (λ (t : Trouble). PerformsFor workers rows said done (Err t))
+          c.in-Err-Bad.field-0-is (c.in-Err-Bad.ensures workers rows st)),
+      Appends-nil (g.K.Sink.holds c.args.out.now),
+    )

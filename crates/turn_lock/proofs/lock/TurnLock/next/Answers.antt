@@ -7,6 +7,7 @@ split_seat-requires g c = (
   c.requires.lock,
   omega (arith, c.args.self.now.words),
   splits g.T.Replays.stands g.T.Replays.number g.T.Replays.label
-      (g.T.Replays.label c.args.self.now.table.shared.key.value) c.args.last.now.id
-      c.args.last.now.me.0 c.requires.last c.requires.idle,
+      (g.T.Replays.label c.args.self.now.table.shared.key.value.value)
+      c.args.self.now.table.shared.key.passes c.args.last.now.id c.args.last.now.me.0
+      c.requires.last c.requires.idle c.requires.room,
 )

@@ -1,5 +1,6 @@
-use Rattle.std.proofs.Common.{◌≤◌, List, length, ap, subst, rules}
+use Rattle.std.proofs.Common.{◌≤◌, List, ap, subst, rules}
 use Rattle.history_model.specs.declared.entries.Entry.{Entry}
+use Rattle.history_model.specs.Replay.{counted}
 use Rattle.version_board.specs.Books.{InOrder}
 use Rattle.version_board.proofs.Fronts.{shorter_first}
 use Rattle.version_board.proofs.looker.Looker.newer.Goals as goal
@@ -11,7 +12,7 @@ returns-clause-seen c =
     let shown = c.in-Some-2.shown.front.log in
     let order : InOrder seen shown = subst (λ (one : List Entry). InOrder one shown)
     (ap (λ l. l.seen) c.self.view_is) c.compare.ensures in
-    let le : length seen ≤ length shown = search (
+    let le : counted 0 seen ≤ counted 0 shown = search (
       rules,
       c.entries-entries.ensures,
       c.deref.ensures,

@@ -1,0 +1,50 @@
+//! Lists of lines, with what is to come of all of them in a file beside them.
+
+use crate::came::Came;
+use crate::faults::{Fault, text_of};
+use crate::{desks, recordings, talks};
+use std::alloc::Global;
+use std::sync::Wait;
+
+/// What comes of the lines of a list. `Kind`: there is no such kind of list.
+fn coming<R: Wait + AllocGlobal>(
+    rt: &HostRuntime,
+    waits: &R,
+    kind: &str,
+    file: &str,
+    lines: &str,
+) -> Result<String, Fault> {
+    match kind {
+        "desks" => Ok(desks::coming(rt.alloc(), lines)?),
+        "talks" => Ok(talks::coming(waits, lines)?),
+        "recordings" => recordings::coming(rt, file, lines),
+        _ => Err(Fault::Kind),
+    }
+}
+
+/// Compares what came with what is written. `Differs`: the first line that is not the same.
+fn compare(alloc: Global, written: &str, text: &str) -> Result<(), Fault> {
+    let mut came = Came::new(alloc);
+    came.add(text.as_bytes())?;
+    let mut number = 0u64;
+    'lines: for line in written.lines() {
+        number = number.saturating_add(1);
+        came.tell_line(number, line)?;
+    }
+    came.end(number.saturating_add(1))
+}
+
+/// Runs the list of a kind that stands in a file. `Differs`: the first line of what is written that
+/// is not what came.
+pub fn check<R: Wait + AllocGlobal>(
+    rt: &HostRuntime,
+    waits: &R,
+    kind: &str,
+    file: &str,
+) -> Result<(), Fault> {
+    let lines = text_of(rt, file)?;
+    let text = coming(rt, waits, kind, file, lines.as_str())?;
+    let path = format!(in rt.alloc(); "{file}.out")?;
+    let written = text_of(rt, path.as_str())?;
+    compare(rt.alloc(), written.as_str(), text.as_str())
+}

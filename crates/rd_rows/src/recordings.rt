@@ -1,0 +1,60 @@
+//! Stored captures, with what `rd_capture` makes of them.
+//!
+//! `read FILE WORDS` gives what is written for the file and these words of the command line, a
+//! capture in hexadecimal digits; `fronts FILE` for each length how what comes of so many octets of
+//! the file ends, where it differs from one octet less; `replay FILE WORDS` replays the trace of a
+//! capture and compares what the directory sends with what was captured.
+
+mod case;
+mod fronts;
+mod replays;
+mod runs;
+
+use crate::faults::{Fault, octets_of};
+use case::{Case, Verb};
+use fronts::fronts_text;
+use replays::replay_text;
+use runs::run_text;
+
+/// What comes of a case whose file lies in a folder.
+fn text_of(rt: &HostRuntime, folder: &str, case: &Case) -> Result<String, Fault> {
+    let name = case.file.as_str();
+    let path = format!(in rt.alloc(); "{folder}/{name}")?;
+    let file = octets_of(rt, path.as_str())?;
+    let file = file.as_slice();
+    match case.verb {
+        Verb::Read => run_text(rt.alloc(), case.words.as_slice(), file),
+        Verb::Fronts => fronts_text(rt.alloc(), case.words.as_slice(), file),
+        Verb::Replay => replay_text(rt.alloc(), case.words.as_slice(), file),
+    }
+}
+
+/// Adds a line, and what comes of it.
+fn add(
+    rt: &HostRuntime,
+    text: &mut String,
+    folder: &str,
+    number: u64,
+    line: &str,
+) -> Result<(), Fault> {
+    let case = Case::read(rt.alloc(), number, line)?;
+    let coming = text_of(rt, folder, &case)?;
+    writeln!(text, "{line}")?;
+    text.push_str(coming.as_str())?;
+    Ok(())
+}
+
+/// What comes of the lines of a list, in whose folder their files lie. Empty lines and those that
+/// begin with `#` are passed over. `Form`, with the number of the line: it is no case.
+pub(crate) fn coming(rt: &HostRuntime, list: &str, lines: &str) -> Result<String, Fault> {
+    let (folder, _) = list.split_once('/').unwrap_or((".", list));
+    let mut text = String::new(rt.alloc());
+    let mut number = 0u64;
+    'lines: for line in lines.lines() {
+        number = number.saturating_add(1);
+        if !line.is_empty() && !line.starts_with('#') {
+            add(rt, &mut text, folder, number, line)?;
+        }
+    }
+    Ok(text)
+}

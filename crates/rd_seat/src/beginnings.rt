@@ -1,0 +1,60 @@
+//! The turn in which a run begins.
+ghost use Rattle.std.specs.Prelude.{◌≡◌, ◌≤◌, ◌^◌, []};
+ghost use Rattle.rd_desk.specs.calls.Stepping.{is_starved_step};
+ghost use Rattle.turn_lock.specs.Shown.{id_of, lock_of};
+ghost use Rattle.rd_seat.specs.Shares.{Rests, HasTurned};
+ghost use Rattle.rd_seat.specs.Steps.{begin_step};
+
+use crate::gates::{Gate, Place};
+use crate::shared_desk::SharedDesk;
+use crate::shares::Share;
+use crate::turns::{begin, end};
+use rd_base::Moment;
+use rd_desk::{Mids, Stepped};
+use std::marker::Brand;
+use std::snapshot::Snapshot;
+use std::sync::Wait;
+use turn_lock::TurnLock;
+
+/// All that the row is made of.
+#[derive(Drop)]
+struct Parts {
+    mids: Snapshot<Mids>,
+    now: Moment,
+    first: u64,
+    stepped: Stepped,
+}
+
+impl Share {
+    /// The step in which a run begins above `first`, at a turn.
+    pub(crate) fn begin<R: Wait, G: Gate>(
+        &mut self,
+        rt: &R,
+        lock: &TurnLock<SharedDesk>,
+        gate: &G,
+        now: Moment,
+        first: u64,
+    ) -> Stepped
+        requires lock { lock_of self.old.pass ≡ id_of lock.now }
+        requires rest { Rests self.old }
+        requires moment { now.0 ≤ 10 ^ 15 }
+        ensures { HasTurned self.old (begin_step self.old.mids.worker now first self.old.mids.drawn)
+            (is_starved_step result) [] self.new }
+    {
+        gate.pass(rt, Place::BeforeTake);
+        let mut shared = begin(rt, lock, &mut self.pass, &mut self.looker);
+        gate.pass(rt, Place::Holding);
+        let mids = Snapshot::of(&self.mids);
+        let stepped = shared.desk.begin(now, first, &self.mids);
+        self.last = self.last.later(shared.desk.moment());
+        let parts = Parts {
+            mids,
+            now,
+            first,
+            stepped,
+        };
+        end::<Brand, Brand, R, Parts>(rt, lock, &mut self.pass, &mut self.looker, shared, &parts);
+        gate.pass(rt, Place::AfterGive);
+        stepped
+    }
+}

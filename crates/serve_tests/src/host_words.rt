@@ -1,0 +1,97 @@
+//! What words of the command line of `rd_host` want.
+use hosting::{HostFault, HostPlan, Wanted, host_words};
+use rd_base::peer_text;
+use std::alloc::Global;
+use std::fmt::Write;
+use std::test::Fail;
+
+/// What the words behind it want: workers, turns, addresses and where the run begins, if that is
+/// said; or nothing since they are refused.
+const WORDS: &str = "\
+4 1000000000000 192.0.2.1:5683 | --listen 192.0.2.1:5683
+4 1000000000000 [2001:db8::1]:61616 | --listen=[2001:db8::1]:61616
+1 7 127.0.0.1:1 [::1]:65535 | --workers 1 --listen=127.0.0.1:1 --turns=7 --listen [::1]:65535
+8 1000000000000 0.0.0.0:5683 [::]:5684 | --listen=0.0.0.0:5683 --listen=[::]:5684 --workers=8
+4 1000000000000 127.0.0.1:1 127.0.0.1:1 | --listen=127.0.0.1:1 --listen=127.0.0.1:1
+3 1 1.1.1.1:1 1.1.1.1:2 1.1.1.1:3 1.1.1.1:4 1.1.1.1:5 | --turns=1 --listen=1.1.1.1:1 \
+--listen=1.1.1.1:2 --listen=1.1.1.1:3 --listen=1.1.1.1:4 --listen=1.1.1.1:5
+4 1000000000000 127.0.0.1:1 above 1 | --listen=127.0.0.1:1 --begin 1
+1 2 127.0.0.1:1 above 100000000000000 | --begin=100000000000000 --turns 2 --listen=127.0.0.1:1 \
+--workers=1
+help | --help
+help | -h
+version | --version
+version | -V
+refused |
+refused | --workers=1
+refused | --listen=0.0.0.0:5683 --listen=[::]:5684 --workers=9
+refused | --listen=127.0.0.1:1 --workers=17
+refused | --listen=127.0.0.1:1 --workers=0
+refused | --listen=127.0.0.1:1 --workers=01
+refused | --listen=127.0.0.1:1 --workers=1 --workers=1
+refused | --listen=127.0.0.1:1 --turns=0
+refused | --listen=127.0.0.1:1 --turns=1000000000001
+refused | --listen=127.0.0.1:1 --turns=1 --turns=1
+refused | --listen=127.0.0.1:1 --begin=0
+refused | --listen=127.0.0.1:1 --begin=100000000000001
+refused | --listen=127.0.0.1:1 --begin=1 --begin=1
+refused | --begin=1
+refused | --listen=127.0.0.1:1 --begin
+refused | --listen=127.0.0.1:0
+refused | --listen=127.0.0.1:65536
+refused | --listen=127.0.0.1
+refused | --listen=:5683
+refused | --listen=localhost:5683
+refused | --listen=::1:5683
+refused | --listen=[0:0::1]:5683
+refused | --listen=[fe80::1%eth0]:5683
+refused | --listen
+refused | --listen --listen=127.0.0.1:1
+refused | --listen=127.0.0.1:1 --port=1
+refused | --listen=127.0.0.1:1 --help
+refused | --help --help
+refused | --version --listen=127.0.0.1:1
+refused | 127.0.0.1:1";
+
+/// A plan, as a row of the table has it.
+fn told(alloc: Global, plan: &HostPlan) -> Result<String, Fail> {
+    let HostPlan {
+        listen,
+        workers,
+        turns,
+        begin,
+    } = plan;
+    let mut text = format!(in alloc; "{workers} {turns}")?;
+    for address in listen.as_slice() {
+        let address = peer_text(alloc, address)?;
+        write!(text, " {}", address.as_str())?;
+    }
+    if let Some(begin) = begin {
+        write!(text, " above {begin}")?;
+    }
+    Ok(text)
+}
+
+/// What words want, which are cut at spaces.
+fn answer(alloc: Global, line: &str) -> Result<String, Fail> {
+    let mut words = Vec::new(alloc);
+    for word in line.split(' ').filter(|word| !word.is_empty()) {
+        words.push(String::from_str(alloc, word)?)?;
+    }
+    Ok(match host_words(alloc, words.as_slice()) {
+        Ok(Wanted::Serve(plan)) => told(alloc, &plan)?,
+        Ok(Wanted::Help) => String::from_str(alloc, "help")?,
+        Ok(Wanted::Version) => String::from_str(alloc, "version")?,
+        Err(HostFault::Usage) => String::from_str(alloc, "refused")?,
+        Err(HostFault::Starved) => String::from_str(alloc, "out of memory")?,
+    })
+}
+
+#[test]
+fn words_name_addresses(rt: HostRuntime) -> Result<(), Fail> {
+    for line in WORDS.lines() {
+        let (wanted, words) = line.split_once(" |").unwrap_or((line, ""));
+        assert_eq!(rt; answer(rt.alloc(), words)?.as_str(), wanted, "{line}");
+    }
+    Ok(())
+}

@@ -1,0 +1,2 @@
+-- how many messages ended so far
+pub mod HeedingLaws

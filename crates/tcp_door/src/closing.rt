@@ -1,0 +1,75 @@
+//! How a connection is read from and written to, and how it ends.
+ghost use Rattle.std.specs.Prelude.{◌≡◌, ◌≤◌, length, IfOk};
+
+use crate::stopwatch::Stopwatch;
+use std::io;
+use std::io::{ErrorKind, Read, Write};
+use std::net::{Shutdown, TcpStream};
+use std::time::Clock;
+
+/// The microseconds for which a connection that ends is read from.
+const CLOSING_LIMIT: u64 = 2_000_000;
+
+/// The octets that are read then, and dropped.
+const MOST_DROPPED: usize = 64 * 1024;
+
+/// The octets that one reading drops at most.
+const ROOM: usize = 4096;
+
+/// Returns whether an error of a reading is no fault of the connection: nothing came in time, or a
+/// signal interrupted the wait (the system restarts no call that has a time limit).
+pub(crate) fn is_pause(kind: ErrorKind) -> bool {
+    matches!(kind, ErrorKind::WouldBlock | ErrorKind::Interrupted)
+}
+
+/// Reads once.
+pub(crate) fn read_once(stream: &TcpStream, into: &mut [u8]) -> io::Result<usize>
+    ensures within { IfOk result (λ n. n ≤ length into.new) }
+    ensures size { length into.new ≡ length into.old }
+{
+    let mut end = stream;
+    end.read(into)
+}
+
+/// Writes, and begins again where a signal interrupted it.
+pub(crate) fn write_some(stream: &TcpStream, piece: &[u8]) -> io::Result<usize>
+    ensures { IfOk result (λ n. n ≤ length piece.now) }
+{
+    let mut end = stream;
+    'writings: for _ in 0..u64::MAX {
+        match end.write(piece) {
+            Err(error) if error.kind() == ErrorKind::Interrupted => {}
+            written => return written,
+        }
+    }
+    Err(io::Error::from(ErrorKind::Interrupted))
+}
+
+/// Reads and drops what still comes, up to the peer's end, for at most two seconds or 64 KiB, so
+/// that what was written is delivered: a system that closes a connection with octets that were not
+/// read resets it, and the peer may lose what it did not read yet (RFC 1122 section 4.2.2.13).
+fn drain<R: Clock>(stream: &TcpStream, stopwatch: &mut Stopwatch<R>) {
+    let mut room = [0u8; ROOM];
+    let mut left = MOST_DROPPED;
+    let mut waited = 0u64;
+    let _ = stopwatch.lap();
+    'readings: for _ in 0..u64::MAX {
+        match read_once(stream, &mut room) {
+            Ok(0) => return,
+            Ok(count) => left = left.saturating_sub(count),
+            Err(error) if is_pause(error.kind()) => {}
+            Err(_) => return,
+        }
+        waited = waited.saturating_add(stopwatch.lap());
+        if left == 0 || waited >= CLOSING_LIMIT {
+            return;
+        }
+    }
+}
+
+/// Ends a connection: nothing more is written, and what still comes is dropped for a while.
+pub(crate) fn close<R: Clock>(stream: &TcpStream, stopwatch: &mut Stopwatch<R>) {
+    if stream.shutdown(Shutdown::Write).is_ok() {
+        drain(stream, stopwatch);
+    }
+}

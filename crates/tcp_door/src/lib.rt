@@ -1,0 +1,18 @@
+//! Connections over TCP as a server takes them (RFC 8323): how they are accepted, how long a peer
+//! may send no message, and how they end.
+#![tactic(auto)]
+
+mod accepting;
+mod closing;
+mod heeding;
+mod listening;
+mod patience;
+mod peers;
+mod sinks;
+mod sources;
+mod stopwatch;
+
+pub use accepting::{TcpAccept, TcpConnection};
+pub use peers::peer_of_connection;
+pub use sinks::TcpSink;
+pub use sources::TcpSource;

@@ -1,0 +1,54 @@
+//! The calls of a link in memory, in their order. Contracts alone see them.
+ghost use Rattle.std.specs.Prelude.{◌≡◌, ◌∷◌, []};
+
+use crate::LinkCall;
+use std::fmt;
+use std::marker::Model;
+use std::snapshot::Snapshot;
+
+/// The calls that were made so far. Contracts see them as a list, the last first. All but the last
+/// have no octets.
+#[derive(Drop)]
+pub(crate) struct LinkOrder {
+    last: Option<(LinkCall, Snapshot<LinkOrder>)>,
+}
+
+impl Model for LinkOrder {
+    ghost use Rattle.std.specs.Prelude.{List, length};
+    ghost use Rattle.udp_link.specs.declared.links.LinkCall.{LinkCall};
+    ghost use Rattle.udp_link.specs.Orders.{order_shown};
+
+    ghost Value = { List LinkCall };
+
+    ghost size = { λ order. length order };
+
+    ghost view = { λ order. order_shown (λ before. before.value) order.last };
+}
+
+impl LinkOrder {
+    /// No call was made.
+    pub(crate) fn new() -> LinkOrder
+        ensures { result ≡ [] }
+    {
+        LinkOrder { last: None }
+    }
+
+    /// One more was made.
+    pub(crate) fn add(&mut self, call: LinkCall)
+        ensures { self.new ≡ call ∷ self.old }
+    {
+        let before = Snapshot::of(self);
+        self.last = Some((call, before));
+    }
+}
+
+impl fmt::Debug for LinkOrder {
+    /// Shows the last call.
+    fn fmt<W: fmt::Write>(&self, f: &mut fmt::Formatter<W>) -> fmt::Result {
+        match &self.last {
+            Some((LinkCall::Receive, _)) => f.write_str("Receive"),
+            Some((LinkCall::Send, _)) => f.write_str("Send"),
+            None => f.write_str("None"),
+        }
+    }
+}
