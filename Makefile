@@ -20,6 +20,11 @@ SEED = 1
 # The random traces of `make cases`.
 COUNT = 10000
 
+# How many checks of the gate run side by side: one a processor, as long as there are 4.5 GB for each.
+# Without this word `rt ci` reckons with three times the memory that its checks take, and waits.
+LANES = $(shell awk -v most="$$(nproc)" '/^MemAvailable:/ { n = int($$2 / 4500000); \
+	print n < 1 ? 1 : n < most ? n : most }' /proc/meminfo)
+
 .PHONY: demo serve build clients hostile soak judges cases planted unit examples bench edits test
 
 demo:
@@ -87,7 +92,7 @@ examples: build
 	@python3 examples/refusals.py
 	@python3 docs/check.py
 
-bench: build-rd_serve
+bench: build-rd_serve build-rd_host
 	@for program in rd_bench rd_replay; do \
 		(cd crates/$$program && rt run -- $$(cat args 2>/dev/null) < stdin > out.bench 2>&1) \
 			|| { cat crates/$$program/out.bench; rm -f crates/$$program/out.bench; exit 1; }; \
@@ -96,7 +101,8 @@ bench: build-rd_serve
 	@bin/rd_bench > /dev/null
 	@python3 bench/traces.py --table bench/figures/traces.tsv bin/rd_replay
 	@python3 bench/plain.py bin/rd_replay
-	@python3 bench/serve.py --table bench/figures/serve.tsv bin/rd_serve
+	@python3 bench/calls.py
+	@python3 bench/serve.py --table bench/figures/serve.tsv bin/rd_serve bin/rd_host
 	@python3 bench/streams.py bin/rd_serve
 	@python3 bench/memory.py --table bench/figures/memory.tsv
 	@python3 bench/plot.py
@@ -105,4 +111,4 @@ edits:
 	@python3 gate/edits.py
 
 test:
-	@rt ci; status=$$?; python3 gate/edits.py --check || test $$status -ne 0 || status=1; exit $$status
+	@RT_JOBS=$(LANES) rt ci; status=$$?; python3 gate/edits.py --check || test $$status -ne 0 || status=1; exit $$status

@@ -1,8 +1,9 @@
 #!/usr/bin/env python3
-"""What the server costs: `bench/serve.py [--quick] [--table FILE] [PROGRAM]`.
+"""What the server costs: `bench/serve.py [--quick] [--table FILE] [PROGRAM [HOST]]`.
 
 rd_serve is measured on 127.0.0.1 beside coap-rd of libcoap and beside a plain echo of datagrams
-(bench/echo.c), under requests of bench/load.c; both are built into bin/. The table has a row for
+(bench/echo.c), under requests of bench/load.c; both are built into bin/. rd_host is measured beside
+rd_serve, where it is named. The table has a row for
 each figure: what it is, what it is compared with, how many times that it is, what is wanted, and
 whether that holds. Figures in us are processor time of the server for each answered request, user
 and system, as the kernel counts it in nanoseconds (/proc/PID/task/*/schedstat). What is compared
@@ -31,6 +32,7 @@ from dataclasses import dataclass
 from pathlib import Path
 from typing import Callable, Iterator
 
+from calls import without_bounds
 from tables import Figure, write_table
 
 HERE = Path(__file__).resolve().parent
@@ -233,6 +235,13 @@ def rd_serve(program: str, workers: int = 1, places: list[int] | None = None):
                           LOOKUP, "class2", places)
 
 
+def rd_host(program: str):
+    """How rd_host is made, with one worker and without bounds of a sender."""
+    bounds = without_bounds(program)
+    return lambda: Server(lambda port: [program, "--listen", f"{HOST}:{port}", "--workers", "1",
+                                        *bounds], LOOKUP, "class2")
+
+
 def coap_rd(program: str):
     """How libcoap's directory is made, which is to log nothing."""
     return lambda: Server(lambda port: [program, "-A", HOST, "-p", str(port), "-v", "0"],
@@ -319,6 +328,17 @@ def print_lookups(program: str, libcoap: str) -> list[Figure]:
         print_cost(name, ours, "coap-rd", other[0], 0.1)
     print_cost(name, ours, "echo", plain, 3)
     return figures_of(BY_SIZE, "rd_serve", [SOME], [ours])
+
+
+def print_host(program: str, host: str):
+    """Lookups and registrations of rd_host beside those of rd_serve."""
+    def register(server: Server, _: int) -> Answers:
+        return server.load(REGISTRATION, WRITES, FEW)
+
+    for name, measure in (("a lookup of rd_host", looked_up),
+                          ("a registration at rd_host", register)):
+        ours, plain = cost([rd_host(host), rd_serve(program)], measure)
+        print_row(name, f"{ours:.2f} us", f"rd_serve {plain:.2f} us", ours / plain, "", None)
 
 
 def print_ports(program: str) -> list[Figure]:
@@ -427,7 +447,7 @@ def print_idle(program: str):
               seconds < 1)
 
 
-def print_table(program: str, libcoap: str, is_quick: bool) -> list[Figure]:
+def print_table(program: str, host: str, libcoap: str, is_quick: bool) -> list[Figure]:
     """Measures all, prints the table, and gives the figures that are drawn."""
     print(COLUMNS.format("", "", "beside", "times", "wanted", "holds"))
     with running(rd_serve(program)) as full:
@@ -436,6 +456,8 @@ def print_table(program: str, libcoap: str, is_quick: bool) -> list[Figure]:
         if libcoap:
             print_registrations(program, libcoap)
         figures = print_lookups(program, libcoap)
+        if host:
+            print_host(program, host)
         figures += print_ports(program)
         figures += print_sizes(program)
         print_workers(program)
@@ -472,19 +494,21 @@ def build():
 def main():
     parser = argparse.ArgumentParser(description="What the server costs.")
     parser.add_argument("program", nargs="?", default="bin/rd_serve")
+    parser.add_argument("host", nargs="?", default="")
     parser.add_argument("--table", type=Path, metavar="FILE", help="writes what is drawn")
     parser.add_argument("--quick", action="store_true", help="without the row that takes minutes")
     words = parser.parse_args()
     signal.signal(signal.SIGTERM, lambda *_: sys.exit(1))
-    program = str(Path(words.program).resolve())
-    if not os.access(program, os.X_OK):
-        sys.exit(f"{words.program} is not there: make build")
+    program, host = (str(Path(it).resolve()) if it else "" for it in (words.program, words.host))
+    for it in filter(None, (program, host)):
+        if not os.access(it, os.X_OK):
+            sys.exit(f"{it} is not there: make build")
     builds = ["coap-rd", "coap-rd-notls", "coap-rd-openssl", "coap-rd-gnutls"]
     libcoap = next(filter(shutil.which, builds), "")
     build()
     print_head(libcoap)
     try:
-        figures = print_table(program, libcoap, words.quick)
+        figures = print_table(program, host, libcoap, words.quick)
         if words.table:
             figures += measured_beside(libcoap) if libcoap else []
             write_table(words.table, [HEAD.format(len(processors()))], figures)
