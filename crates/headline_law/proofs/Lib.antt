@@ -50,8 +50,8 @@
 -- that each datagram can be read and fits, and that what is formed is sent).
 --   datagrams: DatagramLaws, the sentence.
 --
--- WrongRows, WrongDatagrams and WrongSources: rows with wrong answers, none of which has the
--- headline.
+-- WrongRows, WrongDatagrams, WrongSources and WrongBeginnings: rows with wrong answers or entries,
+-- none of which has the headline.
 --
 -- desks: TraceJournals (a journal of a trace is one of a desk).
 --
@@ -68,6 +68,7 @@ pub mod HeadlineLaw
 pub mod WrongRows
 pub mod WrongEntries
 pub mod WrongBodies
+pub mod WrongBeginnings
 pub mod WrongDatagrams
 pub mod WrongSources
 pub mod Restarts
