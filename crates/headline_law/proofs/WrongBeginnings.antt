@@ -1,6 +1,6 @@
 -- Rows with a wrong beginning of a run: none of them has the headline. Beside each datagram its
 -- parts are shown: type, code, Message ID, token, options, payload.
-use Rattle.std.proofs.Common.{◌≡◌, inl, inr, ℕ, Bool, true, false, List, [], ◌∷◌, Option, Some}
+use Rattle.std.proofs.Common.{◌≡◌, inl, inr, ℕ, Bool, false, List, [], ◌∷◌, Option, Some}
 use Rattle.std.proofs.Common.{codes, refl, sym, ap, subst, ◌∙◌, arith}
 use Rattle.std.proofs.lemmas.Option.{same_Some}
 use Rattle.message_model.specs.declared.messages.Kind4.TheVariants.{Con}
@@ -25,7 +25,7 @@ use Rattle.journal_model.specs.PlacedRows.{Placed}
 use Rattle.journal_model.specs.Sought.{Sought, listing_of}
 use Rattle.journal_model.specs.Sought as seeking
 use Rattle.journal_model.specs.AskedListings.{Asked}
-use Rattle.journal_model.specs.CarriedBlocks.{IsBlockOf, Sent, FormedAs}
+use Rattle.journal_model.specs.CarriedBlocks.{IsBlockOf, FormedAs}
 use Rattle.journal_model.specs.Headline.{Headline}
 use Rattle.journal_model.proofs.OnLiterals.{machine_on_literals}
 use Rattle.headline_law.proofs.WrongRows.{row_of, lookup, answer}
