@@ -1,9 +1,9 @@
 //! Replays of which one call after another fails: of the source, the output, or the error sink.
 
 use rd_base::{Bytes, MemSink, MemSource, Starved, SureSink};
-use rd_server::{LineBad, Reason, Status, replay};
 use std::alloc::Global;
 use std::test::Fail;
+use trace_replay::{LineBad, Reason, Status, replay};
 
 /// A line by which nothing is done.
 const GO: &[u8] = b"go 0 6\n";

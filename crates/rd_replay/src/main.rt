@@ -2,8 +2,8 @@
 #![tactic(auto)]
 
 use rd_base::{StdSink, StdSource};
-use rd_server::{Status, WordsFault, given_words, replay, report};
 use std::process::ExitCode;
+use trace_replay::{Status, WordsFault, given_words, replay, report};
 
 fn main(rt: HostRuntime) -> ExitCode {
     let mut err = StdSink::of(rt.stderr());

@@ -6,8 +6,8 @@ use crate::faults::{Fault, text_of};
 use crate::reading::read_case;
 use crate::stories::check_steps;
 use rd_base::{Bytes, MemSink, MemSource};
-use rd_server::{Status, replay};
 use std::alloc::Global;
+use trace_replay::{Status, replay};
 
 /// The status of a replay and what it said, as a case writes them: nothing where all is well.
 fn status_text(alloc: Global, status: Status, said: &[u8]) -> Result<String, Fault> {

@@ -1,14 +1,14 @@
 //! A case whose output stands between its steps: each line stands behind the step that writes it.
 ghost use Rattle.std.specs.Prelude.{IfOk};
 ghost use Rattle.line_model.specs.Lines.{IsLine};
-ghost use Rattle.rd_server.specs.Machines.{IsMachine};
+ghost use Rattle.trace_replay.specs.Machines.{IsMachine};
 
 use crate::came::Came;
 use crate::case::{Case, Kind};
 use crate::faults::Fault;
 use rd_base::Starved;
-use rd_server::{Machine, Trouble};
 use std::alloc::Global;
+use trace_replay::{Machine, Trouble};
 use trace_text::{Line, LineFault, line_read};
 
 /// The workers of the directory: the most that a trace may name.

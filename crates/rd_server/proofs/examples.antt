@@ -1,2 +1,1 @@
-mod WordExamples
 mod ServingExamples

@@ -1,17 +1,3 @@
--- options of a command line, the words of both programs
-pub mod Options
-pub mod Words
--- what a machine and a session stand for, what is counted of a made trace (this project's trace
--- format)
-pub mod CommandLines
-pub mod Sessions
 -- the turns of a worker, the calls that follow a receive, what they send and count, how a service
 -- and a server end (RFC 7252 section 4); the words of a server
 pub mod serving
--- what these are made of
-pub mod Fields
-pub mod Journal
-pub mod Machines
-pub mod Endings
-pub mod MadeRuns
-pub mod Faults

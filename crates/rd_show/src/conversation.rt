@@ -1,7 +1,7 @@
 //! The conversation of a trace with the directory, line by line.
 ghost use Rattle.std.specs.Prelude.{◌≤◌, IfOk};
 ghost use Rattle.line_model.specs.Lines.{IsLine};
-ghost use Rattle.rd_server.specs.Machines.{IsMachine};
+ghost use Rattle.trace_replay.specs.Machines.{IsMachine};
 
 use super::changes::Change;
 use super::forms::Form;
@@ -9,9 +9,9 @@ use super::pending::Pending;
 use super::repeats::{Arrivals, Sendings};
 use super::serving::Serving;
 use rd_base::Starved;
-use rd_server::{Machine, Status, Trouble};
 use show_text::Asked;
 use std::alloc::Global;
+use trace_replay::{Machine, Status, Trouble};
 use trace_text::{Line, LineBad, LineFault, Reason, line_read};
 
 /// A trace in the middle of being shown.

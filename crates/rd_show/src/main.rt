@@ -3,7 +3,7 @@
 #![tactic(auto)]
 
 ghost use Rattle.std.specs.Prelude.{◌≤◌};
-ghost use Rattle.rd_server.specs.Machines.{IsMachine};
+ghost use Rattle.trace_replay.specs.Machines.{IsMachine};
 
 mod changes;
 mod conversation;
@@ -21,10 +21,10 @@ mod stops;
 use clap::Error;
 use conversation::Conversation;
 use rd_base::{Got, Source, StdSink, StdSource};
-use rd_server::{Status, WordsFault, given_words, report};
 use show_text::{Asked, Otherwise, words_read};
 use std::process::ExitCode;
 use stops::Stop;
+use trace_replay::{Status, WordsFault, given_words, report};
 
 /// What is said where the words are not those of the program.
 const USAGE: &str = "usage: rd_show [--workers N] [--mermaid]\n";

@@ -1,8 +1,8 @@
 //! Why the program stops before the trace ends.
 
 use rd_base::Starved;
-use rd_server::Status;
 use std::io::{self, ErrorKind};
+use trace_replay::Status;
 
 /// Why the program stops before all of the trace is shown.
 #[derive(Clone, Copy, Debug, PartialEq, Eq)]

@@ -3,8 +3,8 @@
 use super::runs::{run, source_of};
 use crate::faults::Fault;
 use rd_base::{Bytes, MemSink};
-use rd_server::replay;
 use std::alloc::Global;
+use trace_replay::replay;
 
 /// The word by which what was sent is written.
 const REPLIES: &str = "--replies";

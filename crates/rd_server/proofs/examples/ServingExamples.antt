@@ -23,7 +23,7 @@ use Rattle.line_model.specs.Numbers.{number_of}
 use Rattle.journal_model.specs.Machine.{Job}
 use Rattle.rd_server.specs.declared.serving.served.Served.{Served}
 use Rattle.rd_server.specs.declared.serving.served.ServeFault.TheVariants as fault
-use Rattle.rd_server.specs.Options.{words_after}
+use Rattle.trace_replay.specs.Options.{words_after}
 use Rattle.rd_seat.specs.Callers.{DoesJob}
 use Rattle.rd_server.specs.serving.Calls.{Call}
 use Rattle.rd_server.specs.serving.Sendings.{Sending}

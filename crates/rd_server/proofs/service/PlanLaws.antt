@@ -6,8 +6,8 @@ use Rattle.journal_model.specs.DeskJournal.{max_workers}
 use Rattle.rd_server.specs.declared.serving.plans.ServeAsked.{ServeAsked}
 use Rattle.rd_server.specs.declared.serving.plans.ServeOption.{ServeOption}
 use Rattle.rd_server.specs.declared.serving.plans.ServeOption.TheVariants as serve_option
-use Rattle.rd_server.specs.Options.{words_after}
-use Rattle.rd_server.specs.Words.{IsWithin, count_of, once}
+use Rattle.trace_replay.specs.Options.{words_after}
+use Rattle.trace_replay.specs.Words.{IsWithin, count_of, once}
 use Rattle.rd_server.specs.serving.Plans.{
   IsPlan,
   given,
@@ -20,8 +20,8 @@ use Rattle.rd_server.specs.serving.Plans.{
   option_of,
   plan_of,
 }
-use Rattle.rd_server.proofs.OptionSteps.{kept}
-use Rattle.rd_server.proofs.OptionValues.{default_within, once_within}
+use Rattle.trace_replay.proofs.OptionSteps.{kept}
+use Rattle.trace_replay.proofs.OptionValues.{default_within, once_within}
 
 record IsAsked (asked : ServeAsked) : Type 0 where
   port : IsWithin max_port asked.port

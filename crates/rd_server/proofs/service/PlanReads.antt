@@ -13,7 +13,7 @@ use Rattle.clap.specs.declared.error.kind.ErrorKind.TheVariants.{OutOfMemory}
 use Rattle.clap.proofs.OnLiterals.{clap_on_literals}
 use Rattle.clap.proofs.WalkLemmas.{first_value-rows}
 use Rattle.journal_model.specs.DeskJournal.{max_workers}
-use Rattle.rd_server.proofs.OptionValues.{found}
+use Rattle.trace_replay.proofs.OptionValues.{found}
 use Rattle.rd_server.specs.declared.serving.plans.ServePlan.{ServePlan}
 use Rattle.rd_server.specs.serving.Plans.{
   HasPlan,

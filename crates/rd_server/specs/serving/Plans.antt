@@ -20,15 +20,15 @@ use Rattle.clap.specs.declared.parser.matches.ArgMatches.{ArgMatches}
 use Rattle.clap.specs.declared.error.Error.{Error}
 use Rattle.clap.specs.declared.error.kind.ErrorKind.TheVariants.{OutOfMemory}
 use Rattle.journal_model.specs.DeskJournal.{max_workers}
-use Rattle.rd_server.specs.declared.words.WordsFault.{WordsFault}
-use Rattle.rd_server.specs.declared.words.WordsFault.TheVariants as fault
+use Rattle.trace_replay.specs.declared.words.WordsFault.{WordsFault}
+use Rattle.trace_replay.specs.declared.words.WordsFault.TheVariants as fault
 use Rattle.rd_server.specs.declared.serving.plans.ServePlan.{ServePlan}
 use Rattle.rd_server.specs.declared.serving.plans.ServeAsked.{ServeAsked}
 use Rattle.rd_server.specs.declared.serving.plans.ServeOption.{ServeOption}
 use Rattle.rd_server.specs.declared.serving.plans.ServeOption.TheVariants as serve_option
-use Rattle.rd_server.specs.Fields.{◌>>=◌}
-use Rattle.rd_server.specs.Options.{words_after}
-use Rattle.rd_server.specs.Words.{IsWithin, count_of, number_found, once}
+use Rattle.trace_replay.specs.Fields.{◌>>=◌}
+use Rattle.trace_replay.specs.Options.{words_after}
+use Rattle.trace_replay.specs.Words.{IsWithin, count_of, number_found, once}
 
 -- the last port of UDP (RFC 768)
 abbrev pub max_port : ℕ

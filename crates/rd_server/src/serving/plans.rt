@@ -5,12 +5,11 @@ ghost use Rattle.rd_server.specs.serving.Plans as spec;
 ghost use Rattle.rd_server.specs.declared.serving.plans.ServeOption.TheVariants as serve_option;
 ghost use Rattle.rd_server.specs.serving.Plans.{IsPlan, IsPlanRead, ReadsPlan, plan_said};
 
-use crate::options::{Asked, words_ask};
-use crate::words::{WordsFault, count_of};
 use clap::{Arg, ArgMatches, Command, Error};
 use journal_model::limits::MAX_WORKERS;
 use rd_base::Starved;
 use std::alloc::Global;
+use trace_replay::{Asked, WordsFault, count_of, words_ask};
 
 /// The last port of UDP (RFC 768).
 const MAX_PORT: u64 = 65_535;

@@ -1,4 +1,4 @@
-use Rattle.rd_server.specs.Machines.{IsMachine}
+use Rattle.trace_replay.specs.Machines.{IsMachine}
 use Rattle.rd_show.proofs.show_trace.Given as goal
 
 -- the machine stands after a journal

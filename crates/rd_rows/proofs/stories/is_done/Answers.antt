@@ -1,8 +1,8 @@
 -- What a line leaves of the machine: it is after some journal again.
 use Rattle.std.proofs.Common.{Ok, Err, ap, ◌∙◌, subst}
 use Rattle.trace_model.specs.Steps.{step_of_line}
-use Rattle.rd_server.specs.Machines.{Performs}
-use Rattle.rd_server.proofs.MachineLaws.{done-IsMachine, bad-IsMachine}
+use Rattle.trace_replay.specs.Machines.{Performs}
+use Rattle.trace_replay.proofs.MachineLaws.{done-IsMachine, bad-IsMachine}
 use Rattle.rd_rows.proofs.stories.is_done.Goals as goal
 
 pub returns-in-Ok : goal.returns-in-Ok

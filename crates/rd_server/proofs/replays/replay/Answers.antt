@@ -1,5 +1,0 @@
-use Rattle.headline_law.proofs.HeadlineLaw.{trace-Headline}
-use Rattle.rd_server.proofs.replays.replay.Goals as goal
-
-pub returns-clause-headline : goal.returns-clause-headline
-returns-clause-headline g c workers bytes = trace-Headline workers bytes
