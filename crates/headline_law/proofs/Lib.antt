@@ -71,3 +71,5 @@ pub mod WrongBodies
 pub mod WrongDatagrams
 pub mod WrongSources
 pub mod Restarts
+pub mod MomentLaws
+pub mod origins

@@ -1,0 +1,3 @@
+pub mod NoteOrigins
+pub mod InventionLaws
+pub mod KeptAnswerLaws

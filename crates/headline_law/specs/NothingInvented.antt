@@ -1,0 +1,93 @@
+-- A sentence of the headline, of what is fetched and uploaded: nothing is invented (RFC 9176 section
+-- 5.1, RFC 7959 sections 2.4 and 2.5).
+use Rattle.std.specs.Prelude.{◌≡◌, true, ℕ, ◌+◌, ◌<◌, List, length, Option, Some}
+use Rattle.std.specs.List.{IsAmong}
+use Rattle.rd_base.specs.declared.peers.Peer.{Peer}
+use Rattle.rd_base.specs.declared.parameters.RegParams.{RegParams}
+use Rattle.message_model.specs.declared.blocks.Block.{Block}
+use Rattle.message_model.specs.Request.{queries_in}
+use Rattle.message_model.specs.RequestKey.{key_in}
+use Rattle.message_model.specs.Responses.{block_in, tag_in}
+use Rattle.record_model.specs.Parameters.{registration_values}
+use Rattle.event_model.specs.declared.notes.Note.TheVariants as note
+use Rattle.journal_model.specs.declared.steps.Step.{Step}
+use Rattle.journal_model.specs.declared.rows.Row.{Row}
+use Rattle.journal_model.specs.Requests.{sent_block}
+use Rattle.journal_model.specs.PlacedRows.{Within, Placed, Commits}
+use Rattle.journal_model.specs.FetchCompletions.{AnswersFetch}
+use Rattle.journal_model.specs.AdmittedWrites.{AdmittedAt}
+use Rattle.headline_law.specs.AnsweredChallenges.{ShowsAddress}
+
+-- the row commits a simple registration that answered its challenge, and whose peer and parameters
+-- these are
+pub record StartsFor (before : List Row) (r : Row) (peer : Peer) (params : RegParams) : Type 0 where
+  pub admission : Placed
+  pub within : Within before admission.before admission.row
+  pub commits : Commits r (length admission.before)
+  pub shows : ShowsAddress admission
+  pub peer_is : peer ≡ admission.row.step.peer
+  pub params_are : params ≡ registration_values (queries_in shows.message)
+
+-- the step hears a response to the last request of the running fetch with this peer, which has this
+-- token and these parameters; the response brings a block that more follow, and this is the next
+pub record GoesOnWith (before : List Row) (s : Step) (peer : Peer) (token : List ℕ)
+    (params : RegParams) (number : ℕ) : Type 0 where
+  pub answers : AnswersFetch before s
+  pub peer_is : peer ≡ s.peer
+  pub token_is : token ≡ answers.request.token
+  pub params_are : params ≡ answers.request.params
+  pub block : Block
+  pub block_is : block_in answers.message ≡ Some block
+  pub more : block.more ≡ true
+  pub next : number ≡ block.num + 1
+
+-- the row commits a write of this peer that an earlier row admitted; its request has this key, and
+-- its payload is the block of this number
+pub record CameInWrite (before : List Row) (r : Row) (peer : Peer) (key : List ℕ) (number : ℕ)
+    (octets : List ℕ) : Type 0 where
+  pub place : ℕ
+  pub commits : Commits r place
+  pub admitted : AdmittedAt before place r.step
+  pub peer_is : peer ≡ r.step.peer
+  pub key_is : key ≡ key_in admitted.message
+  pub block : Block
+  pub block_is : sent_block admitted.message ≡ Some block
+  pub number_is : number ≡ block.num
+  pub octets_are : octets ≡ admitted.message.payload
+
+-- the step hears a response to the last request of the running fetch with this peer; these are its
+-- payload and its entity tag
+pub record CameInResponse (before : List Row) (s : Step) (peer : Peer) (octets : List ℕ)
+    (tag : Option (List ℕ)) : Type 0 where
+  pub answers : AnswersFetch before s
+  pub peer_is : peer ≡ s.peer
+  pub octets_are : octets ≡ answers.message.payload
+  pub tag_is : tag ≡ tag_in answers.message
+
+-- Nothing is invented: a fetch starts only where a simple registration is committed that answered
+-- its challenge, with its peer and its parameters; it goes on only where a response to its last
+-- request brought a block, and asks for the next one, with the same parameters; a block of an upload
+-- came in the write of its peer that the row commits; and a block of a fetch came in the response
+-- that the row hears.
+pub record NothingInvented (rows : List Row) : Type 0 where
+  pub starts : (before : List Row) (r : Row) (peer : Peer) (token : List ℕ) (mid : ℕ)
+      (params : RegParams)
+      → Within rows before r
+      → IsAmong r.notes (note.Asked peer token mid params 0)
+      → StartsFor before r peer params
+  pub goes_on : (before : List Row) (r : Row) (peer : Peer) (token : List ℕ) (mid : ℕ)
+      (params : RegParams) (number : ℕ)
+      → Within rows before r
+      → IsAmong r.notes (note.Asked peer token mid params number)
+      → 0 < number
+      → GoesOnWith before r.step peer token params number
+  pub uploaded : (before : List Row) (r : Row) (peer : Peer) (key : List ℕ) (number : ℕ)
+      (octets : List ℕ)
+      → Within rows before r
+      → IsAmong r.notes (note.Piece peer key number octets)
+      → CameInWrite before r peer key number octets
+  pub gathered : (before : List Row) (r : Row) (peer : Peer) (octets : List ℕ)
+      (tag : Option (List ℕ))
+      → Within rows before r
+      → IsAmong r.notes (note.Gathered peer octets tag)
+      → CameInResponse before r.step peer octets tag
