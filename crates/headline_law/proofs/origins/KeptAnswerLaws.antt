@@ -99,7 +99,8 @@ noted_moment : (test : Note → Bool) (place moment word : ℕ) (notes : List No
     → e.moment ≡ moment
 noted_moment test place moment word [] before e some found = absurd (false≢true some)
 noted_moment test place moment word (n ∷ notes) before e some found =
-    by (list_any test notes) refl
+    by (list_any test notes) refl (λ more.
+    noted_moment test place moment word notes (event_at place moment word n ∷ before) e more found)
   where
     here : (b : Bool)
         → test n ≡ b
@@ -116,11 +117,12 @@ noted_moment test place moment word (n ∷ notes) before e some found =
         ap (λ (x : Event). x.moment) (sym same)
     here false bad none h = absurd (false≢true h)
 
-    by : (b : Bool) → list_any test notes ≡ b → e.moment ≡ moment
-    by true more =
-        noted_moment test place moment word notes (event_at place moment word n ∷ before) e more
-        found
-    by false none =
+    by : (b : Bool)
+        → list_any test notes ≡ b
+        → (list_any test notes ≡ true → e.moment ≡ moment)
+        → e.moment ≡ moment
+    by true more later = later more
+    by false none later =
         here (test n) refl none (subst (λ b. (test n || b) ≡ true) none some)
 
 -- the last row that notes something of a kind, with the moment of the last event of the kind
