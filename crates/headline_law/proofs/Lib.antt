@@ -73,3 +73,4 @@ pub mod WrongSources
 pub mod Restarts
 pub mod MomentLaws
 pub mod origins
+pub mod WrongMoments

@@ -1,3 +1,7 @@
 pub mod NoteOrigins
 pub mod InventionLaws
 pub mod KeptAnswerLaws
+pub mod ReplyCodes
+pub mod StepRequests
+pub mod ChallengeLaws
+pub mod EchoLaws

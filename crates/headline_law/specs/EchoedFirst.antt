@@ -1,6 +1,6 @@
 -- A sentence of the headline, of Echo: the directory sends a request only to a peer that answered a
 -- challenge (RFC 9176 section 5.1, RFC 9175 sections 2.3 and 2.6).
-use Rattle.std.specs.Prelude.{◌≡◌, true, ℕ, Bool, List, Option, Some, Ok}
+use Rattle.std.specs.Prelude.{◌≡◌, true, ℕ, Bool, List, [], ◌∷◌, Ok}
 use Rattle.std.specs.List.{IsAmong}
 use Rattle.rd_base.specs.declared.peers.Peer.{Peer}
 use Rattle.message_model.specs.declared.messages.Role.TheVariants as role
@@ -8,7 +8,8 @@ use Rattle.message_model.specs.declared.requests.Path.TheVariants as path
 use Rattle.message_model.specs.Codes as codes_of
 use Rattle.message_model.specs.Message.{Message, role_of}
 use Rattle.message_model.specs.Reading.{reading}
-use Rattle.message_model.specs.Request.{path_in, echo_in}
+use Rattle.message_model.specs.OptionTable as table
+use Rattle.message_model.specs.Request.{path_in}
 use Rattle.event_model.specs.declared.notes.Note.TheVariants as note
 use Rattle.event_model.specs.Challenges.{next_challenge}
 use Rattle.journal_model.specs.declared.steps.StepKind.TheVariants as step
@@ -23,14 +24,14 @@ use Rattle.headline_law.specs.AnsweredChallenges.{ShownBefore}
 abbrev pub is_request : Message → Bool
 is_request m = codes_of.is_request_code m.code
 
--- a row sends a peer 4.01 with a value in Echo (RFC 9175 section 2.3)
+-- a row sends a peer 4.01 with a value in Echo, and no other option (RFC 9175 section 2.3)
 pub record SendsEcho (r : Row) (peer : Peer) (value : List ℕ) : Type 0 where
   pub octets : List ℕ
   pub among : IsAmong r.sent (peer, octets)
   pub message : Message
   pub read : reading octets ≡ Ok message
   pub code : message.code ≡ codes_of.unauthorized
-  pub echo : echo_in message ≡ Some value
+  pub options : message.options ≡ (table.echo, value) ∷ []
 
 -- a row challenges a peer by a value: it hears a simple registration of that peer, and sends it the
 -- value; this is the word that was handed in, and then how many challenges were made before
@@ -46,8 +47,9 @@ pub record IsChallenge (before : List Row) (r : Row) (peer : Peer) (value : List
 
 -- The directory sends a request only where a challenge was answered: each request in a datagram is
 -- a GET, and an earlier row admitted a simple registration from that very address and port whose
--- Echo option answers the last challenge of this peer; and each challenge that is noted was sent to
--- its peer, with a value that nobody else was sent.
+-- Echo option answers the last challenge of this peer; and each challenge that is noted is sent to
+-- its peer in answer to a simple registration, with the word of the row and the number of challenges
+-- before it.
 pub record EchoedFirst (rows : List Row) : Type 0 where
   pub method : (sent : Sent rows)
       → is_request sent.message ≡ true
