@@ -74,3 +74,6 @@ pub mod Restarts
 pub mod MomentLaws
 pub mod origins
 pub mod WrongMoments
+pub mod WrongInventions
+pub mod WrongKeptAnswers
+pub mod WrongEchoes

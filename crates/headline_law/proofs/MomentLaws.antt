@@ -1,12 +1,10 @@
 -- The moment of a row is the greatest that was handed in so far.
-use Rattle.std.proofs.Common.{◌≡◌, ℕ, max, List, [], ◌∷◌, refl, ap, arith}
-use Rattle.journal_model.specs.declared.steps.Step.{Step}
+use Rattle.std.proofs.Common.{◌≡◌, max, List, [], ◌∷◌, refl, ap, arith}
 use Rattle.journal_model.specs.declared.rows.Row.{Row}
 use Rattle.journal_model.specs.Journal.{latest}
 use Rattle.journal_model.specs.Rows.{row, row_moment, AreRows, empty, added}
 use Rattle.journal_model.specs.Machine.{IsJournal}
 use Rattle.journal_model.specs.DeskJournal.{IsDeskJournal}
-use Rattle.journal_model.specs.PlacedRows.{Within}
 use Rattle.journal_model.proofs.EventRows.{AllRows, row_within}
 use Rattle.journal_model.proofs.entries.JournalLaws.{journal-AreRows, desk-AreRows}
 use Rattle.headline_law.specs.Moments.{greatest_handed, Moments}

@@ -1,6 +1,6 @@
 -- Simple registrations that answered a challenge: their peer showed that it receives at its address
 -- and port (RFC 9176 section 5.1, RFC 9175 sections 2.3 and 2.6).
-use Rattle.std.specs.Prelude.{◌≡◌, true, ℕ, List, Option, Some, Ok}
+use Rattle.std.specs.Prelude.{◌≡◌, true, ℕ, List, Some, Ok}
 use Rattle.rd_base.specs.declared.peers.Peer.{Peer}
 use Rattle.message_model.specs.declared.messages.Role.TheVariants as role
 use Rattle.message_model.specs.declared.requests.Path.TheVariants as path

@@ -1,6 +1,6 @@
 -- A sentence of the headline, of answers that are kept: a further block is read only of one that is
 -- young, and among those that were used last (RFC 7959 section 2.4).
-use Rattle.std.specs.Prelude.{◌≡◌, true, ℕ, ◌+◌, ◌<◌, Bool, List, Option, Some, Ok, take}
+use Rattle.std.specs.Prelude.{◌≡◌, true, ℕ, ◌+◌, ◌<◌, List, Option, Some, Ok, take}
 use Rattle.std.specs.List.{list_any, IsAmong}
 use Rattle.rd_base.specs.declared.peers.Peer.{Peer}
 use Rattle.message_model.specs.declared.messages.Role.TheVariants as role

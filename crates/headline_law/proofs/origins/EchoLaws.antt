@@ -1,72 +1,33 @@
 -- The directory sends a request only to a peer that answered a challenge.
-use Rattle.std.proofs.Common.{
-  ◌≡◌,
-  ◌⊎◌,
-  inl,
-  inr,
-  ℕ,
-  ◌==◌,
-  ◌&&◌,
-  Bool,
-  true,
-  false,
-  cond,
-  List,
-  [],
-  ◌∷◌,
-  ◌++◌,
-  length,
-  nat_le,
-  Option,
-  Some,
-  None,
-  Ok,
-  refl,
-  sym,
-  ap,
-  subst,
-  ◌∙◌,
-}
+use Rattle.std.proofs.Common.{◌≡◌, ◌⊎◌, inl, inr, ℕ, ◌==◌, Bool, true, false, cond, List, [], ◌∷◌, ◌++◌, Option, Some, None, Ok, refl, sym, ap, subst, ◌∙◌}
 use Rattle.std.specs.Prelude.{is_some}
-use Rattle.std.specs.List.{AllByRecursion, list_any, IsAmong}
-use Rattle.std.proofs.lemmas.Bool.{and_parts, false≢true, eqb-true}
+use Rattle.std.specs.List.{AllByRecursion}
+use Rattle.std.proofs.lemmas.Bool.{false≢true}
 use Rattle.std.proofs.lemmas.Option.{same_Some}
 use Rattle.rd_base.specs.declared.peers.Peer.{Peer}
-use Rattle.rd_base.proofs.lemmas.Among.{Among, all_among, all_at_index}
-use Rattle.rd_base.proofs.lemmas.Each.{each_append, each_weaker}
-use Rattle.message_model.specs.declared.requests.Path.{Path}
-use Rattle.message_model.specs.declared.requests.Path.TheVariants as path
+use Rattle.rd_base.proofs.lemmas.Among.{all_among, all_at_index}
+use Rattle.rd_base.proofs.lemmas.Each.{each_weaker}
 use Rattle.message_model.specs.Codes as codes_of
 use Rattle.message_model.specs.Message.{Message}
 use Rattle.message_model.specs.Reading.{reading}
 use Rattle.message_model.specs.Request.{path_in}
-use Rattle.message_model.specs.Spelling.{header_spelling, spelling}
 use Rattle.message_model.proofs.ReadingLaws.{header_read}
 use Rattle.event_model.specs.declared.notes.Note.{Note}
 use Rattle.event_model.specs.declared.notes.Note.TheVariants as note
-use Rattle.event_model.specs.Same.{is_same_peer}
-use Rattle.event_model.specs.Events.{Event, last_said}
+use Rattle.event_model.specs.Events.{Event}
 use Rattle.event_model.specs.Repeats.{answer_noted, settled}
-use Rattle.event_model.specs.Fetches.{
-  Request,
-  is_request_to,
-  last_request,
-  request_noted,
-  request_of,
-  is_fetching,
-}
+use Rattle.event_model.specs.Fetches.{is_request_to, last_request, request_of, is_fetching}
 use Rattle.event_model.proofs.SameLaws.{is_same_peer-Decides}
 use Rattle.journal_model.specs.declared.steps.Step.{Step}
 use Rattle.journal_model.specs.declared.steps.StepKind.{StepKind}
 use Rattle.journal_model.specs.declared.steps.StepKind.TheVariants as step
 use Rattle.journal_model.specs.declared.rows.Row.{Row}
 use Rattle.journal_model.specs.Journal.{events, row_at}
-use Rattle.journal_model.specs.Effects.{answering}
-use Rattle.journal_model.specs.Responses.{answered_request, fetch_of}
+use Rattle.journal_model.specs.Responses.{answered_request}
 use Rattle.journal_model.specs.Machine.{IsJournal}
 use Rattle.journal_model.specs.DeskJournal.{IsDeskJournal}
 use Rattle.journal_model.specs.Rows.{effects, row_moment, row, AreRows, empty, added}
-use Rattle.journal_model.specs.PlacedRows.{Within, Placed, code_at}
+use Rattle.journal_model.specs.PlacedRows.{Within, code_at}
 use Rattle.journal_model.specs.CarriedBlocks.{Sent}
 use Rattle.journal_model.specs.AdmittedWrites.{AdmittedAt}
 use Rattle.journal_model.specs.FetchCompletions.{AnswersFetch}
@@ -78,14 +39,8 @@ use Rattle.journal_model.proofs.entries.CommitPlaces.{AtPlace, at_place, journal
 use Rattle.journal_model.proofs.datagrams.SentRows.{CommitsPlaced}
 use Rattle.journal_model.proofs.sends.BodyAnswers.{same_message}
 use Rattle.headline_law.specs.AnsweredChallenges.{ShownBefore}
-use Rattle.headline_law.specs.NothingInvented.{GoesOnWith}
 use Rattle.headline_law.specs.EchoedFirst.{is_request, EchoedFirst}
-use Rattle.headline_law.proofs.origins.NoteOrigins.{
-  StartsHere,
-  NoteOrigin,
-  NoteOrigins,
-  row-NoteOrigins,
-}
+use Rattle.headline_law.proofs.origins.NoteOrigins.{NoteOrigin, row-NoteOrigins}
 use Rattle.headline_law.proofs.origins.InventionLaws.{admitted_shows}
 use Rattle.headline_law.proofs.origins.ChallengeLaws.{challenge_of}
 use Rattle.headline_law.proofs.origins.ReplyCodes.{IsReply}

@@ -1,34 +1,7 @@
 -- Nothing is invented: fetches start for simple registrations that answered their challenge, and
 -- blocks came in datagrams of their peer.
-use Rattle.std.proofs.Common.{
-  ◌≡◌,
-  ◌⊎◌,
-  inl,
-  inr,
-  ℕ,
-  ◌+◌,
-  ◌<◌,
-  ◌==◌,
-  ◌&&◌,
-  Bool,
-  true,
-  false,
-  List,
-  [],
-  ◌∷◌,
-  length,
-  Option,
-  Some,
-  None,
-  Ok,
-  refl,
-  sym,
-  ap,
-  subst,
-  ◌∙◌,
-  arith,
-}
-use Rattle.std.specs.List.{list_any, IsAmong}
+use Rattle.std.proofs.Common.{◌≡◌, ◌⊎◌, inl, inr, ℕ, ◌<◌, Bool, true, false, List, Option, Some, None, Ok, refl, sym, ap, subst, ◌∙◌, arith}
+use Rattle.std.specs.List.{list_any}
 use Rattle.std.proofs.lemmas.Bool.{false≢true}
 use Rattle.rd_base.specs.declared.peers.Peer.{Peer}
 use Rattle.rd_base.specs.declared.parameters.RegParams.{RegParams}
@@ -44,7 +17,6 @@ use Rattle.event_model.specs.declared.notes.Note.TheVariants as note
 use Rattle.event_model.specs.Repeats.{is_admission_of, is_admitting}
 use Rattle.event_model.specs.Challenges.{is_good}
 use Rattle.journal_model.specs.declared.steps.Step.{Step}
-use Rattle.journal_model.specs.declared.steps.StepKind.{StepKind}
 use Rattle.journal_model.specs.declared.steps.StepKind.TheVariants as step
 use Rattle.journal_model.specs.declared.rows.Row.{Row}
 use Rattle.journal_model.specs.Journal.{events}
@@ -53,7 +25,7 @@ use Rattle.journal_model.specs.Requests.{sent_block}
 use Rattle.journal_model.specs.Machine.{IsJournal}
 use Rattle.journal_model.specs.DeskJournal.{IsDeskJournal}
 use Rattle.journal_model.specs.Writes.{shows_address}
-use Rattle.journal_model.specs.PlacedRows.{Within, Placed, Commits, admits}
+use Rattle.journal_model.specs.PlacedRows.{Within}
 use Rattle.journal_model.specs.AdmittedWrites.{AdmittedAt}
 use Rattle.journal_model.proofs.entries.JournalLaws.{journal-AreRows, desk-AreRows, rows_up_to}
 use Rattle.journal_model.proofs.entries.JournalLaws as made
@@ -68,15 +40,7 @@ use Rattle.headline_law.specs.NothingInvented.{
   CameInWrite,
   NothingInvented,
 }
-use Rattle.headline_law.proofs.origins.NoteOrigins.{
-  AdmitsOwn,
-  PieceOf,
-  StartsHere,
-  NoteOrigin,
-  NoteOrigins,
-  row_origins,
-  origin_of,
-}
+use Rattle.headline_law.proofs.origins.NoteOrigins.{AdmitsOwn, PieceOf, StartsHere, NoteOrigins, row_origins, origin_of}
 
 -- ---- rows that admit a simple registration
 

@@ -1,34 +1,5 @@
 -- A further block is read only of a kept answer that is young, and among those that were used last.
-use Rattle.std.proofs.Common.{
-  ◌≡◌,
-  ℕ,
-  ◌+◌,
-  ◌<◌,
-  ◌&&◌,
-  ◌||◌,
-  Bool,
-  true,
-  false,
-  cond,
-  List,
-  [],
-  ◌∷◌,
-  ◌++◌,
-  length,
-  take,
-  nat_lt,
-  Option,
-  Some,
-  None,
-  Result,
-  Ok,
-  refl,
-  sym,
-  ap,
-  subst,
-  ◌∙◌,
-  arith,
-}
+use Rattle.std.proofs.Common.{◌≡◌, ℕ, ◌+◌, ◌<◌, ◌&&◌, ◌||◌, Bool, true, false, cond, List, [], ◌∷◌, length, take, nat_lt, Option, Some, None, Result, Ok, refl, sym, ap, subst, ◌∙◌}
 use Rattle.std.specs.Prelude.{option_and_then, is_some}
 use Rattle.std.specs.List.{list_any, IsAmong}
 use Rattle.std.proofs.lemmas.Bool.{and_parts, false≢true, ltb-true}
@@ -42,7 +13,7 @@ use Rattle.message_model.specs.Message.{Message, role_of}
 use Rattle.message_model.specs.Reading.{reading}
 use Rattle.event_model.specs.declared.notes.Note.{Note}
 use Rattle.event_model.specs.declared.notes.Note.TheVariants as note
-use Rattle.event_model.specs.Same.{RequestName, is_same_request}
+use Rattle.event_model.specs.Same.{RequestName}
 use Rattle.event_model.specs.Events.{Event, last_event, last_said, noted, is_young}
 use Rattle.event_model.specs.KeptAnswers.{
   Answer,
@@ -74,8 +45,7 @@ use Rattle.journal_model.specs.Rows.{
 use Rattle.journal_model.specs.Machine.{IsJournal}
 use Rattle.journal_model.specs.DeskJournal.{IsDeskJournal}
 use Rattle.journal_model.specs.PlacedRows.{Within, Placed, last_row}
-use Rattle.journal_model.specs.BodyFormers.{last_kept}
-use Rattle.journal_model.proofs.EventRows.{RowOf, row_of, said_by}
+use Rattle.journal_model.proofs.EventRows.{said_by}
 use Rattle.journal_model.proofs.RowEquations.{row-step}
 use Rattle.journal_model.proofs.NoteKinds.{of_empty, of_response, none_of}
 use Rattle.journal_model.proofs.StepNotes.{acknowledged-notes, reset-notes}
@@ -86,7 +56,7 @@ use Rattle.journal_model.proofs.entries.JournalLaws.{
   journal-AreRows,
   desk-AreRows,
 }
-use Rattle.headline_law.specs.KeptAnswers.{last_use, AsksFurther, CanBeRead, KeptAnswers}
+use Rattle.headline_law.specs.KeptAnswers.{CanBeRead, KeptAnswers}
 use Rattle.headline_law.proofs.origins.NoteOrigins.{ReadsKept, origin_of}
 
 -- ---- the moment of the last event of a kind is that of its row

@@ -32,7 +32,7 @@ use Rattle.std.proofs.Common.{
   ◌∙◌,
 }
 use Rattle.std.specs.List.{AllByRecursion, IsAmong}
-use Rattle.std.proofs.lemmas.Bool.{and_from, and_parts, false≢true}
+use Rattle.std.proofs.lemmas.Bool.{and_parts, false≢true}
 use Rattle.rd_base.specs.declared.parameters.RegParams.{RegParams}
 use Rattle.rd_base.specs.declared.peers.Peer.{Peer}
 use Rattle.rd_base.proofs.lemmas.Among.{all_at_index}
@@ -49,7 +49,7 @@ use Rattle.message_model.specs.Reading.{reading}
 use Rattle.message_model.specs.Request.{path_in, queries_in, observe_in, echo_in}
 use Rattle.message_model.specs.RequestKey.{key_in}
 use Rattle.message_model.specs.Uploads.{max_body, collected_before, is_one_too_many}
-use Rattle.message_model.specs.Responses.{block_in, tag_in, is_elsewhere}
+use Rattle.message_model.specs.Responses.{block_in, is_elsewhere}
 use Rattle.record_model.specs.Parameters.{registration_values}
 use Rattle.history_model.specs.declared.entries.Change.TheVariants as change
 use Rattle.history_model.specs.declared.entries.Entry.{Entry}
@@ -57,7 +57,6 @@ use Rattle.event_model.specs.declared.notes.Note.{Note}
 use Rattle.event_model.specs.declared.notes.Note.TheVariants as note
 use Rattle.event_model.specs.Events.{Event}
 use Rattle.event_model.specs.Repeats.{repeated, settled, is_full_of_exchanges}
-use Rattle.event_model.specs.Challenges.{is_good}
 use Rattle.event_model.specs.KeptAnswers.{Answer, kept_answer}
 use Rattle.event_model.specs.Observers.{observers, is_observer, has_room_for}
 use Rattle.event_model.specs.Uploads.{live_upload, live_uploads}
@@ -70,7 +69,6 @@ use Rattle.event_model.specs.Fetches.{
   collected,
 }
 use Rattle.journal_model.specs.declared.steps.Step.{Step}
-use Rattle.journal_model.specs.declared.steps.StepKind.{StepKind}
 use Rattle.journal_model.specs.declared.steps.StepKind.TheVariants as step
 use Rattle.journal_model.specs.declared.rows.Row.{Row}
 use Rattle.journal_model.specs.Journal.{events, entries}
@@ -181,14 +179,7 @@ use Rattle.journal_model.specs.Rows.{effects, row_moment, row, AreRows}
 use Rattle.journal_model.specs.PlacedRows.{Within}
 use Rattle.journal_model.specs.FetchCompletions.{AnswersFetch}
 use Rattle.headline_law.specs.NothingInvented.{GoesOnWith, CameInResponse}
-use Rattle.journal_model.proofs.NoteKinds.{
-  of_empty,
-  of_tick,
-  of_commit,
-  are,
-  are-append,
-  are-weaker,
-}
+use Rattle.journal_model.proofs.NoteKinds.{of_empty, of_tick, are, are-append, are-weaker}
 use Rattle.journal_model.proofs.StepNotes.{
   look_effects-notes,
   keep_effects-notes,

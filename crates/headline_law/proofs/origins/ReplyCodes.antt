@@ -1,31 +1,7 @@
 -- The codes of replies: refusals, what is no message, and what comes of changes. None is the code of
 -- a request.
-use Rattle.std.proofs.Common.{
-  ◌≡◌,
-  ℕ,
-  ◌+◌,
-  ◌==◌,
-  Bool,
-  true,
-  false,
-  cond,
-  List,
-  [],
-  ◌∷◌,
-  ◌++◌,
-  length,
-  Option,
-  Some,
-  None,
-  refl,
-  sym,
-  subst,
-  ◌∙◌,
-  codes,
-  nat_lt,
-}
+use Rattle.std.proofs.Common.{◌≡◌, ℕ, ◌+◌, Bool, true, false, cond, List, [], ◌∷◌, ◌++◌, length, Option, Some, None, refl, subst, codes, nat_lt}
 use Rattle.std.specs.List.{AllByRecursion}
-use Rattle.std.proofs.lemmas.Bool.{and_parts, false≢true}
 use Rattle.rd_base.specs.declared.peers.Peer.{Peer}
 use Rattle.rd_base.specs.declared.parameters.RegParams.{RegParams}
 use Rattle.message_model.specs.declared.blocks.Block.{Block}
@@ -50,8 +26,6 @@ use Rattle.history_model.specs.declared.refusals.Refusal.TheVariants as refusal
 use Rattle.history_model.specs.Refusals.{change_refusal}
 use Rattle.event_model.specs.declared.notes.Note.{Note}
 use Rattle.event_model.specs.declared.notes.Note.TheVariants as note
-use Rattle.event_model.specs.Events.{Event}
-use Rattle.event_model.specs.Repeats.{repeated, settled, is_full_of_exchanges}
 use Rattle.event_model.specs.Uploads.{live_upload, live_uploads}
 use Rattle.journal_model.specs.declared.steps.Step.{Step}
 use Rattle.journal_model.specs.declared.rows.Row.{Row}
@@ -96,16 +70,8 @@ use Rattle.journal_model.specs.Registrations.{
   replacing,
   block_room,
 }
-use Rattle.journal_model.specs.Writes.{
-  again_answered,
-  is_unproved,
-  admitted_unless,
-  write_unless,
-  write_effects,
-}
 use Rattle.journal_model.specs.Rows.{refusal_answered, unread_answered}
 use Rattle.journal_model.specs.PlacedRows.{code_at}
-use Rattle.journal_model.proofs.NoteKinds.{are}
 
 -- a code is none of a request
 abbrev pub IsReplyCode : ℕ → Type 0
@@ -302,4 +268,3 @@ pub replacing_replies : (rows : List Row) (moment : ℕ) (s : Step) (m : Message
 unfolding replacing
 replacing_replies rows moment s m number =
     links_replies (sent_block m) (to_replace number) rows moment s m
-
