@@ -37,7 +37,7 @@ thought_up params = row_of step.Tick [] false [] (note.Asked (peer 1) (1 ∷ [])
 pub thought_up_falls : (params : RegParams) (later before : List Row)
     → NothingInvented (later ++ thought_up params ∷ before) → ⊥
 thought_up_falls params later before h =
-    let it : StartsFor before (thought_up params) (peer 1) params =
+    let it : StartsFor before (thought_up params) (peer 1) (1 ∷ []) params =
     h.starts before (thought_up params) (peer 1) (1 ∷ []) 7 params
     (record { later = later; whole = refl }) (0, (omega arith, refl)) in
     absurd (let no : step.Tick ≡ step.Commit (length it.admission.before) = it.commits in cc)
@@ -135,7 +135,7 @@ fetch_begun m params =
 -- what a fetch is begun for is the one write that was admitted
 begun_for : (m : Message) (params : RegParams)
     → reading (spelling m) ≡ Ok m
-    → (it : StartsFor (admission m ∷ []) (fetch_begun m params) (peer 1) params)
+    → (it : StartsFor (admission m ∷ []) (fetch_begun m params) (peer 1) (1 ∷ []) params)
     → it.shows.message ≡ m
 begun_for m params read it =
     elim (within_cases (admission m) [] it.admission.before it.admission.row it.within) [
@@ -150,7 +150,7 @@ pub fetch_for_links_falls : (params : RegParams)
 unfolding messages_on_literals
 fetch_for_links_falls params h =
     let it : StartsFor (admission registering ∷ []) (fetch_begun registering params) (peer 1)
-    params =
+    (1 ∷ []) params =
     h.starts (admission registering ∷ []) (fetch_begun registering params) (peer 1) (1 ∷ []) 7
     params (record { later = []; whole = refl }) (0, (omega arith, refl)) in
     absurd (let no : path.Rd ≡ path.SimpleRd =
@@ -181,7 +181,8 @@ pub other_parameters_fall : (params : RegParams)
     → NothingInvented (fetch_begun simple params ∷ admission simple ∷ []) → ⊥
 unfolding messages_on_literals
 other_parameters_fall params other h =
-    let it : StartsFor (admission simple ∷ []) (fetch_begun simple params) (peer 1) params =
+    let it : StartsFor (admission simple ∷ []) (fetch_begun simple params) (peer 1) (1 ∷ [])
+    params =
     h.starts (admission simple ∷ []) (fetch_begun simple params) (peer 1) (1 ∷ []) 7 params
     (record { later = []; whole = refl }) (0, (omega arith, refl)) in
     other (it.params_are

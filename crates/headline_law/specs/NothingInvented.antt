@@ -1,32 +1,38 @@
 -- A sentence of the headline, of what is fetched and uploaded: nothing is invented (RFC 9176 section
 -- 5.1, RFC 7959 sections 2.4 and 2.5).
-use Rattle.std.specs.Prelude.{◌≡◌, true, ℕ, ◌+◌, ◌<◌, List, length, Option, Some}
+use Rattle.std.specs.Prelude.{◌≡◌, true, false, ℕ, ◌+◌, ◌<◌, List, length, Option, Some}
 use Rattle.std.specs.List.{IsAmong}
 use Rattle.rd_base.specs.declared.peers.Peer.{Peer}
 use Rattle.rd_base.specs.declared.parameters.RegParams.{RegParams}
 use Rattle.message_model.specs.declared.blocks.Block.{Block}
 use Rattle.message_model.specs.Request.{queries_in}
 use Rattle.message_model.specs.RequestKey.{key_in}
-use Rattle.message_model.specs.Responses.{block_in, tag_in}
+use Rattle.message_model.specs.Responses.{block_in, tag_in, is_elsewhere}
 use Rattle.record_model.specs.Parameters.{registration_values}
 use Rattle.event_model.specs.declared.notes.Note.TheVariants as note
+use Rattle.event_model.specs.Fetches.{next_token, gathered, collected}
 use Rattle.journal_model.specs.declared.steps.Step.{Step}
 use Rattle.journal_model.specs.declared.rows.Row.{Row}
+use Rattle.journal_model.specs.Journal.{events}
 use Rattle.journal_model.specs.Requests.{sent_block}
+use Rattle.journal_model.specs.Responses.{more_follow, ends_fetch}
+use Rattle.journal_model.specs.AskedChanges.{IsCollected}
 use Rattle.journal_model.specs.PlacedRows.{Within, Placed, Commits}
 use Rattle.journal_model.specs.FetchCompletions.{AnswersFetch}
 use Rattle.journal_model.specs.AdmittedWrites.{AdmittedAt}
 use Rattle.headline_law.specs.AnsweredChallenges.{ShowsAddress}
 
 -- the row commits a simple registration that answered its challenge, and whose peer and parameters
--- these are
-pub record StartsFor (before : List Row) (r : Row) (peer : Peer) (params : RegParams) : Type 0 where
+-- these are; the token is that of no earlier fetch: the number of fetches with this one
+pub record StartsFor (before : List Row) (r : Row) (peer : Peer) (token : List ℕ)
+    (params : RegParams) : Type 0 where
   pub admission : Placed
   pub within : Within before admission.before admission.row
   pub commits : Commits r (length admission.before)
   pub shows : ShowsAddress admission
   pub peer_is : peer ≡ admission.row.step.peer
   pub params_are : params ≡ registration_values (queries_in shows.message)
+  pub token_is : token ≡ next_token (events before)
 
 -- the step hears a response to the last request of the running fetch with this peer, which has this
 -- token and these parameters; the response brings a block that more follow, and this is the next
@@ -41,8 +47,8 @@ pub record GoesOnWith (before : List Row) (s : Step) (peer : Peer) (token : List
   pub more : block.more ≡ true
   pub next : number ≡ block.num + 1
 
--- the row commits a write of this peer that an earlier row admitted; its request has this key, and
--- its payload is the block of this number
+-- the row commits a write of this peer that an earlier row admitted; its request has this key, its
+-- payload is the block of this number, which begins where what is collected ends, and more follow
 pub record CameInWrite (before : List Row) (r : Row) (peer : Peer) (key : List ℕ) (number : ℕ)
     (octets : List ℕ) : Type 0 where
   pub place : ℕ
@@ -53,16 +59,26 @@ pub record CameInWrite (before : List Row) (r : Row) (peer : Peer) (key : List �
   pub block : Block
   pub block_is : sent_block admitted.message ≡ Some block
   pub number_is : number ≡ block.num
+  pub more : block.more ≡ true
+  pub collected : List ℕ
+  pub joins : IsCollected (Some block) before r.moment.0 r.step admitted.message collected
   pub octets_are : octets ≡ admitted.message.payload
 
 -- the step hears a response to the last request of the running fetch with this peer; these are its
--- payload and its entity tag
+-- payload, which begins where what is collected ends, and its entity tag; nothing of it ends the
+-- fetch, and more follow
 pub record CameInResponse (before : List Row) (s : Step) (peer : Peer) (octets : List ℕ)
     (tag : Option (List ℕ)) : Type 0 where
   pub answers : AnswersFetch before s
   pub peer_is : peer ≡ s.peer
   pub octets_are : octets ≡ answers.message.payload
   pub tag_is : tag ≡ tag_in answers.message
+  pub joins : is_elsewhere (block_in answers.message) (length (collected s.peer (events before)))
+      ≡ false
+  pub whole : ends_fetch answers.message (gathered s.peer (events before))
+      (length (collected s.peer (events before)))
+      ≡ false
+  pub more : more_follow (block_in answers.message) ≡ true
 
 -- Nothing is invented: a fetch starts only where a simple registration is committed that answered
 -- its challenge, with its peer and its parameters; it goes on only where a response to its last
@@ -74,7 +90,7 @@ pub record NothingInvented (rows : List Row) : Type 0 where
       (params : RegParams)
       → Within rows before r
       → IsAmong r.notes (note.Asked peer token mid params 0)
-      → StartsFor before r peer params
+      → StartsFor before r peer token params
   pub goes_on : (before : List Row) (r : Row) (peer : Peer) (token : List ℕ) (mid : ℕ)
       (params : RegParams) (number : ℕ)
       → Within rows before r

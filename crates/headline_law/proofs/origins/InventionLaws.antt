@@ -27,6 +27,7 @@ use Rattle.journal_model.specs.DeskJournal.{IsDeskJournal}
 use Rattle.journal_model.specs.Writes.{shows_address}
 use Rattle.journal_model.specs.PlacedRows.{Within}
 use Rattle.journal_model.specs.AdmittedWrites.{AdmittedAt}
+use Rattle.journal_model.specs.AskedChanges.{IsCollected}
 use Rattle.journal_model.proofs.entries.JournalLaws.{journal-AreRows, desk-AreRows, rows_up_to}
 use Rattle.journal_model.proofs.entries.JournalLaws as made
 use Rattle.journal_model.proofs.entries.CommitPlaces.{own_of, journal-place, desk-place}
@@ -136,14 +137,15 @@ same_as_admitted rows place s m it read =
     same_message m it.message it.row.step.datagram (ap reading it.datagram ∙ read) it.read
 
 -- a fetch that starts
-starts_for : (rows before : List Row) (r : Row) (peer : Peer) (params : RegParams) (number : ℕ)
+starts_for : (rows before : List Row) (r : Row) (peer : Peer) (token : List ℕ) (params : RegParams)
+    (number : ℕ)
     → AreRows rows
     → CommitsPlaced rows
     → Within rows before r
-    → StartsHere r.step peer params number
-    → StartsFor before r peer params
+    → StartsHere before r.step peer token params number
+    → StartsFor before r peer token params
 unfolding admitted_shows
-starts_for rows before r peer params number all placed within it =
+starts_for rows before r peer token params number all placed within it =
     let adm : AdmittedAt before it.place r.step = placed before r it.place within it.commits in
     let same : it.message ≡ adm.message =
     same_as_admitted before it.place r.step it.message adm it.read in
@@ -157,6 +159,7 @@ starts_for rows before r peer params number all placed within it =
       peer_is = it.peer_is ∙ sym adm.from_peer;
       params_are =
           it.params_are ∙ ap (λ (m : Message). registration_values (queries_in m)) same;
+      token_is = it.token_is;
     }
 
 -- a block of an upload
@@ -164,7 +167,7 @@ came_in_write : (rows before : List Row) (r : Row) (peer : Peer) (key : List ℕ
     (octets : List ℕ)
     → CommitsPlaced rows
     → Within rows before r
-    → PieceOf r.step peer key number octets
+    → PieceOf before r.moment.0 r.step peer key number octets
     → CameInWrite before r peer key number octets
 came_in_write rows before r peer key number octets placed within it =
     let adm : AdmittedAt before it.place r.step = placed before r it.place within it.commits in
@@ -179,6 +182,11 @@ came_in_write rows before r peer key number octets placed within it =
       block = it.block;
       block_is = ap (λ (m : Message). sent_block m) (sym same) ∙ it.block_is;
       number_is = it.number_is;
+      more = it.more;
+      collected = it.collected;
+      joins =
+          subst (λ (m : Message).
+          IsCollected (Some it.block) before r.moment.0 r.step m it.collected) same it.joins;
       octets_are = it.octets_are ∙ ap (λ (m : Message). m.payload) same;
     }
 
@@ -189,7 +197,7 @@ pub rows-NothingInvented : (rows : List Row)
     → NothingInvented rows
 rows-NothingInvented rows all placed = record {
   starts = λ before r peer token mid params within among.
-      first before r peer params within
+      first before r peer token params within
       (origin_of rows before r (note.Asked peer token mid params 0) all within among);
   goes_on = λ before r peer token mid params number within among later.
       further before r peer token params number later
@@ -201,19 +209,19 @@ rows-NothingInvented rows all placed = record {
       origin_of rows before r (note.Gathered peer octets tag) all within among;
 }
   where
-    first : (before : List Row) (r : Row) (peer : Peer) (params : RegParams) {token : List ℕ}
+    first : (before : List Row) (r : Row) (peer : Peer) (token : List ℕ) (params : RegParams)
         → Within rows before r
-        → StartsHere r.step peer params 0 ⊎ GoesOnWith before r.step peer token params 0
-        → StartsFor before r peer params
-    first before r peer params within (inl it) =
-        starts_for rows before r peer params 0 all placed within it
-    first before r peer params within (inr it) =
+        → StartsHere before r.step peer token params 0 ⊎ GoesOnWith before r.step peer token params 0
+        → StartsFor before r peer token params
+    first before r peer token params within (inl it) =
+        starts_for rows before r peer token params 0 all placed within it
+    first before r peer token params within (inr it) =
         let next = it.next in absurd (omega (arith, next))
 
     further : (before : List Row) (r : Row) (peer : Peer) (token : List ℕ) (params : RegParams)
         (number : ℕ)
         → 0 < number
-        → StartsHere r.step peer params number ⊎ GoesOnWith before r.step peer token params number
+        → StartsHere before r.step peer token params number ⊎ GoesOnWith before r.step peer token params number
         → GoesOnWith before r.step peer token params number
     further before r peer token params number later (inl it) =
         let none = it.first in absurd (omega (arith, none, later))

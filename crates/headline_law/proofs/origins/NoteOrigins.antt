@@ -63,6 +63,7 @@ use Rattle.event_model.specs.Uploads.{live_upload, live_uploads}
 use Rattle.event_model.specs.Fetches.{
   Request,
   max_fetches,
+  next_token,
   fetches,
   is_fetching,
   gathered,
@@ -178,6 +179,7 @@ use Rattle.journal_model.specs.Responses.{
 use Rattle.journal_model.specs.Rows.{effects, row_moment, row, AreRows}
 use Rattle.journal_model.specs.PlacedRows.{Within}
 use Rattle.journal_model.specs.FetchCompletions.{AnswersFetch}
+use Rattle.journal_model.specs.AskedChanges.{IsCollected}
 use Rattle.headline_law.specs.NothingInvented.{GoesOnWith, CameInResponse}
 use Rattle.journal_model.proofs.NoteKinds.{of_empty, of_tick, are, are-append, are-weaker}
 use Rattle.journal_model.proofs.StepNotes.{
@@ -207,18 +209,21 @@ pub record AdmitsOwn (rows : List Row) (moment : ℕ) (s : Step) (peer : Peer) (
         → shows_address (echo_in message) moment s.peer (events rows) ≡ true
 
 -- the step commits a write whose request has this key, and whose payload is the block of this number
-pub record PieceOf (s : Step) (peer : Peer) (key : List ℕ) (number : ℕ) (octets : List ℕ) : Type 0
-  where
-    pub place : ℕ
-    pub commits : s.kind ≡ step.Commit place
-    pub message : Message
-    pub read : reading s.datagram ≡ Ok message
-    pub peer_is : peer ≡ s.peer
-    pub key_is : key ≡ key_in message
-    pub block : Block
-    pub block_is : sent_block message ≡ Some block
-    pub number_is : number ≡ block.num
-    pub octets_are : octets ≡ message.payload
+pub record PieceOf (rows : List Row) (moment : ℕ) (s : Step) (peer : Peer) (key : List ℕ)
+    (number : ℕ) (octets : List ℕ) : Type 0 where
+  pub place : ℕ
+  pub commits : s.kind ≡ step.Commit place
+  pub message : Message
+  pub read : reading s.datagram ≡ Ok message
+  pub peer_is : peer ≡ s.peer
+  pub key_is : key ≡ key_in message
+  pub block : Block
+  pub block_is : sent_block message ≡ Some block
+  pub number_is : number ≡ block.num
+  pub more : block.more ≡ true
+  pub collected : List ℕ
+  pub joins : IsCollected (Some block) rows moment s message collected
+  pub octets_are : octets ≡ message.payload
 
 -- the step hears a request for a block above 0 with this key, of which an answer is kept
 pub record ReadsKept (rows : List Row) (moment : ℕ) (s : Step) (peer : Peer) (key : List ℕ) : Type 0
@@ -233,7 +238,8 @@ pub record ReadsKept (rows : List Row) (moment : ℕ) (s : Step) (peer : Peer) (
     pub found : kept_answer moment (s.peer, key_in message) (events rows) ≡ Some answer
 
 -- the step commits a simple registration with these parameters, and this is the first block
-pub record StartsHere (s : Step) (peer : Peer) (params : RegParams) (number : ℕ) : Type 0 where
+pub record StartsHere (rows : List Row) (s : Step) (peer : Peer) (token : List ℕ)
+    (params : RegParams) (number : ℕ) : Type 0 where
   pub place : ℕ
   pub commits : s.kind ≡ step.Commit place
   pub message : Message
@@ -241,15 +247,16 @@ pub record StartsHere (s : Step) (peer : Peer) (params : RegParams) (number : �
   pub simple : path_in message ≡ path.SimpleRd
   pub peer_is : peer ≡ s.peer
   pub params_are : params ≡ registration_values (queries_in message)
+  pub token_is : token ≡ next_token (events rows)
   pub first : number ≡ 0
 
 -- where a note of a step comes from, after rows at a moment
 abbrev pub NoteOrigin : List Row → ℕ → Step → Note → Type 0
 NoteOrigin rows moment s (note.Admitted peer mid) = AdmitsOwn rows moment s peer mid
-NoteOrigin rows moment s (note.Piece peer key number octets) = PieceOf s peer key number octets
+NoteOrigin rows moment s (note.Piece peer key number octets) = PieceOf rows moment s peer key number octets
 NoteOrigin rows moment s (note.Used peer key) = ReadsKept rows moment s peer key
 NoteOrigin rows moment s (note.Asked peer token mid params number) =
-    StartsHere s peer params number ⊎ GoesOnWith rows s peer token params number
+    StartsHere rows s peer token params number ⊎ GoesOnWith rows s peer token params number
 NoteOrigin rows moment s (note.Gathered peer octets tag) = CameInResponse rows s peer octets tag
 NoteOrigin rows moment s _ = Unit {0}
 
@@ -513,10 +520,12 @@ links_origins : (purpose : Purpose) (rows : List Row) (moment place : ℕ) (s : 
 unfolding block_uploaded
 links_origins purpose rows moment place s m here read = by (sent_block m) refl
   where
-    taken : (more : Bool) (b : Block) (body : List ℕ)
+    taken : (more : Bool) (b : Block) (front body : List ℕ)
         → sent_block m ≡ Some b
+        → b.more ≡ more
+        → IsCollected (Some b) rows moment s m front
         → NoteOrigins rows moment s (block_taken more purpose rows moment s m b body).notes
-    taken true b body is = (
+    taken true b front body is follows joins = (
       record {
         place = place;
         commits = here;
@@ -527,30 +536,36 @@ links_origins purpose rows moment place s m here read = by (sent_block m) refl
         block = b;
         block_is = is;
         number_is = refl;
+        more = follows;
+        collected = front;
+        joins = joins;
         octets_are = refl;
       },
       tt,
     )
-    taken false b body is =
+    taken false b front body is follows joins =
         silent rows moment s _
         (body_silent purpose (entries rows) moment s body _ (note.Finished s.peer (key_in m) ∷ [])
         refl)
 
-    unless : (too_long too_many : Bool) (b : Block) (body : List ℕ)
+    unless : (too_long too_many : Bool) (b : Block) (front body : List ℕ)
         → sent_block m ≡ Some b
+        → IsCollected (Some b) rows moment s m front
         → NoteOrigins rows moment s
         (block_unless (block_room too_long too_many) purpose rows moment s m b body).notes
-    unless true too_many b body is = tt
-    unless false true b body is = tt
-    unless false false b body is = taken b.more b body is
+    unless true too_many b front body is joins = tt
+    unless false true b front body is joins = tt
+    unless false false b front body is joins = taken b.more b front body is refl joins
 
     after : (front upload : Option (List ℕ)) (b : Block)
         → sent_block m ≡ Some b
+        → collected_before b (live_upload moment (s.peer, key_in m) (events rows)) ≡ front
         → NoteOrigins rows moment s (block_after front upload purpose rows moment s m b).notes
-    after None upload b is = tt
-    after (Some front) upload b is =
+    after None upload b is joins = tt
+    after (Some front) upload b is joins =
         unless (nat_lt max_body (length front + length m.payload))
-        (is_one_too_many b upload (live_uploads moment (events rows))) b (front ++ m.payload) is
+        (is_one_too_many b upload (live_uploads moment (events rows))) b front
+        (front ++ m.payload) is joins
 
     by : (b : Option Block)
         → sent_block m ≡ b
@@ -560,7 +575,7 @@ links_origins purpose rows moment place s m here read = by (sent_block m) refl
         (body_silent purpose (entries rows) moment s m.payload [] [] refl)
     by (Some b) is =
         let upload : Option (List ℕ) = live_upload moment (s.peer, key_in m) (events rows) in
-        after (collected_before b upload) upload b is
+        after (collected_before b upload) upload b is refl
 
 -- ---- commits
 
@@ -608,6 +623,7 @@ commit_origins rows moment place s m here read = by (path_in m) refl
           simple = at;
           peer_is = refl;
           params_are = refl;
+          token_is = refl;
           first = refl;
         }),
         tt,
@@ -678,14 +694,25 @@ response_origins rows moment s m here read responds = by (fetch_of s m (events r
     gathers : (more : Bool) (b : Option Block) (request : Request)
         → more_follow b ≡ more
         → block_in m ≡ b
+        → is_elsewhere (block_in m) (length (collected s.peer (events rows))) ≡ false
+        → ends_fetch m (gathered s.peer (events rows)) (length (collected s.peer (events rows)))
+        ≡ false
         → fetch_of s m (events rows) ≡ Some request
         → NoteOrigins rows moment s (gathering more b rows moment s m request).notes
-    gathers more None request e at is =
+    gathers more None request e at joins whole_so_far is =
         whole request (collected s.peer (events rows) ++ m.payload)
-    gathers false (Some b) request e at is =
+    gathers false (Some b) request e at joins whole_so_far is =
         whole request (collected s.peer (events rows) ++ m.payload)
-    gathers true (Some b) request e at is = (
-      record { answers = answers request is; peer_is = refl; octets_are = refl; tag_is = refl },
+    gathers true (Some b) request e at joins whole_so_far is = (
+      record {
+        answers = answers request is;
+        peer_is = refl;
+        octets_are = refl;
+        tag_is = refl;
+        joins = joins;
+        whole = whole_so_far;
+        more = ap (λ (x : Option Block). more_follow x) at ∙ e;
+      },
       (
         inr (record {
           answers = answers request is;
@@ -702,13 +729,16 @@ response_origins rows moment s m here read responds = by (fetch_of s m (events r
     )
 
     taken : (elsewhere over : Bool) (request : Request)
+        → is_elsewhere (block_in m) (length (collected s.peer (events rows))) ≡ elsewhere
+        → ends_fetch m (gathered s.peer (events rows)) (length (collected s.peer (events rows)))
+        ≡ over
         → fetch_of s m (events rows) ≡ Some request
         → NoteOrigins rows moment s
         (response_taken (response_use elsewhere over) rows moment s m request).notes
-    taken true over request is = tt
-    taken false true request is = (tt, tt)
-    taken false false request is =
-        gathers (more_follow (block_in m)) (block_in m) request refl refl is
+    taken true over request joins whole_so_far is = tt
+    taken false true request joins whole_so_far is = (tt, tt)
+    taken false false request joins whole_so_far is =
+        gathers (more_follow (block_in m)) (block_in m) request refl refl joins whole_so_far is
 
     by : (request : Option Request)
         → fetch_of s m (events rows) ≡ request
@@ -719,7 +749,7 @@ response_origins rows moment s m here read responds = by (fetch_of s m (events r
         (response_to rows moment s m request).notes (acknowledged m.kind)
         (taken (is_elsewhere (block_in m) (length (collected s.peer (events rows))))
         (ends_fetch m (gathered s.peer (events rows)) (length (collected s.peer (events rows))))
-        request is)
+        request refl refl is)
 
 -- ---- any step
 
