@@ -1,20 +1,24 @@
--- A sentence of the headline, of what is fetched and uploaded: nothing is invented (RFC 9176 section
--- 5.1, RFC 7959 sections 2.4 and 2.5).
-use Rattle.std.specs.Prelude.{◌≡◌, true, false, ℕ, ◌+◌, ◌<◌, List, length, Option, Some}
-use Rattle.std.specs.List.{IsAmong}
+-- A sentence of the headline, of what is fetched and uploaded: nothing is invented (RFC 9176
+-- section 5.1, RFC 7959 sections 2.4 and 2.5).
+use Rattle.std.specs.Prelude.{◌≡◌, true, false, ℕ, ◌+◌, ◌<◌, Bool, List, length, Option, Some}
+use Rattle.std.specs.List.{list_any, IsAmong}
 use Rattle.rd_base.specs.declared.peers.Peer.{Peer}
 use Rattle.rd_base.specs.declared.parameters.RegParams.{RegParams}
 use Rattle.message_model.specs.declared.blocks.Block.{Block}
+use Rattle.message_model.specs.FetchRequests.{fetch_request}
 use Rattle.message_model.specs.Request.{queries_in}
 use Rattle.message_model.specs.RequestKey.{key_in}
 use Rattle.message_model.specs.Responses.{block_in, tag_in, is_elsewhere}
+use Rattle.message_model.specs.Spelling.{spelling}
 use Rattle.record_model.specs.Parameters.{registration_values}
+use Rattle.event_model.specs.declared.notes.Note.{Note}
 use Rattle.event_model.specs.declared.notes.Note.TheVariants as note
+use Rattle.event_model.specs.Same.{is_same_peer}
 use Rattle.event_model.specs.Fetches.{next_token, gathered, collected}
 use Rattle.journal_model.specs.declared.steps.Step.{Step}
 use Rattle.journal_model.specs.declared.rows.Row.{Row}
 use Rattle.journal_model.specs.Journal.{events}
-use Rattle.journal_model.specs.Requests.{sent_block}
+use Rattle.journal_model.specs.Requests.{sent_block, number_of}
 use Rattle.journal_model.specs.Responses.{more_follow, ends_fetch}
 use Rattle.journal_model.specs.AskedChanges.{IsCollected}
 use Rattle.journal_model.specs.PlacedRows.{Within, Placed, Commits}
@@ -33,6 +37,18 @@ pub record StartsFor (before : List Row) (r : Row) (peer : Peer) (token : List �
   pub peer_is : peer ≡ admission.row.step.peer
   pub params_are : params ≡ registration_values (queries_in shows.message)
   pub token_is : token ≡ next_token (events before)
+
+-- the row sends this peer the GET of a fetch, with this token and Message ID, that asks for the block
+-- of this number
+pub record SendsRequest (r : Row) (peer : Peer) (token : List ℕ) (mid number : ℕ) : Type 0 where
+  pub block : Option Block
+  pub among : IsAmong r.sent (peer, spelling (fetch_request mid token block))
+  pub number_is : number_of block ≡ number
+
+-- the note gathers a block of the fetch with a peer
+abbrev pub gathers_from : Peer → Note → Bool
+gathers_from peer (note.Gathered p octets tag) = is_same_peer p peer
+gathers_from peer _ = false
 
 -- the step hears a response to the last request of the running fetch with this peer, which has this
 -- token and these parameters; the response brings a block that more follow, and this is the next
@@ -82,9 +98,9 @@ pub record CameInResponse (before : List Row) (s : Step) (peer : Peer) (octets :
 
 -- Nothing is invented: a fetch starts only where a simple registration is committed that answered
 -- its challenge, with its peer and its parameters; it goes on only where a response to its last
--- request brought a block, and asks for the next one, with the same parameters; a block of an upload
--- came in the write of its peer that the row commits; and a block of a fetch came in the response
--- that the row hears.
+-- request brought a block, which is gathered, and asks for the next one, with the same parameters;
+-- each request that is noted is sent; a block of an upload came in the write of its peer that the row
+-- commits; and a block of a fetch came in the response that the row hears.
 pub record NothingInvented (rows : List Row) : Type 0 where
   pub starts : (before : List Row) (r : Row) (peer : Peer) (token : List ℕ) (mid : ℕ)
       (params : RegParams)
@@ -97,6 +113,17 @@ pub record NothingInvented (rows : List Row) : Type 0 where
       → IsAmong r.notes (note.Asked peer token mid params number)
       → 0 < number
       → GoesOnWith before r.step peer token params number
+  pub gathers : (before : List Row) (r : Row) (peer : Peer) (token : List ℕ) (mid : ℕ)
+      (params : RegParams) (number : ℕ)
+      → Within rows before r
+      → IsAmong r.notes (note.Asked peer token mid params number)
+      → 0 < number
+      → list_any (gathers_from peer) r.notes ≡ true
+  pub sends : (before : List Row) (r : Row) (peer : Peer) (token : List ℕ) (mid : ℕ)
+      (params : RegParams) (number : ℕ)
+      → Within rows before r
+      → IsAmong r.notes (note.Asked peer token mid params number)
+      → SendsRequest r peer token mid number
   pub uploaded : (before : List Row) (r : Row) (peer : Peer) (key : List ℕ) (number : ℕ)
       (octets : List ℕ)
       → Within rows before r

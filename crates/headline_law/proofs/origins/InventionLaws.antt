@@ -41,6 +41,7 @@ use Rattle.headline_law.specs.NothingInvented.{
   CameInWrite,
   NothingInvented,
 }
+use Rattle.headline_law.proofs.origins.AskedRequests.{request_of_row}
 use Rattle.headline_law.proofs.origins.NoteOrigins.{AdmitsOwn, PieceOf, StartsHere, NoteOrigins, row_origins, origin_of}
 
 -- ---- rows that admit a simple registration
@@ -202,6 +203,10 @@ rows-NothingInvented rows all placed = record {
   goes_on = λ before r peer token mid params number within among later.
       further before r peer token params number later
       (origin_of rows before r (note.Asked peer token mid params number) all within among);
+  gathers = λ before r peer token mid params number within among later.
+      (request_of_row rows before r peer token mid params number all within among).beside later;
+  sends = λ before r peer token mid params number within among.
+      (request_of_row rows before r peer token mid params number all within among).sends;
   uploaded = λ before r peer key number octets within among.
       came_in_write rows before r peer key number octets placed within
       (origin_of rows before r (note.Piece peer key number octets) all within among);

@@ -267,7 +267,7 @@ NoteOrigins rows moment s notes = AllByRecursion (NoteOrigin rows moment s) note
 -- ---- other notes
 
 -- the note says nothing of that
-abbrev is_silent : Note → Bool
+abbrev pub is_silent : Note → Bool
 is_silent (note.Admitted peer mid) = false
 is_silent (note.Piece peer key number octets) = false
 is_silent (note.Used peer key) = false
@@ -469,7 +469,7 @@ lookup_origins rows moment s m here read = by (is_later_block m) refl
 
 -- ---- bodies
 
-registration_silent : (history : List Entry) (moment : ℕ) (s : Step) (params : RegParams)
+pub registration_silent : (history : List Entry) (moment : ℕ) (s : Step) (params : RegParams)
     (body : List ℕ) (further : List Opt) (notes : List Note)
     → are is_silent notes ≡ true
     → are is_silent (registration history moment s params body further notes).notes ≡ true
