@@ -33,7 +33,8 @@ keeping body current = timed_row 0 0 step.Tick [] [] (note.Kept (peer 1) key bod
 
 -- a row at a moment reads it for a datagram
 abbrev reads_at : ℕ → List ℕ → Row
-reads_at moment datagram = timed_row moment moment step.Admit datagram [] (note.Used (peer 1) key ∷ [])
+reads_at moment datagram =
+    timed_row moment moment step.Admit datagram [] (note.Used (peer 1) key ∷ [])
 
 -- what the sentence says of such a row
 read_at : (moment : ℕ) (datagram : List ℕ) (before : List Row)

@@ -58,8 +58,8 @@ late_look_falls datagram sent later before h =
     h.greatest before (late_look datagram sent) (record { later = later; whole = refl }) in
     absurd (omega (arith, early))
 
--- ---- time goes back: a tick says the moment that was handed in with it, which is below that of the
--- row before
+-- ---- time goes back: a tick says the moment that was handed in with it, which is below that of
+-- the row before
 
 -- An end theorem: nothing here cites it.
 pub falling_moment_falls : (notes : List Note)

@@ -48,8 +48,8 @@ pub record IsChallenge (before : List Row) (r : Row) (peer : Peer) (value : List
 -- The directory sends a request only where a challenge was answered: each request in a datagram is
 -- a GET, and an earlier row admitted a simple registration from that very address and port whose
 -- Echo option answers the last challenge of this peer; and each challenge that is noted is sent to
--- its peer in answer to a simple registration, with the word of the row and the number of challenges
--- before it.
+-- its peer in answer to a simple registration, and its value is the word of the row and the number
+-- of challenges before it.
 pub record EchoedFirst (rows : List Row) : Type 0 where
   pub method : (sent : Sent rows)
       → is_request sent.message ≡ true

@@ -33,8 +33,8 @@ pub record AsksFurther (s : Step) (name : RequestName) : Type 0 where
   pub peer_is : s.peer ≡ name.0
   pub key_is : key_in message ≡ name.1
 
--- an answer of a name can be read after rows at a moment: a row kept one, it was last used less than
--- 247 seconds ago, and the name is among the 64 that were used last
+-- an answer of a name can be read after rows at a moment: a row kept one, it was last used less
+-- than 247 seconds ago, and the name is among the 64 that were used last
 pub record CanBeRead (before : List Row) (moment : ℕ) (name : RequestName) : Type 0 where
   pub kept : Placed
   pub kept_is : last_kept name before ≡ Some kept
@@ -43,9 +43,9 @@ pub record CanBeRead (before : List Row) (moment : ℕ) (name : RequestName) : T
   pub young : moment < used.row.moment.0 + exchange_lifetime
   pub among_last : is_named_among (take max_answers (names_used (events before))) name ≡ true
 
--- A block is read from a kept answer only for a request for a block above 0, of the peer and the key
--- under which it was kept; and only where it was last used less than 247 seconds ago, and is among
--- the 64 that were used last.
+-- A block is read from a kept answer only for a request for a block above 0, of the peer and the
+-- key under which it was kept; and only where it was last used less than 247 seconds ago, and is
+-- among the 64 that were used last.
 pub record KeptAnswers (rows : List Row) : Type 0 where
   pub asked : (before : List Row) (r : Row) (peer : Peer) (key : List ℕ)
       → Within rows before r

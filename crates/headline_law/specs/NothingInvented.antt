@@ -38,8 +38,8 @@ pub record StartsFor (before : List Row) (r : Row) (peer : Peer) (token : List �
   pub params_are : params ≡ registration_values (queries_in shows.message)
   pub token_is : token ≡ next_token (events before)
 
--- the row sends this peer the GET of a fetch, with this token and Message ID, that asks for the block
--- of this number
+-- the row sends this peer the GET of a fetch, with this token and Message ID, that asks for the
+-- block of this number
 pub record SendsRequest (r : Row) (peer : Peer) (token : List ℕ) (mid number : ℕ) : Type 0 where
   pub block : Option Block
   pub among : IsAmong r.sent (peer, spelling (fetch_request mid token block))
@@ -99,8 +99,8 @@ pub record CameInResponse (before : List Row) (s : Step) (peer : Peer) (octets :
 -- Nothing is invented: a fetch starts only where a simple registration is committed that answered
 -- its challenge, with its peer and its parameters; it goes on only where a response to its last
 -- request brought a block, which is gathered, and asks for the next one, with the same parameters;
--- each request that is noted is sent; a block of an upload came in the write of its peer that the row
--- commits; and a block of a fetch came in the response that the row hears.
+-- each request that is noted is sent; a block of an upload came in the write of its peer that the
+-- row commits; and a block of a fetch came in the response that the row hears.
 pub record NothingInvented (rows : List Row) : Type 0 where
   pub starts : (before : List Row) (r : Row) (peer : Peer) (token : List ℕ) (mid : ℕ)
       (params : RegParams)

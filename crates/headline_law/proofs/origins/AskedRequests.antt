@@ -1,5 +1,5 @@
--- Each request of a fetch that a step notes is sent, and a further one is noted beside the block that
--- came.
+-- Each request of a fetch that a step notes is sent, and a further one is noted beside the block
+-- that came.
 use Rattle.std.proofs.Common.{
   ◌≡◌,
   ◌⊎◌,
@@ -8,7 +8,6 @@ use Rattle.std.proofs.Common.{
   ℕ,
   ◌+◌,
   ◌<◌,
-  ◌||◌,
   Bool,
   true,
   false,
@@ -54,7 +53,6 @@ use Rattle.message_model.specs.Responses.{block_in, is_elsewhere}
 use Rattle.message_model.specs.Spelling.{spelling}
 use Rattle.event_model.specs.declared.notes.Note.{Note}
 use Rattle.event_model.specs.declared.notes.Note.TheVariants as note
-use Rattle.event_model.specs.Same.{is_same_peer}
 use Rattle.event_model.specs.Fetches.{
   Request,
   max_fetches,

@@ -1,6 +1,30 @@
 -- Each challenge that a step notes is sent to the peer of the step, which asked for a simple
 -- registration.
-use Rattle.std.proofs.Common.{◌≡◌, ℕ, ◌≤◌, Bool, true, false, not, List, [], ◌∷◌, length, Option, Some, None, Result, Ok, Err, refl, sym, ap, subst, ◌∙◌, arith}
+use Rattle.std.proofs.Common.{
+  ◌≡◌,
+  ℕ,
+  ◌≤◌,
+  Bool,
+  true,
+  false,
+  not,
+  List,
+  [],
+  ◌∷◌,
+  length,
+  Option,
+  Some,
+  None,
+  Result,
+  Ok,
+  Err,
+  refl,
+  sym,
+  ap,
+  subst,
+  ◌∙◌,
+  arith,
+}
 use Rattle.std.specs.List.{AllByRecursion, IsAmong}
 use Rattle.std.proofs.lemmas.Bool.{and_parts, false≢true}
 use Rattle.rd_base.specs.declared.peers.Peer.{Peer}
@@ -196,7 +220,8 @@ write_challenges rows moment s m here read asks = by (repeated moment s.peer m.m
     )
     new false false e = (tt, tt)
 
-    by : (first : Option Event) → ChallengesSent rows s (write_unless first (events rows) moment s m)
+    by : (first : Option Event)
+        → ChallengesSent rows s (write_unless first (events rows) moment s m)
     by (Some first) = again (settled first.place (events rows))
     by None =
         new (is_full_of_exchanges moment (events rows)) (is_unproved (events rows) moment s m) refl
@@ -245,7 +270,8 @@ request_challenges rows moment s m here read asks = by (refusal_of_request m)
         none_challenged rows s _ _ (refusal_notes m.kind (first_bad_option m.options) s m refusal)
     by None = on (path_in m)
 
-role_challenges : (r : Role) (starved : Bool) (rows : List Row) (moment : ℕ) (s : Step) (m : Message)
+role_challenges : (r : Role) (starved : Bool) (rows : List Row) (moment : ℕ) (s : Step)
+    (m : Message)
     → s.kind ≡ step.Admit
     → reading s.datagram ≡ Ok m
     → role_of m.kind m.code ≡ r

@@ -1,6 +1,27 @@
 -- Nothing is invented: fetches start for simple registrations that answered their challenge, and
 -- blocks came in datagrams of their peer.
-use Rattle.std.proofs.Common.{◌≡◌, ◌⊎◌, inl, inr, ℕ, ◌<◌, Bool, true, false, List, Option, Some, None, Ok, refl, sym, ap, subst, ◌∙◌, arith}
+use Rattle.std.proofs.Common.{
+  ◌≡◌,
+  ◌⊎◌,
+  inl,
+  inr,
+  ℕ,
+  ◌<◌,
+  Bool,
+  true,
+  false,
+  List,
+  Option,
+  Some,
+  None,
+  Ok,
+  refl,
+  sym,
+  ap,
+  subst,
+  ◌∙◌,
+  arith,
+}
 use Rattle.std.specs.List.{list_any}
 use Rattle.std.proofs.lemmas.Bool.{false≢true}
 use Rattle.rd_base.specs.declared.peers.Peer.{Peer}
@@ -42,7 +63,14 @@ use Rattle.headline_law.specs.NothingInvented.{
   NothingInvented,
 }
 use Rattle.headline_law.proofs.origins.AskedRequests.{request_of_row}
-use Rattle.headline_law.proofs.origins.NoteOrigins.{AdmitsOwn, PieceOf, StartsHere, NoteOrigins, row_origins, origin_of}
+use Rattle.headline_law.proofs.origins.NoteOrigins.{
+  AdmitsOwn,
+  PieceOf,
+  StartsHere,
+  NoteOrigins,
+  row_origins,
+  origin_of,
+}
 
 -- ---- rows that admit a simple registration
 
@@ -216,7 +244,8 @@ rows-NothingInvented rows all placed = record {
   where
     first : (before : List Row) (r : Row) (peer : Peer) (token : List ℕ) (params : RegParams)
         → Within rows before r
-        → StartsHere before r.step peer token params 0 ⊎ GoesOnWith before r.step peer token params 0
+        → StartsHere before r.step peer token params 0
+        ⊎ GoesOnWith before r.step peer token params 0
         → StartsFor before r peer token params
     first before r peer token params within (inl it) =
         starts_for rows before r peer token params 0 all placed within it
@@ -226,7 +255,8 @@ rows-NothingInvented rows all placed = record {
     further : (before : List Row) (r : Row) (peer : Peer) (token : List ℕ) (params : RegParams)
         (number : ℕ)
         → 0 < number
-        → StartsHere before r.step peer token params number ⊎ GoesOnWith before r.step peer token params number
+        → StartsHere before r.step peer token params number
+        ⊎ GoesOnWith before r.step peer token params number
         → GoesOnWith before r.step peer token params number
     further before r peer token params number later (inl it) =
         let none = it.first in absurd (omega (arith, none, later))

@@ -195,8 +195,8 @@ use Rattle.journal_model.proofs.notes.StepTable as noted
 
 -- ---- what notes say of their step
 
--- the datagram of the step is a request that is admitted under this Message ID; where it is a simple
--- registration, it answers the challenge of its peer
+-- the datagram of the step is a request that is admitted under this Message ID; where it is a
+-- simple registration, it answers the challenge of its peer
 pub record AdmitsOwn (rows : List Row) (moment : ℕ) (s : Step) (peer : Peer) (mid : ℕ) : Type 0
   where
     pub heard : s.kind ≡ step.Admit
@@ -208,7 +208,8 @@ pub record AdmitsOwn (rows : List Row) (moment : ℕ) (s : Step) (peer : Peer) (
     pub shows : path_in message ≡ path.SimpleRd
         → shows_address (echo_in message) moment s.peer (events rows) ≡ true
 
--- the step commits a write whose request has this key, and whose payload is the block of this number
+-- the step commits a write whose request has this key, and whose payload is the block of this
+-- number, which goes on with what is collected
 pub record PieceOf (rows : List Row) (moment : ℕ) (s : Step) (peer : Peer) (key : List ℕ)
     (number : ℕ) (octets : List ℕ) : Type 0 where
   pub place : ℕ
@@ -253,7 +254,8 @@ pub record StartsHere (rows : List Row) (s : Step) (peer : Peer) (token : List �
 -- where a note of a step comes from, after rows at a moment
 abbrev pub NoteOrigin : List Row → ℕ → Step → Note → Type 0
 NoteOrigin rows moment s (note.Admitted peer mid) = AdmitsOwn rows moment s peer mid
-NoteOrigin rows moment s (note.Piece peer key number octets) = PieceOf rows moment s peer key number octets
+NoteOrigin rows moment s (note.Piece peer key number octets) =
+    PieceOf rows moment s peer key number octets
 NoteOrigin rows moment s (note.Used peer key) = ReadsKept rows moment s peer key
 NoteOrigin rows moment s (note.Asked peer token mid params number) =
     StartsHere rows s peer token params number ⊎ GoesOnWith rows s peer token params number
@@ -378,7 +380,8 @@ later_origins rows moment s m here read later =
 
     fresh : (found : Option Answer) → NoteOrigins rows moment s (block_of_found s m found).notes
     fresh None = tt
-    fresh (Some a) = part_of a (block_of a.body (number_of (asked_block m)) (szx_of (asked_block m)))
+    fresh (Some a) =
+        part_of a (block_of a.body (number_of (asked_block m)) (szx_of (asked_block m)))
 
     by : (found kept : Option Answer)
         → kept_answer moment (s.peer, key_in m) (events rows) ≡ kept

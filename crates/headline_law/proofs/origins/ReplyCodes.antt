@@ -1,6 +1,26 @@
--- The codes of replies: refusals, what is no message, and what comes of changes. None is the code of
--- a request.
-use Rattle.std.proofs.Common.{◌≡◌, ℕ, ◌+◌, Bool, true, false, cond, List, [], ◌∷◌, ◌++◌, length, Option, Some, None, refl, subst, codes, nat_lt}
+-- The codes of replies: refusals, what is no message, and what comes of changes. None is the code
+-- of a request.
+use Rattle.std.proofs.Common.{
+  ◌≡◌,
+  ℕ,
+  ◌+◌,
+  Bool,
+  true,
+  false,
+  cond,
+  List,
+  [],
+  ◌∷◌,
+  ◌++◌,
+  length,
+  Option,
+  Some,
+  None,
+  refl,
+  subst,
+  codes,
+  nat_lt,
+}
 use Rattle.std.specs.List.{AllByRecursion}
 use Rattle.rd_base.specs.declared.peers.Peer.{Peer}
 use Rattle.rd_base.specs.declared.parameters.RegParams.{RegParams}

@@ -1,6 +1,34 @@
 -- Which steps send a request: the commit of a simple registration, and the row of a response to a
 -- fetch, both to the peer of the step; a tick sends one again that an earlier row sent.
-use Rattle.std.proofs.Common.{◌≡◌, ◌⊎◌, inl, inr, ℕ, ◌==◌, ◌||◌, Bool, true, false, List, [], ◌∷◌, length, fold, Option, Some, None, option_map, nat_le, Result, Ok, Err, refl, sym, subst, ◌∙◌}
+use Rattle.std.proofs.Common.{
+  ◌≡◌,
+  ◌⊎◌,
+  inl,
+  inr,
+  ℕ,
+  ◌==◌,
+  ◌||◌,
+  Bool,
+  true,
+  false,
+  List,
+  [],
+  ◌∷◌,
+  length,
+  fold,
+  Option,
+  Some,
+  None,
+  option_map,
+  nat_le,
+  Result,
+  Ok,
+  Err,
+  refl,
+  sym,
+  subst,
+  ◌∙◌,
+}
 use Rattle.std.specs.List.{AllByRecursion}
 use Rattle.std.proofs.lemmas.Bool.{and_parts, false≢true}
 use Rattle.rd_base.specs.declared.peers.Peer.{Peer}
@@ -141,8 +169,38 @@ use Rattle.journal_model.specs.Responses.{
   response_effects,
   response_use,
 }
-use Rattle.journal_model.specs.Ticks.{confirmable_sent, sent_again, notice_again, flight_again, notices_again, ticking, events_with, block_shown, is_unchanged, noticed_unless, listing_for, noticed_if, is_looked_at, notice_next, notices, request_again, fetch_again, requests_again, tick_effects, due_by}
-use Rattle.journal_model.specs.Rows.{served_on_location, served, request_answered, message_effects, heard, done, kept_body, effects}
+use Rattle.journal_model.specs.Ticks.{
+  confirmable_sent,
+  sent_again,
+  notice_again,
+  flight_again,
+  notices_again,
+  ticking,
+  events_with,
+  block_shown,
+  is_unchanged,
+  noticed_unless,
+  listing_for,
+  noticed_if,
+  is_looked_at,
+  notice_next,
+  notices,
+  request_again,
+  fetch_again,
+  requests_again,
+  tick_effects,
+  due_by,
+}
+use Rattle.journal_model.specs.Rows.{
+  served_on_location,
+  served,
+  request_answered,
+  message_effects,
+  heard,
+  done,
+  kept_body,
+  effects,
+}
 use Rattle.journal_model.specs.PlacedRows.{code_at}
 use Rattle.journal_model.specs.FetchCompletions.{AnswersFetch}
 use Rattle.journal_model.proofs.NoteKinds.{
