@@ -218,6 +218,20 @@ other_token_falls m params h =
     drop_first [] = []
     drop_first (c ∷ others) = others
 
+-- ---- a fetch is begun with a peer while another one with it runs
+
+-- An end theorem: nothing here cites it.
+pub second_fetch_falls : (m : Message) (params other : RegParams)
+    → NothingInvented (fetch_begun m params ∷ fetch_begun m other ∷ admission m ∷ []) → ⊥
+unfolding machine_on_literals
+second_fetch_falls m params other h =
+    let it : StartsFor (fetch_begun m other ∷ admission m ∷ []) (fetch_begun m params) (peer 1)
+    (1 ∷ []) params =
+    h.starts (fetch_begun m other ∷ admission m ∷ []) (fetch_begun m params) (peer 1) (1 ∷ []) 7
+    params (record { later = []; whole = refl }) (0, (omega arith, refl)) in
+    let runs : true ≡ false = it.none_runs in
+    absurd (false≢true (sym runs))
+
 -- ---- a fetch is begun, and no request of it is sent
 
 -- An end theorem: nothing here cites it.

@@ -14,7 +14,14 @@ use Rattle.record_model.specs.Parameters.{registration_values}
 use Rattle.event_model.specs.declared.notes.Note.{Note}
 use Rattle.event_model.specs.declared.notes.Note.TheVariants as note
 use Rattle.event_model.specs.Same.{is_same_peer}
-use Rattle.event_model.specs.Fetches.{next_token, gathered, collected}
+use Rattle.event_model.specs.Fetches.{
+  max_fetches,
+  fetches,
+  is_fetching,
+  next_token,
+  gathered,
+  collected,
+}
 use Rattle.journal_model.specs.declared.steps.Step.{Step}
 use Rattle.journal_model.specs.declared.rows.Row.{Row}
 use Rattle.journal_model.specs.Journal.{events}
@@ -27,7 +34,8 @@ use Rattle.journal_model.specs.AdmittedWrites.{AdmittedAt}
 use Rattle.headline_law.specs.AnsweredChallenges.{ShowsAddress}
 
 -- the row commits a simple registration that answered its challenge, and whose peer and parameters
--- these are; the token is that of no earlier fetch: the number of fetches with this one
+-- these are; the token is that of no earlier fetch: the number of fetches with this one; no fetch
+-- with the peer runs, and there is room for one more
 pub record StartsFor (before : List Row) (r : Row) (peer : Peer) (token : List ℕ)
     (params : RegParams) : Type 0 where
   pub admission : Placed
@@ -37,6 +45,8 @@ pub record StartsFor (before : List Row) (r : Row) (peer : Peer) (token : List �
   pub peer_is : peer ≡ admission.row.step.peer
   pub params_are : params ≡ registration_values (queries_in shows.message)
   pub token_is : token ≡ next_token (events before)
+  pub none_runs : is_fetching peer (events before) ≡ false
+  pub room : length (fetches (events before)) < max_fetches
 
 -- the row sends this peer the GET of a fetch, with this token and Message ID, that asks for the
 -- block of this number
@@ -96,11 +106,11 @@ pub record CameInResponse (before : List Row) (s : Step) (peer : Peer) (octets :
       ≡ false
   pub more : more_follow (block_in answers.message) ≡ true
 
--- Nothing is invented: a fetch starts only where a simple registration is committed that answered
--- its challenge, with its peer and its parameters; it goes on only where a response to its last
--- request brought a block, which is gathered, and asks for the next one, with the same parameters;
--- each request that is noted is sent; a block of an upload came in the write of its peer that the
--- row commits; and a block of a fetch came in the response that the row hears.
+-- Nothing is invented. A fetch starts only where a simple registration is committed that answered
+-- its challenge; it has the peer and the parameters of that one, and no other fetch with this peer
+-- runs. It goes on only where a response to its last request brought a block, which is gathered, and
+-- asks for the next one. Each request that is noted is sent. A block of an upload came in the write
+-- of its peer that the row commits, and a block of a fetch in the response that the row hears.
 pub record NothingInvented (rows : List Row) : Type 0 where
   pub starts : (before : List Row) (r : Row) (peer : Peer) (token : List ℕ) (mid : ℕ)
       (params : RegParams)

@@ -11,6 +11,7 @@ use Rattle.std.proofs.Common.{
   true,
   false,
   List,
+  length,
   Option,
   Some,
   None,
@@ -23,7 +24,7 @@ use Rattle.std.proofs.Common.{
   arith,
 }
 use Rattle.std.specs.List.{list_any}
-use Rattle.std.proofs.lemmas.Bool.{false≢true}
+use Rattle.std.proofs.lemmas.Bool.{false≢true, leb-false}
 use Rattle.rd_base.specs.declared.peers.Peer.{Peer}
 use Rattle.rd_base.specs.declared.parameters.RegParams.{RegParams}
 use Rattle.rd_base.proofs.lemmas.Each.{none_pass}
@@ -37,6 +38,7 @@ use Rattle.event_model.specs.declared.notes.Note.{Note}
 use Rattle.event_model.specs.declared.notes.Note.TheVariants as note
 use Rattle.event_model.specs.Repeats.{is_admission_of, is_admitting}
 use Rattle.event_model.specs.Challenges.{is_good}
+use Rattle.event_model.specs.Fetches.{max_fetches, fetches, is_fetching}
 use Rattle.journal_model.specs.declared.steps.Step.{Step}
 use Rattle.journal_model.specs.declared.steps.StepKind.TheVariants as step
 use Rattle.journal_model.specs.declared.rows.Row.{Row}
@@ -189,6 +191,9 @@ starts_for rows before r peer token params number all placed within it =
       params_are =
           it.params_are ∙ ap (λ (m : Message). registration_values (queries_in m)) same;
       token_is = it.token_is;
+      none_runs =
+          ap (λ (p : Peer). is_fetching p (events before)) it.peer_is ∙ it.none_runs;
+      room = leb-false max_fetches (length (fetches (events before))) it.room;
     }
 
 -- a block of an upload

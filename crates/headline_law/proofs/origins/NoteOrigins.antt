@@ -249,6 +249,8 @@ pub record StartsHere (rows : List Row) (s : Step) (peer : Peer) (token : List �
   pub peer_is : peer ≡ s.peer
   pub params_are : params ≡ registration_values (queries_in message)
   pub token_is : token ≡ next_token (events rows)
+  pub none_runs : is_fetching s.peer (events rows) ≡ false
+  pub room : nat_le max_fetches (length (fetches (events rows))) ≡ false
   pub first : number ≡ 0
 
 -- where a note of a step comes from, after rows at a moment
@@ -610,12 +612,14 @@ commit_origins rows moment place s m here read = by (path_in m) refl
     settles done h = each_append (NoteOrigin rows moment s) done.notes _ h (tt, tt)
 
     simple : (running too_many : Bool)
+        → is_fetching s.peer (events rows) ≡ running
+        → nat_le max_fetches (length (fetches (events rows))) ≡ too_many
         → path_in m ≡ path.SimpleRd
         → NoteOrigins rows moment s
         (simple_unless (fetch_room running too_many) (events rows) place s m).notes
-    simple true too_many at = (tt, tt)
-    simple false true at = (tt, tt)
-    simple false false at = (
+    simple true too_many runs many at = (tt, tt)
+    simple false true runs many at = (tt, tt)
+    simple false false runs many at = (
       tt,
       (
         inl (record {
@@ -627,6 +631,8 @@ commit_origins rows moment place s m here read = by (path_in m) refl
           peer_is = refl;
           params_are = refl;
           token_is = refl;
+          none_runs = runs;
+          room = many;
           first = refl;
         }),
         tt,
@@ -639,7 +645,7 @@ commit_origins rows moment place s m here read = by (path_in m) refl
     by path.Core at = tt
     by path.SimpleRd at =
         simple (is_fetching s.peer (events rows))
-        (nat_le max_fetches (length (fetches (events rows)))) at
+        (nat_le max_fetches (length (fetches (events rows)))) refl refl at
     by path.Rd at =
         settles (registering rows moment s m)
         (links_origins (to_register (registration_values (queries_in m))) rows moment place s m here
