@@ -45,18 +45,19 @@ pub record IsChallenge (before : List Row) (r : Row) (peer : Peer) (value : List
   pub value_is : value ≡ next_challenge r.step.word (events before)
   pub sends : SendsEcho r peer value
 
--- The directory sends a request only where a challenge was answered: each request in a datagram is
--- a GET, and an earlier row admitted a simple registration from that very address and port whose
--- Echo option answers the last challenge of this peer; and each challenge that is noted is sent to
--- its peer in answer to a simple registration, and its value is the word of the row and the number
--- of challenges before it.
+-- The directory sends a request only where a challenge was answered.
 pub record EchoedFirst (rows : List Row) : Type 0 where
+  -- each request that is sent is a GET (RFC 7252 section 5.8.1)
   pub method : (sent : Sent rows)
       → is_request sent.message ≡ true
       → sent.message.code ≡ codes_of.get
+  -- it goes to an address and port from which an earlier row admitted a simple registration that
+  -- answered the last challenge sent there (RFC 9175 section 2.6)
   pub shown : (sent : Sent rows)
       → is_request sent.message ≡ true
       → ShownBefore sent.here.before sent.peer
+  -- each challenge that is noted is sent to its peer, in answer to a simple registration; its value
+  -- is the word of the row and the number of challenges before it (RFC 9175 section 2.3)
   pub challenged : (before : List Row) (r : Row) (peer : Peer) (value : List ℕ)
       → Within rows before r
       → IsAmong r.notes (note.Challenged peer value)

@@ -43,14 +43,14 @@ pub record CanBeRead (before : List Row) (moment : ℕ) (name : RequestName) : T
   pub young : moment < used.row.moment.0 + exchange_lifetime
   pub among_last : is_named_among (take max_answers (names_used (events before))) name ≡ true
 
--- A block is read from a kept answer only for a request for a block above 0, of the peer and the
--- key under which it was kept; and only where it was last used less than 247 seconds ago, and is
--- among the 64 that were used last.
+-- A kept answer is read only for its own request, and only while it lives (RFC 7959 section 2.4).
 pub record KeptAnswers (rows : List Row) : Type 0 where
+  -- the row hears a request for a block above 0, of the peer and the key of that answer
   pub asked : (before : List Row) (r : Row) (peer : Peer) (key : List ℕ)
       → Within rows before r
       → IsAmong r.notes (note.Used peer key)
       → AsksFurther r.step (peer, key)
+  -- the answer was last used less than 247 seconds ago, and is among the 64 that were used last
   pub lives : (before : List Row) (r : Row) (peer : Peer) (key : List ℕ)
       → Within rows before r
       → IsAmong r.notes (note.Used peer key)

@@ -106,39 +106,43 @@ pub record CameInResponse (before : List Row) (s : Step) (peer : Peer) (octets :
       ≡ false
   pub more : more_follow (block_in answers.message) ≡ true
 
--- Nothing is invented. A fetch starts only where a simple registration is committed that answered
--- its challenge; it has the peer and the parameters of that one, and no other fetch with this peer
--- runs. It goes on only where a response to its last request brought a block, which is gathered, and
--- asks for the next one. Each request that is noted is sent. A block of an upload came in the write
--- of its peer that the row commits, and a block of a fetch in the response that the row hears.
+-- Nothing is invented: what is fetched was asked for, and what is collected came.
 pub record NothingInvented (rows : List Row) : Type 0 where
+  -- a fetch starts only where a simple registration is committed that answered its challenge (RFC
+  -- 9176 section 5.1)
   pub starts : (before : List Row) (r : Row) (peer : Peer) (token : List ℕ) (mid : ℕ)
       (params : RegParams)
       → Within rows before r
       → IsAmong r.notes (note.Asked peer token mid params 0)
       → StartsFor before r peer token params
+  -- it goes on only where a response to its last request brought a block that more follow, and asks
+  -- for the next one (RFC 7959 section 2.4)
   pub goes_on : (before : List Row) (r : Row) (peer : Peer) (token : List ℕ) (mid : ℕ)
       (params : RegParams) (number : ℕ)
       → Within rows before r
       → IsAmong r.notes (note.Asked peer token mid params number)
       → 0 < number
       → GoesOnWith before r.step peer token params number
+  -- and that block is gathered in the same row
   pub gathers : (before : List Row) (r : Row) (peer : Peer) (token : List ℕ) (mid : ℕ)
       (params : RegParams) (number : ℕ)
       → Within rows before r
       → IsAmong r.notes (note.Asked peer token mid params number)
       → 0 < number
       → list_any (gathers_from peer) r.notes ≡ true
+  -- each request that is noted is sent
   pub sends : (before : List Row) (r : Row) (peer : Peer) (token : List ℕ) (mid : ℕ)
       (params : RegParams) (number : ℕ)
       → Within rows before r
       → IsAmong r.notes (note.Asked peer token mid params number)
       → SendsRequest r peer token mid number
+  -- a block of an upload came in the write of its peer that the row commits (RFC 7959 section 2.5)
   pub uploaded : (before : List Row) (r : Row) (peer : Peer) (key : List ℕ) (number : ℕ)
       (octets : List ℕ)
       → Within rows before r
       → IsAmong r.notes (note.Piece peer key number octets)
       → CameInWrite before r peer key number octets
+  -- a block of a fetch came in the response that the row hears (RFC 7959 section 2.4)
   pub gathered : (before : List Row) (r : Row) (peer : Peer) (octets : List ℕ)
       (tag : Option (List ℕ))
       → Within rows before r
