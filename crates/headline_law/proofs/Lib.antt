@@ -50,6 +50,17 @@
 -- that each datagram can be read and fits, and that what is formed is sent).
 --   datagrams: DatagramLaws, the sentence.
 --
+-- Moments, NothingInvented, KeptAnswers and EchoedFirst, of specs: sentences that are claims of any
+-- journal by themselves; of journals of the machine, and of those of desks.
+--   MomentLaws: the moment of a row is the greatest that was handed in so far.
+--   origins: NoteOrigins is the one table of where it comes from what a step notes of admissions,
+-- uploads, fetches and kept answers that are read; AskedRequests has that each request that is
+-- noted is sent; InventionLaws is the sentence. KeptAnswerLaws is the one on kept answers.
+--   ReplyCodes, StepRequests and ChallengeLaws: which steps send a request, and that challenges are
+-- sent; EchoLaws is the sentence on Echo.
+--   WrongMoments, WrongInventions, WrongKeptAnswers and WrongEchoes: journals that have not the
+-- sentence that their name tells.
+--
 -- WrongRows, WrongDatagrams, WrongSources and WrongBeginnings: rows with wrong answers or entries,
 -- none of which has the headline.
 --
@@ -72,3 +83,9 @@ pub mod WrongBeginnings
 pub mod WrongDatagrams
 pub mod WrongSources
 pub mod Restarts
+pub mod MomentLaws
+pub mod origins
+pub mod WrongMoments
+pub mod WrongInventions
+pub mod WrongKeptAnswers
+pub mod WrongEchoes
