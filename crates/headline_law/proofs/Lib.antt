@@ -64,6 +64,8 @@ pub mod flights
 pub mod rows
 pub mod desks
 pub mod datagrams
+pub mod answers
+pub mod whom
 pub mod HeadlineLaw
 pub mod WrongRows
 pub mod WrongEntries

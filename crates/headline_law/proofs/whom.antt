@@ -1,0 +1,3 @@
+pub mod RunningFetches
+pub mod Dispatches
+pub mod TickDispatches
