@@ -1,1 +1,2 @@
 pub mod ReportedOutcomes
+pub mod SettledNotes

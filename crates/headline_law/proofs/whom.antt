@@ -1,3 +1,4 @@
 pub mod RunningFetches
 pub mod Dispatches
 pub mod TickDispatches
+pub mod GoesRows
