@@ -72,4 +72,5 @@ pub mod WrongEntries
 pub mod WrongBodies
 pub mod WrongDatagrams
 pub mod WrongSources
+pub mod WrongPeers
 pub mod Restarts
