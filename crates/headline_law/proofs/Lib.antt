@@ -66,6 +66,7 @@ pub mod desks
 pub mod datagrams
 pub mod answers
 pub mod whom
+pub mod watchers
 pub mod HeadlineLaw
 pub mod WrongRows
 pub mod WrongEntries

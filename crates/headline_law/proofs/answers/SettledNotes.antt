@@ -39,6 +39,8 @@ use Rattle.message_model.specs.declared.requests.Path.{Path}
 use Rattle.message_model.specs.declared.requests.Path.TheVariants as path
 use Rattle.message_model.specs.Codes as codes_of
 use Rattle.message_model.specs.Message.{Message}
+use Rattle.message_model.specs.OptionTable as table
+use Rattle.message_model.specs.OptionTable.{stands_in}
 use Rattle.message_model.specs.Reading.{reading}
 use Rattle.message_model.specs.Request.{path_in}
 use Rattle.message_model.specs.Spelling.{spelling}
@@ -109,6 +111,7 @@ pub record SettlesAnswer (kind : StepKind) (s : Step) (sent : List (Peer × List
   pub octets_are : octets ≡ spelling (answer s message reply)
   pub good : IsGoodReply reply
   pub responds : codes_of.is_response_code reply.code ≡ true
+  pub unobserved : stands_in table.observe reply.options ≡ false
   pub among : Among (s.peer, octets) sent
 
 -- so it is of each note that settles something
@@ -152,11 +155,11 @@ commit_settles rows moment place s m read = by (path_in m)
   where
     outcome : (o : Outcome)
         → IsGoodReply o.reply
-        → codes_of.is_response_code o.reply.code ≡ true
+        → IsReported (entries rows) moment o.reply o.notes
         → are of_change o.notes ≡ true
         → SettleFacts (step.Commit place) s (settling place s m o).sent
         (settling place s m o).notes
-    outcome o good class notes =
+    outcome o good told notes =
         each_append (SettleFact (step.Commit place) s (settling place s m o).sent) o.notes
         (note.Settled place (spelling (answer s m o.reply)) ∷ [])
         (unsettled of_change (λ p os. refl) (step.Commit place) s (settling place s m o).sent
@@ -168,7 +171,8 @@ commit_settles rows moment place s m read = by (path_in m)
             read = read;
             octets_are = refl;
             good = good;
-            responds = class;
+            responds = told.responds;
+            unobserved = told.unobserved;
             among = inl refl;
           },
           tt,
@@ -177,9 +181,10 @@ commit_settles rows moment place s m read = by (path_in m)
     simply : (reply : Reply) (more : List (Peer × List ℕ))
         → IsGoodReply reply
         → codes_of.is_response_code reply.code ≡ true
+        → stands_in table.observe reply.options ≡ false
         → SettlesAnswer (step.Commit place) s ((s.peer, spelling (answer s m reply)) ∷ more) place
         (spelling (answer s m reply))
-    simply reply more good class = record {
+    simply reply more good class none = record {
       commits = refl;
       message = m;
       reply = reply;
@@ -187,6 +192,7 @@ commit_settles rows moment place s m read = by (path_in m)
       octets_are = refl;
       good = good;
       responds = class;
+      unobserved = none;
       among = inl refl;
     }
 
@@ -196,17 +202,17 @@ commit_settles rows moment place s m read = by (path_in m)
         (simple_unless (fetch_room running too_many) (events rows) place s m).notes
     simple true too_many = (
       simply (diagnostic codes_of.service_unavailable (codes "fetching")) []
-          (good_unavailable (codes "fetching") (omega arith)) refl,
+          (good_unavailable (codes "fetching") (omega arith)) refl refl,
       tt,
     )
     simple false true = (
       simply (diagnostic codes_of.service_unavailable (codes "fetches")) []
-          (good_unavailable (codes "fetches") (omega arith)) refl,
+          (good_unavailable (codes "fetches") (omega arith)) refl refl,
       tt,
     )
     simple false false = (
       simply (bare codes_of.changed) _
-          (good_bare codes_of.changed refl (λ e. absurd (omega (arith, e)))) refl,
+          (good_bare codes_of.changed refl (λ e. absurd (omega (arith, e)))) refl refl,
       (tt, tt),
     )
 
@@ -219,13 +225,13 @@ commit_settles rows moment place s m read = by (path_in m)
         (nat_le max_fetches (length (fetches (events rows))))
     by path.Rd =
         outcome (registering rows moment s m) (good_registering rows moment s m)
-        (registering_reported rows moment s m).responds
+        (registering_reported rows moment s m)
         (registering-notes of_change (λ entry. refl) (λ peer key number octets. refl)
         (λ peer key. refl) rows moment s m)
     by (path.Location number) =
         outcome (location_outcome (method_of m.code) rows moment s m number)
         (good_location (method_of m.code) rows moment s m number)
-        (location_reported (method_of m.code) rows moment s m number).responds
+        (location_reported (method_of m.code) rows moment s m number)
         (location-notes of_change (λ entry. refl) (λ peer key number octets. refl)
         (λ peer key. refl) (method_of m.code) rows moment s m number)
     by path.Res = tt

@@ -256,7 +256,8 @@ use Rattle.headline_law.proofs.whom.RunningFetches.{
 -- ---- one datagram
 
 -- the notes of a lookup that adds its peer as an observer, after which none changes who observes
-pub record AddsObserver (s : Step) (m : Message) (notes : List Note) : Type 0 where
+pub record AddsObserver (kind : StepKind) (s : Step) (m : Message) (notes : List Note) : Type 0 where
+  pub heard : kind ≡ step.Admit
   pub lookup : is_lookup (path_in m) ≡ true
   pub registers : observe_in m ≡ Some register
   pub first : is_later_block m ≡ false
@@ -266,11 +267,11 @@ pub record AddsObserver (s : Step) (m : Message) (notes : List Note) : Type 0 wh
   pub quiet : list_any changes_observers back ≡ false
 
 -- a reply to a request, with what is noted
-pub record IsReply (rows : List Row) (moment : ℕ) (s : Step) (m : Message) (reply : Reply)
-    (notes : List Note) : Type 0 where
+pub record IsReply (rows : List Row) (moment : ℕ) (kind : StepKind) (s : Step) (m : Message)
+    (reply : Reply) (notes : List Note) : Type 0 where
   pub good : IsGoodReply reply
   pub responds : codes_of.is_response_code reply.code ≡ true
-  pub observed : stands_in table.observe reply.options ≡ true → AddsObserver s m notes
+  pub observed : stands_in table.observe reply.options ≡ true → AddsObserver kind s m notes
   pub located : reply.code ≡ codes_of.created
       → LocatesEntry (entries rows) moment reply.options notes
 
@@ -280,7 +281,7 @@ pub data IsDispatch (rows : List Row) (moment : ℕ) (kind : StepKind) (s : Step
   answers : (m : Message) (reply : Reply)
       → reading s.datagram ≡ Ok m
       → role_of m.kind m.code ≡ role.Request
-      → IsReply rows moment s m reply notes
+      → IsReply rows moment kind s m reply notes
       → d ≡ (s.peer, spelling (answer s m reply))
       → IsDispatch rows moment kind s notes d
   repeats : (m : Message) (first : Event) (octets : List ℕ)
@@ -328,11 +329,11 @@ record IsBare (reply : Reply) : Type 0 where
   other : reply.code ≡ codes_of.created → ⊥
 
 -- is one to any request
-of_bare : (rows : List Row) (moment : ℕ) (s : Step) (m : Message) (reply : Reply)
+of_bare : (rows : List Row) (moment : ℕ) (kind : StepKind) (s : Step) (m : Message) (reply : Reply)
     (notes : List Note)
     → IsBare reply
-    → IsReply rows moment s m reply notes
-of_bare rows moment s m reply notes h = record {
+    → IsReply rows moment kind s m reply notes
+of_bare rows moment kind s m reply notes h = record {
   good = h.good;
   responds = h.responds;
   observed = λ e. absurd (false≢true (sym h.unobserved ∙ e));
@@ -340,12 +341,12 @@ of_bare rows moment s m reply notes h = record {
 }
 
 -- and so is what comes of a write
-of_reported : (rows : List Row) (moment : ℕ) (s : Step) (m : Message) (reply : Reply)
+of_reported : (rows : List Row) (moment : ℕ) (kind : StepKind) (s : Step) (m : Message) (reply : Reply)
     (notes : List Note)
     → IsGoodReply reply
     → IsReported (entries rows) moment reply notes
-    → IsReply rows moment s m reply notes
-of_reported rows moment s m reply notes good h = record {
+    → IsReply rows moment kind s m reply notes
+of_reported rows moment kind s m reply notes good h = record {
   good = good;
   responds = h.responds;
   observed = λ e. absurd (false≢true (sym h.unobserved ∙ e));
@@ -469,7 +470,7 @@ one_answer : (rows : List Row) (moment : ℕ) (kind : StepKind) (s : Step) (m : 
     (reply : Reply) (notes : List Note)
     → reading s.datagram ≡ Ok m
     → role_of m.kind m.code ≡ role.Request
-    → IsReply rows moment s m reply notes
+    → IsReply rows moment kind s m reply notes
     → Dispatches rows moment kind s (answering s m reply notes)
 unfolding answering
 one_answer rows moment kind s m reply notes read asks h = (answers m reply read asks h refl, tt)
@@ -482,7 +483,7 @@ one_bare : (rows : List Row) (moment : ℕ) (kind : StepKind) (s : Step) (m : Me
     → IsBare reply
     → Dispatches rows moment kind s (answering s m reply notes)
 one_bare rows moment kind s m reply notes read asks h =
-    one_answer rows moment kind s m reply notes read asks (of_bare rows moment s m reply notes h)
+    one_answer rows moment kind s m reply notes read asks (of_bare rows moment kind s m reply notes h)
 
 -- ---- steps
 
@@ -764,6 +765,7 @@ lookup_sends rows moment s m tags read asks looks = by (is_later_block m) refl
               (Some (observe_value (events rows))) (asked_block m)
               (listing_now rows moment m).body;
           observed = λ e. record {
+            heard = refl;
             lookup = looks;
             registers = asked;
             first = first;
@@ -894,7 +896,7 @@ commit_sends rows moment place s m read asks = by (path_in m)
         → Dispatches rows moment (step.Commit place) s (settling place s m o)
     settled_by o good told = (
       answers m o.reply read asks
-          (of_reported rows moment s m o.reply
+          (of_reported rows moment (step.Commit place) s m o.reply
           (o.notes ++ note.Settled place (spelling (answer s m o.reply)) ∷ []) good
           (reported_before (entries rows) moment o.reply o.notes
           (note.Settled place (spelling (answer s m o.reply)) ∷ []) refl told)) refl,
@@ -914,7 +916,7 @@ commit_sends rows moment place s m read asks = by (path_in m)
         (bare_unavailable (codes "fetches") (omega arith))
     simple false false = (
       answers m (bare codes_of.changed) read asks
-          (of_bare rows moment s m (bare codes_of.changed) _ bare_changed) refl,
+          (of_bare rows moment (step.Commit place) s m (bare codes_of.changed) _ bare_changed) refl,
       (
         fetches_block (mid_of s.worker (s.drawn + drawn_for m.kind)) (next_token (events rows))
             None (next_short (events rows))
