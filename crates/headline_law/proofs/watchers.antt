@@ -1,1 +1,2 @@
 pub mod ObserverNotes
+pub mod ObserversStand
