@@ -74,4 +74,5 @@ pub mod WrongBodies
 pub mod WrongDatagrams
 pub mod WrongSources
 pub mod WrongPeers
+pub mod WrongObservers
 pub mod Restarts
