@@ -76,11 +76,16 @@ pub record IsAnswerLike (request answer : Message) : Type 0 where
   pub type : IsOfType request.kind request.mid answer
   pub token : answer.token ≡ request.token
 
--- a row sends one response, and this is the answer to the request
-pub record AnswersOnce (r : Row) (request : Message) : Type 0 where
+-- the row of a commit sends its peer one response, and this is the answer to the request; unless
+-- memory ran out, the exchange keeps its octets (RFC 7252 section 4.5)
+pub record AnswersOnce (r : Row) (place : ℕ) (request : Message) : Type 0 where
   pub answer : Message
   pub one : responses_in r.sent ≡ answer ∷ []
   pub like : IsAnswerLike request answer
+  pub octets : List ℕ
+  pub read : reading octets ≡ Ok answer
+  pub sent : IsAmong r.sent (r.step.peer, octets)
+  pub keeps : r.starved ≡ false → IsAmong r.notes (note.Settled place octets)
 
 -- ---- writes that come again
 
@@ -131,22 +136,23 @@ pub record NamesEntry (here : Placed) (answer : Message) : Type 0 where
 
 -- ---- the sentence
 
--- what a row that is no tick sends; in a tick each response is a notice
+-- the step is no tick: in a tick each response is a notice
 abbrev pub IsNotOfTick : StepKind → Type 0
 IsNotOfTick step.Tick = ⊥
 IsNotOfTick _ = Unit {0}
 
 -- A commit sends exactly one response, of the type and with the Message ID and the token that its
--- request wants; so is each response to another request, unless a write comes again. A write that
--- comes again is answered by the octets that its exchange keeps, or by nothing, and nothing is noted
--- of it. What an exchange keeps was noted by its own commit, which sent it. And a 2.01 names the
--- location of the registration that its row entered, unless it is such a kept answer.
+-- request wants, and its exchange keeps that. So is each response to another request, unless a write
+-- comes again. A write that comes again is answered by the octets that its exchange keeps, or by
+-- nothing, and nothing is noted of it. What an exchange keeps was noted by its own commit, which
+-- sent it. And a 2.01 names the location of the registration that its row entered, unless it is such
+-- a kept answer. (In a tick each response is a 2.05, as SendsToWhoAsked says.)
 pub record AnsweredAlike (rows : List Row) : Type 0 where
   pub once : (before : List Row) (r : Row) (place : ℕ) (m : Message)
       → Within rows before r
       → Commits r place
       → reading r.step.datagram ≡ Ok m
-      → AnswersOnce r m
+      → AnswersOnce r place m
   pub alike : (sent : Sent rows) (request : Message)
       → is_response sent.message ≡ true
       → IsNotOfTick sent.here.row.step.kind
@@ -162,5 +168,6 @@ pub record AnsweredAlike (rows : List Row) : Type 0 where
       → IsAmong r.notes (note.Settled place octets)
       → Commits r place × IsAmong r.sent (r.step.peer, octets)
   pub located : (sent : Sent rows)
+      → IsNotOfTick sent.here.row.step.kind
       → sent.message.code ≡ codes_of.created
       → NamesEntry sent.here sent.message ⊎ RepeatsReply sent.here sent.peer sent.octets
