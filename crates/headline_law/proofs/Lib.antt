@@ -75,4 +75,5 @@ pub mod WrongDatagrams
 pub mod WrongSources
 pub mod WrongPeers
 pub mod WrongObservers
+pub mod WrongAnswers
 pub mod Restarts
