@@ -1,42 +1,14 @@
 -- Rows with wrong answers to writes: each falls by the sentence AnsweredAlike. Beside each datagram
 -- its parts are shown: type, code, Message ID, token, options, payload.
-use Rattle.std.proofs.Common.{
-  ◌≡◌,
-  ◌⊎◌,
-  inl,
-  inr,
-  ℕ,
-  true,
-  false,
-  List,
-  [],
-  ◌∷◌,
-  length,
-  Option,
-  Some,
-  None,
-  Result,
-  Ok,
-  codes,
-  decimal,
-  refl,
-  sym,
-  ap,
-  subst,
-  ◌∙◌,
-  arith,
-}
+use Rattle.std.proofs.Common.{◌≡◌, inl, inr, ℕ, false, List, [], ◌∷◌, length, None, Result, Ok, codes, decimal, refl, sym, ap, ◌∙◌, arith}
 use Rattle.std.specs.List.{IsAmong}
-use Rattle.std.proofs.lemmas.Bool.{false≢true}
 use Rattle.rd_base.specs.declared.peers.Peer.{Peer}
 use Rattle.rd_base.specs.declared.records.Name.{Name}
-use Rattle.rd_base.specs.declared.parameters.RegParams.{RegParams}
-use Rattle.rd_base.specs.declared.submitted_links.SubmittedLink.{SubmittedLink}
 use Rattle.rd_base.proofs.lemmas.Among.{all_at_index}
 use Rattle.message_model.specs.declared.messages.Kind4.TheVariants.{Con, Ack}
 use Rattle.message_model.specs.declared.messages.Unread.{Unread}
 use Rattle.message_model.specs.Codes as codes_of
-use Rattle.message_model.specs.Message.{Message, Opt}
+use Rattle.message_model.specs.Message.{Message}
 use Rattle.message_model.specs.OptionTable as table
 use Rattle.message_model.specs.Reading.{reading}
 use Rattle.message_model.specs.Request.{queries_in}
@@ -51,22 +23,13 @@ use Rattle.event_model.specs.declared.notes.Note.TheVariants as note
 use Rattle.event_model.specs.Events.{Event}
 use Rattle.event_model.proofs.ManyObservers.{peer}
 use Rattle.journal_model.proofs.OnLiterals.{machine_on_literals}
-use Rattle.journal_model.specs.declared.steps.StepKind.{StepKind}
 use Rattle.journal_model.specs.declared.steps.StepKind.TheVariants as step
 use Rattle.journal_model.specs.declared.rows.Row.{Row}
 use Rattle.journal_model.specs.Journal.{entries}
 use Rattle.journal_model.specs.Changes.{number_after}
-use Rattle.journal_model.specs.PlacedRows.{Placed, Within, Commits}
+use Rattle.journal_model.specs.PlacedRows.{Within, Commits}
 use Rattle.journal_model.specs.CarriedBlocks.{Sent}
-use Rattle.headline_law.specs.AnsweredAlike.{
-  responses_in,
-  AnswersOnce,
-  RepeatsReply,
-  HearsWrite,
-  NamesEntry,
-  IsAnswerLike,
-  AnsweredAlike,
-}
+use Rattle.headline_law.specs.AnsweredAlike.{AnswersOnce, HearsWrite, NamesEntry, AnsweredAlike}
 use Rattle.headline_law.proofs.WrongRows.{row_of, answer}
 
 -- CON 0.02 m=0010 t=c1 [11 rd][15 ep=n] | </a>: a device registers

@@ -1,37 +1,10 @@
 -- Rows with wrong observers. The first falls by the sentence ObserversKnow, and the others by the
 -- sentence ObserversStand. Beside each datagram its parts are shown: type, code, Message ID, token,
 -- options, payload.
-use Rattle.std.proofs.Common.{
-  ◌≡◌,
-  ◌⊎◌,
-  inl,
-  inr,
-  ℕ,
-  ◌≤◌,
-  true,
-  false,
-  List,
-  [],
-  ◌∷◌,
-  length,
-  Option,
-  Some,
-  None,
-  Result,
-  Ok,
-  codes,
-  refl,
-  sym,
-  ap,
-  subst,
-  ◌∙◌,
-  arith,
-}
-use Rattle.std.specs.List.{IsAmong}
+use Rattle.std.proofs.Common.{◌≡◌, inl, inr, ℕ, ◌≤◌, false, List, [], ◌∷◌, length, Option, Some, None, Result, Ok, codes, refl, sym, ap, ◌∙◌, arith}
 use Rattle.std.proofs.lemmas.Option.{same_Some}
 use Rattle.rd_base.specs.declared.queries.Kind.{Kind}
 use Rattle.rd_base.specs.declared.queries.Kind.TheVariants as kind
-use Rattle.rd_base.specs.declared.queries.Query.{Query}
 use Rattle.message_model.specs.declared.messages.Kind4.TheVariants.{Con}
 use Rattle.message_model.specs.declared.messages.Unread.{Unread}
 use Rattle.message_model.specs.Codes as codes_of
@@ -43,25 +16,16 @@ use Rattle.history_model.specs.Listing.{listing}
 use Rattle.event_model.specs.declared.notes.Note.{Note}
 use Rattle.event_model.specs.declared.notes.Note.TheVariants as note
 use Rattle.event_model.specs.declared.notes.Observer.{Observer}
-use Rattle.event_model.specs.Observers.{observers}
-use Rattle.event_model.specs.Flights.{Flight, flight}
+use Rattle.event_model.specs.Flights.{Flight}
 use Rattle.event_model.proofs.ManyObservers.{peer}
 use Rattle.journal_model.proofs.OnLiterals.{machine_on_literals}
 use Rattle.journal_model.specs.declared.steps.StepKind.TheVariants as step
 use Rattle.journal_model.specs.declared.rows.Row.{Row}
-use Rattle.journal_model.specs.Journal.{events, entries, now}
+use Rattle.journal_model.specs.Journal.{entries, now}
 use Rattle.journal_model.specs.Lookups.{observer_of}
 use Rattle.journal_model.specs.Headline.{Headline}
 use Rattle.journal_model.specs.PlacedRows.{Placed}
-use Rattle.headline_law.specs.ObserversStand.{
-  MakesObserver,
-  EndsObserving,
-  asks_anew,
-  rejects_notice,
-  never_acknowledges,
-  AsksToBe,
-  ObserversStand,
-}
+use Rattle.headline_law.specs.ObserversStand.{MakesObserver, EndsObserving, asks_anew, rejects_notice, never_acknowledges, ObserversStand}
 use Rattle.headline_law.proofs.WrongRows.{row_of, answer, sent_first}
 
 -- an observer of endpoints, under the token c1

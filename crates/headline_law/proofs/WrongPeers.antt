@@ -1,26 +1,6 @@
 -- Rows that write to whom they should not: each falls by the sentence SentToWhom. Beside each
 -- datagram its parts are shown: type, code, Message ID, token, options, payload.
-use Rattle.std.proofs.Common.{
-  ◌≡◌,
-  ◌⊎◌,
-  inl,
-  inr,
-  ℕ,
-  true,
-  false,
-  List,
-  [],
-  ◌∷◌,
-  Option,
-  Some,
-  None,
-  codes,
-  refl,
-  sym,
-  ap,
-  ◌∙◌,
-  arith,
-}
+use Rattle.std.proofs.Common.{◌≡◌, ◌⊎◌, inl, inr, ℕ, true, false, [], ◌∷◌, Option, None, codes, refl, ap, arith}
 use Rattle.std.specs.List.{list_any}
 use Rattle.std.proofs.lemmas.Bool.{false≢true}
 use Rattle.rd_base.specs.declared.peers.Host.{Host}
@@ -31,10 +11,8 @@ use Rattle.message_model.specs.declared.blocks.Block.{Block}
 use Rattle.message_model.specs.declared.messages.Kind4.TheVariants.{Con, Ack, Rst}
 use Rattle.message_model.specs.Codes as codes_of
 use Rattle.message_model.specs.Message.{Message}
-use Rattle.message_model.specs.OptionTable as table
 use Rattle.message_model.specs.Spelling.{spelling}
 use Rattle.message_model.specs.FetchRequests.{fetch_request}
-use Rattle.message_model.proofs.OnLiterals.{messages_on_literals}
 use Rattle.event_model.specs.declared.notes.Note.TheVariants as note
 use Rattle.event_model.proofs.ManyObservers.{peer}
 use Rattle.journal_model.proofs.OnLiterals.{machine_on_literals}

@@ -1,19 +1,6 @@
 -- A sentence of the headline, of who observes: an answer that carries Observe makes its peer an
 -- observer of what it asked for, and an observer ends only for a reason.
-use Rattle.std.specs.Prelude.{
-  ◌≡◌,
-  ◌⊎◌,
-  ℕ,
-  ◌≤◌,
-  Bool,
-  true,
-  false,
-  List,
-  ◌∷◌,
-  length,
-  Some,
-  Ok,
-}
+use Rattle.std.specs.Prelude.{◌≡◌, ◌⊎◌, ◌≤◌, Bool, true, false, List, ◌∷◌, length, Some, Ok}
 use Rattle.std.specs.List.{IsAmong}
 use Rattle.rd_base.specs.declared.peers.Peer.{Peer}
 use Rattle.message_model.specs.declared.messages.Role.TheVariants as role

@@ -1,40 +1,14 @@
 -- Answers to writes: once, as the request wants it, and alike where it comes again (the sentence
 -- AnsweredAlike).
-use Rattle.std.proofs.Common.{
-  ◌≡◌,
-  ◌⊎◌,
-  inl,
-  inr,
-  ℕ,
-  Bool,
-  true,
-  false,
-  List,
-  [],
-  ◌∷◌,
-  ◌++◌,
-  codes,
-  decimal,
-  Option,
-  Some,
-  None,
-  Ok,
-  refl,
-  sym,
-  ap,
-  subst,
-  ◌∙◌,
-  arith,
-}
+use Rattle.std.proofs.Common.{◌≡◌, ◌⊎◌, inl, inr, ℕ, Bool, true, false, List, [], ◌∷◌, ◌++◌, codes, decimal, Some, Ok, refl, sym, ap, subst, ◌∙◌, arith}
 use Rattle.std.specs.List.{list_any, IsAmong, AllByRecursion}
 use Rattle.std.proofs.lemmas.Bool.{false≢true}
 use Rattle.rd_base.specs.declared.peers.Peer.{Peer}
 use Rattle.rd_base.proofs.lemmas.Among.{all_at_index}
 use Rattle.rd_base.proofs.lemmas.Each.{none_pass}
 use Rattle.message_model.specs.declared.messages.Kind4.TheVariants.{Rst, Ack}
-use Rattle.message_model.specs.declared.messages.Role.TheVariants as role
 use Rattle.message_model.specs.Codes as codes_of
-use Rattle.message_model.specs.Message.{Message, role_of}
+use Rattle.message_model.specs.Message.{Message}
 use Rattle.message_model.specs.Reading.{reading}
 use Rattle.message_model.specs.Request.{path_in}
 use Rattle.message_model.specs.Spelling.{spelling}
@@ -55,9 +29,9 @@ use Rattle.journal_model.specs.Requests.{is_write, method_of}
 use Rattle.journal_model.specs.Writes.{write_effects}
 use Rattle.journal_model.specs.Machine.{IsJournal}
 use Rattle.journal_model.specs.DeskJournal.{IsDeskJournal}
-use Rattle.journal_model.specs.PlacedRows.{Within, Placed, Commits}
+use Rattle.journal_model.specs.PlacedRows.{Within, Commits}
 use Rattle.journal_model.specs.AdmittedWrites.{AdmittedAt}
-use Rattle.journal_model.specs.Rows.{effects, row, row_moment, AreRows}
+use Rattle.journal_model.specs.Rows.{effects, row, AreRows}
 use Rattle.journal_model.specs.SentDatagrams.{is_response, AreForRequests}
 use Rattle.journal_model.specs.CarriedBlocks.{Sent}
 use Rattle.journal_model.proofs.EventRows.{AllRows, row_within}
@@ -333,8 +307,7 @@ answers_again rows before r m first made within hears found =
     hears.writes) in
     let it : AnsweredAgain r.step (settled first.place (events before))
     (write_effects (events before) r.moment.0 r.step m) =
-    write_again before r.moment.0 r.step m first found in
-    (
+    write_again before r.moment.0 r.step m first found in (
       facts.0 ∙ (ap (λ (e : Effects). e.sent) is ∙ it.sent),
       facts.1 ∙ (ap (λ (e : Effects). e.notes) is ∙ it.notes),
     )

@@ -1,51 +1,19 @@
 -- A commit sends one answer, which its exchange keeps; and what is admitted is a write.
-use Rattle.std.proofs.Common.{
-  ◌≡◌,
-  inl,
-  inr,
-  ℕ,
-  ◌+◌,
-  ◌≤◌,
-  Bool,
-  true,
-  false,
-  List,
-  [],
-  ◌∷◌,
-  ◌++◌,
-  length,
-  filter,
-  filter_map,
-  Option,
-  Some,
-  None,
-  codes,
-  nat_le,
-  Result,
-  Ok,
-  Err,
-  refl,
-  sym,
-  ap,
-  subst,
-  ◌∙◌,
-  arith,
-}
-use Rattle.std.specs.List.{AllByRecursion, list_any}
+use Rattle.std.proofs.Common.{◌≡◌, inl, inr, ℕ, ◌+◌, ◌≤◌, Bool, true, false, List, [], ◌∷◌, ◌++◌, length, Option, Some, None, codes, nat_le, Ok, refl, sym, ap, subst, ◌∙◌, arith}
+use Rattle.std.specs.List.{list_any}
 use Rattle.std.proofs.lemmas.Bool.{false≢true}
 use Rattle.rd_base.specs.declared.peers.Peer.{Peer}
 use Rattle.rd_base.proofs.lemmas.Among.{Among}
 use Rattle.message_model.specs.declared.messages.Kind4.{Kind4}
 use Rattle.message_model.specs.declared.messages.Kind4.TheVariants.{Con, Non, Ack, Rst}
 use Rattle.message_model.specs.declared.messages.Role.TheVariants as role
-use Rattle.message_model.specs.declared.messages.Unread.{Unread}
 use Rattle.message_model.specs.declared.requests.Path.{Path}
 use Rattle.message_model.specs.declared.requests.Path.TheVariants as path
 use Rattle.message_model.specs.Codes as codes_of
 use Rattle.message_model.specs.Message.{Message, role_of}
 use Rattle.message_model.specs.OptionTable.{first_bad_option}
 use Rattle.message_model.specs.Reading.{reading}
-use Rattle.message_model.specs.Request.{path_in, queries_in}
+use Rattle.message_model.specs.Request.{path_in}
 use Rattle.message_model.specs.Spelling.{spelling}
 use Rattle.message_model.specs.FetchRequests.{fetch_request}
 use Rattle.message_model.proofs.ReadingLaws.{header_read}
@@ -56,7 +24,6 @@ use Rattle.event_model.specs.Events.{Event}
 use Rattle.event_model.specs.Repeats.{is_admitting, repeated, settled}
 use Rattle.event_model.specs.Fetches.{max_fetches, fetches, is_fetching, next_token}
 use Rattle.journal_model.specs.declared.steps.Step.{Step}
-use Rattle.journal_model.specs.declared.steps.StepKind.{StepKind}
 use Rattle.journal_model.specs.declared.steps.StepKind.TheVariants as step
 use Rattle.journal_model.specs.declared.rows.Row.{Row}
 use Rattle.journal_model.specs.Journal.{events, entries}
@@ -109,7 +76,7 @@ use Rattle.journal_model.specs.Rows.{
   row,
 }
 use Rattle.journal_model.specs.SentDatagrams.{is_response}
-use Rattle.journal_model.proofs.NoteKinds.{of_lookup, of_read, are, none_of}
+use Rattle.journal_model.proofs.NoteKinds.{of_lookup, are, none_of}
 use Rattle.journal_model.proofs.StepNotes.{
   look_effects-notes,
   lookup_effects-notes,
@@ -134,16 +101,9 @@ use Rattle.journal_model.proofs.datagrams.FittingReplies.{
   good_registering,
   good_location,
 }
-use Rattle.headline_law.specs.AnsweredAlike.{
-  message_read,
-  responses_in,
-  IsOfType,
-  IsAnswerLike,
-  sent_to,
-}
+use Rattle.headline_law.specs.AnsweredAlike.{responses_in, IsOfType, IsAnswerLike, sent_to}
 use Rattle.headline_law.proofs.answers.ReportedOutcomes.{registering_reported, location_reported}
 use Rattle.headline_law.proofs.whom.RunningFetches.{request_read}
-use Rattle.headline_law.proofs.whom.TickDispatches.{role_of_response}
 use Rattle.headline_law.proofs.whom.GoesRows.{answer_responds}
 
 -- ---- an answer is as its request wants it
@@ -257,9 +217,11 @@ commit_once rows moment place s m read writes = by (path_in m) writes
       one =
           takes s.peer (spelling (answer s m (bare codes_of.changed)))
           (answer s m (bare codes_of.changed))
-          ((s.peer,
-          spelling (fetch_request (mid_of s.worker (s.drawn + drawn_for m.kind))
-          (next_token (events rows)) None))
+          ((
+            s.peer,
+            spelling (fetch_request (mid_of s.worker (s.drawn + drawn_for m.kind))
+                (next_token (events rows)) None),
+          )
           ∷ [])
           (good_read s m (bare codes_of.changed) read changed_good)
           (good_responds s m (bare codes_of.changed) read changed_good refl)

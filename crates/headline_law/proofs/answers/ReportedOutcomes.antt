@@ -1,33 +1,6 @@
 -- The answer to each write: its code is one of responses, it has no Observe option, and a 2.01 names
 -- the location of the registration that is noted beside it.
-use Rattle.std.proofs.Common.{
-  ◌≡◌,
-  ℕ,
-  ◌+◌,
-  ◌==◌,
-  Bool,
-  true,
-  false,
-  cond,
-  List,
-  [],
-  ◌∷◌,
-  ◌++◌,
-  length,
-  map,
-  filter,
-  Option,
-  Some,
-  None,
-  codes,
-  decimal,
-  nat_lt,
-  refl,
-  ap,
-  subst,
-  ◌∙◌,
-  arith,
-}
+use Rattle.std.proofs.Common.{◌≡◌, ℕ, ◌+◌, Bool, true, false, cond, List, [], ◌∷◌, ◌++◌, length, Option, Some, None, codes, decimal, nat_lt, refl, ap, subst, arith}
 use Rattle.rd_base.specs.declared.parameters.RegParams.{RegParams}
 use Rattle.rd_base.specs.declared.submitted_links.SubmittedLink.{SubmittedLink}
 use Rattle.message_model.specs.declared.blocks.Block.{Block}
@@ -53,7 +26,7 @@ use Rattle.event_model.specs.Uploads.{live_upload, live_uploads}
 use Rattle.journal_model.specs.declared.steps.Step.{Step}
 use Rattle.journal_model.specs.declared.rows.Row.{Row}
 use Rattle.journal_model.specs.Journal.{events, entries}
-use Rattle.journal_model.specs.Effects.{Reply, bare, diagnostic}
+use Rattle.journal_model.specs.Effects.{Reply, diagnostic}
 use Rattle.journal_model.specs.Requests.{
   Method,
   get,

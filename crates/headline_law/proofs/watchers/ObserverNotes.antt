@@ -1,44 +1,10 @@
 -- What each step notes of who observes: it adds whoever asks to observe, and ends an observer only
 -- for a reason.
-use Rattle.std.proofs.Common.{
-  ◌≡◌,
-  ◌⊎◌,
-  inl,
-  inr,
-  ℕ,
-  ◌==◌,
-  ◌&&◌,
-  ◌||◌,
-  Bool,
-  true,
-  false,
-  cond,
-  List,
-  [],
-  ◌∷◌,
-  ◌++◌,
-  map,
-  filter,
-  fold,
-  length,
-  Option,
-  Some,
-  None,
-  nat_le,
-  Result,
-  Ok,
-  Err,
-  refl,
-  sym,
-  ap,
-  subst,
-  ◌∙◌,
-  eqb-true,
-}
-use Rattle.std.specs.List.{AllByRecursion, list_any}
+use Rattle.std.proofs.Common.{◌≡◌, ℕ, ◌==◌, ◌&&◌, Bool, true, false, cond, List, [], ◌∷◌, map, filter, fold, length, Option, Some, None, nat_le, Result, Ok, Err, refl, sym, ap, subst, ◌∙◌, eqb-true}
+use Rattle.std.specs.List.{AllByRecursion}
 use Rattle.std.proofs.lemmas.Bool.{false≢true, and_parts, or_left, or_right}
 use Rattle.rd_base.specs.declared.peers.Peer.{Peer}
-use Rattle.rd_base.proofs.lemmas.Among.{Among, all_among, among_all}
+use Rattle.rd_base.proofs.lemmas.Among.{Among, among_all}
 use Rattle.rd_base.proofs.lemmas.Each.{each_append, each_map}
 use Rattle.message_model.specs.declared.messages.Role.{Role}
 use Rattle.message_model.specs.declared.messages.Role.TheVariants as role
@@ -121,28 +87,7 @@ use Rattle.journal_model.specs.Rows.{
   kept_body,
   effects,
 }
-use Rattle.journal_model.specs.Ticks.{
-  Ticking,
-  ticking,
-  events_with,
-  first_block,
-  sent_again,
-  each_of,
-  confirmable_sent,
-  notice_again,
-  flight_again,
-  notices_again,
-  is_unchanged,
-  noticed_unless,
-  listing_for,
-  noticed_if,
-  is_looked_at,
-  notice_next,
-  notices,
-  requests_again,
-  tick_effects,
-  due_by,
-}
+use Rattle.journal_model.specs.Ticks.{ticking, events_with, first_block, sent_again, each_of, confirmable_sent, notice_again, flight_again, notices_again, is_unchanged, noticed_unless, listing_for, noticed_if, is_looked_at, notice_next, notices, requests_again, tick_effects, due_by}
 use Rattle.journal_model.proofs.NoteKinds.{
   of_read,
   of_write,
@@ -164,8 +109,6 @@ use Rattle.journal_model.proofs.notes.ChangeNotes.{response_effects-notes}
 use Rattle.journal_model.proofs.notes.BeginNotes.{beginning-notes}
 use Rattle.journal_model.proofs.notes.ChangeNotes.{commit_effects-notes}
 use Rattle.journal_model.proofs.flights.NoticesAgain.{events_after_again}
-use Rattle.journal_model.proofs.observers.ObserversKnow.{IsNoTick}
-use Rattle.headline_law.specs.ObserversStand.{AsksOfObservation}
 
 -- ---- why an observer ends or begins
 
@@ -316,12 +259,14 @@ lookup_watches rows moment s m read asks looks = by (is_later_block m) refl
     added registers first heeded true =
         each_append (WatchFact rows moment step.Admit s)
         (removal (s.peer, m.token) (observers (events rows))) _
-        (removes (is_observer (s.peer, m.token) (observers (events rows))) (asked first heeded))
-        (record {
-          asked = asked first heeded;
-          registers = registers;
-          is = refl;
-        }, (tt, keeps_it))
+        (removes (is_observer (s.peer, m.token) (observers (events rows))) (asked first heeded)) (
+          record {
+            asked = asked first heeded;
+            registers = registers;
+            is = refl;
+          },
+          (tt, keeps_it),
+        )
     added registers first heeded false = ended (asked first heeded)
 
     valued : (value : ℕ) (b c : Bool)

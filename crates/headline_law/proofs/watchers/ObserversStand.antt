@@ -1,35 +1,5 @@
 -- Who observes (the sentence ObserversStand).
-use Rattle.std.proofs.Common.{
-  ◌≡◌,
-  ◌⊎◌,
-  inl,
-  inr,
-  ℕ,
-  ◌||◌,
-  ◌≤◌,
-  Bool,
-  true,
-  false,
-  not,
-  cond,
-  List,
-  [],
-  ◌∷◌,
-  ◌++◌,
-  length,
-  find,
-  filter,
-  Option,
-  Some,
-  None,
-  Ok,
-  refl,
-  sym,
-  ap,
-  subst,
-  ◌∙◌,
-  leb-true,
-}
+use Rattle.std.proofs.Common.{◌≡◌, ◌⊎◌, inl, inr, ℕ, ◌||◌, Bool, true, false, not, cond, List, [], ◌∷◌, ◌++◌, length, find, filter, Some, Ok, refl, sym, ap, subst, ◌∙◌, leb-true}
 use Rattle.std.specs.List.{list_any, IsAmong, AllByRecursion}
 use Rattle.std.proofs.lemmas.Bool.{false≢true}
 use Rattle.rd_base.specs.declared.peers.Peer.{Peer}
@@ -58,7 +28,6 @@ use Rattle.event_model.proofs.ObserverEvents.{
 }
 use Rattle.event_model.proofs.ObserverLaws.{Only, apart-sym, apart_only, observers-apart}
 use Rattle.event_model.proofs.SameLaws.{is_same_request-Decides, is_same_request-refl}
-use Rattle.journal_model.specs.declared.steps.Step.{Step}
 use Rattle.journal_model.specs.declared.steps.StepKind.{StepKind}
 use Rattle.journal_model.specs.declared.steps.StepKind.TheVariants as step
 use Rattle.journal_model.specs.declared.rows.Row.{Row}
@@ -68,7 +37,7 @@ use Rattle.journal_model.specs.Requests.{is_heeded}
 use Rattle.journal_model.specs.Lookups.{observer_of}
 use Rattle.journal_model.specs.Machine.{IsJournal}
 use Rattle.journal_model.specs.DeskJournal.{IsDeskJournal}
-use Rattle.journal_model.specs.PlacedRows.{Within, Placed}
+use Rattle.journal_model.specs.PlacedRows.{Within}
 use Rattle.journal_model.specs.Rows.{row, row_moment, AreRows}
 use Rattle.journal_model.specs.SentDatagrams.{is_response, AreForRequests}
 use Rattle.journal_model.specs.CarriedBlocks.{Sent}
@@ -83,22 +52,7 @@ use Rattle.journal_model.proofs.entries.JournalLaws.{
 }
 use Rattle.journal_model.proofs.flights.WaitedPeers.{stands_on}
 use Rattle.journal_model.proofs.sends.BodyAnswers.{same_message}
-use Rattle.headline_law.specs.ObserversStand.{
-  AsksOfObservation,
-  carries_observe,
-  MakesObserver,
-  ObservesSo,
-  AsksAnew,
-  RejectsNotice,
-  NeverAcknowledges,
-  EndsObserving,
-  asks_anew,
-  rejects_notice,
-  never_acknowledges,
-  AsksToBe,
-  ObserversStand,
-}
-use Rattle.headline_law.proofs.answers.SettledNotes.{SettlesAnswer}
+use Rattle.headline_law.specs.ObserversStand.{carries_observe, MakesObserver, ObservesSo, AsksAnew, EndsObserving, asks_anew, rejects_notice, never_acknowledges, AsksToBe, ObserversStand}
 use Rattle.headline_law.proofs.whom.RunningFetches.{empty_read, request_read}
 use Rattle.headline_law.proofs.whom.Dispatches.{
   AddsObserver,

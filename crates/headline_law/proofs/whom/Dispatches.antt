@@ -1,41 +1,6 @@
 -- Which datagrams each step but a tick sends: answers to its request, the kept answer of a write
 -- that comes again, a Reset or an empty acknowledgement of what it heard, a request of a fetch.
-use Rattle.std.proofs.Common.{
-  ◌≡◌,
-  ℕ,
-  ◌+◌,
-  ◌<◌,
-  ◌≤◌,
-  ◌==◌,
-  ◌&&◌,
-  Bool,
-  true,
-  false,
-  cond,
-  List,
-  [],
-  ◌∷◌,
-  ◌++◌,
-  length,
-  Option,
-  Some,
-  None,
-  option_map,
-  codes,
-  nat_le,
-  is_none,
-  is_some,
-  Result,
-  Ok,
-  Err,
-  refl,
-  sym,
-  ap,
-  subst,
-  ◌∙◌,
-  eqb-true,
-  arith,
-}
+use Rattle.std.proofs.Common.{◌≡◌, ℕ, ◌+◌, ◌<◌, ◌≤◌, ◌==◌, ◌&&◌, Bool, true, false, cond, List, [], ◌∷◌, ◌++◌, length, Option, Some, None, option_map, codes, nat_le, Result, Ok, Err, refl, sym, ap, subst, ◌∙◌, eqb-true, arith}
 use Rattle.std.specs.List.{AllByRecursion, list_any}
 use Rattle.std.proofs.lemmas.Bool.{false≢true}
 use Rattle.std.proofs.lemmas.Slice.Eq.{bytes_eq-Decides}
@@ -150,29 +115,7 @@ use Rattle.journal_model.specs.Looks.{
   looked,
   keep_effects,
 }
-use Rattle.journal_model.specs.Lookups.{
-  listing_now,
-  found_now,
-  block_now,
-  block_of_found,
-  block_of_kept,
-  later_block,
-  removal,
-  without,
-  addition,
-  keeping,
-  observer_of,
-  observed_if,
-  observed,
-  unobserved,
-  observation_effects,
-  first_block_effects,
-  block_effects,
-  lookup_effects,
-  read_block_effects,
-  read_effects,
-  observing_by,
-}
+use Rattle.journal_model.specs.Lookups.{listing_now, found_now, block_now, block_of_found, block_of_kept, later_block, removal, without, keeping, observer_of, observed_if, observed, unobserved, observation_effects, first_block_effects, block_effects, lookup_effects, read_block_effects, read_effects, observing_by}
 use Rattle.journal_model.specs.Writes.{
   again_answered,
   challenge,
@@ -997,8 +940,7 @@ response_sends rows moment s m read responds = by (fetch_of s m (events rows)) r
     gathers false (Some b) request found = tt
     gathers true (Some b) request found =
         let it : IsOfFetch s m (events rows) request =
-        fetch_found s m (events rows) request found in
-        (
+        fetch_found s m (events rows) request found in (
           fetches_block (mid_of s.worker s.drawn) request.token
               (Some (record { num = b.num + 1; more = false; szx = b.szx }))
               (subst (λ (t : List ℕ). length t ≤ 8) it.token (header_read s.datagram m read).token)

@@ -1,41 +1,12 @@
 -- What each row sends, in rows of steps whose commits are of rows that admitted, and whose looks,
 -- commits and keeps are made for requests, under tags of eight octets.
-use Rattle.std.proofs.Common.{
-  ◌≡◌,
-  ◌⊎◌,
-  inl,
-  inr,
-  ℕ,
-  ◌≤◌,
-  ◌==◌,
-  ◌&&◌,
-  Bool,
-  true,
-  false,
-  cond,
-  List,
-  [],
-  ◌∷◌,
-  length,
-  find,
-  Option,
-  Some,
-  None,
-  option_and_then,
-  Ok,
-  refl,
-  sym,
-  ap,
-  subst,
-  ◌∙◌,
-  eqb-true,
-}
+use Rattle.std.proofs.Common.{◌≡◌, ◌⊎◌, ℕ, ◌==◌, Bool, true, false, cond, List, [], ◌∷◌, length, find, Option, Some, None, option_and_then, Ok, refl, sym, ap, subst, ◌∙◌}
 use Rattle.std.specs.Prelude.{is_some}
 use Rattle.std.specs.List.{list_any, AllByRecursion}
 use Rattle.std.proofs.lemmas.Bool.{and_parts, and_from, false≢true}
 use Rattle.std.proofs.lemmas.Option.{same_Some}
 use Rattle.rd_base.specs.declared.peers.Peer.{Peer}
-use Rattle.rd_base.proofs.lemmas.Among.{Among, all_among, any_among}
+use Rattle.rd_base.proofs.lemmas.Among.{all_among, any_among}
 use Rattle.rd_base.proofs.lemmas.Each.{none_pass}
 use Rattle.rd_base.proofs.lemmas.Numbers.{eqb-refl}
 use Rattle.message_model.specs.declared.messages.Kind4.{Kind4}
@@ -44,16 +15,15 @@ use Rattle.message_model.specs.declared.messages.Role.TheVariants as role
 use Rattle.message_model.specs.Codes as codes_of
 use Rattle.message_model.specs.Message.{Message, response_role, role_of}
 use Rattle.message_model.specs.Reading.{reading}
-use Rattle.message_model.specs.Spelling.{header_spelling, spelling}
+use Rattle.message_model.specs.Spelling.{spelling}
 use Rattle.message_model.proofs.ReadingLaws.{header_read}
 use Rattle.event_model.specs.declared.notes.Note.{Note}
 use Rattle.event_model.specs.declared.notes.Note.TheVariants as note
 use Rattle.event_model.specs.declared.notes.Observer.{Observer}
-use Rattle.event_model.specs.Same.{RequestName, is_same_peer, is_same_request}
+use Rattle.event_model.specs.Same.{is_same_peer, is_same_request}
 use Rattle.event_model.specs.Events.{Event, last_event, last_said, has_event, events_since}
-use Rattle.event_model.specs.Repeats.{answer_noted, settled}
 use Rattle.event_model.specs.KeptAnswers.{Answer, answer_kept, is_live_answer, kept_answer}
-use Rattle.event_model.specs.Observers.{name_of, observers}
+use Rattle.event_model.specs.Observers.{name_of}
 use Rattle.event_model.specs.Flights.{
   Flight,
   flight,
@@ -66,17 +36,16 @@ use Rattle.journal_model.specs.declared.steps.Step.{Step}
 use Rattle.journal_model.specs.declared.steps.StepKind.{StepKind}
 use Rattle.journal_model.specs.declared.steps.StepKind.TheVariants as step
 use Rattle.journal_model.specs.declared.rows.Row.{Row}
-use Rattle.journal_model.specs.Journal.{events, row_at}
-use Rattle.journal_model.specs.Effects.{Reply, answer, answer_kind, answer_mid, empty_message}
+use Rattle.journal_model.specs.Journal.{events}
+use Rattle.journal_model.specs.Effects.{Reply, answer, answer_kind, answer_mid}
 use Rattle.journal_model.specs.BodyFormers.{forms_notice}
 use Rattle.journal_model.specs.Rows.{effects, row_moment, row, AreRows, empty, added}
 use Rattle.journal_model.specs.Ticks.{confirmable_sent, tick_effects}
-use Rattle.journal_model.specs.PlacedRows.{Within}
 use Rattle.journal_model.specs.SentDatagrams.{IsForRequest, AreForRequests}
 use Rattle.journal_model.proofs.EventRows.{AllRows, RowOf, row_of, row_within, within_more, said_by}
 use Rattle.journal_model.proofs.FlightKeys.{is_notice}
 use Rattle.journal_model.proofs.RowEquations.{effects-Tick, row-step}
-use Rattle.journal_model.proofs.flights.NoticesAgain.{AgainSent, events_after_again, stood}
+use Rattle.journal_model.proofs.flights.NoticesAgain.{stood}
 use Rattle.journal_model.proofs.notes.LookupNotes.{IsAsking}
 use Rattle.journal_model.proofs.observers.ObserversKnow.{IsNoTick, step_observer_notes}
 use Rattle.journal_model.proofs.sends.BodyAnswers.{same_message}
@@ -89,7 +58,7 @@ use Rattle.journal_model.proofs.datagrams.SentRows.{
   rows_sent,
 }
 use Rattle.headline_law.proofs.flights.FirstBodies.{first_forms}
-use Rattle.headline_law.proofs.answers.SettledNotes.{SettlesAnswer, SettleFact, SettleFacts}
+use Rattle.headline_law.proofs.answers.SettledNotes.{SettleFacts}
 use Rattle.headline_law.proofs.answers.SettledNotes.{effects_settle}
 use Rattle.headline_law.proofs.whom.Dispatches.{KeepsTags, AreDispatches, effects_dispatch}
 use Rattle.headline_law.proofs.whom.TickDispatches.{
@@ -395,8 +364,7 @@ rows_go (r ∷ before) (added {rows} s starved made) placed requests =
     λ deeper x place within. placed deeper x place (within_more r before deeper x within) in
     let requests_before : AreForRequests before =
     λ deeper x m within. requests deeper x m (within_more r before deeper x within) in
-    let rest : AllRows RowGoes before = rows_go before made placed_before requests_before in
-    (
+    let rest : AllRows RowGoes before = rows_go before made placed_before requests_before in (
       row_goes before s starved (λ m read. own_tags m read)
           (rows_sent before made placed_before requests_before) rest,
       rest,

@@ -49,21 +49,14 @@ use Rattle.std.proofs.lemmas.Bool.{
 use Rattle.std.proofs.lemmas.List.Folds.{list_any-append}
 use Rattle.std.proofs.lemmas.Option.{same_Some}
 use Rattle.rd_base.specs.declared.peers.Peer.{Peer}
-use Rattle.rd_base.proofs.lemmas.Among.{Among, any_among, among_all}
+use Rattle.rd_base.proofs.lemmas.Among.{any_among, among_all}
 use Rattle.rd_base.proofs.lemmas.Numbers.{eqb-refl}
-use Rattle.rd_base.proofs.lemmas.Each.{each_append, each_weaker, none_pass}
+use Rattle.rd_base.proofs.lemmas.Each.{each_append, each_weaker}
 use Rattle.message_model.specs.declared.messages.Kind4.{Kind4}
-use Rattle.message_model.specs.declared.messages.Kind4.TheVariants.{Con, Non, Ack, Rst}
+use Rattle.message_model.specs.declared.messages.Kind4.TheVariants.{Con}
 use Rattle.message_model.specs.declared.messages.Role.TheVariants as role
 use Rattle.message_model.specs.Codes as codes_of
-use Rattle.message_model.specs.Message.{
-  Message,
-  empty_role,
-  request_role,
-  response_role,
-  role_of,
-  longest_token,
-}
+use Rattle.message_model.specs.Message.{Message, response_role, role_of, longest_token}
 use Rattle.message_model.specs.Blocks.{reserved_szx, block_of}
 use Rattle.message_model.specs.Reading.{reading}
 use Rattle.message_model.specs.Spelling.{header_spelling, spelling}
@@ -115,7 +108,7 @@ use Rattle.journal_model.specs.Ticks.{
   tick_effects,
   due_by,
 }
-use Rattle.journal_model.proofs.NoteKinds.{of_resent, are, none_of}
+use Rattle.journal_model.proofs.NoteKinds.{of_resent, none_of}
 use Rattle.journal_model.proofs.StepNotes.{requests_again-notes}
 use Rattle.journal_model.proofs.notes.LookupNotes.{IsAsking}
 use Rattle.journal_model.proofs.flights.NoticesAgain.{
@@ -349,12 +342,14 @@ one_more rows moment s done o asking so_far = looked (is_looked_at (ticking rows
             (mid_of s.worker (s.drawn + done.drew) == mid)
             (plain (is_same_peer o.peer peer && mid_of s.worker (s.drawn + done.drew) == mid) h)
             in
-            or_left (is_one peer mid (o.peer,
-            spelling (with_reply Con (mid_of s.worker (s.drawn + done.drew)) o.token
-            (body_reply (Some (tag (entries rows) moment))
-            (Some (observe_value (events_with (ticking rows moment s) done)))
-            (block_shown o (listing o.query (entries rows) moment))
-            (listing o.query (entries rows) moment))))) false
+            or_left (is_one peer mid (
+              o.peer,
+              spelling (with_reply Con (mid_of s.worker (s.drawn + done.drew)) o.token
+                  (body_reply (Some (tag (entries rows) moment))
+                  (Some (observe_value (events_with (ticking rows moment s) done)))
+                  (block_shown o (listing o.query (entries rows) moment))
+                  (listing o.query (entries rows) moment))),
+            )) false
             (and_from (is_same_peer o.peer peer) _ both.0
             (subst (λ n. is_confirmable_with n
             (spelling (with_reply Con (mid_of s.worker (s.drawn + done.drew)) o.token

@@ -1,36 +1,5 @@
 -- Who is sent to (the sentence SentToWhom).
-use Rattle.std.proofs.Common.{
-  ◌≡◌,
-  ◌⊎◌,
-  inl,
-  inr,
-  ℕ,
-  suc,
-  ◌≤◌,
-  ◌==◌,
-  ◌&&◌,
-  Bool,
-  true,
-  false,
-  cond,
-  List,
-  [],
-  ◌∷◌,
-  ◌++◌,
-  length,
-  find,
-  Option,
-  Some,
-  None,
-  Ok,
-  refl,
-  sym,
-  ap,
-  subst,
-  ◌∙◌,
-  eqb-true,
-  arith,
-}
+use Rattle.std.proofs.Common.{◌≡◌, ◌⊎◌, inl, inr, ℕ, suc, ◌≤◌, ◌==◌, Bool, true, false, cond, List, [], ◌∷◌, ◌++◌, length, find, Option, Some, None, Ok, refl, sym, ap, subst, ◌∙◌, eqb-true, arith}
 use Rattle.std.specs.Prelude.{is_some}
 use Rattle.std.specs.List.{list_any, IsAmong, AllByRecursion}
 use Rattle.std.proofs.lemmas.Bool.{and_parts, false≢true}
@@ -55,7 +24,7 @@ use Rattle.journal_model.specs.declared.steps.Step.{Step}
 use Rattle.journal_model.specs.declared.steps.StepKind.{StepKind}
 use Rattle.journal_model.specs.declared.steps.StepKind.TheVariants as step
 use Rattle.journal_model.specs.declared.rows.Row.{Row}
-use Rattle.journal_model.specs.Journal.{events, row_at}
+use Rattle.journal_model.specs.Journal.{events}
 use Rattle.journal_model.specs.Effects.{empty_message}
 use Rattle.journal_model.specs.Machine.{IsJournal}
 use Rattle.journal_model.specs.DeskJournal.{IsDeskJournal}
@@ -70,14 +39,7 @@ use Rattle.journal_model.proofs.entries.CommitPlaces.{journal-place, desk-place}
 use Rattle.journal_model.proofs.sends.BodyAnswers.{same_message}
 use Rattle.journal_model.proofs.sends.ValidSends.{is_confirmable}
 use Rattle.journal_model.proofs.sends.TickSends.{confirmable_of}
-use Rattle.headline_law.specs.SentToWhom.{
-  AsksOfFetch,
-  AsksAgain,
-  Rejects,
-  Acknowledges,
-  GoesToWhom,
-  SentToWhom,
-}
+use Rattle.headline_law.specs.SentToWhom.{AsksOfFetch, AsksAgain, GoesToWhom, SentToWhom}
 use Rattle.headline_law.proofs.datagrams.DatagramLaws.{journal_requests}
 use Rattle.headline_law.proofs.answers.SettledNotes.{SettlesAnswer, SettleFact}
 use Rattle.headline_law.proofs.whom.RunningFetches.{empty_read, request_read}
