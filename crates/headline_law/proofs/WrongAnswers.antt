@@ -1,6 +1,26 @@
 -- Rows with wrong answers to writes: each falls by the sentence AnsweredAlike. Beside each datagram
 -- its parts are shown: type, code, Message ID, token, options, payload.
-use Rattle.std.proofs.Common.{◌≡◌, inl, inr, ℕ, false, List, [], ◌∷◌, length, None, Result, Ok, codes, decimal, refl, sym, ap, ◌∙◌, arith}
+use Rattle.std.proofs.Common.{
+  ◌≡◌,
+  inl,
+  inr,
+  ℕ,
+  false,
+  List,
+  [],
+  ◌∷◌,
+  length,
+  None,
+  Result,
+  Ok,
+  codes,
+  decimal,
+  refl,
+  sym,
+  ap,
+  ◌∙◌,
+  arith,
+}
 use Rattle.std.specs.List.{IsAmong}
 use Rattle.rd_base.specs.declared.peers.Peer.{Peer}
 use Rattle.rd_base.specs.declared.records.Name.{Name}

@@ -1,7 +1,29 @@
 -- Rows with wrong observers. The first falls by the sentence ObserversKnow, and the others by the
 -- sentence ObserversStand. Beside each datagram its parts are shown: type, code, Message ID, token,
 -- options, payload.
-use Rattle.std.proofs.Common.{◌≡◌, inl, inr, ℕ, ◌≤◌, false, List, [], ◌∷◌, length, Option, Some, None, Result, Ok, codes, refl, sym, ap, ◌∙◌, arith}
+use Rattle.std.proofs.Common.{
+  ◌≡◌,
+  inl,
+  inr,
+  ℕ,
+  ◌≤◌,
+  false,
+  List,
+  [],
+  ◌∷◌,
+  length,
+  Option,
+  Some,
+  None,
+  Result,
+  Ok,
+  codes,
+  refl,
+  sym,
+  ap,
+  ◌∙◌,
+  arith,
+}
 use Rattle.std.proofs.lemmas.Option.{same_Some}
 use Rattle.rd_base.specs.declared.queries.Kind.{Kind}
 use Rattle.rd_base.specs.declared.queries.Kind.TheVariants as kind
@@ -25,7 +47,14 @@ use Rattle.journal_model.specs.Journal.{entries, now}
 use Rattle.journal_model.specs.Lookups.{observer_of}
 use Rattle.journal_model.specs.Headline.{Headline}
 use Rattle.journal_model.specs.PlacedRows.{Placed}
-use Rattle.headline_law.specs.ObserversStand.{MakesObserver, EndsObserving, asks_anew, rejects_notice, never_acknowledges, ObserversStand}
+use Rattle.headline_law.specs.ObserversStand.{
+  MakesObserver,
+  EndsObserving,
+  asks_anew,
+  rejects_notice,
+  never_acknowledges,
+  ObserversStand,
+}
 use Rattle.headline_law.proofs.WrongRows.{row_of, answer, sent_first}
 
 -- an observer of endpoints, under the token c1

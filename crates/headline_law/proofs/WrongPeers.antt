@@ -1,6 +1,22 @@
 -- Rows that write to whom they should not: each falls by the sentence SentToWhom. Beside each
 -- datagram its parts are shown: type, code, Message ID, token, options, payload.
-use Rattle.std.proofs.Common.{◌≡◌, ◌⊎◌, inl, inr, ℕ, true, false, [], ◌∷◌, Option, None, codes, refl, ap, arith}
+use Rattle.std.proofs.Common.{
+  ◌≡◌,
+  ◌⊎◌,
+  inl,
+  inr,
+  ℕ,
+  true,
+  false,
+  [],
+  ◌∷◌,
+  Option,
+  None,
+  codes,
+  refl,
+  ap,
+  arith,
+}
 use Rattle.std.specs.List.{list_any}
 use Rattle.std.proofs.lemmas.Bool.{false≢true}
 use Rattle.rd_base.specs.declared.peers.Host.{Host}

@@ -61,8 +61,8 @@ message_read (Ok m) = Some m
 abbrev pub responses_in : List (Peer × List ℕ) → List Message
 responses_in sent = filter is_response (filter_map (λ d. message_read (reading d.1)) sent)
 
--- a confirmable request is answered in the acknowledgement, which has its Message ID; any other in a
--- message that is not confirmable (RFC 7252 sections 5.2.1 and 5.2.3)
+-- a confirmable request is answered in the acknowledgement, which has its Message ID; any other in
+-- a message that is not confirmable (RFC 7252 sections 5.2.1 and 5.2.3)
 abbrev pub IsOfType : Kind4 → ℕ → Message → Type 0
 IsOfType Con mid answer = (answer.kind ≡ Ack) × (answer.mid ≡ mid)
 IsOfType Non mid answer = answer.kind ≡ Non
@@ -141,11 +141,11 @@ IsNotOfTick step.Tick = ⊥
 IsNotOfTick _ = Unit {0}
 
 -- A commit sends exactly one response, of the type and with the Message ID and the token that its
--- request wants, and its exchange keeps that. So is each response to another request, unless a write
--- comes again. A write that comes again is answered by the octets that its exchange keeps, or by
--- nothing, and nothing is noted of it. What an exchange keeps was noted by its own commit, which
--- sent it. And a 2.01 names the location of the registration that its row entered, unless it is such
--- a kept answer. (In a tick each response is a 2.05, as SendsToWhoAsked says.)
+-- request wants, and its exchange keeps that. So is each response to another request, unless a
+-- write comes again. A write that comes again is answered by the octets that its exchange keeps, or
+-- by nothing, and nothing is noted of it. What an exchange keeps was noted by its own commit, which
+-- sent it. And a 2.01 names the location of the registration that its row entered, unless it is
+-- such a kept answer. (In a tick each response is a 2.05, as SendsToWhoAsked says.)
 pub record AnsweredAlike (rows : List Row) : Type 0 where
   pub once : (before : List Row) (r : Row) (place : ℕ) (m : Message)
       → Within rows before r

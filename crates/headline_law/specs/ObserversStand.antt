@@ -26,8 +26,8 @@ use Rattle.journal_model.specs.SentDatagrams.{is_response}
 
 -- ---- requests
 
--- a step hears a lookup of a first block whose Observe value begins or ends an observation (RFC 7641
--- sections 2 and 4.1)
+-- a step hears a lookup of a first block whose Observe value begins or ends an observation (RFC
+-- 7641 sections 2 and 4.1)
 pub record AsksOfObservation (s : Step) (request : Message) : Type 0 where
   pub heard : s.kind ≡ step.Admit
   pub read : reading s.datagram ≡ Ok request

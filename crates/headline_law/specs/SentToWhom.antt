@@ -134,8 +134,8 @@ GoesToWhom role.Response here peer octets m = Unit {0}
 GoesToWhom role.Ignored here peer octets m = ⊥
 
 -- A request of the directory is a GET for the fetch of its peer, which runs, or is sent again while
--- it runs; a Reset, and an empty acknowledgement, goes to the sender of the confirmable message that
--- its row heard, with its Message ID; and nothing else goes out but responses.
+-- it runs; a Reset, and an empty acknowledgement, goes to the sender of the confirmable message
+-- that its row heard, with its Message ID; and nothing else goes out but responses.
 pub record SentToWhom (rows : List Row) : Type 0 where
   pub goes : (sent : Sent rows)
       → GoesToWhom (role_of sent.message.kind sent.message.code) sent.here sent.peer sent.octets

@@ -1,6 +1,29 @@
 -- Answers to writes: once, as the request wants it, and alike where it comes again (the sentence
 -- AnsweredAlike).
-use Rattle.std.proofs.Common.{◌≡◌, ◌⊎◌, inl, inr, ℕ, Bool, true, false, List, [], ◌∷◌, ◌++◌, codes, decimal, Some, Ok, refl, sym, ap, subst, ◌∙◌, arith}
+use Rattle.std.proofs.Common.{
+  ◌≡◌,
+  ◌⊎◌,
+  inl,
+  inr,
+  ℕ,
+  Bool,
+  true,
+  false,
+  List,
+  [],
+  ◌∷◌,
+  ◌++◌,
+  codes,
+  decimal,
+  Some,
+  Ok,
+  refl,
+  sym,
+  ap,
+  subst,
+  ◌∙◌,
+  arith,
+}
 use Rattle.std.specs.List.{list_any, IsAmong, AllByRecursion}
 use Rattle.std.proofs.lemmas.Bool.{false≢true}
 use Rattle.rd_base.specs.declared.peers.Peer.{Peer}
@@ -402,8 +425,8 @@ journal-AnsweredAlike rows journal =
     (λ before r place within commits. journal-place rows before r place journal within commits)
     (journal_goes rows journal)
 
--- and in each of a desk, where each look, commit and keep is made for a request, and each keep has a
--- tag of eight octets
+-- and in each of a desk, where each look, commit and keep is made for a request, and each keep has
+-- a tag of eight octets
 pub desk-AnsweredAlike : (rows : List Row) → IsDeskJournal rows → AreForRequests rows
     → AnsweredAlike rows
 desk-AnsweredAlike rows journal requests =

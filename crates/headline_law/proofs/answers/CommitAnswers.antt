@@ -1,5 +1,32 @@
 -- A commit sends one answer, which its exchange keeps; and what is admitted is a write.
-use Rattle.std.proofs.Common.{◌≡◌, inl, inr, ℕ, ◌+◌, ◌≤◌, Bool, true, false, List, [], ◌∷◌, ◌++◌, length, Option, Some, None, codes, nat_le, Ok, refl, sym, ap, subst, ◌∙◌, arith}
+use Rattle.std.proofs.Common.{
+  ◌≡◌,
+  inl,
+  inr,
+  ℕ,
+  ◌+◌,
+  ◌≤◌,
+  Bool,
+  true,
+  false,
+  List,
+  [],
+  ◌∷◌,
+  ◌++◌,
+  length,
+  Option,
+  Some,
+  None,
+  codes,
+  nat_le,
+  Ok,
+  refl,
+  sym,
+  ap,
+  subst,
+  ◌∙◌,
+  arith,
+}
 use Rattle.std.specs.List.{list_any}
 use Rattle.std.proofs.lemmas.Bool.{false≢true}
 use Rattle.rd_base.specs.declared.peers.Peer.{Peer}
@@ -163,7 +190,8 @@ good_responds : (s : Step) (m : Message) (reply : Reply)
     → codes_of.is_response_code reply.code ≡ true
     → is_response (answer s m reply) ≡ true
 good_responds s m reply read good class =
-    rw (answer_responds s m reply read good class (answer s m reply) (good_read s m reply read good))
+    rw (answer_responds s m reply read good class (answer s m reply)
+    (good_read s m reply read good))
     refl
 
 -- a new token has eight octets

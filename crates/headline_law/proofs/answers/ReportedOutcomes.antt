@@ -1,6 +1,29 @@
--- The answer to each write: its code is one of responses, it has no Observe option, and a 2.01 names
--- the location of the registration that is noted beside it.
-use Rattle.std.proofs.Common.{◌≡◌, ℕ, ◌+◌, Bool, true, false, cond, List, [], ◌∷◌, ◌++◌, length, Option, Some, None, codes, decimal, nat_lt, refl, ap, subst, arith}
+-- The answer to each write: its code is one of responses, it has no Observe option, and a 2.01
+-- names the location of the registration that is noted beside it.
+use Rattle.std.proofs.Common.{
+  ◌≡◌,
+  ℕ,
+  ◌+◌,
+  Bool,
+  true,
+  false,
+  cond,
+  List,
+  [],
+  ◌∷◌,
+  ◌++◌,
+  length,
+  Option,
+  Some,
+  None,
+  codes,
+  decimal,
+  nat_lt,
+  refl,
+  ap,
+  subst,
+  arith,
+}
 use Rattle.rd_base.specs.declared.parameters.RegParams.{RegParams}
 use Rattle.rd_base.specs.declared.submitted_links.SubmittedLink.{SubmittedLink}
 use Rattle.message_model.specs.declared.blocks.Block.{Block}
@@ -78,8 +101,8 @@ use Rattle.journal_model.proofs.EntriesNoted.{entries_in}
 use Rattle.headline_law.specs.AnsweredAlike.{location_named}
 
 -- the options name the location of the one registration that is noted
-pub record LocatesEntry (history : List Entry) (moment : ℕ) (options : List Opt) (notes : List Note) :
-    Type 0 where
+pub record LocatesEntry (history : List Entry) (moment : ℕ) (options : List Opt)
+    (notes : List Note) : Type 0 where
   pub entry : Entry
   pub params : RegParams
   pub links : List SubmittedLink

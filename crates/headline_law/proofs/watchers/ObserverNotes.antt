@@ -1,6 +1,35 @@
 -- What each step notes of who observes: it adds whoever asks to observe, and ends an observer only
 -- for a reason.
-use Rattle.std.proofs.Common.{◌≡◌, ℕ, ◌==◌, ◌&&◌, Bool, true, false, cond, List, [], ◌∷◌, map, filter, fold, length, Option, Some, None, nat_le, Result, Ok, Err, refl, sym, ap, subst, ◌∙◌, eqb-true}
+use Rattle.std.proofs.Common.{
+  ◌≡◌,
+  ℕ,
+  ◌==◌,
+  ◌&&◌,
+  Bool,
+  true,
+  false,
+  cond,
+  List,
+  [],
+  ◌∷◌,
+  map,
+  filter,
+  fold,
+  length,
+  Option,
+  Some,
+  None,
+  nat_le,
+  Result,
+  Ok,
+  Err,
+  refl,
+  sym,
+  ap,
+  subst,
+  ◌∙◌,
+  eqb-true,
+}
 use Rattle.std.specs.List.{AllByRecursion}
 use Rattle.std.proofs.lemmas.Bool.{false≢true, and_parts, or_left, or_right}
 use Rattle.rd_base.specs.declared.peers.Peer.{Peer}
@@ -87,7 +116,27 @@ use Rattle.journal_model.specs.Rows.{
   kept_body,
   effects,
 }
-use Rattle.journal_model.specs.Ticks.{ticking, events_with, first_block, sent_again, each_of, confirmable_sent, notice_again, flight_again, notices_again, is_unchanged, noticed_unless, listing_for, noticed_if, is_looked_at, notice_next, notices, requests_again, tick_effects, due_by}
+use Rattle.journal_model.specs.Ticks.{
+  ticking,
+  events_with,
+  first_block,
+  sent_again,
+  each_of,
+  confirmable_sent,
+  notice_again,
+  flight_again,
+  notices_again,
+  is_unchanged,
+  noticed_unless,
+  listing_for,
+  noticed_if,
+  is_looked_at,
+  notice_next,
+  notices,
+  requests_again,
+  tick_effects,
+  due_by,
+}
 use Rattle.journal_model.proofs.NoteKinds.{
   of_read,
   of_write,

@@ -1,5 +1,32 @@
 -- Who observes (the sentence ObserversStand).
-use Rattle.std.proofs.Common.{◌≡◌, ◌⊎◌, inl, inr, ℕ, ◌||◌, Bool, true, false, not, cond, List, [], ◌∷◌, ◌++◌, length, find, filter, Some, Ok, refl, sym, ap, subst, ◌∙◌, leb-true}
+use Rattle.std.proofs.Common.{
+  ◌≡◌,
+  ◌⊎◌,
+  inl,
+  inr,
+  ℕ,
+  ◌||◌,
+  Bool,
+  true,
+  false,
+  not,
+  cond,
+  List,
+  [],
+  ◌∷◌,
+  ◌++◌,
+  length,
+  find,
+  filter,
+  Some,
+  Ok,
+  refl,
+  sym,
+  ap,
+  subst,
+  ◌∙◌,
+  leb-true,
+}
 use Rattle.std.specs.List.{list_any, IsAmong, AllByRecursion}
 use Rattle.std.proofs.lemmas.Bool.{false≢true}
 use Rattle.rd_base.specs.declared.peers.Peer.{Peer}
@@ -52,7 +79,18 @@ use Rattle.journal_model.proofs.entries.JournalLaws.{
 }
 use Rattle.journal_model.proofs.flights.WaitedPeers.{stands_on}
 use Rattle.journal_model.proofs.sends.BodyAnswers.{same_message}
-use Rattle.headline_law.specs.ObserversStand.{carries_observe, MakesObserver, ObservesSo, AsksAnew, EndsObserving, asks_anew, rejects_notice, never_acknowledges, AsksToBe, ObserversStand}
+use Rattle.headline_law.specs.ObserversStand.{
+  carries_observe,
+  MakesObserver,
+  ObservesSo,
+  AsksAnew,
+  EndsObserving,
+  asks_anew,
+  rejects_notice,
+  never_acknowledges,
+  AsksToBe,
+  ObserversStand,
+}
 use Rattle.headline_law.proofs.whom.RunningFetches.{empty_read, request_read}
 use Rattle.headline_law.proofs.whom.Dispatches.{
   AddsObserver,
@@ -510,8 +548,8 @@ pub journal-ObserversStand : (rows : List Row) → IsJournal rows → ObserversS
 journal-ObserversStand rows journal =
     rows-ObserversStand rows (journal-AreRows rows journal) (journal_goes rows journal)
 
--- and in each of a desk, where each look, commit and keep is made for a request, and each keep has a
--- tag of eight octets
+-- and in each of a desk, where each look, commit and keep is made for a request, and each keep has
+-- a tag of eight octets
 pub desk-ObserversStand : (rows : List Row) → IsDeskJournal rows → AreForRequests rows
     → ObserversStand rows
 desk-ObserversStand rows journal requests =

@@ -1,6 +1,39 @@
 -- Which datagrams each step but a tick sends: answers to its request, the kept answer of a write
 -- that comes again, a Reset or an empty acknowledgement of what it heard, a request of a fetch.
-use Rattle.std.proofs.Common.{◌≡◌, ℕ, ◌+◌, ◌<◌, ◌≤◌, ◌==◌, ◌&&◌, Bool, true, false, cond, List, [], ◌∷◌, ◌++◌, length, Option, Some, None, option_map, codes, nat_le, Result, Ok, Err, refl, sym, ap, subst, ◌∙◌, eqb-true, arith}
+use Rattle.std.proofs.Common.{
+  ◌≡◌,
+  ℕ,
+  ◌+◌,
+  ◌<◌,
+  ◌≤◌,
+  ◌==◌,
+  ◌&&◌,
+  Bool,
+  true,
+  false,
+  cond,
+  List,
+  [],
+  ◌∷◌,
+  ◌++◌,
+  length,
+  Option,
+  Some,
+  None,
+  option_map,
+  codes,
+  nat_le,
+  Result,
+  Ok,
+  Err,
+  refl,
+  sym,
+  ap,
+  subst,
+  ◌∙◌,
+  eqb-true,
+  arith,
+}
 use Rattle.std.specs.List.{AllByRecursion, list_any}
 use Rattle.std.proofs.lemmas.Bool.{false≢true}
 use Rattle.std.proofs.lemmas.Slice.Eq.{bytes_eq-Decides}
@@ -115,7 +148,28 @@ use Rattle.journal_model.specs.Looks.{
   looked,
   keep_effects,
 }
-use Rattle.journal_model.specs.Lookups.{listing_now, found_now, block_now, block_of_found, block_of_kept, later_block, removal, without, keeping, observer_of, observed_if, observed, unobserved, observation_effects, first_block_effects, block_effects, lookup_effects, read_block_effects, read_effects, observing_by}
+use Rattle.journal_model.specs.Lookups.{
+  listing_now,
+  found_now,
+  block_now,
+  block_of_found,
+  block_of_kept,
+  later_block,
+  removal,
+  without,
+  keeping,
+  observer_of,
+  observed_if,
+  observed,
+  unobserved,
+  observation_effects,
+  first_block_effects,
+  block_effects,
+  lookup_effects,
+  read_block_effects,
+  read_effects,
+  observing_by,
+}
 use Rattle.journal_model.specs.Writes.{
   again_answered,
   challenge,
@@ -199,15 +253,16 @@ use Rattle.headline_law.proofs.whom.RunningFetches.{
 -- ---- one datagram
 
 -- the notes of a lookup that adds its peer as an observer, after which none changes who observes
-pub record AddsObserver (kind : StepKind) (s : Step) (m : Message) (notes : List Note) : Type 0 where
-  pub heard : kind ≡ step.Admit
-  pub lookup : is_lookup (path_in m) ≡ true
-  pub registers : observe_in m ≡ Some register
-  pub first : is_later_block m ≡ false
-  pub front : List Note
-  pub back : List Note
-  pub adds : notes ≡ front ++ note.Watched (observer_of s m) ∷ back
-  pub quiet : list_any changes_observers back ≡ false
+pub record AddsObserver (kind : StepKind) (s : Step) (m : Message) (notes : List Note) : Type 0
+  where
+    pub heard : kind ≡ step.Admit
+    pub lookup : is_lookup (path_in m) ≡ true
+    pub registers : observe_in m ≡ Some register
+    pub first : is_later_block m ≡ false
+    pub front : List Note
+    pub back : List Note
+    pub adds : notes ≡ front ++ note.Watched (observer_of s m) ∷ back
+    pub quiet : list_any changes_observers back ≡ false
 
 -- a reply to a request, with what is noted
 pub record IsReply (rows : List Row) (moment : ℕ) (kind : StepKind) (s : Step) (m : Message)
@@ -284,8 +339,8 @@ of_bare rows moment kind s m reply notes h = record {
 }
 
 -- and so is what comes of a write
-of_reported : (rows : List Row) (moment : ℕ) (kind : StepKind) (s : Step) (m : Message) (reply : Reply)
-    (notes : List Note)
+of_reported : (rows : List Row) (moment : ℕ) (kind : StepKind) (s : Step) (m : Message)
+    (reply : Reply) (notes : List Note)
     → IsGoodReply reply
     → IsReported (entries rows) moment reply notes
     → IsReply rows moment kind s m reply notes
@@ -426,7 +481,8 @@ one_bare : (rows : List Row) (moment : ℕ) (kind : StepKind) (s : Step) (m : Me
     → IsBare reply
     → Dispatches rows moment kind s (answering s m reply notes)
 one_bare rows moment kind s m reply notes read asks h =
-    one_answer rows moment kind s m reply notes read asks (of_bare rows moment kind s m reply notes h)
+    one_answer rows moment kind s m reply notes read asks
+    (of_bare rows moment kind s m reply notes h)
 
 -- ---- steps
 
@@ -864,7 +920,8 @@ commit_sends rows moment place s m read asks = by (path_in m)
         fetches_block (mid_of s.worker (s.drawn + drawn_for m.kind)) (next_token (events rows))
             None (next_short (events rows))
             (asks_here s.peer (next_token (events rows))
-            (mid_of s.worker (s.drawn + drawn_for m.kind)) (registration_values (queries_in m)) None 0)
+            (mid_of s.worker (s.drawn + drawn_for m.kind)) (registration_values (queries_in m))
+            None 0)
             (starts_running (length rows) moment s.word
             (note.Settled place (spelling (answer s m (bare codes_of.changed))) ∷ []) s.peer
             (next_token (events rows)) (mid_of s.worker (s.drawn + drawn_for m.kind))

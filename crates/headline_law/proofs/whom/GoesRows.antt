@@ -1,6 +1,30 @@
 -- What each row sends, in rows of steps whose commits are of rows that admitted, and whose looks,
 -- commits and keeps are made for requests, under tags of eight octets.
-use Rattle.std.proofs.Common.{◌≡◌, ◌⊎◌, ℕ, ◌==◌, Bool, true, false, cond, List, [], ◌∷◌, length, find, Option, Some, None, option_and_then, Ok, refl, sym, ap, subst, ◌∙◌}
+use Rattle.std.proofs.Common.{
+  ◌≡◌,
+  ◌⊎◌,
+  ℕ,
+  ◌==◌,
+  Bool,
+  true,
+  false,
+  cond,
+  List,
+  [],
+  ◌∷◌,
+  length,
+  find,
+  Option,
+  Some,
+  None,
+  option_and_then,
+  Ok,
+  refl,
+  sym,
+  ap,
+  subst,
+  ◌∙◌,
+}
 use Rattle.std.specs.Prelude.{is_some}
 use Rattle.std.specs.List.{list_any, AllByRecursion}
 use Rattle.std.proofs.lemmas.Bool.{and_parts, and_from, false≢true}
@@ -79,8 +103,8 @@ GoesBy step.Tick before r =
     AllByRecursion (λ (d : Peer × List ℕ). Responds d.1 ⊎ AgainAsked before d) r.sent
 GoesBy kind before r = AreDispatches before r.moment.0 kind r.step r.notes r.sent
 
--- what a row sends; what it settles; and where it notes that it formed a notice, what is found of it
--- is a response
+-- what a row sends; what it settles; and where it notes that it formed a notice, what is found of
+-- it is a response
 pub record RowGoes (before : List Row) (r : Row) : Type 0 where
   pub goes : GoesBy r.step.kind before r
   pub settles : SettleFacts r.step.kind r.step r.sent r.notes

@@ -1,5 +1,34 @@
 -- Fetches that run, and the messages that are no answers: they are read as they were written.
-use Rattle.std.proofs.Common.{◌≡◌, ℕ, ◌+◌, ◌≤◌, ◌==◌, ◌&&◌, Bool, true, false, not, cond, List, [], ◌∷◌, ◌++◌, length, filter, Option, Some, None, Ok, bytes_eq, is_none, refl, ap, ◌∙◌, arith, append-nil}
+use Rattle.std.proofs.Common.{
+  ◌≡◌,
+  ℕ,
+  ◌+◌,
+  ◌≤◌,
+  ◌==◌,
+  ◌&&◌,
+  Bool,
+  true,
+  false,
+  not,
+  cond,
+  List,
+  [],
+  ◌∷◌,
+  ◌++◌,
+  length,
+  filter,
+  Option,
+  Some,
+  None,
+  Ok,
+  bytes_eq,
+  is_none,
+  refl,
+  ap,
+  ◌∙◌,
+  arith,
+  append-nil,
+}
 use Rattle.std.specs.List.{list_any}
 use Rattle.std.proofs.lemmas.Bool.{and_parts, or_right, ne_eqb}
 use Rattle.std.proofs.lemmas.List.Folds.{list_any-append}
