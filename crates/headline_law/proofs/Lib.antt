@@ -50,6 +50,27 @@
 -- that each datagram can be read and fits, and that what is formed is sent).
 --   datagrams: DatagramLaws, the sentence.
 --
+-- The sentences of this crate's own specs:
+--
+-- SentToWhom: requests go to peers of running fetches, Resets and empty acknowledgements to who sent
+-- what they answer.
+--   whom: Dispatches is one table of what each step but a tick sends (answers, kept answers, Resets,
+-- acknowledgements, requests of fetches), by RunningFetches (which fetches run);
+--   TickDispatches has what a tick sends (responses, and requests that are sent again), GoesRows
+-- lifts both to rows, and WhomLaws is the sentence.
+--
+-- AnsweredAlike: writes are answered once, as their requests want it, and alike where they come
+-- again.
+--   answers: ReportedOutcomes (the reply of each write: its code, no Observe, the location of its
+-- entry), SettledNotes (what is settled was sent), CommitAnswers (a commit answers once; what is
+--   admitted is a write), and AnsweredAlike, the sentence, by the table of `whom`.
+--
+-- ObserversStand: an answer with Observe makes an observer, which ends only for a reason.
+--   watchers: ObserverNotes (what each step notes of who observes, and why), and ObserversStand, the
+-- sentence, by the table of `whom`.
+--
+-- WrongPeers, WrongAnswers and WrongObservers: rows that fall by these.
+--
 -- WrongRows, WrongDatagrams and WrongSources: rows with wrong answers, none of which has the
 -- headline.
 --
