@@ -52,10 +52,10 @@
 --
 -- The sentences of this crate's own specs:
 --
--- SentToWhom: requests go to peers of running fetches, Resets and empty acknowledgements to who sent
--- what they answer.
---   whom: Dispatches is one table of what each step but a tick sends (answers, kept answers, Resets,
--- acknowledgements, requests of fetches), by RunningFetches (which fetches run);
+-- SentToWhom: requests go to peers of running fetches, Resets and empty acknowledgements to who
+-- sent what they answer.
+--   whom: Dispatches is one table of what each step but a tick sends (answers, kept answers,
+-- Resets, acknowledgements, requests of fetches), by RunningFetches (which fetches run);
 --   TickDispatches has what a tick sends (responses, and requests that are sent again), GoesRows
 -- lifts both to rows, and WhomLaws is the sentence.
 --
@@ -66,8 +66,8 @@
 --   admitted is a write), and AnsweredAlike, the sentence, by the table of `whom`.
 --
 -- ObserversStand: an answer with Observe makes an observer, which ends only for a reason.
---   watchers: ObserverNotes (what each step notes of who observes, and why), and ObserversStand, the
--- sentence, by the table of `whom`.
+--   watchers: ObserverNotes (what each step notes of who observes, and why), and ObserversStand,
+-- the sentence, by the table of `whom`.
 --
 -- WrongPeers, WrongAnswers and WrongObservers: rows that fall by these.
 --
