@@ -27,7 +27,7 @@ use Rattle.std.proofs.Common.{
 use Rattle.std.proofs.lemmas.Option.{same_Some}
 use Rattle.rd_base.specs.declared.queries.Kind.{Kind}
 use Rattle.rd_base.specs.declared.queries.Kind.TheVariants as kind
-use Rattle.message_model.specs.declared.messages.Kind4.TheVariants.{Con}
+use Rattle.message_model.specs.declared.messages.Kind4.TheVariants.{Con, Rst}
 use Rattle.message_model.specs.declared.messages.Unread.{Unread}
 use Rattle.message_model.specs.Codes as codes_of
 use Rattle.message_model.specs.Message.{Message}
@@ -38,12 +38,14 @@ use Rattle.history_model.specs.Listing.{listing}
 use Rattle.event_model.specs.declared.notes.Note.{Note}
 use Rattle.event_model.specs.declared.notes.Note.TheVariants as note
 use Rattle.event_model.specs.declared.notes.Observer.{Observer}
+use Rattle.event_model.specs.Events.{Event}
 use Rattle.event_model.specs.Flights.{Flight}
 use Rattle.event_model.proofs.ManyObservers.{peer}
 use Rattle.journal_model.proofs.OnLiterals.{machine_on_literals}
 use Rattle.journal_model.specs.declared.steps.StepKind.TheVariants as step
 use Rattle.journal_model.specs.declared.rows.Row.{Row}
 use Rattle.journal_model.specs.Journal.{entries, now}
+use Rattle.journal_model.specs.Effects.{empty_message}
 use Rattle.journal_model.specs.Lookups.{observer_of}
 use Rattle.journal_model.specs.Headline.{Headline}
 use Rattle.journal_model.specs.PlacedRows.{Placed}
@@ -300,3 +302,76 @@ cancels_another_falls h =
         let none : ◌≡◌ {A = Option Flight} None (Some it.notice) = it.flies in absurd cc
     by (never_acknowledges it) =
         let none : ◌≡◌ {A = Option Flight} None (Some it.notice) = it.flies in absurd cc
+
+-- ---- observers that do not end
+
+-- CON 0.01 m=0010 t=c1 [6 01][11 rd-lookup][11 ep]: it asks to observe no more
+abbrev deregistering : Message
+deregistering = record {
+  kind = Con;
+  code = codes_of.get;
+  mid = 16;
+  token = 193 ∷ [];
+  options =
+      (table.observe, 1 ∷ [])
+      ∷ (table.uri_path, codes "rd-lookup")
+      ∷ (table.uri_path, codes "ep")
+      ∷ [];
+  payload = [];
+}
+
+-- and observes on
+abbrev stays_cancelled : Row
+stays_cancelled = row_of step.Admit (spelling deregistering) false [] []
+
+-- An end theorem: nothing here cites it.
+pub stays_cancelled_falls : ObserversStand (stays_cancelled ∷ watched_with [] ∷ []) → ⊥
+unfolding machine_on_literals
+stays_cancelled_falls h =
+    let none : ◌≡◌ {A = Option Observer} (Some (watcher kind.Endpoint)) None =
+    h.cancels (watched_with [] ∷ []) stays_cancelled deregistering
+    (record { later = []; whole = refl })
+    (record {
+      asks = record {
+        heard = refl;
+        read = refl;
+        asks = refl;
+        lookup = refl;
+        first = refl;
+        heeded = refl;
+      };
+      deregisters = refl;
+      unrefused = refl;
+      ample = refl;
+    }) in
+    absurd cc
+
+-- RST m=0007: it rejects the notice in flight, and observes on
+abbrev stays_rejected : Row
+stays_rejected = row_of step.Admit (spelling (empty_message Rst 7)) false [] []
+
+-- An end theorem: nothing here cites it.
+pub stays_rejected_falls :
+    ObserversStand (stays_rejected ∷ notified ∷ watched_with [] ∷ []) → ⊥
+unfolding machine_on_literals
+stays_rejected_falls h =
+    h.leaves (notified ∷ watched_with [] ∷ []) stays_rejected (watcher kind.Endpoint)
+    (record { later = []; whole = refl })
+    (inl (record {
+      heard = refl;
+      message = empty_message Rst 7;
+      read = refl;
+      resets = refl;
+      peer = refl;
+      notice = record { mid = 7; formed = formed; again = [] };
+      flies = refl;
+      mid = refl;
+    })) (0, (omega arith, refl)) (0, (omega arith, refl))
+  where
+    formed : Event
+    formed = record {
+      place = 1;
+      moment = 0;
+      word = 0;
+      note = note.Formed (peer 1) (193 ∷ []) [] (Some 7);
+    }

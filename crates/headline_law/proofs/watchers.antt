@@ -1,2 +1,3 @@
 pub mod ObserverNotes
+pub mod ObserversEnd
 pub mod ObserversStand

@@ -1,6 +1,19 @@
 -- A sentence of the headline, of who observes: an answer that carries Observe makes its peer an
 -- observer of what it asked for, and an observer ends only for a reason.
-use Rattle.std.specs.Prelude.{◌≡◌, ◌⊎◌, ◌≤◌, Bool, true, false, List, ◌∷◌, length, Some, Ok}
+use Rattle.std.specs.Prelude.{
+  ◌≡◌,
+  ◌⊎◌,
+  ◌≤◌,
+  Bool,
+  true,
+  false,
+  List,
+  ◌∷◌,
+  length,
+  Some,
+  None,
+  Ok,
+}
 use Rattle.std.specs.List.{IsAmong}
 use Rattle.rd_base.specs.declared.peers.Peer.{Peer}
 use Rattle.message_model.specs.declared.messages.Role.TheVariants as role
@@ -17,7 +30,14 @@ use Rattle.journal_model.specs.declared.steps.StepKind.{StepKind}
 use Rattle.journal_model.specs.declared.steps.StepKind.TheVariants as step
 use Rattle.journal_model.specs.declared.rows.Row.{Row}
 use Rattle.journal_model.specs.Journal.{events}
-use Rattle.journal_model.specs.Requests.{register, is_heeded, is_later_block, is_lookup}
+use Rattle.journal_model.specs.Requests.{
+  register,
+  deregister,
+  is_heeded,
+  is_later_block,
+  is_lookup,
+  refusal_of_request,
+}
 use Rattle.journal_model.specs.Lookups.{observer_of}
 use Rattle.journal_model.specs.PlacedRows.{Within, Placed}
 use Rattle.journal_model.specs.AskedListings.{observer_named}
@@ -101,9 +121,19 @@ pub record AsksToBe (r : Row) (o : Observer) : Type 0 where
   pub registers : observe_in request ≡ Some register
   pub is : o ≡ observer_of r.step request
 
+-- the row hears a lookup with Observe 1 that meets no refusal, and memory did not run out in it (RFC
+-- 7641 section 3.6)
+pub record Cancels (r : Row) (request : Message) : Type 0 where
+  pub asks : AsksOfObservation r.step request
+  pub deregisters : observe_in request ≡ Some deregister
+  pub unrefused : refusal_of_request request ≡ None
+  pub ample : r.starved ≡ false
+
 -- An answer that carries Observe stands in a row after which its peer observes, under its token,
--- exactly what it asked for. Who observes asked to. And an observer ends only where its peer asks
--- anew under its token, rejects the notice in flight, or never acknowledges it.
+-- exactly what it asked for. Who observes asked to. An observer ends only where its peer asks anew
+-- under its token, rejects the notice in flight, or never acknowledges it. It does end where its
+-- notice is rejected or never acknowledged; and after a cancellation nobody observes under its
+-- token.
 pub record ObserversStand (rows : List Row) : Type 0 where
   pub observed : (sent : Sent rows)
       → is_response sent.message ≡ true
@@ -117,3 +147,13 @@ pub record ObserversStand (rows : List Row) : Type 0 where
       → Within rows before r
       → IsAmong (observers (events before)) o
       → IsAmong (observers (events (r ∷ before))) o ⊎ EndsObserving before r o
+  pub leaves : (before : List Row) (r : Row) (o : Observer)
+      → Within rows before r
+      → RejectsNotice before r o ⊎ NeverAcknowledges before r o
+      → IsAmong (observers (events before)) o
+      → IsAmong (observers (events (r ∷ before))) o
+      → ⊥
+  pub cancels : (before : List Row) (r : Row) (request : Message)
+      → Within rows before r
+      → Cancels r request
+      → observer_named (r.step.peer, request.token) (r ∷ before) ≡ None

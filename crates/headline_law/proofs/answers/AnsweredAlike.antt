@@ -231,7 +231,7 @@ dispatch_located before r kind peer octets m of_kind e created
 -- ---- rows
 
 -- what a row of a step sends and notes
-abbrev Does : List Row → Row → Type 0
+abbrev pub Does : List Row → Row → Type 0
 Does before r =
     (r.sent ≡ (effects r.step.kind r.starved before r.moment.0 r.step).sent)
     × (r.notes ≡ (effects r.step.kind r.starved before r.moment.0 r.step).notes)
@@ -240,7 +240,7 @@ row_does : (before : List Row) (s : Step) (starved : Bool) → Does before (row 
 unfolding row
 row_does before s starved = (refl, refl)
 
-does : (rows before : List Row) (r : Row) → AreRows rows → Within rows before r → Does before r
+pub does : (rows before : List Row) (r : Row) → AreRows rows → Within rows before r → Does before r
 does rows before r made within =
     let it : RowMade before r = each_made rows before r made within in
     subst (Does before) (sym it.is) (row_does before it.step it.starved)

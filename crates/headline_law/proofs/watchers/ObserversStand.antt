@@ -109,6 +109,11 @@ use Rattle.headline_law.proofs.whom.WhomLaws.{
   journal_goes,
   desk_goes,
 }
+use Rattle.headline_law.proofs.watchers.ObserversEnd.{
+  rejected_gone,
+  given_up_gone,
+  cancelled_none,
+}
 use Rattle.headline_law.proofs.watchers.ObserverNotes.{
   Asked,
   Added,
@@ -499,6 +504,15 @@ rows-ObserversStand rows made all = record {
         | inl stands ↦ inl (among_index o (observers (events (r ∷ before))) stands)
         | inr ends ↦ inr ends
       ];
+  leaves = λ before r o within why stands there. elim why [
+    | inl it ↦ rejected_gone rows before r o made within it
+        (among_of o (observers (events before)) stands)
+        (among_of o (observers (events (r ∷ before))) there)
+    | inr it ↦ given_up_gone rows before r o made within it
+        (among_of o (observers (events before)) stands)
+        (among_of o (observers (events (r ∷ before))) there)
+  ];
+  cancels = λ before r request within it. cancelled_none rows before r request made within it;
 }
   where
     own : (sent : Sent rows) (kind : StepKind)
