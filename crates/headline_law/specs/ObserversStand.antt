@@ -3,6 +3,7 @@
 use Rattle.std.specs.Prelude.{
   ◌≡◌,
   ◌⊎◌,
+  ℕ,
   ◌≤◌,
   Bool,
   true,
@@ -114,12 +115,19 @@ pub data EndsObserving (before : List Row) (r : Row) (o : Observer) : Type 0 whe
 
 -- ---- the sentence
 
--- the row hears a lookup with Observe 0 that asks to be this observer
+-- the row hears a lookup with Observe 0 that asks to be this observer, and tells it so: it sends it
+-- an answer, under its token, that carries Observe (RFC 7641 section 4.1)
 pub record AsksToBe (r : Row) (o : Observer) : Type 0 where
   pub request : Message
   pub asks : AsksOfObservation r.step request
   pub registers : observe_in request ≡ Some register
   pub is : o ≡ observer_of r.step request
+  pub octets : List ℕ
+  pub told : IsAmong r.sent (o.peer, octets)
+  pub answer : Message
+  pub answer_read : reading octets ≡ Ok answer
+  pub token : answer.token ≡ o.token
+  pub carries : carries_observe answer ≡ true
 
 -- the row hears a lookup with Observe 1 that meets no refusal, and memory did not run out in it (RFC
 -- 7641 section 3.6)
@@ -130,7 +138,7 @@ pub record Cancels (r : Row) (request : Message) : Type 0 where
   pub ample : r.starved ≡ false
 
 -- An answer that carries Observe stands in a row after which its peer observes, under its token,
--- exactly what it asked for. Who observes asked to. An observer ends only where its peer asks anew
+-- exactly what it asked for. Who observes asked to, and was told so. An observer ends only where its peer asks anew
 -- under its token, rejects the notice in flight, or never acknowledges it. It does end where its
 -- notice is rejected or never acknowledged; and after a cancellation nobody observes under its
 -- token.

@@ -175,7 +175,7 @@ among_last n [] = inl refl
 among_last n (x ∷ notes) = inr (among_last n notes)
 
 -- a good reply is read
-good_read : (s : Step) (m : Message) (reply : Reply)
+pub good_read : (s : Step) (m : Message) (reply : Reply)
     → reading s.datagram ≡ Ok m
     → IsGoodReply reply
     → reading (spelling (answer s m reply)) ≡ Ok (answer s m reply)

@@ -30,7 +30,7 @@ use Rattle.std.proofs.Common.{
 use Rattle.std.specs.List.{list_any, IsAmong, AllByRecursion}
 use Rattle.std.proofs.lemmas.Bool.{false≢true}
 use Rattle.rd_base.specs.declared.peers.Peer.{Peer}
-use Rattle.rd_base.proofs.lemmas.Among.{Among, all_among, among_all, all_at_index}
+use Rattle.rd_base.proofs.lemmas.Among.{Among, all_among, among_all, all_at_index, any_among}
 use Rattle.message_model.specs.declared.messages.Kind4.TheVariants.{Rst, Ack}
 use Rattle.message_model.specs.Message.{Message}
 use Rattle.message_model.specs.OptionTable as table
@@ -46,7 +46,7 @@ use Rattle.event_model.specs.Events.{Event, noted}
 use Rattle.event_model.specs.Observers.{name_of, is_end_of, observer_added, observers}
 use Rattle.event_model.specs.Flights.{max_again, deadline, flight}
 use Rattle.event_model.proofs.EventEquations.{observers-event}
-use Rattle.event_model.proofs.NotedLaws.{event_at, noted-append}
+use Rattle.event_model.proofs.NotedLaws.{event_at, noted-append, is_watching}
 use Rattle.event_model.proofs.ObserverEvents.{
   changes_observers,
   without_named,
@@ -65,7 +65,7 @@ use Rattle.journal_model.specs.Lookups.{observer_of}
 use Rattle.journal_model.specs.Machine.{IsJournal}
 use Rattle.journal_model.specs.DeskJournal.{IsDeskJournal}
 use Rattle.journal_model.specs.PlacedRows.{Within}
-use Rattle.journal_model.specs.Rows.{row, row_moment, AreRows}
+use Rattle.journal_model.specs.Rows.{row, row_moment, AreRows, effects}
 use Rattle.journal_model.specs.SentDatagrams.{is_response, AreForRequests}
 use Rattle.journal_model.specs.CarriedBlocks.{Sent}
 use Rattle.journal_model.specs.AskedListings.{observer_named}
@@ -109,6 +109,9 @@ use Rattle.headline_law.proofs.whom.WhomLaws.{
   journal_goes,
   desk_goes,
 }
+use Rattle.headline_law.proofs.answers.AnsweredAlike.{Does, does}
+use Rattle.headline_law.proofs.answers.CommitAnswers.{good_read}
+use Rattle.headline_law.proofs.watchers.ToldObservers.{Told, admit_told}
 use Rattle.headline_law.proofs.watchers.ObserversEnd.{
   rejected_gone,
   given_up_gone,
@@ -342,30 +345,57 @@ stood_or_added o place moment word (n ∷ notes) past there =
 
 stood_or_asked : (before : List Row) (r : Row) (o : Observer)
     → RowWatches before r
+    → Does before r
     → Among o (observers (events (r ∷ before)))
     → Among o (observers (events before)) ⊎ AsksToBe r o
-stood_or_asked before r o facts there =
+stood_or_asked before r o facts done there =
     elim (stood_or_added o (length before) r.moment.0 r.step.word r.notes (events before)
     (subst (λ past. Among o (observers past)) (events-row before r) there)) [
       | inl stood ↦ inl stood
       | inr added ↦ inr (asked (all_among (WatchFact before r.moment.0 r.step.kind r.step)
-          (note.Watched o) r.notes facts added))
+          (note.Watched o) r.notes facts added)
+          (any_among is_watching (note.Watched o) r.notes added refl))
     ]
   where
-    asked : Added r.step.kind r.step o → AsksToBe r o
-    asked it = record {
-      request = it.asked.message;
-      asks = record {
-        heard = it.asked.heard;
-        read = it.asked.read;
-        asks = it.asked.asks;
-        lookup = it.asked.lookup;
-        first = it.asked.first;
-        heeded = it.asked.heeded;
-      };
-      registers = it.registers;
-      is = it.is;
-    }
+    told : (it : Added r.step.kind r.step o)
+        → list_any is_watching r.notes ≡ true
+        → Told r.step it.asked.message r.sent
+    told it some =
+        subst (Told r.step it.asked.message)
+        (sym (done.0
+        ∙ ap (λ k. (effects k r.starved before r.moment.0 r.step).sent) it.asked.heard))
+        (admit_told r.starved before r.moment.0 r.step it.asked.message it.asked.read
+        it.asked.asks it.asked.lookup
+        (ap (list_any is_watching)
+        (sym (done.1
+        ∙ ap (λ k. (effects k r.starved before r.moment.0 r.step).notes) it.asked.heard)) ∙ some))
+
+    asked : Added r.step.kind r.step o → list_any is_watching r.notes ≡ true → AsksToBe r o
+    asked it some =
+        let t : Told r.step it.asked.message r.sent = told it some in
+        record {
+          request = it.asked.message;
+          asks = record {
+            heard = it.asked.heard;
+            read = it.asked.read;
+            asks = it.asked.asks;
+            lookup = it.asked.lookup;
+            first = it.asked.first;
+            heeded = it.asked.heeded;
+          };
+          registers = it.registers;
+          is = it.is;
+          octets = spelling (answer r.step it.asked.message t.reply);
+          told =
+              subst (λ p. IsAmong r.sent (p, spelling (answer r.step it.asked.message t.reply)))
+              (sym it.asked.peer_is)
+              (among_index (r.step.peer, spelling (answer r.step it.asked.message t.reply)) r.sent
+              t.among);
+          answer = answer r.step it.asked.message t.reply;
+          answer_read = good_read r.step it.asked.message t.reply it.asked.read t.good;
+          token = sym it.asked.token_is;
+          carries = t.observed;
+        }
 
 -- ---- answers that carry Observe
 
@@ -494,6 +524,7 @@ rows-ObserversStand rows made all = record {
   observed = λ sent responds carries. by sent sent.here.row.step.kind refl responds carries;
   begins = λ before r o within there.
       elim (stood_or_asked before r o (row_watches rows before r made within)
+      (does rows before r made within)
       (among_of o (observers (events (r ∷ before))) there)) [
         | inl stood ↦ inl (among_index o (observers (events before)) stood)
         | inr asks ↦ inr asks
