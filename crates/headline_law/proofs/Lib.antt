@@ -66,8 +66,9 @@
 --   admitted is a write), and AnsweredAlike, the sentence, by the table of `whom`.
 --
 -- ObserversStand: an answer with Observe makes an observer, which ends only for a reason.
---   watchers: ObserverNotes (what each step notes of who observes, and why), and ObserversStand,
--- the sentence, by the table of `whom`.
+--   watchers: ObserverNotes (what each step notes of who observes, and why), ObserversEnd (who is
+-- rejected, given up or cancelled does not stand), ToldObservers (who is added is told so), and
+--   ObserversStand, the sentence, by the table of `whom`.
 --
 -- WrongPeers, WrongAnswers and WrongObservers: rows that fall by these.
 --

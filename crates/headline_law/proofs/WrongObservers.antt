@@ -35,7 +35,6 @@ use Rattle.message_model.specs.OptionTable as table
 use Rattle.message_model.specs.Reading.{reading}
 use Rattle.message_model.specs.Spelling.{spelling}
 use Rattle.history_model.specs.Listing.{listing}
-use Rattle.event_model.specs.declared.notes.Note.{Note}
 use Rattle.event_model.specs.declared.notes.Note.TheVariants as note
 use Rattle.event_model.specs.declared.notes.Observer.{Observer}
 use Rattle.event_model.specs.Events.{Event}
@@ -197,29 +196,47 @@ unasked_falls h =
       | inr asks ↦ absurd (let no : step.Tick ≡ step.Admit = asks.asks.heard in cc)
     ]
 
+-- the observer that such a lookup asks to be
+abbrev observes : Observer
+observes = observer_of observes_nobody.step observing
+
+-- one is added, and is not told so
+abbrev untold : Row
+untold = row_of step.Admit (spelling observing) false [] (note.Watched observes ∷ [])
+
+-- An end theorem: nothing here cites it.
+pub untold_falls : ObserversStand (untold ∷ []) → ⊥
+unfolding machine_on_literals
+untold_falls h =
+    elim (h.begins [] untold observes (record { later = []; whole = refl })
+    (0, (omega arith, refl))) [
+      | inl stood ↦ (let low = stood.1.0 in absurd (omega (arith, low)))
+      | inr asks ↦ (let low = asks.told.1.0 in absurd (omega (arith, low)))
+    ]
+
 -- ---- observers that end
 
--- a row that makes one an observer, and what it notes more
-abbrev watched_with : List Note → Row
-watched_with more =
-    row_of step.Admit (spelling observing) false []
-    (note.Watched (watcher kind.Endpoint) ∷ note.Formed (peer 1) (193 ∷ []) [] None ∷ more)
+-- a row that makes its peer an observer, and tells it so
+abbrev watched : Row
+watched =
+    row_of step.Admit (spelling observing) false ((peer 1, spelling with_observe) ∷ [])
+    (note.Watched observes ∷ note.Formed (peer 1) (193 ∷ []) [] None ∷ [])
 
 -- a tick drops an observer to whom no notice is in flight
 abbrev drops : Row
 drops = row_of step.Tick [] false [] (note.Unwatched (peer 1) (193 ∷ []) ∷ [])
 
 -- An end theorem: nothing here cites it.
-pub drops_falls : ObserversStand (drops ∷ watched_with [] ∷ []) → ⊥
+pub drops_falls : ObserversStand (drops ∷ watched ∷ []) → ⊥
 unfolding machine_on_literals
 drops_falls h =
-    elim (h.ends (watched_with [] ∷ []) drops (watcher kind.Endpoint)
+    elim (h.ends (watched ∷ []) drops observes
     (record { later = []; whole = refl }) (0, (omega arith, refl))) [
       | inl stands ↦ (let low = stands.1.0 in absurd (omega (arith, low)))
       | inr ends ↦ by ends
     ]
   where
-    by : EndsObserving (watched_with [] ∷ []) drops (watcher kind.Endpoint) → ⊥
+    by : EndsObserving (watched ∷ []) drops observes → ⊥
     by (asks_anew it) = absurd (let no : step.Tick ≡ step.Admit = it.asks.heard in cc)
     by (rejects_notice it) = absurd (let no : step.Tick ≡ step.Admit = it.heard in cc)
     by (never_acknowledges it) =
@@ -230,10 +247,10 @@ abbrev notified : Row
 notified = row_of step.Tick [] false [] (note.Formed (peer 1) (193 ∷ []) [] (Some 7) ∷ [])
 
 -- An end theorem: nothing here cites it.
-pub drops_early_falls : ObserversStand (drops ∷ notified ∷ watched_with [] ∷ []) → ⊥
+pub drops_early_falls : ObserversStand (drops ∷ notified ∷ watched ∷ []) → ⊥
 unfolding machine_on_literals
 drops_early_falls h =
-    elim (h.ends (notified ∷ watched_with [] ∷ []) drops (watcher kind.Endpoint)
+    elim (h.ends (notified ∷ watched ∷ []) drops observes
     (record { later = []; whole = refl }) (0, (omega arith, refl))) [
       | inl stands ↦ (let low = stands.1.0 in absurd (omega (arith, low)))
       | inr ends ↦ by ends
@@ -243,7 +260,7 @@ drops_early_falls h =
     agains None = 9
     agains (Some f) = length f.again
 
-    by : EndsObserving (notified ∷ watched_with [] ∷ []) drops (watcher kind.Endpoint) → ⊥
+    by : EndsObserving (notified ∷ watched ∷ []) drops observes → ⊥
     by (asks_anew it) = absurd (let no : step.Tick ≡ step.Admit = it.asks.heard in cc)
     by (rejects_notice it) = absurd (let no : step.Tick ≡ step.Admit = it.heard in cc)
     by (never_acknowledges it) =
@@ -273,10 +290,10 @@ cancels_another =
     (note.Unwatched (peer 1) (193 ∷ []) ∷ [])
 
 -- An end theorem: nothing here cites it.
-pub cancels_another_falls : ObserversStand (cancels_another ∷ watched_with [] ∷ []) → ⊥
+pub cancels_another_falls : ObserversStand (cancels_another ∷ watched ∷ []) → ⊥
 unfolding machine_on_literals
 cancels_another_falls h =
-    elim (h.ends (watched_with [] ∷ []) cancels_another (watcher kind.Endpoint)
+    elim (h.ends (watched ∷ []) cancels_another observes
     (record { later = []; whole = refl }) (0, (omega arith, refl))) [
       | inl stands ↦ (let low = stands.1.0 in absurd (omega (arith, low)))
       | inr ends ↦ by ends
@@ -293,7 +310,7 @@ cancels_another_falls h =
     of_request m is same =
         different (ap head (same ∙ ap (λ (x : Message). x.token) (sym is)))
 
-    by : EndsObserving (watched_with [] ∷ []) cancels_another (watcher kind.Endpoint) → ⊥
+    by : EndsObserving (watched ∷ []) cancels_another observes → ⊥
     by (asks_anew it) =
         of_request it.request
         (same_message cancelling it.request
@@ -325,11 +342,11 @@ abbrev stays_cancelled : Row
 stays_cancelled = row_of step.Admit (spelling deregistering) false [] []
 
 -- An end theorem: nothing here cites it.
-pub stays_cancelled_falls : ObserversStand (stays_cancelled ∷ watched_with [] ∷ []) → ⊥
+pub stays_cancelled_falls : ObserversStand (stays_cancelled ∷ watched ∷ []) → ⊥
 unfolding machine_on_literals
 stays_cancelled_falls h =
-    let none : ◌≡◌ {A = Option Observer} (Some (watcher kind.Endpoint)) None =
-    h.cancels (watched_with [] ∷ []) stays_cancelled deregistering
+    let none : ◌≡◌ {A = Option Observer} (Some observes) None =
+    h.cancels (watched ∷ []) stays_cancelled deregistering
     (record { later = []; whole = refl })
     (record {
       asks = record {
@@ -352,10 +369,10 @@ stays_rejected = row_of step.Admit (spelling (empty_message Rst 7)) false [] []
 
 -- An end theorem: nothing here cites it.
 pub stays_rejected_falls :
-    ObserversStand (stays_rejected ∷ notified ∷ watched_with [] ∷ []) → ⊥
+    ObserversStand (stays_rejected ∷ notified ∷ watched ∷ []) → ⊥
 unfolding machine_on_literals
 stays_rejected_falls h =
-    h.leaves (notified ∷ watched_with [] ∷ []) stays_rejected (watcher kind.Endpoint)
+    h.leaves (notified ∷ watched ∷ []) stays_rejected observes
     (record { later = []; whole = refl })
     (inl (record {
       heard = refl;

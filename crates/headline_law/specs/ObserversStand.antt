@@ -129,8 +129,8 @@ pub record AsksToBe (r : Row) (o : Observer) : Type 0 where
   pub token : answer.token ≡ o.token
   pub carries : carries_observe answer ≡ true
 
--- the row hears a lookup with Observe 1 that meets no refusal, and memory did not run out in it (RFC
--- 7641 section 3.6)
+-- the row hears a lookup with Observe 1 that meets no refusal, and memory did not run out in it
+-- (RFC 7641 section 3.6)
 pub record Cancels (r : Row) (request : Message) : Type 0 where
   pub asks : AsksOfObservation r.step request
   pub deregisters : observe_in request ≡ Some deregister
@@ -138,10 +138,10 @@ pub record Cancels (r : Row) (request : Message) : Type 0 where
   pub ample : r.starved ≡ false
 
 -- An answer that carries Observe stands in a row after which its peer observes, under its token,
--- exactly what it asked for. Who observes asked to, and was told so. An observer ends only where its peer asks anew
--- under its token, rejects the notice in flight, or never acknowledges it. It does end where its
--- notice is rejected or never acknowledged; and after a cancellation nobody observes under its
--- token.
+-- exactly what it asked for. Who observes asked to, and was told so. An observer ends only where
+-- its peer asks anew under its token, rejects the notice in flight, or never acknowledges it. It
+-- does end where its notice is rejected or never acknowledged; and after a cancellation nobody
+-- observes under its token.
 pub record ObserversStand (rows : List Row) : Type 0 where
   pub observed : (sent : Sent rows)
       → is_response sent.message ≡ true

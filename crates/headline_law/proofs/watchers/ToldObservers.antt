@@ -3,7 +3,6 @@ use Rattle.std.proofs.Common.{
   ◌≡◌,
   inl,
   ℕ,
-  ◌<◌,
   ◌==◌,
   Bool,
   true,
@@ -12,8 +11,6 @@ use Rattle.std.proofs.Common.{
   List,
   [],
   ◌∷◌,
-  ◌++◌,
-  length,
   Option,
   Some,
   None,
@@ -52,7 +49,7 @@ use Rattle.journal_model.specs.declared.steps.Step.{Step}
 use Rattle.journal_model.specs.declared.steps.StepKind.TheVariants as step
 use Rattle.journal_model.specs.declared.rows.Row.{Row}
 use Rattle.journal_model.specs.Journal.{events, entries}
-use Rattle.journal_model.specs.Effects.{Effects, Reply, answer, answering}
+use Rattle.journal_model.specs.Effects.{Reply, answer, answering}
 use Rattle.journal_model.specs.Requests.{
   asked_block,
   number_of,
@@ -126,8 +123,8 @@ lookup_told rows moment s m some = by (is_later_block m) refl some
     keeps true body current = refl
     keeps false body current = refl
 
-    unobserving : list_any is_watching (observed_if false rows s m (listing_now rows moment m)).notes
-        ≡ true
+    unobserving :
+        list_any is_watching (observed_if false rows s m (listing_now rows moment m)).notes ≡ true
         → ⊥
     unobserving h =
         false≢true
