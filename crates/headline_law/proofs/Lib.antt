@@ -61,6 +61,30 @@
 --   WrongMoments, WrongInventions, WrongKeptAnswers and WrongEchoes: journals that have not the
 -- sentence that their name tells.
 --
+-- The sentences of this crate's own specs:
+--
+-- SentToWhom: requests go to peers of running fetches, Resets and empty acknowledgements to who
+-- sent what they answer.
+--   whom: Dispatches is one table of what each step but a tick sends (answers, kept answers,
+-- Resets, acknowledgements, requests of fetches), by RunningFetches (which fetches run);
+--   TickDispatches has what a tick sends (responses, and requests that are sent again), GoesRows
+-- lifts both to rows, and WhomLaws is the sentence.
+--
+-- AnsweredAlike: writes are answered once, as their requests want it, and alike where they come
+-- again.
+--   answers: ReportedOutcomes (the reply of each write: its code, no Observe, the location of its
+-- entry), SettledNotes (what is settled was sent), CommitAnswers (a commit answers once; what is
+--   admitted is a write), and AnsweredAlike, the sentence, by the table of `whom`.
+--
+-- ObserversStand: an answer with Observe makes an observer, which ends only for a reason.
+--   watchers: ObserverNotes (what each step notes of who observes, and why), ObserversEnd (who is
+-- rejected, given up or cancelled does not stand), ToldObservers (who is added is told so), and
+--   ObserversStand, the sentence, by the table of `whom`.
+--
+-- WrongPeers, WrongAnswers and WrongObservers: rows that fall by these.
+--
+-- WholeHeadlineLaw: all sentences, of journals, of desks and of traces.
+--
 -- WrongRows, WrongDatagrams, WrongSources and WrongBeginnings: rows with wrong answers or entries,
 -- none of which has the headline.
 --
@@ -75,6 +99,9 @@ pub mod flights
 pub mod rows
 pub mod desks
 pub mod datagrams
+pub mod answers
+pub mod whom
+pub mod watchers
 pub mod HeadlineLaw
 pub mod WrongRows
 pub mod WrongEntries
@@ -82,6 +109,9 @@ pub mod WrongBodies
 pub mod WrongBeginnings
 pub mod WrongDatagrams
 pub mod WrongSources
+pub mod WrongPeers
+pub mod WrongObservers
+pub mod WrongAnswers
 pub mod Restarts
 pub mod MomentLaws
 pub mod origins
@@ -89,3 +119,4 @@ pub mod WrongMoments
 pub mod WrongInventions
 pub mod WrongKeptAnswers
 pub mod WrongEchoes
+pub mod WholeHeadlineLaw

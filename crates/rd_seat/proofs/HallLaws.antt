@@ -27,7 +27,7 @@ use Rattle.std.proofs.lemmas.List.Elements.{
   All-append,
 }
 use Rattle.journal_model.specs.declared.rows.Row.{Row}
-use Rattle.headline_law.proofs.HeadlineLaw.{desk-DeskHeadline}
+use Rattle.headline_law.proofs.WholeHeadlineLaw.{desk-WholeDeskHeadline}
 use Rattle.turn_lock.specs.declared.rows.Replays.{Ghosts}
 use Rattle.turn_lock.specs.declared.seats.Pass.{Pass}
 use Rattle.turn_lock.specs.Rule.{IsHome}
@@ -104,7 +104,7 @@ stands-IsHistoryOfHall rows desk it = record {
   journal = it.turns.journal;
   no_look = it.turns.no_look;
   registrations = it.tables.directory.history;
-  headline = desk-DeskHeadline rows it.turns.journal;
+  headline = desk-WholeDeskHeadline rows it.turns.journal;
   published = it.published;
 }
 

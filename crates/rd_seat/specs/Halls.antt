@@ -8,7 +8,7 @@ use Rattle.history_model.specs.Versions.{VersionStandsFor}
 use Rattle.journal_model.specs.declared.rows.Row.{Row}
 use Rattle.journal_model.specs.Journal.{entries}
 use Rattle.journal_model.specs.DeskJournal.{IsDeskJournal}
-use Rattle.journal_model.specs.Headline.{DeskHeadline}
+use Rattle.headline_law.specs.WholeHeadline.{WholeDeskHeadline}
 use Rattle.rd_desk.specs.calls.Shown.{Shown}
 use Rattle.turn_lock.specs.declared.views.View.{View}
 use Rattle.turn_lock.specs.declared.rows.Replays.{Ghosts}
@@ -21,13 +21,14 @@ use Rattle.rd_seat.specs.Turns.{IsDeskRow, IsPublished}
 -- it, and none is of a look. The registrations are the replay of their entries, which is legal
 -- and holds each accepted request once, despite repeats; an observer with no notice due was last
 -- given the listing now; equal tags mean one state, and answers whose bodies were formed in these
--- rows are what the headline says (`DeskHeadline`). The version that is published stands for the
+-- rows are what the headline says, with all that is said of moments, answers, observers, fetches and
+-- kept answers beside it (`WholeDeskHeadline`). The version that is published stands for the
 -- same entries.
 pub record IsHistoryOfHall (rows : List Row) (desk : Shown PublisherSeen) : Type 0 where
   pub journal : IsDeskJournal rows
   pub no_look : AllByRecursion IsDeskRow rows
   pub registrations : VersionStandsFor 0 (entries rows) desk.tables.version
-  pub headline : DeskHeadline rows
+  pub headline : WholeDeskHeadline rows
   pub published : IsPublished (entries rows) desk.board
 
 -- What the rule of the turn holds of a hall of so many workers between any two steps on the lock's

@@ -3,7 +3,7 @@ ghost use Rattle.std.specs.Prelude.{◌≡◌, ◌↔◌, ◌≤◌, ℕ, List, 
 ghost use Rattle.std.specs.Prelude.{IfSome, None, true, false};
 ghost use Rattle.std.specs.String.{string_bytes};
 ghost use Rattle.std.specs.Io.KnownBytes.{IsAtEnd};
-ghost use Rattle.journal_model.specs.Headline.{Headline};
+ghost use Rattle.headline_law.specs.WholeHeadline.{WholeHeadline};
 ghost use Rattle.trace_model.specs.Output.{output};
 ghost use Rattle.trace_model.specs.Steps as steps;
 ghost use Rattle.trace_replay.specs.Endings as ends;
@@ -266,7 +266,8 @@ pub fn replay<S: Source, K: Sink, E: Sink>(
     ensures reported { IsReported (E.holds err.old) (E.holds err.new) (E.faults err.old)
         (E.faults err.new) result }
     // Of the journal of each trace holds what the headline says of it.
-    ensures headline { (workers : ℕ) (bytes : List ℕ) → Headline (steps.journal workers bytes) }
+    ensures headline { (workers : ℕ) (bytes : List ℕ)
+        → WholeHeadline (steps.journal workers bytes) }
 {
     let status = run_said(alloc, words, source, out);
     report(err, status);

@@ -69,7 +69,7 @@ tag_short rows worker m body current kept =
     ∙ tag-length (entries (kept.look.row ∷ kept.look.before)) kept.look.row.moment.0
 
 -- each look, commit and keep is made for a request, and each keep has a tag of eight octets
-journal_requests : (rows : List Row) → IsJournal rows → AreForRequests rows
+pub journal_requests : (rows : List Row) → IsJournal rows → AreForRequests rows
 journal_requests rows journal before r m within read = by r.step.kind refl
   where
     it : Made before r
@@ -113,7 +113,7 @@ journal_requests rows journal before r m within read = by r.step.kind refl
     by step.Tick is = tt
     by (step.Begin first) is = tt
 
-journal_sent : (rows : List Row) → IsJournal rows → AllSent rows
+pub journal_sent : (rows : List Row) → IsJournal rows → AllSent rows
 journal_sent rows journal =
     rows_sent rows (journal-AreRows rows journal)
     (λ before r place within commits. journal-place rows before r place journal within commits)

@@ -1,0 +1,4 @@
+pub mod ReportedOutcomes
+pub mod SettledNotes
+pub mod CommitAnswers
+pub mod AnsweredAlike

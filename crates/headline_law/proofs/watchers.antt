@@ -1,0 +1,4 @@
+pub mod ObserverNotes
+pub mod ObserversEnd
+pub mod ToldObservers
+pub mod ObserversStand

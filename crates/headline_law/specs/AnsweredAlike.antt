@@ -1,0 +1,172 @@
+-- A sentence of the headline, of the answers to writes: each is answered once, as its request wants
+-- it, and a write that comes again is answered by the same octets.
+use Rattle.std.specs.Prelude.{
+  ◌≡◌,
+  ◌⊎◌,
+  ℕ,
+  ◌==◌,
+  true,
+  false,
+  List,
+  [],
+  ◌∷◌,
+  map,
+  filter,
+  filter_map,
+  Option,
+  Some,
+  None,
+  codes,
+  decimal,
+  Result,
+  Ok,
+  Err,
+}
+use Rattle.std.specs.List.{IsAmong}
+use Rattle.rd_base.specs.declared.peers.Peer.{Peer}
+use Rattle.rd_base.specs.declared.parameters.RegParams.{RegParams}
+use Rattle.rd_base.specs.declared.submitted_links.SubmittedLink.{SubmittedLink}
+use Rattle.message_model.specs.declared.messages.Kind4.{Kind4}
+use Rattle.message_model.specs.declared.messages.Kind4.TheVariants.{Con, Non, Ack, Rst}
+use Rattle.message_model.specs.declared.messages.Role.TheVariants as role
+use Rattle.message_model.specs.declared.messages.Unread.{Unread}
+use Rattle.message_model.specs.Codes as codes_of
+use Rattle.message_model.specs.Message.{Message, Opt, role_of}
+use Rattle.message_model.specs.OptionTable as table
+use Rattle.message_model.specs.Reading.{reading}
+use Rattle.message_model.specs.Request.{path_in}
+use Rattle.history_model.specs.declared.entries.Change.TheVariants as change
+use Rattle.history_model.specs.declared.entries.Entry.{Entry}
+use Rattle.event_model.specs.declared.notes.Note.TheVariants as note
+use Rattle.event_model.specs.Events.{Event}
+use Rattle.event_model.specs.Repeats.{repeated, settled}
+use Rattle.journal_model.specs.declared.steps.StepKind.{StepKind}
+use Rattle.journal_model.specs.declared.steps.StepKind.TheVariants as step
+use Rattle.journal_model.specs.declared.rows.Row.{Row}
+use Rattle.journal_model.specs.Journal.{events, entries, entries_of}
+use Rattle.journal_model.specs.Requests.{is_write, method_of, refusal_of_request}
+use Rattle.journal_model.specs.Changes.{number_after}
+use Rattle.journal_model.specs.PlacedRows.{Within, Placed, Commits}
+use Rattle.journal_model.specs.CarriedBlocks.{Sent}
+use Rattle.journal_model.specs.SentDatagrams.{is_response}
+
+-- ---- one answer, as the request wants it
+
+-- a message, where one is read
+abbrev pub message_read : Result Message Unread → Option Message
+message_read (Err fault) = None
+message_read (Ok m) = Some m
+
+-- the responses among datagrams, in order
+abbrev pub responses_in : List (Peer × List ℕ) → List Message
+responses_in sent = filter is_response (filter_map (λ d. message_read (reading d.1)) sent)
+
+-- a confirmable request is answered in the acknowledgement, which has its Message ID; any other in
+-- a message that is not confirmable (RFC 7252 sections 5.2.1 and 5.2.3)
+abbrev pub IsOfType : Kind4 → ℕ → Message → Type 0
+IsOfType Con mid answer = (answer.kind ≡ Ack) × (answer.mid ≡ mid)
+IsOfType Non mid answer = answer.kind ≡ Non
+IsOfType Ack mid answer = answer.kind ≡ Non
+IsOfType Rst mid answer = answer.kind ≡ Non
+
+-- an answer has the type and the Message ID that its request wants, and its token (RFC 7252 section
+-- 5.3.1)
+pub record IsAnswerLike (request answer : Message) : Type 0 where
+  pub type : IsOfType request.kind request.mid answer
+  pub token : answer.token ≡ request.token
+
+-- the row of a commit sends its peer one response, and this is the answer to the request; unless
+-- memory ran out, the exchange keeps its octets (RFC 7252 section 4.5)
+pub record AnswersOnce (r : Row) (place : ℕ) (request : Message) : Type 0 where
+  pub answer : Message
+  pub one : responses_in r.sent ≡ answer ∷ []
+  pub like : IsAnswerLike request answer
+  pub octets : List ℕ
+  pub read : reading octets ≡ Ok answer
+  pub sent : IsAmong r.sent (r.step.peer, octets)
+  pub keeps : r.starved ≡ false → IsAmong r.notes (note.Settled place octets)
+
+-- ---- writes that come again
+
+-- the row hears a write that comes again, and the octets are those that its first admission was
+-- answered by (RFC 7252 section 4.5)
+pub record RepeatsReply (here : Placed) (peer : Peer) (octets : List ℕ) : Type 0 where
+  pub heard : here.row.step.kind ≡ step.Admit
+  pub to : peer ≡ here.row.step.peer
+  pub request : Message
+  pub read : reading here.row.step.datagram ≡ Ok request
+  pub first : Event
+  pub repeats :
+      repeated here.row.moment.0 here.row.step.peer request.mid (events here.before) ≡ Some first
+  pub reply : settled first.place (events here.before) ≡ Some octets
+
+-- these octets to a peer, or nothing where there are none
+abbrev pub sent_to : Peer → Option (List ℕ) → List (Peer × List ℕ)
+sent_to peer None = []
+sent_to peer (Some octets) = (peer, octets) ∷ []
+
+-- the row hears a write that meets no refusal, and memory did not run out in it
+pub record HearsWrite (r : Row) (m : Message) : Type 0 where
+  pub heard : r.step.kind ≡ step.Admit
+  pub read : reading r.step.datagram ≡ Ok m
+  pub asks : role_of m.kind m.code ≡ role.Request
+  pub unrefused : refusal_of_request m ≡ None
+  pub writes : is_write (path_in m) (method_of m.code) ≡ true
+  pub ample : r.starved ≡ false
+
+-- ---- locations
+
+-- the values of the Location-Path options, in order (RFC 7252 section 5.10.7)
+abbrev pub location_named : List Opt → List (List ℕ)
+location_named options = map (λ o. o.1) (filter (λ o. o.0 == table.location_path) options)
+
+-- the row enters one registration, and an answer names its location: `rd`, and the number that the
+-- history with this entry gives it (RFC 9176 section 5)
+pub record NamesEntry (here : Placed) (answer : Message) : Type 0 where
+  pub entry : Entry
+  pub params : RegParams
+  pub links : List SubmittedLink
+  pub entered : entries_of here.row ≡ entry ∷ []
+  pub registers : entry.change ≡ change.Register params links
+  pub located : location_named answer.options
+      ≡ codes "rd"
+      ∷ decimal (number_after params.name here.row.moment.0 (entries (here.row ∷ here.before)))
+      ∷ []
+
+-- ---- the sentence
+
+-- the step is no tick: in a tick each response is a notice
+abbrev pub IsNotOfTick : StepKind → Type 0
+IsNotOfTick step.Tick = ⊥
+IsNotOfTick _ = Unit {0}
+
+-- A commit sends exactly one response, of the type and with the Message ID and the token that its
+-- request wants, and its exchange keeps that. So is each response to another request, unless a
+-- write comes again. A write that comes again is answered by the octets that its exchange keeps, or
+-- by nothing, and nothing is noted of it. What an exchange keeps was noted by its own commit, which
+-- sent it. And a 2.01 names the location of the registration that its row entered, unless it is
+-- such a kept answer. (In a tick each response is a 2.05, as SendsToWhoAsked says.)
+pub record AnsweredAlike (rows : List Row) : Type 0 where
+  pub once : (before : List Row) (r : Row) (place : ℕ) (m : Message)
+      → Within rows before r
+      → Commits r place
+      → reading r.step.datagram ≡ Ok m
+      → AnswersOnce r place m
+  pub alike : (sent : Sent rows) (request : Message)
+      → is_response sent.message ≡ true
+      → IsNotOfTick sent.here.row.step.kind
+      → reading sent.here.row.step.datagram ≡ Ok request
+      → IsAnswerLike request sent.message ⊎ RepeatsReply sent.here sent.peer sent.octets
+  pub again : (before : List Row) (r : Row) (m : Message) (first : Event)
+      → Within rows before r
+      → HearsWrite r m
+      → repeated r.moment.0 r.step.peer m.mid (events before) ≡ Some first
+      → (r.sent ≡ sent_to r.step.peer (settled first.place (events before))) × (r.notes ≡ [])
+  pub kept : (before : List Row) (r : Row) (place : ℕ) (octets : List ℕ)
+      → Within rows before r
+      → IsAmong r.notes (note.Settled place octets)
+      → Commits r place × IsAmong r.sent (r.step.peer, octets)
+  pub located : (sent : Sent rows)
+      → IsNotOfTick sent.here.row.step.kind
+      → sent.message.code ≡ codes_of.created
+      → NamesEntry sent.here sent.message ⊎ RepeatsReply sent.here sent.peer sent.octets

@@ -1,0 +1,167 @@
+-- A sentence of the headline, of who observes: an answer that carries Observe makes its peer an
+-- observer of what it asked for, and an observer ends only for a reason.
+use Rattle.std.specs.Prelude.{
+  ◌≡◌,
+  ◌⊎◌,
+  ℕ,
+  ◌≤◌,
+  Bool,
+  true,
+  false,
+  List,
+  ◌∷◌,
+  length,
+  Some,
+  None,
+  Ok,
+}
+use Rattle.std.specs.List.{IsAmong}
+use Rattle.rd_base.specs.declared.peers.Peer.{Peer}
+use Rattle.message_model.specs.declared.messages.Role.TheVariants as role
+use Rattle.message_model.specs.Message.{Message, role_of}
+use Rattle.message_model.specs.OptionTable as table
+use Rattle.message_model.specs.OptionTable.{stands_in}
+use Rattle.message_model.specs.Reading.{reading}
+use Rattle.message_model.specs.Request.{path_in, observe_in}
+use Rattle.event_model.specs.declared.notes.Observer.{Observer}
+use Rattle.event_model.specs.Observers.{observers}
+use Rattle.event_model.specs.Flights.{Flight, max_again, deadline, flight}
+use Rattle.journal_model.specs.declared.steps.Step.{Step}
+use Rattle.journal_model.specs.declared.steps.StepKind.{StepKind}
+use Rattle.journal_model.specs.declared.steps.StepKind.TheVariants as step
+use Rattle.journal_model.specs.declared.rows.Row.{Row}
+use Rattle.journal_model.specs.Journal.{events}
+use Rattle.journal_model.specs.Requests.{
+  register,
+  deregister,
+  is_heeded,
+  is_later_block,
+  is_lookup,
+  refusal_of_request,
+}
+use Rattle.journal_model.specs.Lookups.{observer_of}
+use Rattle.journal_model.specs.PlacedRows.{Within, Placed}
+use Rattle.journal_model.specs.AskedListings.{observer_named}
+use Rattle.journal_model.specs.CarriedBlocks.{Sent}
+use Rattle.journal_model.specs.SentDatagrams.{is_response}
+
+-- ---- requests
+
+-- a step hears a lookup of a first block whose Observe value begins or ends an observation (RFC
+-- 7641 sections 2 and 4.1)
+pub record AsksOfObservation (s : Step) (request : Message) : Type 0 where
+  pub heard : s.kind ≡ step.Admit
+  pub read : reading s.datagram ≡ Ok request
+  pub asks : role_of request.kind request.code ≡ role.Request
+  pub lookup : is_lookup (path_in request) ≡ true
+  pub first : is_later_block request ≡ false
+  pub heeded : is_heeded (observe_in request) ≡ true
+
+-- ---- answers that carry Observe
+
+-- the message carries an Observe option
+abbrev pub carries_observe : Message → Bool
+carries_observe m = stands_in table.observe m.options
+
+-- its row hears a lookup with Observe 0, and then an observer of the peer and the token of the
+-- answer stands, which is the one that the request asks to be: of its query and its block size (RFC
+-- 7641 sections 3.1 and 4.1)
+pub record MakesObserver (here : Placed) (peer : Peer) (answer : Message) : Type 0 where
+  pub request : Message
+  pub asks : AsksOfObservation here.row.step request
+  pub registers : observe_in request ≡ Some register
+  pub stands : observer_named (peer, answer.token) (here.row ∷ here.before)
+      ≡ Some (observer_of here.row.step request)
+
+-- of notices SendsToWhoAsked says that they go to observers
+abbrev pub ObservesSo : StepKind → Placed → Peer → Message → Type 0
+ObservesSo step.Tick here peer answer = Unit {0}
+ObservesSo _ here peer answer = MakesObserver here peer answer
+
+-- ---- how an observer ends
+
+-- its peer asks again under its token: to observe anew, or no more (RFC 7641 sections 3.6 and 4.1)
+pub record AsksAnew (r : Row) (o : Observer) : Type 0 where
+  pub request : Message
+  pub asks : AsksOfObservation r.step request
+  pub peer : o.peer ≡ r.step.peer
+  pub token : o.token ≡ request.token
+
+-- its peer rejects the notice that is in flight to it (RFC 7641 section 3.6)
+pub record RejectsNotice (before : List Row) (r : Row) (o : Observer) : Type 0 where
+  pub heard : r.step.kind ≡ step.Admit
+  pub message : Message
+  pub read : reading r.step.datagram ≡ Ok message
+  pub resets : role_of message.kind message.code ≡ role.Reset
+  pub peer : o.peer ≡ r.step.peer
+  pub notice : Flight
+  pub flies : flight o (events before) ≡ Some notice
+  pub mid : message.mid ≡ notice.mid
+
+-- the notice that is in flight to it was sent again as often as may be, and the last wait for its
+-- acknowledgement has ended (RFC 7252 section 4.2, RFC 7641 section 4.5)
+pub record NeverAcknowledges (before : List Row) (r : Row) (o : Observer) : Type 0 where
+  pub ticks : r.step.kind ≡ step.Tick
+  pub notice : Flight
+  pub flies : flight o (events before) ≡ Some notice
+  pub sent : max_again ≤ length notice.again
+  pub waited : deadline notice.formed notice.again ≤ r.moment.0
+
+-- one of these
+pub data EndsObserving (before : List Row) (r : Row) (o : Observer) : Type 0 where
+  asks_anew : AsksAnew r o → EndsObserving before r o
+  rejects_notice : RejectsNotice before r o → EndsObserving before r o
+  never_acknowledges : NeverAcknowledges before r o → EndsObserving before r o
+
+-- ---- the sentence
+
+-- the row hears a lookup with Observe 0 that asks to be this observer, and tells it so: it sends it
+-- an answer, under its token, that carries Observe (RFC 7641 section 4.1)
+pub record AsksToBe (r : Row) (o : Observer) : Type 0 where
+  pub request : Message
+  pub asks : AsksOfObservation r.step request
+  pub registers : observe_in request ≡ Some register
+  pub is : o ≡ observer_of r.step request
+  pub octets : List ℕ
+  pub told : IsAmong r.sent (o.peer, octets)
+  pub answer : Message
+  pub answer_read : reading octets ≡ Ok answer
+  pub token : answer.token ≡ o.token
+  pub carries : carries_observe answer ≡ true
+
+-- the row hears a lookup with Observe 1 that meets no refusal, and memory did not run out in it
+-- (RFC 7641 section 3.6)
+pub record Cancels (r : Row) (request : Message) : Type 0 where
+  pub asks : AsksOfObservation r.step request
+  pub deregisters : observe_in request ≡ Some deregister
+  pub unrefused : refusal_of_request request ≡ None
+  pub ample : r.starved ≡ false
+
+-- An answer that carries Observe stands in a row after which its peer observes, under its token,
+-- exactly what it asked for. Who observes asked to, and was told so. An observer ends only where
+-- its peer asks anew under its token, rejects the notice in flight, or never acknowledges it. It
+-- does end where its notice is rejected or never acknowledged; and after a cancellation nobody
+-- observes under its token.
+pub record ObserversStand (rows : List Row) : Type 0 where
+  pub observed : (sent : Sent rows)
+      → is_response sent.message ≡ true
+      → carries_observe sent.message ≡ true
+      → ObservesSo sent.here.row.step.kind sent.here sent.peer sent.message
+  pub begins : (before : List Row) (r : Row) (o : Observer)
+      → Within rows before r
+      → IsAmong (observers (events (r ∷ before))) o
+      → IsAmong (observers (events before)) o ⊎ AsksToBe r o
+  pub ends : (before : List Row) (r : Row) (o : Observer)
+      → Within rows before r
+      → IsAmong (observers (events before)) o
+      → IsAmong (observers (events (r ∷ before))) o ⊎ EndsObserving before r o
+  pub leaves : (before : List Row) (r : Row) (o : Observer)
+      → Within rows before r
+      → RejectsNotice before r o ⊎ NeverAcknowledges before r o
+      → IsAmong (observers (events before)) o
+      → IsAmong (observers (events (r ∷ before))) o
+      → ⊥
+  pub cancels : (before : List Row) (r : Row) (request : Message)
+      → Within rows before r
+      → Cancels r request
+      → observer_named (r.step.peer, request.token) (r ∷ before) ≡ None
