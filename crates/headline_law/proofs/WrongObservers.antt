@@ -24,6 +24,7 @@ use Rattle.std.proofs.Common.{
   ◌∙◌,
   arith,
 }
+use Rattle.std.proofs.lemmas.Bool.{false≢true}
 use Rattle.std.proofs.lemmas.Option.{same_Some}
 use Rattle.rd_base.specs.declared.queries.Kind.{Kind}
 use Rattle.rd_base.specs.declared.queries.Kind.TheVariants as kind
@@ -320,8 +321,6 @@ cancels_another_falls h =
     by (never_acknowledges it) =
         let none : ◌≡◌ {A = Option Flight} None (Some it.notice) = it.flies in absurd cc
 
--- ---- observers that do not end
-
 -- CON 0.01 m=0010 t=c1 [6 01][11 rd-lookup][11 ep]: it asks to observe no more
 abbrev deregistering : Message
 deregistering = record {
@@ -336,6 +335,31 @@ deregistering = record {
       ∷ [];
   payload = [];
 }
+
+-- where memory runs out, a cancellation ends nobody
+abbrev starved_cancels : Row
+starved_cancels =
+    row_of step.Admit (spelling deregistering) true []
+    (note.Unwatched (peer 1) (193 ∷ []) ∷ [])
+
+-- An end theorem: nothing here cites it.
+pub starved_cancels_falls : ObserversStand (starved_cancels ∷ watched ∷ []) → ⊥
+unfolding machine_on_literals
+starved_cancels_falls h =
+    elim (h.ends (watched ∷ []) starved_cancels observes
+    (record { later = []; whole = refl }) (0, (omega arith, refl))) [
+      | inl stands ↦ (let low = stands.1.0 in absurd (omega (arith, low)))
+      | inr ends ↦ by ends
+    ]
+  where
+    by : EndsObserving (watched ∷ []) starved_cancels observes → ⊥
+    by (asks_anew it) = absurd (false≢true (sym it.ample))
+    by (rejects_notice it) =
+        let none : ◌≡◌ {A = Option Flight} None (Some it.notice) = it.flies in absurd cc
+    by (never_acknowledges it) =
+        let none : ◌≡◌ {A = Option Flight} None (Some it.notice) = it.flies in absurd cc
+
+-- ---- observers that do not end
 
 -- and observes on
 abbrev stays_cancelled : Row
@@ -356,9 +380,9 @@ stays_cancelled_falls h =
         lookup = refl;
         first = refl;
         heeded = refl;
+        unrefused = refl;
       };
       deregisters = refl;
-      unrefused = refl;
       ample = refl;
     }) in
     absurd cc

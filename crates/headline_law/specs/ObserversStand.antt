@@ -47,8 +47,8 @@ use Rattle.journal_model.specs.SentDatagrams.{is_response}
 
 -- ---- requests
 
--- a step hears a lookup of a first block whose Observe value begins or ends an observation (RFC
--- 7641 sections 2 and 4.1)
+-- a step hears a lookup of a first block that meets no refusal, and whose Observe value begins or
+-- ends an observation (RFC 7641 sections 2 and 4.1)
 pub record AsksOfObservation (s : Step) (request : Message) : Type 0 where
   pub heard : s.kind ≡ step.Admit
   pub read : reading s.datagram ≡ Ok request
@@ -56,6 +56,7 @@ pub record AsksOfObservation (s : Step) (request : Message) : Type 0 where
   pub lookup : is_lookup (path_in request) ≡ true
   pub first : is_later_block request ≡ false
   pub heeded : is_heeded (observe_in request) ≡ true
+  pub unrefused : refusal_of_request request ≡ None
 
 -- ---- answers that carry Observe
 
@@ -80,10 +81,12 @@ ObservesSo _ here peer answer = MakesObserver here peer answer
 
 -- ---- how an observer ends
 
--- its peer asks again under its token: to observe anew, or no more (RFC 7641 sections 3.6 and 4.1)
+-- its peer asks again under its token, to observe anew or no more, and memory did not run out (RFC
+-- 7641 sections 3.6 and 4.1)
 pub record AsksAnew (r : Row) (o : Observer) : Type 0 where
   pub request : Message
   pub asks : AsksOfObservation r.step request
+  pub ample : r.starved ≡ false
   pub peer : o.peer ≡ r.step.peer
   pub token : o.token ≡ request.token
 
@@ -129,12 +132,10 @@ pub record AsksToBe (r : Row) (o : Observer) : Type 0 where
   pub token : answer.token ≡ o.token
   pub carries : carries_observe answer ≡ true
 
--- the row hears a lookup with Observe 1 that meets no refusal, and memory did not run out in it
--- (RFC 7641 section 3.6)
+-- the row hears a lookup with Observe 1, and memory did not run out in it (RFC 7641 section 3.6)
 pub record Cancels (r : Row) (request : Message) : Type 0 where
   pub asks : AsksOfObservation r.step request
   pub deregisters : observe_in request ≡ Some deregister
-  pub unrefused : refusal_of_request request ≡ None
   pub ample : r.starved ≡ false
 
 -- An answer that carries Observe stands in a row after which its peer observes, under its token,

@@ -171,6 +171,7 @@ pub record Asked (kind : StepKind) (s : Step) (peer : Peer) (token : List ℕ) :
   pub lookup : is_lookup (path_in message) ≡ true
   pub first : is_later_block message ≡ false
   pub heeded : is_heeded (observe_in message) ≡ true
+  pub unrefused : refusal_of_request message ≡ None
   pub peer_is : peer ≡ s.peer
   pub token_is : token ≡ message.token
 
@@ -252,10 +253,11 @@ blanks rows moment kind s notes none = subst (WatchFacts rows moment kind s) (sy
 lookup_watches : (rows : List Row) (moment : ℕ) (s : Step) (m : Message)
     → reading s.datagram ≡ Ok m
     → role_of m.kind m.code ≡ role.Request
+    → refusal_of_request m ≡ None
     → is_lookup (path_in m) ≡ true
     → WatchFacts rows moment step.Admit s (lookup_effects rows moment s m).notes
 unfolding lookup_effects observed unobserved answering
-lookup_watches rows moment s m read asks looks = by (is_later_block m) refl
+lookup_watches rows moment s m read asks none looks = by (is_later_block m) refl
   where
     asked : is_later_block m ≡ false
         → is_heeded (observe_in m) ≡ true
@@ -268,6 +270,7 @@ lookup_watches rows moment s m read asks looks = by (is_later_block m) refl
       lookup = looks;
       first = first;
       heeded = heeded;
+      unrefused = none;
       peer_is = refl;
       token_is = refl;
     }
@@ -364,7 +367,7 @@ request_watches : (rows : List Row) (moment : ℕ) (s : Step) (m : Message)
     → WatchFacts rows moment step.Admit s
     (request_answered (refusal_of_request m) rows moment s m).notes
 unfolding served
-request_watches rows moment s m read asks = by (refusal_of_request m)
+request_watches rows moment s m read asks = by (refusal_of_request m) refl
   where
     written : WatchFacts rows moment step.Admit s (write_effects (events rows) moment s m).notes
     written =
@@ -383,24 +386,26 @@ request_watches rows moment s m read asks = by (refusal_of_request m)
     there other_method = tt
 
     on : (p : Path)
+        → refusal_of_request m ≡ None
         → path_in m ≡ p
         → WatchFacts rows moment step.Admit s (served p rows moment s m).notes
-    on path.Core at =
+    on path.Core none at =
         blanks rows moment step.Admit s (look_effects (entries rows) moment s m).notes
         (look_effects-notes (entries rows) moment s m)
-    on path.Res at = lookup_watches rows moment s m read asks (ap is_lookup at)
-    on path.Ep at = lookup_watches rows moment s m read asks (ap is_lookup at)
-    on path.SimpleRd at = written
-    on path.Rd at = written
-    on (path.Location number) at = there (method_of m.code)
-    on path.Other at = tt
+    on path.Res none at = lookup_watches rows moment s m read asks none (ap is_lookup at)
+    on path.Ep none at = lookup_watches rows moment s m read asks none (ap is_lookup at)
+    on path.SimpleRd none at = written
+    on path.Rd none at = written
+    on (path.Location number) none at = there (method_of m.code)
+    on path.Other none at = tt
 
     by : (refusal : Option Reply)
+        → refusal_of_request m ≡ refusal
         → WatchFacts rows moment step.Admit s (request_answered refusal rows moment s m).notes
-    by (Some refusal) =
+    by (Some refusal) e =
         blanks rows moment step.Admit s _
         (refusal_notes m.kind (first_bad_option m.options) s m refusal)
-    by None = on (path_in m) refl
+    by None e = on (path_in m) e refl
 
 -- a Reset
 reset_watches : (rows : List Row) (moment : ℕ) (s : Step) (m : Message)

@@ -402,7 +402,8 @@ cancelled_none rows before r request made within it =
         (does rows before r made within).1
         ∙ (ap (λ k. (effects k r.starved before r.moment.0 r.step).notes) it.asks.heard
         ∙ (ap (λ b. (effects step.Admit b before r.moment.0 r.step).notes) it.ample
-        ∙ cancel_row before r.moment.0 r.step request it.asks.read it.asks.asks it.unrefused
+        ∙ cancel_row before r.moment.0 r.step request it.asks.read it.asks.asks
+        it.asks.unrefused
         it.asks.lookup it.asks.first it.deregisters))
 
     removal_adds : (b : Bool)

@@ -32,7 +32,8 @@ use Rattle.std.proofs.lemmas.Bool.{false≢true}
 use Rattle.rd_base.specs.declared.peers.Peer.{Peer}
 use Rattle.rd_base.proofs.lemmas.Among.{Among, all_among, among_all, all_at_index, any_among}
 use Rattle.message_model.specs.declared.messages.Kind4.TheVariants.{Rst, Ack}
-use Rattle.message_model.specs.Message.{Message}
+use Rattle.message_model.specs.declared.messages.Role.TheVariants as role
+use Rattle.message_model.specs.Message.{Message, role_of}
 use Rattle.message_model.specs.OptionTable as table
 use Rattle.message_model.specs.OptionTable.{stands_in}
 use Rattle.message_model.specs.Reading.{reading}
@@ -55,17 +56,18 @@ use Rattle.event_model.proofs.ObserverEvents.{
 }
 use Rattle.event_model.proofs.ObserverLaws.{Only, apart-sym, apart_only, observers-apart}
 use Rattle.event_model.proofs.SameLaws.{is_same_request-Decides, is_same_request-refl}
+use Rattle.journal_model.specs.declared.steps.Step.{Step}
 use Rattle.journal_model.specs.declared.steps.StepKind.{StepKind}
 use Rattle.journal_model.specs.declared.steps.StepKind.TheVariants as step
 use Rattle.journal_model.specs.declared.rows.Row.{Row}
 use Rattle.journal_model.specs.Journal.{events}
-use Rattle.journal_model.specs.Effects.{answer, empty_message}
+use Rattle.journal_model.specs.Effects.{answer, empty_message, answering}
 use Rattle.journal_model.specs.Requests.{is_heeded}
 use Rattle.journal_model.specs.Lookups.{observer_of}
 use Rattle.journal_model.specs.Machine.{IsJournal}
 use Rattle.journal_model.specs.DeskJournal.{IsDeskJournal}
 use Rattle.journal_model.specs.PlacedRows.{Within}
-use Rattle.journal_model.specs.Rows.{row, row_moment, AreRows, effects}
+use Rattle.journal_model.specs.Rows.{row, row_moment, AreRows, effects, heard, message_effects}
 use Rattle.journal_model.specs.SentDatagrams.{is_response, AreForRequests}
 use Rattle.journal_model.specs.CarriedBlocks.{Sent}
 use Rattle.journal_model.specs.AskedListings.{observer_named}
@@ -202,12 +204,48 @@ row_watches rows before r all within =
 
 -- ---- how one ends
 
+-- memory did not run out in a row that hears a request and notes something
+abbrev Ample : Row → Type 0
+Ample r =
+    (m : Message)
+    → r.step.kind ≡ step.Admit
+    → reading r.step.datagram ≡ Ok m
+    → role_of m.kind m.code ≡ role.Request
+    → r.starved ≡ false
+
+-- where memory runs out, a request is answered, and nothing is noted
+starved_silent : (rows : List Row) (moment : ℕ) (s : Step) (m : Message)
+    → reading s.datagram ≡ Ok m
+    → role_of m.kind m.code ≡ role.Request
+    → (effects step.Admit true rows moment s).notes ≡ []
+unfolding effects answering
+starved_silent rows moment s m read asks =
+    ap (λ x. (heard true rows moment s x).notes) read
+    ∙ ap (λ r. (message_effects r true rows moment s m).notes) asks
+
+ample_row : (before : List Row) (r : Row) (test : Note → Bool)
+    → Does before r
+    → list_any test r.notes ≡ true
+    → Ample r
+ample_row before r test done some m hears read asks = by r.starved refl
+  where
+    by : (b : Bool) → r.starved ≡ b → r.starved ≡ false
+    by false is = is
+    by true is =
+        absurd (false≢true
+        (sym (ap (list_any test)
+        (done.1
+        ∙ (ap (λ k. (effects k r.starved before r.moment.0 r.step).notes) hears
+        ∙ (ap (λ b. (effects step.Admit b before r.moment.0 r.step).notes) is
+        ∙ starved_silent before r.moment.0 r.step m read asks)))) ∙ some))
+
 -- a request of its peer under its token
 asked_anew : (r : Row) (o : Observer) (peer : Peer) (token : List ℕ)
+    → Ample r
     → (peer, token) ≡ name_of o
     → Asked r.step.kind r.step peer token
     → AsksAnew r o
-asked_anew r o peer token named it = record {
+asked_anew r o peer token ample named it = record {
   request = it.message;
   asks = record {
     heard = it.heard;
@@ -216,7 +254,9 @@ asked_anew r o peer token named it = record {
     lookup = it.lookup;
     first = it.first;
     heeded = it.heeded;
+    unrefused = it.unrefused;
   };
+  ample = ample it.message it.heard it.read it.asks;
   peer = ap (λ (n : Peer × List ℕ). n.0) (sym named) ∙ it.peer_is;
   token = ap (λ (n : Peer × List ℕ). n.1) (sym named) ∙ it.token_is;
 }
@@ -237,19 +277,20 @@ its_own before o x stands other same =
 -- a note that ends it has a reason
 ended_so : (before : List Row) (r : Row) (o : Observer) (n : Note)
     → Among o (observers (events before))
+    → Ample r
     → WatchFact before r.moment.0 r.step.kind r.step n
     → is_end_of n (name_of o) ≡ true
     → EndsObserving before r o
-ended_so before r o (note.Watched x) stands fact ends =
-    asks_anew (asked_anew r o x.peer x.token
+ended_so before r o (note.Watched x) stands ample fact ends =
+    asks_anew (asked_anew r o x.peer x.token ample
     ((is_same_request-Decides (name_of x) (name_of o)).0 ends) fact.asked)
-ended_so before r o (note.Unwatched peer token) stands fact ends = by fact
+ended_so before r o (note.Unwatched peer token) stands ample fact ends = by fact
   where
     named : (peer, token) ≡ name_of o
     named = (is_same_request-Decides (peer, token) (name_of o)).0 ends
 
     by : Ended before r.moment.0 r.step.kind r.step peer token → EndsObserving before r o
-    by (by_asking it) = asks_anew (asked_anew r o peer token named it)
+    by (by_asking it) = asks_anew (asked_anew r o peer token ample named it)
     by (by_rejecting it) =
         let same : it.observer ≡ o =
         its_own before o it.observer stands it.stands (it.named ∙ named) in
@@ -273,13 +314,14 @@ ended_so before r o (note.Unwatched peer token) stands fact ends = by fact
           sent = leb-true max_again (length it.notice.again) it.last;
           waited = leb-true (deadline it.notice.formed it.notice.again) r.moment.0 it.over;
         })
-ended_so before r o _ stands fact ends = absurd (false≢true ends)
+ended_so before r o _ stands ample fact ends = absurd (false≢true ends)
 
 stands_or_ends : (before : List Row) (r : Row) (o : Observer)
     → RowWatches before r
+    → Does before r
     → Among o (observers (events before))
     → Among o (observers (events (r ∷ before))) ⊎ EndsObserving before r o
-stands_or_ends before r o facts stands =
+stands_or_ends before r o facts done stands =
     by (list_any (λ n. is_end_of n (name_of o)) r.notes) refl
   where
     by : (b : Bool)
@@ -293,7 +335,8 @@ stands_or_ends before r o facts stands =
         (WatchFact before r.moment.0 r.step.kind r.step) =
         passing (λ n. is_end_of n (name_of o)) (WatchFact before r.moment.0 r.step.kind r.step)
         r.notes facts some in
-        inr (ended_so before r o it.one stands it.holds it.passes)
+        inr (ended_so before r o it.one stands
+        (ample_row before r (λ n. is_end_of n (name_of o)) done some) it.holds it.passes)
 
 -- ---- how one begins
 
@@ -382,6 +425,7 @@ stood_or_asked before r o facts done there =
             lookup = it.asked.lookup;
             first = it.asked.first;
             heeded = it.asked.heeded;
+            unrefused = it.asked.unrefused;
           };
           registers = it.registers;
           is = it.is;
@@ -464,6 +508,7 @@ dispatch_observes before r kind peer octets m of_kind all e responds carries
         lookup = adds.lookup;
         first = adds.first;
         heeded = ap is_heeded adds.registers;
+        unrefused = adds.unrefused;
       };
       registers = adds.registers;
       stands =
@@ -531,6 +576,7 @@ rows-ObserversStand rows made all = record {
       ];
   ends = λ before r o within there.
       elim (stands_or_ends before r o (row_watches rows before r made within)
+      (does rows before r made within)
       (among_of o (observers (events before)) there)) [
         | inl stands ↦ inl (among_index o (observers (events (r ∷ before))) stands)
         | inr ends ↦ inr ends

@@ -256,6 +256,7 @@ use Rattle.headline_law.proofs.whom.RunningFetches.{
 pub record AddsObserver (kind : StepKind) (s : Step) (m : Message) (notes : List Note) : Type 0
   where
     pub heard : kind ≡ step.Admit
+    pub unrefused : refusal_of_request m ≡ None
     pub lookup : is_lookup (path_in m) ≡ true
     pub registers : observe_in m ≡ Some register
     pub first : is_later_block m ≡ false
@@ -723,10 +724,11 @@ lookup_sends : (rows : List Row) (moment : ℕ) (s : Step) (m : Message)
     → KeepsTags rows
     → reading s.datagram ≡ Ok m
     → role_of m.kind m.code ≡ role.Request
+    → refusal_of_request m ≡ None
     → is_lookup (path_in m) ≡ true
     → Dispatches rows moment step.Admit s (lookup_effects rows moment s m)
 unfolding lookup_effects observed unobserved
-lookup_sends rows moment s m tags read asks looks = by (is_later_block m) refl
+lookup_sends rows moment s m tags read asks none looks = by (is_later_block m) refl
   where
     short : length (tag (entries rows) moment) ≡ 8
     short = tag-length (entries rows) moment
@@ -765,6 +767,7 @@ lookup_sends rows moment s m tags read asks looks = by (is_later_block m) refl
               (listing_now rows moment m).body;
           observed = λ e. record {
             heard = refl;
+            unrefused = none;
             lookup = looks;
             registers = asked;
             first = first;
@@ -838,15 +841,16 @@ request_sends rows moment s m tags read asks = by (refusal_of_request m) refl
     there other_method = tt
 
     on : (p : Path)
+        → refusal_of_request m ≡ None
         → path_in m ≡ p
         → Dispatches rows moment step.Admit s (served p rows moment s m)
-    on path.Core is = look_sends rows step.Admit moment s m read asks
-    on path.Res is = lookup_sends rows moment s m tags read asks (ap is_lookup is)
-    on path.Ep is = lookup_sends rows moment s m tags read asks (ap is_lookup is)
-    on path.SimpleRd is = write_sends rows moment s m read asks
-    on path.Rd is = write_sends rows moment s m read asks
-    on (path.Location number) is = there (method_of m.code)
-    on path.Other is = tt
+    on path.Core none is = look_sends rows step.Admit moment s m read asks
+    on path.Res none is = lookup_sends rows moment s m tags read asks none (ap is_lookup is)
+    on path.Ep none is = lookup_sends rows moment s m tags read asks none (ap is_lookup is)
+    on path.SimpleRd none is = write_sends rows moment s m read asks
+    on path.Rd none is = write_sends rows moment s m read asks
+    on (path.Location number) none is = there (method_of m.code)
+    on path.Other none is = tt
 
     by : (refusal : Option Reply)
         → refusal_of_request m ≡ refusal
@@ -860,7 +864,7 @@ request_sends rows moment s m tags read asks = by (refusal_of_request m) refl
           unobserved = h.1;
           other = h.2;
         })
-    by None e = on (path_in m) refl
+    by None e = on (path_in m) e refl
 
 -- a new token has eight octets
 next_short : (past : List Event) → length (next_token past) ≤ 8
