@@ -1,7 +1,7 @@
 -- Journals in which a request is sent to a peer that answered no challenge: none of them has the
 -- sentence on Echo. Beside each datagram its parts are shown: type, code, Message ID, token,
 -- options.
-use Rattle.std.proofs.Common.{◌≡◌, ◌⊎◌, inl, inr, ℕ, true, false, List, [], ◌∷◌}
+use Rattle.std.proofs.Common.{◌≡◌, ◌⊎◌, inl, inr, ℕ, true, false, List, [], ◌∷◌, ◌++◌}
 use Rattle.std.proofs.Common.{Some, None, codes, refl, sym, ap, subst, ◌∙◌, arith}
 use Rattle.std.proofs.lemmas.Bool.{false≢true}
 use Rattle.std.proofs.lemmas.Option.{same_Some}
@@ -13,7 +13,12 @@ use Rattle.message_model.specs.FetchRequests.{fetch_request}
 use Rattle.message_model.specs.OptionTable as table
 use Rattle.message_model.specs.Reading.{reading}
 use Rattle.message_model.specs.Request.{echo_in}
-use Rattle.message_model.specs.Spelling.{spelling}
+use Rattle.message_model.specs.Spelling.{
+  header_spelling,
+  option_spelling,
+  options_spelling,
+  spelling,
+}
 use Rattle.message_model.proofs.OnLiterals.{messages_on_literals}
 use Rattle.event_model.specs.declared.notes.Note.TheVariants as note
 use Rattle.event_model.specs.Challenges.{is_good}
@@ -26,7 +31,7 @@ use Rattle.journal_model.specs.CarriedBlocks.{Sent}
 use Rattle.journal_model.proofs.OnLiterals.{machine_on_literals}
 use Rattle.journal_model.proofs.sends.BodyAnswers.{same_message}
 use Rattle.headline_law.specs.AnsweredChallenges.{ShownBefore}
-use Rattle.headline_law.specs.EchoedFirst.{IsChallenge, EchoedFirst}
+use Rattle.headline_law.specs.EchoedFirst.{IsFetchRequest, IsChallenge, EchoedFirst}
 use Rattle.headline_law.proofs.entries.FailedLaws.{within_cases, nothing_within}
 use Rattle.headline_law.proofs.WrongRows.{row_of}
 
@@ -267,3 +272,44 @@ other_value_falls datagram sent h =
 
     different : ◌≡◌ {A = ℕ} 1 0 → ⊥
     different no_way = absurd (omega (arith, no_way))
+
+-- ---- another resource than the links of a device is asked for: CON 0.01 m=0007, the root
+
+abbrev root_request : Message
+root_request = record {
+  kind = Con;
+  code = codes_of.get;
+  mid = 7;
+  token = [];
+  options = [];
+  payload = [];
+}
+
+-- An end theorem: nothing here cites it.
+pub other_resource_falls : (to : Peer) (before : List Row)
+    → EchoedFirst (row_of step.Tick [] false ((to, spelling root_request) ∷ []) [] ∷ before) → ⊥
+unfolding messages_on_literals spelling header_spelling options_spelling option_spelling
+other_resource_falls to before h =
+    let sent : Sent (row_of step.Tick [] false ((to, spelling root_request) ∷ []) [] ∷ before) =
+    record {
+      here = record {
+        row = row_of step.Tick [] false ((to, spelling root_request) ∷ []) [];
+        before = before;
+      };
+      within = record { later = []; whole = refl };
+      peer = to;
+      octets = spelling root_request;
+      among = (0, (omega arith, refl));
+      message = root_request;
+      read = refl;
+    } in
+    let it : IsFetchRequest (spelling root_request) = h.fetches sent refl in
+    no_end it.token _ _ (ap after_header it.octets_are)
+  where
+    after_header : List ℕ → List ℕ
+    after_header (a ∷ b ∷ c ∷ d ∷ others) = others
+    after_header _ = []
+
+    no_end : (xs : List ℕ) (y : ℕ) (ys : List ℕ) → [] ≡ xs ++ y ∷ ys → ⊥
+    no_end [] y ys is = absurd cc
+    no_end (x ∷ xs) y ys is = absurd cc

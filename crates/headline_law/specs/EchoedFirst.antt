@@ -1,13 +1,16 @@
 -- A sentence of the headline, of Echo: the directory sends a request only to a peer that answered a
 -- challenge (RFC 9176 section 5.1, RFC 9175 sections 2.3 and 2.6).
-use Rattle.std.specs.Prelude.{◌≡◌, true, ℕ, Bool, List, [], ◌∷◌, Ok}
+use Rattle.std.specs.Prelude.{◌≡◌, true, ℕ, Bool, List, [], ◌∷◌, Option, Ok}
 use Rattle.std.specs.List.{IsAmong}
 use Rattle.rd_base.specs.declared.peers.Peer.{Peer}
+use Rattle.message_model.specs.declared.blocks.Block.{Block}
 use Rattle.message_model.specs.declared.messages.Role.TheVariants as role
 use Rattle.message_model.specs.declared.requests.Path.TheVariants as path
 use Rattle.message_model.specs.Codes as codes_of
 use Rattle.message_model.specs.Message.{Message, role_of}
+use Rattle.message_model.specs.FetchRequests.{fetch_request}
 use Rattle.message_model.specs.Reading.{reading}
+use Rattle.message_model.specs.Spelling.{spelling}
 use Rattle.message_model.specs.OptionTable as table
 use Rattle.message_model.specs.Request.{path_in}
 use Rattle.event_model.specs.declared.notes.Note.TheVariants as note
@@ -23,6 +26,14 @@ use Rattle.headline_law.specs.AnsweredChallenges.{ShownBefore}
 -- 7252 sections 5.8 and 12.1)
 abbrev pub is_request : Message → Bool
 is_request m = codes_of.is_request_code m.code
+
+-- octets spell the request of a fetch: a confirmable GET of /.well-known/core, with no further
+-- option but Block2 (RFC 9176 section 5.1)
+pub record IsFetchRequest (octets : List ℕ) : Type 0 where
+  pub mid : ℕ
+  pub token : List ℕ
+  pub block : Option Block
+  pub octets_are : octets ≡ spelling (fetch_request mid token block)
 
 -- a row sends a peer 4.01 with a value in Echo, and no other option (RFC 9175 section 2.3)
 pub record SendsEcho (r : Row) (peer : Peer) (value : List ℕ) : Type 0 where
@@ -51,6 +62,10 @@ pub record EchoedFirst (rows : List Row) : Type 0 where
   pub method : (sent : Sent rows)
       → is_request sent.message ≡ true
       → sent.message.code ≡ codes_of.get
+  -- it asks for the links of a device, and for nothing else (RFC 9176 section 5.1)
+  pub fetches : (sent : Sent rows)
+      → is_request sent.message ≡ true
+      → IsFetchRequest sent.octets
   -- it goes to an address and port from which an earlier row admitted a simple registration that
   -- answered the last challenge sent there (RFC 9175 section 2.6)
   pub shown : (sent : Sent rows)

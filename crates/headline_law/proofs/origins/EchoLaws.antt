@@ -63,7 +63,7 @@ use Rattle.journal_model.proofs.entries.CommitPlaces.{AtPlace, at_place, journal
 use Rattle.journal_model.proofs.datagrams.SentRows.{CommitsPlaced}
 use Rattle.journal_model.proofs.sends.BodyAnswers.{same_message}
 use Rattle.headline_law.specs.AnsweredChallenges.{ShownBefore}
-use Rattle.headline_law.specs.EchoedFirst.{is_request, EchoedFirst}
+use Rattle.headline_law.specs.EchoedFirst.{is_request, IsFetchRequest, EchoedFirst}
 use Rattle.headline_law.proofs.origins.NoteOrigins.{NoteOrigin, row-NoteOrigins}
 use Rattle.headline_law.proofs.origins.InventionLaws.{admitted_shows}
 use Rattle.headline_law.proofs.origins.ChallengeLaws.{challenge_of}
@@ -114,7 +114,7 @@ AskedShown before _ = Unit {0}
 abbrev SentShown : List Row → Peer × List ℕ → Type 0
 SentShown before d =
     codes_of.is_request_code (code_at d.1) ≡ true
-    → (code_at d.1 ≡ codes_of.get) × ShownBefore before d.0
+    → (code_at d.1 ≡ codes_of.get) × IsFetchRequest d.1 × ShownBefore before d.0
 
 -- so it is of a row; and what it settles is no request
 record RowShown (before : List Row) (r : Row) : Type 0 where
@@ -238,7 +238,7 @@ row_shown rows s starved made placed all = record {
     own : (d : Peer × List ℕ) → MaySend rows s d → SentShown rows d
     own d may asks =
         let it : AsksPeer rows s d = may asks in
-        (it.method, subst (ShownBefore rows) (sym it.to) (for_either it.why))
+        (it.method, it.request, subst (ShownBefore rows) (sym it.to) (for_either it.why))
 
     no_tick : (kind : StepKind)
         → s.kind ≡ kind
@@ -258,7 +258,7 @@ row_shown rows s starved made placed all = record {
         each_weaker (SentShown it.before) (SentShown rows)
         (λ d shown asks.
         let h = shown asks in
-        (h.0, shown_more rows it.before r d.0 it.within h.1)) r.sent
+        (h.0, h.1, shown_more rows it.before r d.0 it.within h.2)) r.sent
         (row_within RowShown rows it.before r all it.within).sent
 
     by : (kind : StepKind)
@@ -299,15 +299,20 @@ shown_of : (rows : List Row)
     → AllRows RowShown rows
     → (sent : Sent rows)
     → is_request sent.message ≡ true
-    → (sent.message.code ≡ codes_of.get) × ShownBefore sent.here.before sent.peer
+    → (sent.message.code ≡ codes_of.get)
+    × IsFetchRequest sent.octets
+    × ShownBefore sent.here.before sent.peer
 shown_of rows all sent asks =
     let code : code_at sent.octets ≡ sent.message.code =
     code_read sent.octets sent.message sent.read in
-    let it : (code_at sent.octets ≡ codes_of.get) × ShownBefore sent.here.before sent.peer =
+    let it :
+    (code_at sent.octets ≡ codes_of.get)
+    × IsFetchRequest sent.octets
+    × ShownBefore sent.here.before sent.peer =
     all_at_index (SentShown sent.here.before) sent.here.row.sent (sent.peer, sent.octets) sent.among
     (row_within RowShown rows sent.here.before sent.here.row all sent.within).sent
     (ap (λ c. codes_of.is_request_code c) code ∙ asks) in
-    (sym code ∙ it.0, it.1)
+    (sym code ∙ it.0, it.1, it.2)
 
 -- so it is in rows of steps, where each commit is of a row that admitted
 pub rows-EchoedFirst : (rows : List Row) → AreRows rows → CommitsPlaced rows → EchoedFirst rows
@@ -315,7 +320,8 @@ rows-EchoedFirst rows all placed =
     let shown : AllRows RowShown rows = rows_shown rows all placed in
     record {
       method = λ sent asks. (shown_of rows shown sent asks).0;
-      shown = λ sent asks. (shown_of rows shown sent asks).1;
+      fetches = λ sent asks. (shown_of rows shown sent asks).1;
+      shown = λ sent asks. (shown_of rows shown sent asks).2;
       challenged = λ before r peer value within among.
           challenge_of rows before r peer value all within among;
     }

@@ -6,6 +6,7 @@ use Rattle.std.proofs.Common.{
   inl,
   inr,
   ℕ,
+  ◌+◌,
   ◌==◌,
   ◌||◌,
   Bool,
@@ -80,13 +81,14 @@ use Rattle.event_model.specs.Fetches.{
   is_waiting,
   resendings,
   fetch_deadline,
+  next_token,
 }
 use Rattle.journal_model.specs.declared.steps.Step.{Step}
 use Rattle.journal_model.specs.declared.steps.StepKind.{StepKind}
 use Rattle.journal_model.specs.declared.steps.StepKind.TheVariants as step
 use Rattle.journal_model.specs.declared.rows.Row.{Row}
 use Rattle.journal_model.specs.Journal.{events, entries, row_at}
-use Rattle.journal_model.specs.Effects.{Effects, Reply, bare, answer, answering}
+use Rattle.journal_model.specs.Effects.{Effects, Reply, bare, answer, answering, mid_of, drawn_for}
 use Rattle.journal_model.specs.Bodies.{is_long, part_reply, body_reply}
 use Rattle.journal_model.specs.Requests.{
   Method,
@@ -228,6 +230,7 @@ use Rattle.journal_model.proofs.notes.StepTable.{StepNoted, effects-StepNoted}
 use Rattle.journal_model.proofs.notes.StepTable as noted
 use Rattle.journal_model.proofs.observers.ObserversKnow.{IsNoTick}
 use Rattle.journal_model.proofs.sends.TickSends.{sent_by-FoundSent, each_of_sent, again_sent}
+use Rattle.headline_law.specs.EchoedFirst.{IsFetchRequest}
 use Rattle.headline_law.proofs.origins.ReplyCodes.{
   IsReplyCode,
   IsReply,
@@ -432,6 +435,7 @@ pub record CommitsSimple (s : Step) : Type 0 where
 -- a request that a step sends: a GET to its peer, for a simple registration or for a response
 pub record AsksPeer (rows : List Row) (s : Step) (d : Peer × List ℕ) : Type 0 where
   pub method : code_at d.1 ≡ codes_of.get
+  pub request : IsFetchRequest d.1
   pub to : d.0 ≡ s.peer
   pub why : CommitsSimple s ⊎ AnswersFetch rows s
 
@@ -486,6 +490,12 @@ commit_may rows moment place s m here read = by (path_in m) refl
       (
         (λ e. record {
           method = refl;
+          request = record {
+            mid = mid_of s.worker (s.drawn + drawn_for m.kind);
+            token = next_token (events rows);
+            block = None;
+            octets_are = refl;
+          };
           to = refl;
           why = inl (record {
             place = place;
@@ -543,6 +553,12 @@ response_may rows moment s m here read responds = by (fetch_of s m (events rows)
     gathers true (Some b) request is = (
       (λ e. record {
         method = refl;
+        request = record {
+          mid = mid_of s.worker s.drawn;
+          token = request.token;
+          block = Some (record { num = b.num + 1; more = false; szx = b.szx });
+          octets_are = refl;
+        };
         to = refl;
         why = inr (record {
           kind = here;
