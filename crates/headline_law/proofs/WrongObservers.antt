@@ -7,6 +7,7 @@ use Rattle.std.proofs.Common.{
   inr,
   ℕ,
   ◌≤◌,
+  true,
   false,
   List,
   [],
