@@ -5,6 +5,7 @@ use Rattle.std.proofs.Common.{
   inl,
   inr,
   ℕ,
+  ◌≤◌,
   false,
   List,
   [],
@@ -50,7 +51,7 @@ use Rattle.journal_model.specs.Changes.{number_after}
 use Rattle.journal_model.specs.PlacedRows.{Within, Commits}
 use Rattle.journal_model.specs.CarriedBlocks.{Sent}
 use Rattle.headline_law.specs.AnsweredAlike.{AnswersOnce, HearsWrite, NamesEntry, AnsweredAlike}
-use Rattle.headline_law.proofs.WrongRows.{row_of, answer}
+use Rattle.headline_law.proofs.WrongRows.{row_of, lookup, answer}
 
 -- CON 0.02 m=0010 t=c1 [11 rd][15 ep=n] | </a>: a device registers
 abbrev registering : Message
@@ -207,6 +208,19 @@ keeps_unsent_falls h =
     (newest (admitted ∷ []) keeps_unsent) (0, (omega arith, refl)) in
     let low = it.1.1.0 in
     absurd (omega (arith, low))
+
+-- a look answers twice: 4.04 m=0010, and again
+abbrev looks_twice : Row
+looks_twice =
+    row_of step.Look (spelling lookup) false
+    ((peer 1, spelling not_found) ∷ (peer 1, spelling not_found) ∷ []) []
+
+-- An end theorem: nothing here cites it.
+pub looks_twice_falls : AnsweredAlike (looks_twice ∷ []) → ⊥
+unfolding machine_on_literals
+looks_twice_falls h =
+    let few : 2 ≤ 1 = h.single [] looks_twice lookup (newest [] looks_twice) tt refl refl in
+    absurd (omega (arith, few))
 
 -- ---- locations
 

@@ -1,4 +1,5 @@
 pub mod ReportedOutcomes
 pub mod SettledNotes
 pub mod CommitAnswers
+pub mod SingleAnswers
 pub mod AnsweredAlike

@@ -4,12 +4,14 @@ use Rattle.std.specs.Prelude.{
   ◌≡◌,
   ◌⊎◌,
   ℕ,
+  ◌≤◌,
   ◌==◌,
   true,
   false,
   List,
   [],
   ◌∷◌,
+  length,
   map,
   filter,
   filter_map,
@@ -141,17 +143,24 @@ IsNotOfTick step.Tick = ⊥
 IsNotOfTick _ = Unit {0}
 
 -- A commit sends exactly one response, of the type and with the Message ID and the token that its
--- request wants, and its exchange keeps that. So is each response to another request, unless a
--- write comes again. A write that comes again is answered by the octets that its exchange keeps, or
--- by nothing, and nothing is noted of it. What an exchange keeps was noted by its own commit, which
--- sent it. And a 2.01 names the location of the registration that its row entered, unless it is
--- such a kept answer. (In a tick each response is a 2.05, as SendsToWhoAsked says.)
+-- request wants, and its exchange keeps that. Each other row that is made for a request sends at
+-- most one, and of that type, unless a write comes again. A write that comes again is answered by
+-- the octets that its exchange keeps, or by nothing, and nothing is noted of it. What an exchange
+-- keeps was noted by its own commit, which sent it. And a 2.01 names the location of the
+-- registration that its row entered, unless it is such a kept answer. (In a tick each response is a
+-- 2.05, as SendsToWhoAsked says.)
 pub record AnsweredAlike (rows : List Row) : Type 0 where
   pub once : (before : List Row) (r : Row) (place : ℕ) (m : Message)
       → Within rows before r
       → Commits r place
       → reading r.step.datagram ≡ Ok m
       → AnswersOnce r place m
+  pub single : (before : List Row) (r : Row) (m : Message)
+      → Within rows before r
+      → IsNotOfTick r.step.kind
+      → reading r.step.datagram ≡ Ok m
+      → role_of m.kind m.code ≡ role.Request
+      → length (responses_in r.sent) ≤ 1
   pub alike : (sent : Sent rows) (request : Message)
       → is_response sent.message ≡ true
       → IsNotOfTick sent.here.row.step.kind

@@ -6,6 +6,7 @@ use Rattle.std.proofs.Common.{
   inl,
   inr,
   ℕ,
+  ◌≤◌,
   Bool,
   true,
   false,
@@ -13,6 +14,7 @@ use Rattle.std.proofs.Common.{
   [],
   ◌∷◌,
   ◌++◌,
+  length,
   codes,
   decimal,
   Some,
@@ -31,7 +33,8 @@ use Rattle.rd_base.proofs.lemmas.Among.{all_at_index}
 use Rattle.rd_base.proofs.lemmas.Each.{none_pass}
 use Rattle.message_model.specs.declared.messages.Kind4.TheVariants.{Rst, Ack}
 use Rattle.message_model.specs.Codes as codes_of
-use Rattle.message_model.specs.Message.{Message}
+use Rattle.message_model.specs.declared.messages.Role.TheVariants as role
+use Rattle.message_model.specs.Message.{Message, role_of}
 use Rattle.message_model.specs.Reading.{reading}
 use Rattle.message_model.specs.Request.{path_in}
 use Rattle.message_model.specs.Spelling.{spelling}
@@ -82,6 +85,12 @@ use Rattle.headline_law.specs.AnsweredAlike.{
 }
 use Rattle.headline_law.proofs.answers.ReportedOutcomes.{LocatesEntry}
 use Rattle.headline_law.proofs.answers.SettledNotes.{SettlesAnswer, SettleFact}
+use Rattle.headline_law.proofs.answers.SingleAnswers.{
+  AtMostOne,
+  IsOther,
+  one_response,
+  effects_one,
+}
 use Rattle.headline_law.proofs.answers.CommitAnswers.{
   answer_like,
   SendsOnce,
@@ -346,6 +355,8 @@ rows-AnsweredAlike rows made placed all = record {
   once = λ before r place m within commits read.
       answers_once rows before r place m made within (placed before r place within commits) commits
       read;
+  single = λ before r m within no_tick read asks.
+      singly before r m within no_tick read asks;
   alike = λ sent request responds no_tick heard.
       likes sent request sent.here.row.step.kind refl no_tick responds heard;
   again = λ before r m first within hears found.
@@ -354,6 +365,38 @@ rows-AnsweredAlike rows made placed all = record {
   located = λ sent no_tick created. names sent sent.here.row.step.kind refl no_tick created;
 }
   where
+    singly : (before : List Row) (r : Row) (m : Message)
+        → Within rows before r
+        → IsNotOfTick r.step.kind
+        → reading r.step.datagram ≡ Ok m
+        → role_of m.kind m.code ≡ role.Request
+        → length (responses_in r.sent) ≤ 1
+    singly before r m within no_tick read asks = by r.step.kind refl
+      where
+        other : (k : StepKind)
+            → r.step.kind ≡ k
+            → IsOther k
+            → length (responses_in r.sent) ≤ 1
+        other k is fits =
+            one_response r.sent
+            (subst AtMostOne (sym ((does rows before r made within).0
+            ∙ ap (λ x. (effects x r.starved before r.moment.0 r.step).sent) is))
+            (effects_one k r.starved before r.moment.0 r.step m fits read asks))
+
+        by : (k : StepKind) → r.step.kind ≡ k → length (responses_in r.sent) ≤ 1
+        by step.Admit is = other step.Admit is tt
+        by step.Look is = other step.Look is tt
+        by (step.Commit place) is =
+            let it : AnswersOnce r place m =
+            answers_once rows before r place m made within (placed before r place within is) is
+            read in
+            let one : ◌≡◌ {A = ℕ} (length (responses_in r.sent)) 1 =
+            ap (λ (ms : List Message). length ms) it.one in
+            omega (arith, one)
+        by (step.Keep body current) is = other (step.Keep body current) is tt
+        by step.Tick is = absurd (subst IsNotOfTick is no_tick)
+        by (step.Begin first) is = other (step.Begin first) is tt
+
     row_is : (sent : Sent rows) → RowGoes sent.here.before sent.here.row
     row_is sent = row_within RowGoes rows sent.here.before sent.here.row all sent.within
 
