@@ -53,7 +53,7 @@ use Rattle.message_model.proofs.OrderLemmas.{
   options_spelling-push,
 }
 use Rattle.message_model.proofs.MessageLaws.{reading_takes, unread_spells_none}
-use Rattle.coap_message.specs.OptionsAt.{options_at}
+use Rattle.coap_message.specs.OptionsAt.{options_at, AreOptionsAlone}
 use Rattle.coap_message.proofs.OptionsAtLemmas.{options_at-none, options_at-some}
 
 -- ---- options before a tail
@@ -303,6 +303,39 @@ ends_at_bad bytes before rest first following w e other bad =
     let parts : rest ≡ first ∷ following = byte_at-some rest (first, following) e in
     Walked-bad bytes before first following other (ap (option_at before) (sym parts) ∙ sym bad)
     (same_walk bytes before rest (first ∷ following) parts w)
+
+-- ---- the octets of the options
+
+spelled_alone : (octets : List ℕ) (options : List Opt)
+    → AreOptionsAfter 0 options
+    → octets ≡ options_spelling 0 options
+    → AreOptionsAlone octets
+spelled_alone octets options fits spelled =
+    ap (options_spelling 0) (ap (options_at 0) spelled ∙ options_at-spelling options fits)
+    ∙ sym spelled
+
+-- Where nothing is left, the bytes are options alone.
+pub alone_at_end : (bytes : List ℕ) (before : ℕ) (rest : List ℕ)
+    → Walked bytes before rest
+    → None ≡ byte_at rest
+    → AreOptionsAlone bytes
+alone_at_end bytes before rest w e =
+    spelled_alone bytes w.options w.fits
+    (w.parts
+    ∙ ap (λ (t : List ℕ). options_spelling 0 w.options ++ t) (byte_at-none rest e)
+    ∙ append-nil (options_spelling 0 w.options))
+
+-- The bytes before what is left are options alone.
+pub alone_at_payload : (bytes : List ℕ) (before : ℕ) (rest : List ℕ)
+    → Walked bytes before rest
+    → AreOptionsAlone (take (length bytes - length rest) bytes)
+alone_at_payload bytes before rest w =
+    let size : length bytes - length rest ≡ length (options_spelling 0 w.options) =
+    omega (arith, ap length w.parts, length-append (options_spelling 0 w.options) rest) in
+    spelled_alone (take (length bytes - length rest) bytes) w.options w.fits
+    (ap (λ (k : ℕ). take k bytes) size
+    ∙ ap (take (length (options_spelling 0 w.options))) w.parts
+    ∙ take_at (options_spelling 0 w.options) rest (length (options_spelling 0 w.options)) refl)
 
 -- ---- what is read
 

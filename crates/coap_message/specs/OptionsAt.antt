@@ -1,7 +1,8 @@
 -- The options that bytes begin with.
-use Rattle.std.specs.Prelude.{ℕ, zero, suc, List, [], ◌∷◌, length}
+use Rattle.std.specs.Prelude.{◌≡◌, ℕ, zero, suc, List, [], ◌∷◌, length}
 use Rattle.std.specs.Option.{option_map_or}
 use Rattle.message_model.specs.Message.{Opt}
+use Rattle.message_model.specs.Spelling.{options_spelling}
 use Rattle.message_model.specs.Reading.{option_at}
 
 -- At most n options after an option of the number before, up to where no option can be read (RFC
@@ -14,3 +15,8 @@ few_options (suc n) before bytes =
 -- All of the options that bytes begin with, fewer than there are bytes (RFC 7252 section 3.1).
 unfoldable pub options_at : ℕ → List ℕ → List Opt
 options_at before bytes = few_options (length bytes) before bytes
+
+-- The bytes are options and nothing else: they spell the options that they begin with, and neither
+-- a marker nor a payload stands behind these (RFC 7252 section 3).
+abbrev pub AreOptionsAlone : List ℕ → Type 0
+AreOptionsAlone bytes = options_spelling 0 (options_at 0 bytes) ≡ bytes

@@ -1,12 +1,12 @@
 //! The message that a datagram is.
 
-ghost use Rattle.std.specs.Prelude.{◌≡◌, ◌-◌, ◌≤◌, [], length, take, IfOk, OnErr};
+ghost use Rattle.std.specs.Prelude.{◌≡◌, ◌-◌, ◌≤◌, [], length, take, IfOk, IfSome, OnErr};
 ghost use Rattle.std.specs.Option.{option_map};
 ghost use Rattle.std.specs.Result.{result_map_both};
 ghost use Rattle.message_model.specs.Message.{Message, IsMessage};
 ghost use Rattle.message_model.specs.Spelling.{spelling};
 ghost use Rattle.message_model.specs.Reading as reading;
-ghost use Rattle.coap_message.specs.OptionsAt.{options_at};
+ghost use Rattle.coap_message.specs.OptionsAt.{options_at, AreOptionsAlone};
 ghost use Rattle.coap_message.specs.Views.{message_in};
 ghost use Rattle.coap_message.specs.Headers.{header_in};
 
@@ -37,8 +37,9 @@ fn payload_at(bytes: &[u8]) -> Option<&[u8]>
 /// option is cut off, begins with a nibble of 15, or passes number 65,535; or nothing follows the
 /// marker.
 pub fn tail_at(bytes: &[u8]) -> Option<(&[u8], &[u8])>
-    ensures { option_map (λ x. (options_at 0 x.0.now, x.1.now)) result
+    ensures parts { option_map (λ x. (options_at 0 x.0.now, x.1.now)) result
         ≡ reading.tail_at 0 bytes.now }
+    ensures alone { IfSome result (λ x. AreOptionsAlone x.0.now) }
 {
     let mut before = 0u16;
     let mut rest = bytes;
@@ -57,7 +58,9 @@ pub fn tail_at(bytes: &[u8]) -> Option<(&[u8], &[u8])>
 /// The message with this header that the octets after it give (RFC 7252 sections 3 and 4.1).
 #[tactic(auto, unfolding(message_model::specs::Reading::body_at))]
 fn body_at<'a>(header: &Header, bytes: &'a [u8]) -> Option<View<'a>>
-    ensures { option_map message_in result ≡ reading.body_at (header_in header.now) bytes.now }
+    ensures message { option_map message_in result
+        ≡ reading.body_at (header_in header.now) bytes.now }
+    ensures options { IfSome result (λ v. AreOptionsAlone v.options.now) }
 {
     if is_bad_header(header, bytes) {
         return None;
@@ -88,6 +91,7 @@ pub fn view(datagram: &[u8]) -> Result<View<'_>, Unread>
         ≡ reading.reading datagram.now }
     ensures sound { IfOk result (λ v. IsMessage (message_in v)) }
     ensures spelled { IfOk result (λ v. spelling (message_in v) ≡ datagram.now) }
+    ensures options { IfOk result (λ v. AreOptionsAlone v.options.now) }
     ensures unread { OnErr result ((m : Message) → IsMessage m → spelling m ≡ datagram.now → ⊥) }
 {
     let (header, rest) = header_at(datagram)?;

@@ -8,6 +8,8 @@ use Rattle.coap_message.proofs.ViewLemmas.{
   ends_at_marker,
   ends_at_payload,
   ends_at_bad,
+  alone_at_end,
+  alone_at_payload,
 }
 use Rattle.coap_message.proofs.datagrams.tail_at.Goals as goal
 
@@ -30,28 +32,38 @@ options-preserved c =
     (AreBytes-from_Fits c.args.bytes.now c.type_inv.bytes) c.options.invariant
     (sym c.in_ok-option.ensures.value)
 
-pub returns-in_err-payload : goal.returns-in_err-payload
-returns-in_err-payload c =
+pub returns-in_err-payload-clause-parts : goal.returns-in_err-payload-clause-parts
+returns-in_err-payload-clause-parts c =
     rw c.from_residual.ensures
     (ends_at_marker c.args.bytes.now c.options.before c.options.rest.now c.in-Some.first
     c.in-Some.following.now c.options.invariant c.in-Some.ensures c.if-first.true
     c.in_err-payload.ensures)
 
-pub returns-then-first : goal.returns-then-first
-returns-then-first c =
+pub returns-then-first-clause-parts : goal.returns-then-first-clause-parts
+returns-then-first-clause-parts c =
     rw c.before_end.ensures
     (ends_at_payload c.args.bytes.now c.options.before c.options.rest.now c.in-Some.first
     c.in-Some.following.now c.in_ok-payload.payload.now c.options.invariant
     c.in-Some.ensures c.if-first.true c.in_ok-payload.ensures)
 
-pub returns-in_err-option : goal.returns-in_err-option
-returns-in_err-option c =
+pub returns-in_err-option-clause-parts : goal.returns-in_err-option-clause-parts
+returns-in_err-option-clause-parts c =
     rw c.from_residual-in_err-option.ensures
     (ends_at_bad c.args.bytes.now c.options.before c.options.rest.now c.in-Some.first
     c.in-Some.following.now c.options.invariant c.in-Some.ensures c.if-first.false
     c.in_err-option.ensures.value)
 
-pub returns : goal.returns
-returns c =
+pub returns-clause-parts : goal.returns-clause-parts
+returns-clause-parts c =
     ends_at_end c.args.bytes.now c.options.before c.options.rest.now c.options.invariant
+    c.in_default.ensures
+
+pub returns-then-first-clause-alone : goal.returns-then-first-clause-alone
+returns-then-first-clause-alone c =
+    rw c.before_end.ensures
+    (alone_at_payload c.args.bytes.now c.options.before c.options.rest.now c.options.invariant)
+
+pub returns-clause-alone : goal.returns-clause-alone
+returns-clause-alone c =
+    alone_at_end c.args.bytes.now c.options.before c.options.rest.now c.options.invariant
     c.in_default.ensures

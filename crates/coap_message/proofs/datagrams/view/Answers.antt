@@ -10,7 +10,7 @@ returns-in-Some-clause-sound c =
     let r =
     read_takes c.args.datagram.now c.in_ok-header.rest.now (header_in c.in_ok-header.header)
     (message_in c.in-Some.view) (AreBytes-from_Fits c.args.datagram.now c.type_inv.datagram)
-    c.in_ok-header.ensures c.in-Some.ensures in
+    c.in_ok-header.ensures c.in-Some.ensures.message in
     r.0
 
 pub returns-in-Some-clause-spelled : goal.returns-in-Some-clause-spelled
@@ -18,7 +18,7 @@ returns-in-Some-clause-spelled c =
     let r =
     read_takes c.args.datagram.now c.in_ok-header.rest.now (header_in c.in_ok-header.header)
     (message_in c.in-Some.view) (AreBytes-from_Fits c.args.datagram.now c.type_inv.datagram)
-    c.in_ok-header.ensures c.in-Some.ensures in
+    c.in_ok-header.ensures c.in-Some.ensures.message in
     r.1
 
 -- what holds anyway holds at an error
@@ -34,4 +34,4 @@ returns-in_err-header-clause-unread c =
 pub returns-in-None-clause-unread : goal.returns-in-None-clause-unread
 returns-in-None-clause-unread c =
     body_spells_none c.args.datagram.now c.in_ok-header.rest.now (header_in c.in_ok-header.header)
-    c.in_ok-header.ensures c.in-None.ensures
+    c.in_ok-header.ensures c.in-None.ensures.message
