@@ -45,7 +45,7 @@ use Rattle.commissioner.specs.declared.polls.Polled.TheVariants as polled
 use Rattle.commissioner.specs.declared.steps.Step.{Step}
 use Rattle.commissioner.specs.Shares.{share, said, said_all}
 use Rattle.commissioner.specs.Happening.{HappensAll, AreOpen, is_unsaid, KeepsDecided}
-use Rattle.commissioner.specs.Commissioning.{Ends, StandsFor, IsPolled, KeepsPolled}
+use Rattle.commissioner.specs.Commissioning.{Ends, IsMade, StandsFor, IsPolled, KeepsPolled}
 use Rattle.commissioner.proofs.AsideLaws.{there_at}
 use Rattle.commissioner.proofs.BeginLaws.{kept_said}
 use Rattle.commissioner.proofs.MadeLaws.{happens_both}
@@ -274,7 +274,7 @@ module _ (asks : List Ask) (past : List Step) (text : List ℕ) (lines after : L
   -- a poll that failed
   failed : (f : TellFault) (s : CommissionStatus) (holds : Option (List ℕ))
       → s ≡ status_of f
-      → IsPolled asks past (polled.Over (Some f)) after later a b
+      → IsMade asks past later (Some f) a b
       → later ≡ outcomes
       → IsStepped asks past text (Some s) k after later a b holds holds
   failed fault.Link s holds e made same =
@@ -319,7 +319,7 @@ module _ (asks : List Ask) (past : List Step) (text : List ℕ) (lines after : L
   step_failed r f s holds is e made keeps =
       failed f s holds e
       (subst (λ (x : Option TellFault). IsPolled asks past (polled.Over x) after later a b) is
-      made)
+      made).0
       (subst (λ (x : Option TellFault). KeepsPolled (polled.Over x) outcomes later) is keeps)
 
   -- a poll after which an ask is undecided
@@ -341,7 +341,7 @@ module _ (asks : List Ask) (past : List Step) (text : List ℕ) (lines after : L
 
   -- one after which all are decided
   done : (A : Type 0) (x : A) (next : ℕ) (holds now : Option (List ℕ))
-      → IsPolled asks past (polled.Over None) after later a b
+      → IsMade asks past later None a b
       → KeepsDecided outcomes later
       → ((t : List ℕ)
       → Printed 1 later k t
@@ -373,7 +373,7 @@ module _ (asks : List Ask) (past : List Step) (text : List ℕ) (lines after : L
   step_done r A x next holds now is made keeps wrote =
       done A x next holds now
       (subst (λ (y : Option TellFault). IsPolled asks past (polled.Over y) after later a b) is
-      made)
+      made).0
       (subst (λ (y : Option TellFault). KeepsPolled (polled.Over y) outcomes later) is keeps)
       wrote
 
@@ -426,7 +426,7 @@ module _ (asks : List Ask) (past : List Step) (text : List ℕ) (lines after : L
   cut : (A : Type 0) (f : PrintFault) (s : CommissionStatus) (next : ℕ)
       (holds now : Option (List ℕ))
       → s ≡ print_status f
-      → IsPolled asks past (polled.Over None) after later a b
+      → IsMade asks past later None a b
       → KeepsDecided outcomes later
       → ((t : List ℕ)
       → Printed 1 later k t
@@ -454,7 +454,7 @@ module _ (asks : List Ask) (past : List Step) (text : List ℕ) (lines after : L
   step_cut r A f s next holds now is e made keeps wrote =
       cut A f s next holds now e
       (subst (λ (y : Option TellFault). IsPolled asks past (polled.Over y) after later a b) is
-      made)
+      made).0
       (subst (λ (y : Option TellFault). KeepsPolled (polled.Over y) outcomes later) is keeps)
       wrote
 

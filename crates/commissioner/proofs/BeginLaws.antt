@@ -75,7 +75,14 @@ use Rattle.commissioner.specs.Shares.{
   sent_first,
 }
 use Rattle.commissioner.specs.Lines.{IsStage, IsOpen, Begun, IsBegun, IsLost, is_to_begin}
-use Rattle.commissioner.specs.Happening.{HappensAll, AreOpen, HasBegun, AllBegun, AreBegun}
+use Rattle.commissioner.specs.Happening.{
+  HappensAll,
+  AllBegan,
+  AreOpen,
+  HasBegun,
+  AllBegun,
+  AreBegun,
+}
 use Rattle.commissioner.proofs.ShareLaws.{share_other, share_own, said_other}
 
 -- ---- a line
@@ -640,13 +647,14 @@ BeginsSo asks past outcomes at lines a b =
     × HappensAll asks past more a b
     × AreOpen (more ++ past) asks 0 lines outcomes
     × AllBegun [] (take at lines)
+    × AllBegan more
 
 pub begins_first : (asks : List Ask) (past : List Step) (outcomes : List (Option Outcome))
     (lines : List Line) (a : Outside)
     → AreOpen past asks 0 lines outcomes
     → BeginsSo asks past outcomes 0 lines a a
-begins_first asks past outcomes [] a are = ([], refl, are, tt)
-begins_first asks past outcomes (line ∷ lines) a are = ([], refl, are, tt)
+begins_first asks past outcomes [] a are = ([], refl, are, tt, tt)
+begins_first asks past outcomes (line ∷ lines) a are = ([], refl, are, tt, tt)
 
 pub begins_skip : (asks : List Ask) (past : List Step) (outcomes : List (Option Outcome)) (at : ℕ)
     (lines : List Line) (line : Line) (a b : Outside)
@@ -659,6 +667,7 @@ begins_skip asks past outcomes at lines line a b so there due = (
   so.1,
   so.2,
   begun_more [] lines at line there so.3 (has_begun (take at lines) line due),
+  so.4,
 )
 
 set_there : (lines : List Line) (at : ℕ) (line new : Line)
@@ -718,6 +727,7 @@ begins_next asks past outcomes at lines line new a b c so there due begins =
       begun_more [] (slice_set lines at new) at new (set_there lines at line new there)
           (subst (λ (ls : List Line). AllBegun [] ls) (sym (take_set_same lines at new)) so.3)
           (inl (ap (λ (l : Line). l.ask) begun.is)),
+      so.4,
     )
 
 pub begins_last : (asks : List Ask) (past : List Step) (outcomes : List (Option Outcome)) (at : ℕ)
@@ -726,7 +736,7 @@ pub begins_last : (asks : List Ask) (past : List Step) (outcomes : List (Option 
     → take at lines ≡ lines
     → AreBegun {E = Starved} asks past outcomes (Ok tt) lines a b
 begins_last asks past outcomes at lines a b so all =
-    (so.0, so.1, so.2, subst (λ (ls : List Line). AllBegun [] ls) all so.3)
+    (so.0, so.1, so.2, subst (λ (ls : List Line). AllBegun [] ls) all so.3, so.4)
 
 pub begins_lost : (asks : List Ask) (past : List Step) (outcomes : List (Option Outcome)) (at : ℕ)
     (lines after : List Line) (e : Starved) (a b c : Outside)
@@ -734,7 +744,7 @@ pub begins_lost : (asks : List Ask) (past : List Step) (outcomes : List (Option 
     → IsLost b c
     → AreBegun {E = Starved} asks past outcomes (Err e) after a c
 begins_lost asks past outcomes at lines after e a b c so lost =
-    (so.0, b, so.1, kept_said asks 0 (so.0 ++ past) lines outcomes so.2, lost)
+    (so.0, b, so.1, kept_said asks 0 (so.0 ++ past) lines outcomes so.2, lost, so.4)
 
 -- what may begin can be sent
 pub begins_can : (asks : List Ask) (past : List Step) (outcomes : List (Option Outcome)) (at : ℕ)

@@ -16,6 +16,7 @@ use Rattle.std.proofs.Common.{
   ◌∷◌,
   ◌++◌,
   length,
+  take,
   Option,
   Some,
   None,
@@ -28,8 +29,11 @@ use Rattle.std.proofs.Common.{
   ◌∙◌,
   arith,
   add-one,
+  ap,
+  append_assoc,
 }
 use Rattle.std.specs.List.{slice_get}
+use Rattle.std.proofs.lemmas.List.{append-nil}
 use Rattle.std.specs.Prelude.{slice_set, IsErrAnd}
 use Rattle.rd_base.specs.declared.peers.Peer.{Peer}
 use Rattle.udp_link.specs.Told.{WhereTold, Stays}
@@ -63,6 +67,7 @@ use Rattle.commissioner.specs.Shares.{
   sent_if,
   sent_by,
   sent_all,
+  is_heard,
 }
 use Rattle.commissioner.specs.Lines.{
   IsStage,
@@ -180,8 +185,8 @@ over_by false own octets e talk o x y n m h = absurd h
 starved_by : (b : Bool) (own : Share) (octets : List ℕ) (e : Event) (talk : Talking)
     (x y : Option (List Datagram)) (n m : ℕ)
     → IsTurnedIf b own.asked octets own.events e (turn.Over (Err fault.Starved)) talk x n y m
-    → IsDatagram e × Sends [] x n y m
-starved_by true own octets (event.Came now peer datagram) talk x y n m h = (tt, h)
+    → IsDatagram e × (b ≡ true) × Sends [] x n y m
+starved_by true own octets (event.Came now peer datagram) talk x y n m h = (tt, refl, h)
 starved_by true own octets (event.Tick now) talk x y n m h = absurd h
 starved_by false own octets e talk x y n m h = absurd h
 
@@ -191,6 +196,14 @@ no_link_by : (b : Bool) (own : Share) (octets : List ℕ) (e : Event) (talk : Ta
     → ⊥
 no_link_by true own octets e talk x y n m h = h
 no_link_by false own octets e talk x y n m h = h
+
+-- it belongs to a talk that runs
+heard_more : (past : List Step) (ask : Ask) (i : ℕ) (e : Event) (own : Share)
+    → share ask i past ≡ Some own
+    → verdict own.asked own.events ≡ None
+    → is_shared ask.to e ≡ true
+    → is_heard ask e (share ask i past) ≡ true
+heard_more past ask i e own is none shared = rw (is, none, shared) refl
 
 abbrev pub TurnsSo : Peer → Event → Talking → Turn → Talking → Option (List Datagram)
     → ℕ → Option (List Datagram) → ℕ → Type 0
@@ -314,9 +327,11 @@ pub handed_fault : (past : List Step) (ask : Ask) (i : ℕ) (e : Event) (line ne
     → IsHanded ask i past e (Err fault.Starved) new x n y m
 handed_fault past ask i e line new old talk fault.Starved x y n m opens is turns =
     let r = running past ask i line old opens is in
+    let s =
     starved_by (is_shared ask.to e) r.own (octets_of ask i) e talk x y n m
     (turned_at past ask i e line.to (turn.Over (Err fault.Starved)) r.own old talk x y n m opens.to
-    turns r.stands)
+    turns r.stands) in
+    (s.0, heard_more past ask i e r.own r.is r.stands.undecided s.1, s.2)
 handed_fault past ask i e line new old talk fault.Link x y n m opens is turns =
     let r = running past ask i line old opens is in
     absurd (no_link_by (is_shared ask.to e) r.own (octets_of ask i) e talk x y n m
@@ -474,26 +489,112 @@ mixed_last e past (ask ∷ asks) i (suc k) (line ∷ lines) (None ∷ outcomes) 
       more.1,
     )
 
--- the line behind those that were handed it
-mixed_line : (e : Event) (past : List Step) (asks : List Ask) (i k : ℕ) (lines : List Line)
+-- what was sent for the asks of the first so many lines
+abbrev pub sent_front : Event
+    → List Step
+    → List Ask
+    → ℕ
+    → ℕ
+    → List (Option Outcome)
+    → List Sent
+sent_front e past asks i zero outcomes = []
+sent_front e past [] i (suc k) outcomes = []
+sent_front e past (ask ∷ asks) i (suc k) [] = []
+sent_front e past (ask ∷ asks) i (suc k) (Some o ∷ outcomes) =
+    sent_front e past asks (suc i) (suc k) outcomes
+sent_front e past (ask ∷ asks) i (suc k) (None ∷ outcomes) =
+    sent_by ask i e (share ask i past) ++ sent_front e past asks (suc i) k outcomes
+
+-- the line behind those that were handed it stands for this ask, and what was sent is what is sent
+-- for the asks before it
+record Fronted
+    (e : Event)
+    (past : List Step)
+    (asks : List Ask)
+    (i k : ℕ)
+    (outcomes : List (Option Outcome))
+    (line : Line)
+    : Type 0 where
+  place : ℕ
+  number : ℕ
+  is : number ≡ i + place
+  ask : Ask
+  there : slice_get asks place ≡ Some ask
+  opens : IsOpen past ask number line
+  front : ◌≡◌ {A = List Sent}
+      (sent_front e past asks i k outcomes) (sent_all (take place asks) i past e)
+  next : ◌≡◌ {A = List Sent}
+      (sent_front e past asks i (suc k) outcomes)
+      (sent_front e past asks i k outcomes ++ sent_by ask number e (share ask number past))
+
+fronted : (e : Event) (past : List Step) (asks : List Ask) (i k : ℕ) (lines : List Line)
     (outcomes : List (Option Outcome)) (line : Line)
     → AreMixed e past asks i k lines outcomes
     → slice_get lines k ≡ Some line
-    → (ask : Ask) × (j : ℕ) × IsOpen past ask j line
-mixed_line e past [] i k lines outcomes line are there = absurd (nothing lines k line are.0 there)
-mixed_line e past (ask ∷ asks) i k lines [] line are there = absurd are
-mixed_line e past (ask ∷ asks) i k lines (Some o ∷ outcomes) line are there =
-    mixed_line e past asks (suc i) k lines outcomes line are.1 there
-mixed_line e past (ask ∷ asks) i k [] (None ∷ outcomes) line are there = absurd are
-mixed_line e past (ask ∷ asks) i zero (x ∷ lines) (None ∷ outcomes) line are there =
+    → Fronted e past asks i k outcomes line
+fronted e past [] i k lines outcomes line are there = absurd (nothing lines k line are.0 there)
+fronted e past (ask ∷ asks) i k lines [] line are there = absurd are
+fronted e past (ask ∷ asks) i zero lines (Some o ∷ outcomes) line are there =
+    let more = fronted e past asks (suc i) zero lines outcomes line are.1 there in
+    record {
+      place = suc more.place;
+      number = more.number;
+      is = let is = more.is in omega (arith, is);
+      ask = more.ask;
+      there = more.there;
+      opens = more.opens;
+      front = more.front
+          ∙ ap (λ (own : List Sent). own ++ sent_all (take more.place asks) (suc i) past e)
+          (sym (said_silent ask i e past o are.0));
+      next = more.next;
+    }
+fronted e past (ask ∷ asks) i (suc k) lines (Some o ∷ outcomes) line are there =
+    let more = fronted e past asks (suc i) (suc k) lines outcomes line are.1 there in
+    record {
+      place = suc more.place;
+      number = more.number;
+      is = let is = more.is in omega (arith, is);
+      ask = more.ask;
+      there = more.there;
+      opens = more.opens;
+      front = more.front
+          ∙ ap (λ (own : List Sent). own ++ sent_all (take more.place asks) (suc i) past e)
+          (sym (said_silent ask i e past o are.0));
+      next = more.next;
+    }
+fronted e past (ask ∷ asks) i k [] (None ∷ outcomes) line are there = absurd are
+fronted e past (ask ∷ asks) i zero (x ∷ lines) (None ∷ outcomes) line are there =
     let same : x ≡ line = cc in
-    (ask, i, subst (λ (l : Line). IsOpen past ask i l) same are.0)
-mixed_line e past (ask ∷ asks) i (suc k) (x ∷ lines) (None ∷ outcomes) line are there =
-    mixed_line e past asks (suc i) k lines outcomes line are.1 there
+    record {
+      place = 0;
+      number = i;
+      is = omega arith;
+      ask = ask;
+      there = refl;
+      opens = subst (λ (l : Line). IsOpen past ask i l) same are.0;
+      front = refl;
+      next = append-nil (sent_by ask i e (share ask i past));
+    }
+fronted e past (ask ∷ asks) i (suc k) (x ∷ lines) (None ∷ outcomes) line are there =
+    let more = fronted e past asks (suc i) k lines outcomes line are.1 there in
+    let own = sent_by ask i e (share ask i past) in
+    record {
+      place = suc more.place;
+      number = more.number;
+      is = let is = more.is in omega (arith, is);
+      ask = more.ask;
+      there = more.there;
+      opens = more.opens;
+      front = ap (λ (others : List Sent). own ++ others) more.front;
+      next = ap (λ (others : List Sent). own ++ others) more.next
+          ∙ sym (append_assoc own (sent_front e past asks (suc i) k outcomes)
+          (sent_by more.ask more.number e (share more.ask more.number past)));
+    }
 
 -- ---- the loop
 
--- so many lines were handed an event, and what is sent from here on is sent from the beginning
+-- so many lines were handed an event, what is sent from here on is sent from the beginning, and
+-- what was sent is what is sent for them
 abbrev pub Handing : Event → List Step → List Ask → ℕ → List Line
     → List (Option Outcome)
     → Option (List Datagram) → ℕ → Option (List Datagram) → ℕ → Type 0
@@ -502,14 +603,14 @@ Handing e past asks k lines outcomes x n y m =
     × ((z : Option (List Datagram)) (l : ℕ)
     → Sends (sent_rest e past asks 0 k outcomes) y m z l
     → Sends (sent_all asks 0 past e) x n z l)
-    × ((others : List Datagram) × Sends others x n y m)
+    × Sends (sent_front e past asks 0 k outcomes) x n y m
 
 pub handing_first : (e : Event) (past : List Step) (asks : List Ask) (lines : List Line)
     (outcomes : List (Option Outcome)) (x : Option (List Datagram)) (n : ℕ)
     → AreOpen past asks 0 lines outcomes
     → Handing e past asks 0 lines outcomes x n x n
 handing_first e past asks lines outcomes x n are =
-    (mixed_first e past asks 0 lines outcomes are, λ z l h. h, ([], sends_none x n))
+    (mixed_first e past asks 0 lines outcomes are, λ z l h. h, sends_none x n)
 
 pub handing_next : (e : Event) (past : List Step) (asks : List Ask) (k : ℕ) (lines : List Line)
     (outcomes : List (Option Outcome)) (line new : Line) (x y z : Option (List Datagram))
@@ -520,15 +621,14 @@ pub handing_next : (e : Event) (past : List Step) (asks : List Ask) (k : ℕ) (l
     → Handing e past asks (suc k) (slice_set lines k new) outcomes x n z l
 handing_next e past asks k lines outcomes line new x y z n m l handing there hands =
     let next = mixed_next e past asks 0 k lines outcomes line new y z m l handing.0 there hands in
-    let own = mixed_line e past asks 0 k lines outcomes line handing.0 there in
-    let sent = (hands own.0 own.1 own.2).1 in (
+    let own = fronted e past asks 0 k lines outcomes line handing.0 there in
+    let sent = (hands own.ask own.number own.opens).1 in
+    let front = sent_front e past asks 0 k outcomes in
+    let more = sent_by own.ask own.number e (share own.ask own.number past) in (
       next.0,
       λ w j h. handing.1 w j (next.1 w j h),
-      (
-        handing.2.0 ++ sent_by own.0 own.1 e (share own.0 own.1 past),
-        sends_both handing.2.0 (sent_by own.0 own.1 e (share own.0 own.1 past)) x y z n m l
-            handing.2.1 sent,
-      ),
+      sends_as (front ++ more) (sent_front e past asks 0 (suc k) outcomes) x z n l (sym own.next)
+          (sends_both front more x y z n m l handing.2 sent),
     )
 
 pub handing_last : (e : Event) (past : List Step) (asks : List Ask) (k : ℕ) (lines : List Line)
@@ -555,16 +655,28 @@ pub handing_fault : (e : Event) (past : List Step) (asks : List Ask) (k : ℕ)
     → AreHanded asks past outcomes e (Err f) after x n z l
 handing_fault e past asks k lines after outcomes line new fault.Starved x y z n m l handing there
     hands =
-    let own = mixed_line e past asks 0 k lines outcomes line handing.0 there in
-    let h = hands own.0 own.1 own.2 in (
+    let own = fronted e past asks 0 k lines outcomes line handing.0 there in
+    let h = hands own.ask own.number own.opens in
+    let front = sent_front e past asks 0 k outcomes in
+    let is = own.is in
+    let place : own.place ≡ own.number = omega (arith, is) in (
       h.0,
-      handing.2.0 ++ [],
-      sends_both handing.2.0 [] x y z n m l handing.2.1 h.1,
+      record {
+        number = own.number;
+        ask = own.ask;
+        is = subst (λ (n : ℕ). slice_get asks n ≡ Some own.ask) place own.there;
+        heard = h.1;
+        sends =
+            sends_as (front ++ []) (sent_all (take own.number asks) 0 past e) x z n l
+            (append-nil front ∙ own.front
+            ∙ ap (λ (j : ℕ). sent_all (take j asks) 0 past e) place)
+            (sends_both front [] x y z n m l handing.2 h.2);
+      },
     )
 handing_fault e past asks k lines after outcomes line new fault.Link x y z n m l handing there
     hands =
-    let own = mixed_line e past asks 0 k lines outcomes line handing.0 there in
-    absurd (hands own.0 own.1 own.2)
+    let own = fronted e past asks 0 k lines outcomes line handing.0 there in
+    absurd (hands own.ask own.number own.opens)
 
 -- ---- a receive
 
@@ -607,10 +719,17 @@ taken_by (Err fault.Starved) asks past outcomes old new (event.Came now peer oct
       coming = takes;
       now = now;
       timed = timed;
-      sent = handed.1;
-      sends =
-          sends_after handed.1 before.gone sent after.gone before.send_faults faults
-          after.send_faults stays same handed.2;
+      stops = record {
+        number = handed.1.number;
+        ask = handed.1.ask;
+        is = handed.1.is;
+        heard = handed.1.heard;
+        sends =
+            sends_after
+            (sent_all (take handed.1.number asks) 0 past (event.Came now peer octets))
+            before.gone sent after.gone before.send_faults faults after.send_faults stays same
+            handed.1.sends;
+      };
       words = words;
       receives = receives;
     }

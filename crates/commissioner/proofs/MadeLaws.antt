@@ -50,6 +50,7 @@ use Rattle.commissioner.specs.Happening.{
   Comes,
   Happens,
   HappensAll,
+  AllBegan,
   Unheard,
   AreOpen,
   AreLines,
@@ -63,6 +64,7 @@ use Rattle.commissioner.specs.Commissioning.{
   IsMade,
   StandsFor,
   IsGiven,
+  IsTurnBy,
   IsPolled,
   CountsFault,
 }
@@ -101,20 +103,28 @@ made_later asks past xs outcomes f a b c h made =
 
 -- ---- a poll
 
+-- what a poll comes to that is over
+abbrev pub PolledOver : List Ask → List Step → List (Option Outcome) → Option TellFault
+    → Outside → Outside → Type 0
+PolledOver asks past outcomes f a c =
+    (made : IsMade asks past outcomes f a c) × IsTurnBy f made.more
+
 -- talks began, an event came, and what was decided is put aside
 pub polled_going : (asks : List Ask) (past xs : List Step) (e : Event) (line : Line)
     (lines : List Line) (outcomes : List (Option Outcome)) (a b c : Outside)
     → HappensAll asks past xs a b
     → Comes asks (xs ++ past) e b c
     → AreOpen (step.Happened e ∷ (xs ++ past)) asks 0 (line ∷ lines) outcomes
+    → AllBegan xs
     → IsPolled asks past polled.Going (line ∷ lines) outcomes a c
-polled_going asks past xs e line lines outcomes a b c h comes are = (
+polled_going asks past xs e line lines outcomes a b c h comes are began = (
   step.Happened e ∷ xs,
   (b, h, comes),
   record {
     kept = are;
     some = some_open asks 0 (step.Happened e ∷ (xs ++ past)) line lines outcomes are;
   },
+  began,
 )
 
 unsaid_as : (asks : List Ask) (past : List Step) (outcomes : List (Option Outcome))
@@ -130,20 +140,23 @@ pub polled_over : (asks : List Ask) (past xs : List Step) (e : Event)
     → HappensAll asks past xs a b
     → Comes asks (xs ++ past) e b c
     → AreOpen (step.Happened e ∷ (xs ++ past)) asks 0 [] outcomes
-    → IsMade asks past outcomes None a c
-polled_over asks past xs e outcomes a b c h comes are =
-    let said = kept_said asks 0 (step.Happened e ∷ (xs ++ past)) [] outcomes are in
-    record {
-      more = step.Happened e ∷ xs;
-      last = c;
-      happens = (b, h, comes);
-      said = said;
-      ends = (
-        unsaid_as asks (step.Happened e ∷ (xs ++ past)) outcomes false said
-            (none_open asks 0 (step.Happened e ∷ (xs ++ past)) outcomes are),
-        refl,
-      );
-    }
+    → AllBegan xs
+    → PolledOver asks past outcomes None a c
+polled_over asks past xs e outcomes a b c h comes are began =
+    let said = kept_said asks 0 (step.Happened e ∷ (xs ++ past)) [] outcomes are in (
+      record {
+        more = step.Happened e ∷ xs;
+        last = c;
+        happens = (b, h, comes);
+        said = said;
+        ends = (
+          unsaid_as asks (step.Happened e ∷ (xs ++ past)) outcomes false said
+              (none_open asks 0 (step.Happened e ∷ (xs ++ past)) outcomes are),
+          refl,
+        );
+      },
+      began,
+    )
 
 pub polled_link : (asks : List Ask) (past xs : List Step) (lines : List Line)
     (outcomes : List (Option Outcome)) (a b c : Outside)
@@ -152,20 +165,23 @@ pub polled_link : (asks : List Ask) (past xs : List Step) (lines : List Line)
     → AreOpen (xs ++ past) asks 0 lines outcomes
     → AllBegun [] lines
     → Fails b c
-    → IsMade asks past outcomes (Some fault.Link) a c
-polled_link asks past xs lines outcomes a b c some h are begun fails =
-    let said = kept_said asks 0 (xs ++ past) lines outcomes are in
-    record {
-      more = xs;
-      last = b;
-      happens = h;
-      said = said;
-      ends = (
-        unsaid_as asks (xs ++ past) outcomes true said some,
-        none_due [] asks 0 (xs ++ past) lines outcomes are begun,
-        fails,
-      );
-    }
+    → AllBegan xs
+    → PolledOver asks past outcomes (Some fault.Link) a c
+polled_link asks past xs lines outcomes a b c some h are begun fails began =
+    let said = kept_said asks 0 (xs ++ past) lines outcomes are in (
+      record {
+        more = xs;
+        last = b;
+        happens = h;
+        said = said;
+        ends = (
+          unsaid_as asks (xs ++ past) outcomes true said some,
+          none_due [] asks 0 (xs ++ past) lines outcomes are begun,
+          fails,
+        );
+      },
+      began,
+    )
 
 pub polled_unheard : (asks : List Ask) (past xs : List Step) (lines : List Line)
     (outcomes : List (Option Outcome)) (a b c : Outside)
@@ -173,20 +189,23 @@ pub polled_unheard : (asks : List Ask) (past xs : List Step) (lines : List Line)
     → HappensAll asks past xs a b
     → AreOpen (xs ++ past) asks 0 lines outcomes
     → AllBegun [] lines
-    → Unheard b c
-    → IsMade asks past outcomes (Some fault.Starved) a c
-polled_unheard asks past xs lines outcomes a b c some h are begun unheard =
-    let said = kept_said asks 0 (xs ++ past) lines outcomes are in
-    record {
-      more = xs;
-      last = b;
-      happens = h;
-      said = said;
-      ends = (
-        unsaid_as asks (xs ++ past) outcomes true said some,
-        inl (none_due [] asks 0 (xs ++ past) lines outcomes are begun, unheard),
-      );
-    }
+    → Unheard asks (xs ++ past) b c
+    → AllBegan xs
+    → PolledOver asks past outcomes (Some fault.Starved) a c
+polled_unheard asks past xs lines outcomes a b c some h are begun unheard began =
+    let said = kept_said asks 0 (xs ++ past) lines outcomes are in (
+      record {
+        more = xs;
+        last = b;
+        happens = h;
+        said = said;
+        ends = (
+          unsaid_as asks (xs ++ past) outcomes true said some,
+          inl (none_due [] asks 0 (xs ++ past) lines outcomes are begun, unheard),
+        );
+      },
+      began,
+    )
 
 pub polled_lost : (asks : List Ask) (past xs : List Step)
     (outcomes : List (Option Outcome)) (a b c : Outside)
@@ -194,14 +213,18 @@ pub polled_lost : (asks : List Ask) (past xs : List Step)
     → HappensAll asks past xs a b
     → outcomes ≡ said_all asks 0 (xs ++ past)
     → IsLost b c
-    → IsMade asks past outcomes (Some fault.Starved) a c
-polled_lost asks past xs outcomes a b c some h said lost = record {
-  more = xs;
-  last = b;
-  happens = h;
-  said = said;
-  ends = (unsaid_as asks (xs ++ past) outcomes true said some, inr lost);
-}
+    → AllBegan xs
+    → PolledOver asks past outcomes (Some fault.Starved) a c
+polled_lost asks past xs outcomes a b c some h said lost began = (
+  record {
+    more = xs;
+    last = b;
+    happens = h;
+    said = said;
+    ends = (unsaid_as asks (xs ++ past) outcomes true said some, inr lost);
+  },
+  began,
+)
 
 -- ---- the beginning
 
@@ -327,6 +350,7 @@ pub record Stepped
   pub happens : HappensAll asks past more a between
   pub kept : AreOpen (more ++ past) asks 0 begun outcomes
   pub all : AllBegun [] begun
+  pub began : AllBegan more
   pub taken : IsTaken asks (more ++ past) outcomes r lines between c
 
 pub stepped : (asks : List Ask) (past : List Step) (items lent begun again lines : List Line)
@@ -355,6 +379,7 @@ stepped asks past items lent begun again lines outcomes r a b c stands same same
       happens = so.1;
       kept = so.2;
       all = so.3;
+      began = so.4;
       taken =
           takes asks (so.0 ++ past) outcomes
           (subst (λ (ls : List Line). AreOpen (so.0 ++ past) asks 0 ls outcomes) (sym same_again)
@@ -367,13 +392,13 @@ pub stepped_fault : (asks : List Ask) (past : List Step) (items lines : List Lin
     (outcomes : List (Option Outcome)) (f : TellFault) (a c : Outside)
     → StandsFor asks past items outcomes
     → Stepped asks past outcomes (Err f) lines a c
-    → IsMade asks past outcomes (Some f) a c
+    → PolledOver asks past outcomes (Some f) a c
 stepped_fault asks past items lines outcomes fault.Link a c stands s =
     polled_link asks past s.more s.begun outcomes a s.between c stands.some s.happens s.kept s.all
-    s.taken
+    s.taken s.began
 stepped_fault asks past items lines outcomes fault.Starved a c stands s =
     polled_unheard asks past s.more s.begun outcomes a s.between c stands.some s.happens s.kept
-    s.all s.taken
+    s.all s.taken s.began
 
 -- the lines that are put aside then
 pub stepped_lines : (asks : List Ask) (past : List Step) (lines written : List Line)
@@ -411,11 +436,12 @@ pub stepped_over : (asks : List Ask) (past : List Step) (lines written after : L
     → PutsAside written outcomes after outcomes_after
     → length after ≡ 0
     → Stepped asks past outcomes (Ok u) lines a c
-    → IsMade asks past outcomes_after None a c
+    → PolledOver asks past outcomes_after None a c
 stepped_over asks past lines written [] outcomes outcomes_after u a c same puts none s =
     polled_over asks past s.more s.taken.0 outcomes_after a s.between c s.happens s.taken.1
     (put_open asks (s.more ++ past) lines written [] outcomes outcomes_after s.taken.0 same puts
     s.taken.2)
+    s.began
 stepped_over asks past lines written (x ∷ after) outcomes outcomes_after u a c same puts none s =
     absurd (omega (arith, none))
 
@@ -433,6 +459,7 @@ stepped_going asks past lines written (x ∷ after) outcomes outcomes_after u a 
     (put_open asks (s.more ++ past) lines written
     (x ∷ after) outcomes outcomes_after s.taken.0 same
     puts s.taken.2)
+    s.began
 
 -- memory ran out where a talk was to begin
 pub stepped_lost : (asks : List Ask) (past : List Step) (items lent lines : List Line)
@@ -445,10 +472,11 @@ pub stepped_lost : (asks : List Ask) (past : List Step) (items lent lines : List
     × (last : Outside)
     × HappensAll asks past more a last
     × (outcomes ≡ said_all asks 0 (more ++ past))
-    × IsLost last c)
-    → IsMade asks past outcomes (Some fault.Starved) a c
+    × IsLost last c
+    × AllBegan more)
+    → PolledOver asks past outcomes (Some fault.Starved) a c
 stepped_lost asks past items lent lines outcomes a c stands same begins =
     let so =
     begins asks past outcomes
     (subst (λ (ls : List Line). AreOpen past asks 0 ls outcomes) (sym same) stands.kept) in
-    polled_lost asks past so.0 outcomes a so.1 c stands.some so.2 so.3 so.4
+    polled_lost asks past so.0 outcomes a so.1 c stands.some so.2 so.3 so.4 so.5

@@ -19,6 +19,8 @@ use Rattle.commissioner.specs.Shares.{said_all, first_due}
 use Rattle.commissioner.specs.Lines.{IsLost}
 use Rattle.commissioner.specs.Happening.{
   HappensAll,
+  AllBegan,
+  IsOneTurn,
   Unheard,
   AreOpen,
   is_unsaid,
@@ -36,7 +38,8 @@ Ends asks past (Some fault.Link) before after =
     × Fails before after
 Ends asks past (Some fault.Starved) before after =
     (is_unsaid (said_all asks 0 past) ≡ true)
-    × (((first_due [] asks 0 past ≡ None) × Unheard before after) ⊎ IsLost before after)
+    × (((first_due [] asks 0 past ≡ None) × Unheard asks past before after)
+    ⊎ IsLost before after)
 
 -- what a list of asks came to over a link and a clock: these steps happened, so it ended, and what
 -- became of each ask is the verdict of its share
@@ -84,7 +87,12 @@ CountsFault before now (Some fault.Starved) = now ≡ before
 
 -- ---- a poll
 
--- a poll: it goes on after what happened, or it ends
+-- what happened in a poll: one event came, but none where a fault ended it before
+abbrev pub IsTurnBy : Option TellFault → List Step → Type 0
+IsTurnBy None more = IsOneTurn more
+IsTurnBy (Some f) more = AllBegan more
+
+-- a poll: after one event it goes on or is over, or a fault ends it
 abbrev pub IsPolled : List Ask
     → List Step
     → Polled
@@ -97,8 +105,9 @@ IsPolled asks past polled.Going lines outcomes before after =
     (more : List Step)
     × HappensAll asks past more before after
     × StandsFor asks (more ++ past) lines outcomes
+    × IsOneTurn more
 IsPolled asks past (polled.Over fault) lines outcomes before after =
-    IsMade asks past outcomes fault before after
+    (made : IsMade asks past outcomes fault before after) × IsTurnBy fault made.more
 
 abbrev pub CountsPoll : ℕ → ℕ → Polled → Type 0
 CountsPoll before now polled.Going = now ≡ before

@@ -19,6 +19,8 @@ use Rattle.std.specs.Prelude.{
   Ok,
   Err,
   ⊤,
+  take,
+  slice_get,
 }
 use Rattle.std.specs.List.{list_any}
 use Rattle.rd_base.specs.Outside.{Rose}
@@ -28,6 +30,7 @@ use Rattle.udp_link.specs.Told.{WhereTold, Stays}
 use Rattle.udp_link.specs.Links.{Datagram}
 use Rattle.client_model.specs.declared.asks.Ask.{Ask}
 use Rattle.client_model.specs.declared.events.Event.{Event}
+use Rattle.client_model.specs.declared.events.Event.TheVariants as event
 use Rattle.client_model.specs.declared.outcomes.Outcome.{Outcome}
 use Rattle.registrant.specs.declared.turns.TellFault.{TellFault}
 use Rattle.registrant.specs.declared.turns.TellFault.TheVariants as fault
@@ -45,11 +48,13 @@ use Rattle.commissioner.specs.declared.steps.Step.{Step}
 use Rattle.commissioner.specs.declared.steps.Step.TheVariants as step
 use Rattle.commissioner.specs.Shares.{
   is_busy,
+  share,
   said,
   said_all,
   first_due,
   sent_first,
   sent_all,
+  is_heard,
 }
 use Rattle.commissioner.specs.Lines.{IsOpen, IsLine, IsLost, IsDatagram}
 
@@ -113,14 +118,53 @@ HappensAll asks past (s ∷ more) before after =
     × HappensAll asks past more before between
     × Happens asks (more ++ past) s between after
 
--- a datagram was taken that could not be heard for want of memory
-pub record Unheard (before after : Outside) : Type 0 where
+-- ---- a poll
+
+-- talks began, and no event came
+abbrev pub AllBegan : List Step → Type 0
+AllBegan [] = ⊤
+AllBegan (step.Began n now word ∷ past) = AllBegan past
+AllBegan (step.Happened e ∷ past) = ⊥
+
+-- talks began, and then one event came: one datagram, or one tick
+abbrev pub IsOneTurn : List Step → Type 0
+IsOneTurn [] = ⊥
+IsOneTurn (step.Began n now word ∷ past) = ⊥
+IsOneTurn (step.Happened e ∷ past) = AllBegan past
+
+-- one ask could not hear an event that belongs to its talk: what the event makes go for those
+-- before it was sent, and nothing else
+pub record StopsAt
+    (asks : List Ask)
+    (past : List Step)
+    (e : Event)
+    (sent : Option (List Datagram))
+    (faults : ℕ)
+    (sent_after : Option (List Datagram))
+    (faults_after : ℕ)
+    : Type 0 where
+  pub number : ℕ
+  pub ask : Ask
+  pub is : slice_get asks number ≡ Some ask
+  pub heard : is_heard ask e (share ask number past) ≡ true
+  pub sends : Sends (sent_all (take number asks) 0 past e) sent faults sent_after faults_after
+
+-- a datagram was taken that one ask could not hear for want of memory
+pub record Unheard (asks : List Ask) (past : List Step) (before after : Outside)
+    : Type 0 where
   pub lost : Datagram
   pub coming : WhereTold (λ old new. old ≡ lost ∷ new) before.coming after.coming
   pub now : Moment
   pub timed : IsTimed now before.times after.times
-  pub sent : List Datagram
-  pub sends : Sends sent before.gone before.send_faults after.gone after.send_faults
+  pub stops :
+      StopsAt
+      asks
+      past
+      (event.Came now lost.0 lost.1)
+      before.gone
+      before.send_faults
+      after.gone
+      after.send_faults
   pub words : Stays before.words after.words
   pub receives : after.recv_faults ≡ before.recv_faults
 
@@ -179,12 +223,14 @@ AreBegun asks past outcomes (Ok x) lines before after =
     × HappensAll asks past more before after
     × AreOpen (more ++ past) asks 0 lines outcomes
     × AllBegun [] lines
+    × AllBegan more
 AreBegun asks past outcomes (Err x) lines before after =
     (more : List Step)
     × (last : Outside)
     × HappensAll asks past more before last
     × (outcomes ≡ said_all asks 0 (more ++ past))
     × IsLost last after
+    × AllBegan more
 
 -- an event was handed to each talk, and what is to be sent was sent; or a datagram could not be
 -- heard
@@ -203,9 +249,7 @@ AreHanded asks past outcomes e (Ok x) lines sent faults sent_after faults_after 
     AreLines (step.Happened e ∷ past) asks 0 lines outcomes
     × Sends (sent_all asks 0 past e) sent faults sent_after faults_after
 AreHanded asks past outcomes e (Err fault.Starved) lines sent faults sent_after faults_after =
-    IsDatagram e
-    × (others : List Datagram)
-    × Sends others sent faults sent_after faults_after
+    IsDatagram e × StopsAt asks past e sent faults sent_after faults_after
 AreHanded asks past outcomes e (Err fault.Link) lines sent faults sent_after faults_after = ⊥
 
 -- a receive failed only where that was counted
@@ -228,7 +272,8 @@ IsTaken asks past outcomes (Ok x) lines before after =
     × Comes asks past e before after
     × AreLines (step.Happened e ∷ past) asks 0 lines outcomes
 IsTaken asks past outcomes (Err fault.Link) lines before after = Fails before after
-IsTaken asks past outcomes (Err fault.Starved) lines before after = Unheard before after
+IsTaken asks past outcomes (Err fault.Starved) lines before after =
+    Unheard asks past before after
 
 -- what was decided is so still, and no ask is more or less
 abbrev pub KeepsDecided : List (Option Outcome) → List (Option Outcome) → Type 0

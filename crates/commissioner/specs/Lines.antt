@@ -41,7 +41,15 @@ use Rattle.commissioner.specs.declared.lines.Taken.{Taken}
 use Rattle.commissioner.specs.declared.lines.Taken.TheVariants as taken
 use Rattle.commissioner.specs.declared.steps.Step.{Step}
 use Rattle.commissioner.specs.declared.steps.Step.TheVariants as step
-use Rattle.commissioner.specs.Shares.{Share, token_of, octets_of, share, said, sent_by}
+use Rattle.commissioner.specs.Shares.{
+  Share,
+  token_of,
+  octets_of,
+  share,
+  said,
+  sent_by,
+  is_heard,
+}
 
 -- the event that a receive came to
 abbrev pub event_of : Taken → Event
@@ -154,7 +162,7 @@ IsDatagram (event.Came now peer octets) = ⊤
 IsDatagram (event.Tick now) = ⊥
 
 -- The line stands for the ask with the event more, and what is to be sent for it was sent. Without
--- memory a datagram was not heard, and nothing was sent for it.
+-- memory a datagram was not heard that belongs to its talk, and nothing was sent for it.
 abbrev pub IsHanded : Ask
     → ℕ
     → List Step
@@ -170,7 +178,9 @@ IsHanded ask i past e (Ok x) line sent faults sent_after faults_after =
     IsLine (step.Happened e ∷ past) ask i line
     × Sends (sent_by ask i e (share ask i past)) sent faults sent_after faults_after
 IsHanded ask i past e (Err fault.Starved) line sent faults sent_after faults_after =
-    IsDatagram e × Sends [] sent faults sent_after faults_after
+    IsDatagram e
+    × (is_heard ask e (share ask i past) ≡ true)
+    × Sends [] sent faults sent_after faults_after
 IsHanded ask i past e (Err fault.Link) line sent faults sent_after faults_after = ⊥
 
 -- what is handed does not end by the link

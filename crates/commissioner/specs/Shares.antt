@@ -139,6 +139,11 @@ sent_by ask i e (Some s) =
     (is_none (verdict s.asked s.events) && is_shared ask.to e)
     (sent_for s.asked (octets_of ask i) s.events e)
 
+-- an event belongs to the talk of an ask, which runs
+abbrev pub is_heard : Ask → Event → Option Share → Bool
+is_heard ask e None = false
+is_heard ask e (Some s) = is_none (verdict s.asked s.events) && is_shared ask.to e
+
 -- what it makes go for each, in the order of the list
 abbrev pub sent_all : List Ask → ℕ → List Step → Event → List Sent
 sent_all [] i past e = []

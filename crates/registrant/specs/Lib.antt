@@ -1,5 +1,7 @@
 -- the message of an ask while it is written (RFC 7252 section 3)
 pub mod Asking
+-- an ask with what a directory challenged (RFC 9175)
+pub mod Echoes
 -- parts of a URI as options (RFC 7252 section 6.4)
 pub mod Parts
 -- what is kept of a request, and what it stands for (RFC 7252 section 4.2)

@@ -34,6 +34,21 @@ pub record IsStarted
       StandsFor (asked_now ask mid token now.0 word) (spelling (message_of ask mid token)) [] r.talk
   pub unsent : r.is_sent ≡ false
 
+-- what is handed back where memory ran out: the link, and the clock after a moment and a word
+pub record IsHandedBack
+    {L C : Type 0}
+    (times : C → Option (List Moment))
+    (words : C → Option (List ℕ))
+    (link : L)
+    (clock : C)
+    (ends : L × C)
+    : Type 0 where
+  pub now : Moment
+  pub word : ℕ
+  pub same : ends.0 ≡ link
+  pub timed : IsTimed now (times clock) (times ends.1)
+  pub spoken : IsSpoken word (words clock) (words ends.1)
+
 module _
     {L C : Type 0}
     (coming : L → Option (List Datagram))

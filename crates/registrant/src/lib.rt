@@ -3,6 +3,7 @@
 #![tactic(auto)]
 
 mod asks;
+mod echoes;
 mod hearing;
 mod options;
 mod parts;
@@ -14,6 +15,7 @@ mod uris;
 mod verdicts;
 
 pub use client_model::{Ask, AskBad, Location, Opts, Outcome, Purpose};
+pub use echoes::{ask_again, echoed_ask};
 pub use registering::{refresh_ask, register_ask, remove_ask};
 pub use talks::Talk;
 pub use telling::{Registrant, Told};

@@ -28,7 +28,7 @@ fn ask_bad(bad: PartBad) -> AskBad
 }
 
 /// An ask, unless its datagram would be too long.
-fn fitted(ask: Ask) -> Result<Ask, AskBad>
+pub(crate) fn fitted(ask: Ask) -> Result<Ask, AskBad>
     requires code { (ask.code ≡ codes_of.post) ⊎ (ask.code ≡ codes_of.delete) }
     requires options { CanFollow 0 ask.options }
     ensures is { result ≡ asks.if_short ask }

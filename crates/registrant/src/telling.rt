@@ -5,7 +5,7 @@ ghost use Rattle.client_model.specs.Requests.{Asked, CanBeSent};
 ghost use Rattle.rd_base.specs.declared.moments.Moment.{Moment};
 ghost use Rattle.registrant.specs.Talking.{StandsFor};
 ghost use Rattle.registrant.specs.Giving.{Begins};
-ghost use Rattle.registrant.specs.Telling.{IsStarted};
+ghost use Rattle.registrant.specs.Telling.{IsStarted, IsHandedBack};
 
 use crate::turns::{Turn, send, take_turn};
 use crate::{Ask, Outcome, Talk, TellFault};
@@ -76,8 +76,8 @@ fn begin<L: Link>(link: &mut L, talk: &Talk, is_sent: bool)
 
 impl<L: Link + Drop, C: Clock + Drop> Registrant<L, C> {
     /// A request over a link, under a Message ID and a token. The clock is asked for a moment and
-    /// then for a word, with which the talk starts. `Err`: out of memory, and the link and the
-    /// clock are handed back.
+    /// then for a word, with which the talk starts. `Err`: out of memory; the link is handed back,
+    /// and the clock after that moment and that word.
     pub fn start(
         alloc: Global,
         link: L,
@@ -88,7 +88,7 @@ impl<L: Link + Drop, C: Clock + Drop> Registrant<L, C> {
     ) -> Result<Registrant<L, C>, (L, C)>
         requires { CanBeSent ask }
         ensures started { IfOk result (IsStarted C.times C.words link clock ask mid token) }
-        ensures handed_back { IfErr result (λ ends. ends.0 ≡ link) }
+        ensures handed_back { IfErr result (IsHandedBack C.times C.words link clock) }
     {
         let now = clock.now();
         let word = clock.word();

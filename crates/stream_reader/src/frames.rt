@@ -1,6 +1,7 @@
 //! The parts of a message of a stream.
-ghost use Rattle.std.specs.Prelude.{◌≡◌};
+ghost use Rattle.std.specs.Prelude.{◌≡◌, IfSome};
 ghost use Rattle.std.specs.Option.{option_map};
+ghost use Rattle.coap_message.specs.OptionsAt.{AreOptionsAlone};
 ghost use Rattle.stream_reader.specs.Shown as shown;
 ghost use Rattle.stream_reader.specs.Shown.{frame_shown};
 
@@ -22,7 +23,8 @@ pub struct Frame<'a> {
 
 /// The frame in octets behind the lengths, with a token of this length.
 fn frame_behind(token: usize, octets: &[u8]) -> Option<Frame<'_>>
-    ensures { option_map frame_shown result ≡ shown.shown_body token octets.now }
+    ensures shown { option_map frame_shown result ≡ shown.shown_body token octets.now }
+    ensures options { IfSome result (λ f. AreOptionsAlone f.options.now) }
 {
     let [code, rest @ ..] = octets else {
         return None;
@@ -40,7 +42,8 @@ fn frame_behind(token: usize, octets: &[u8]) -> Option<Frame<'_>>
 /// The frame in the octets of a message (RFC 8323 section 3.2).
 #[tactic(auto, unfolding(crate::specs::Shown::shown_in))]
 pub(crate) fn frame_in(octets: &[u8]) -> Option<Frame<'_>>
-    ensures { option_map frame_shown result ≡ shown.shown_in octets.now }
+    ensures shown { option_map frame_shown result ≡ shown.shown_in octets.now }
+    ensures options { IfSome result (λ f. AreOptionsAlone f.options.now) }
 {
     let [first, rest @ ..] = octets else {
         return None;

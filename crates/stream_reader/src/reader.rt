@@ -1,8 +1,9 @@
 //! A reader of streams that come in any pieces.
 ghost use Rattle.std.specs.Prelude.{◌≡◌, ◌<◌, ◌≤◌, ◌+◌, ℕ, List};
-ghost use Rattle.std.specs.Prelude.{[], ◌∷◌, ◌++◌, length, take};
+ghost use Rattle.std.specs.Prelude.{[], ◌∷◌, ◌++◌, length, take, IfSome};
 ghost use Rattle.std.specs.Option.{option_map};
 ghost use Rattle.message_model.specs.Numbers.{AreBytes};
+ghost use Rattle.coap_message.specs.OptionsAt.{AreOptionsAlone};
 ghost use Rattle.stream_model.specs.declared.messages.Judged.TheVariants as judged_as;
 ghost use Rattle.stream_model.specs.Judging.{FrontsMore};
 ghost use Rattle.stream_reader.specs.Wanting.{wanted_of};
@@ -108,7 +109,8 @@ impl StreamReader {
 
     /// The message that the last piece made whole. None exactly where it made none whole.
     pub fn message(&self) -> Option<Frame<'_>>
-        ensures { option_map frame_shown result ≡ shown.message_of self.now }
+        ensures shown { option_map frame_shown result ≡ shown.message_of self.now }
+        ensures options { IfSome result (λ f. AreOptionsAlone f.options.now) }
     {
         if self.judged != Judged::Whole {
             return None;

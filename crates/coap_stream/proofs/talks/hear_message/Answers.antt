@@ -10,24 +10,24 @@ use Rattle.coap_stream.proofs.talks.hear_message.Goals as goal
 
 pub unreachable-requires : goal.unreachable-requires
 unreachable-requires g c =
-    frame_there c.args.reader.now c.message.result c.requires.good c.message.ensures
+    frame_there c.args.reader.now c.message.result c.requires.good c.message.ensures.shown
     c.in_default.is
 
 pub answer-requires-clause-token : goal.answer-requires-clause-token
 answer-requires-clause-token g c =
     (frame_fits c.args.reader.now c.message.result c.in-Some.frame c.requires.good
-    c.message.ensures c.in-Some.is).token
+    c.message.ensures.shown c.in-Some.is).token
 
 pub answer-requires-clause-request : goal.answer-requires-clause-request
 answer-requires-clause-request g c =
     frame_request c.in-Some.frame
     (frame_fits c.args.reader.now c.message.result c.in-Some.frame c.requires.good
-    c.message.ensures c.in-Some.is)
+    c.message.ensures.shown c.in-Some.is)
 
 pub returns-clause-heard : goal.returns-clause-heard
 returns-clause-heard g c = record {
   shown = frame_shown c.in-Some.frame;
-  is = sym c.message.ensures
+  is = sym c.message.ensures.shown
       ∙ ap (λ (o : Option Frame). option_map frame_shown o) c.in-Some.is;
   done = c.answer.ensures.done;
   asked = c.answer.ensures.asked;
