@@ -17,6 +17,9 @@ Options:
   -V, --version                Print version
 ";
 
+/// The name of the program and its version.
+pub(crate) const NAME_AND_VERSION: &str = "rd_host 0.1.0";
+
 /// What is said where the version is asked for.
 const VERSION: &str = "rd_host 0.1.0\n";
 

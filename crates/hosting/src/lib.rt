@@ -4,6 +4,7 @@
 
 mod about;
 mod crews;
+mod failures;
 mod host_clocks;
 mod host_links;
 mod listeners;
@@ -11,13 +12,17 @@ mod mapped;
 mod options;
 mod plans;
 mod routes;
+mod starts;
 mod wanted;
 mod watches;
+mod word_faults;
 
 pub use crews::{Crew, Trouble};
+pub use failures::Failure;
 pub use host_clocks::{HostClock, Origin};
 pub use host_links::HostLink;
 pub use listeners::Listener;
 pub use plans::{HostPlan, host_words};
 pub use routes::Routes;
 pub use wanted::{HostFault, Wanted};
+pub use word_faults::read_words;

@@ -44,7 +44,7 @@ pub(crate) enum HostOption {
 }
 
 /// The option that a word names.
-fn name_of(word: &[u8]) -> Option<OptionName>
+pub(crate) fn name_of(word: &[u8]) -> Option<OptionName>
     ensures { result ≡ spec.name_of word.now }
 {
     if word == b"--listen".as_slice() {

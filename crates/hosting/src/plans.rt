@@ -49,6 +49,18 @@ pub(crate) struct HostAsked {
 }
 
 impl HostAsked {
+    /// Nothing is asked for.
+    pub(crate) fn nothing(alloc: Global) -> HostAsked
+        ensures { result ≡ spec.nothing_asked }
+    {
+        HostAsked {
+            listen: List::new(alloc),
+            workers: None,
+            turns: None,
+            begin: None,
+        }
+    }
+
     /// With an address more.
     fn with_address(self, address: Peer) -> Result<HostAsked, HostFault>
         requires { IsAsked self }
@@ -121,7 +133,7 @@ impl HostAsked {
     }
 
     /// With an option more.
-    fn with(self, option: HostOption) -> Result<HostAsked, HostFault>
+    pub(crate) fn with(self, option: HostOption) -> Result<HostAsked, HostFault>
         requires asked { IsAsked self }
         requires option { IsOption option }
         ensures read { IsRead (spec.asked_with self option) result }
@@ -165,12 +177,7 @@ fn words_ask(alloc: Global, words: &[String]) -> Result<HostAsked, HostFault>
     ensures read { IsRead (spec.asked_by spec.nothing_asked (map string_bytes words.now)) result }
     ensures within { IfOk result IsAsked }
 {
-    let mut asked = HostAsked {
-        listen: List::new(alloc),
-        workers: None,
-        turns: None,
-        begin: None,
-    };
+    let mut asked = HostAsked::nothing(alloc);
     let mut left = words;
     'words: while let Some((word, rest)) = left.split_first() {
         let Some((option, behind)) = first_option(word.as_bytes(), rest) else {

@@ -9,7 +9,9 @@ ghost use Rattle.rd_server.specs.serving.Servers.{AreOfHall};
 mod endings;
 
 use endings::Ending;
-use hosting::{Crew, HostClock, HostLink, HostPlan, Listener, Origin, Routes, Wanted, host_words};
+use hosting::{
+    Crew, Failure, HostClock, HostLink, HostPlan, Listener, Origin, Routes, Wanted, read_words,
+};
 use rd_base::{Starved, StdSink};
 use rd_desk::Stepped;
 use rd_seat::{Hall, OpenGate};
@@ -32,7 +34,7 @@ fn wanted(rt: &HostRuntime) -> Result<Wanted, Ending>
     ensures { IfOk result IsWanted }
 {
     let words = given_words(rt)?;
-    Ok(host_words(rt.alloc(), words.as_slice())?)
+    Ok(read_words(rt.alloc(), words.as_slice())?)
 }
 
 /// A socket at each address.
@@ -42,10 +44,10 @@ fn listeners_at(rt: &HostRuntime, plan: &HostPlan) -> Result<Vec<Listener>, Endi
     let addresses = plan.listen.as_slice();
     let mut listeners = Vec::with_capacity(rt.alloc(), addresses.len())?;
     'addresses: for address in addresses {
-        let Ok(listener) = Listener::bind(rt, rt.alloc(), *address) else {
-            return Err(Ending::Socket(*address));
-        };
-        listeners.push_reserved(listener);
+        match Listener::bind(rt, rt.alloc(), *address) {
+            Ok(listener) => listeners.push_reserved(listener),
+            Err(fault) => return Err(Failure::Socket(*address, fault).into()),
+        }
     }
     Ok(listeners)
 }
@@ -69,11 +71,11 @@ fn shared_of(rt: &HostRuntime, plan: &HostPlan) -> Result<Shared, Ending>
     ensures { IfOk result (λ shared. vec_len shared.listeners ≡ length plan.now.listen) }
 {
     let Ok(origin) = Origin::read(rt) else {
-        return Err(Ending::Clock);
+        return Err(Failure::Clock.into());
     };
     let listeners = listeners_at(rt, plan)?;
     let Ok(keys) = RandomState::new(rt) else {
-        return Err(Ending::Keys);
+        return Err(Failure::Keys.into());
     };
     let routes = Mutex::new(Routes::new(rt.alloc(), keys)?);
     Ok(Shared {
@@ -96,7 +98,7 @@ fn end_over<'a>(rt: &'a HostRuntime, shared: &'a Shared, own: usize) -> Result<H
     } = shared;
     let link = HostLink::over(rt, rt.alloc(), routes, crew, listeners.as_slice(), own)?;
     let Ok(clock) = HostClock::seeded(rt, origin) else {
-        return Err(Ending::Keys);
+        return Err(Failure::Keys.into());
     };
     Ok(End::of(link, clock))
 }
@@ -116,8 +118,8 @@ fn ends_over<'a>(rt: &'a HostRuntime, shared: &'a Shared, number: usize) -> Resu
 /// Says a text about the program.
 fn tell(rt: &HostRuntime, text: &str) -> Ending {
     match rt.stdout().write_all(text.as_bytes()) {
-        Ok(()) => Ending::Told,
-        Err(_) => Ending::Served(ServeStatus::Write),
+        Ok(()) => Ending::Done,
+        Err(_) => Ending::Failed(Failure::Write),
     }
 }
 
@@ -131,20 +133,12 @@ fn plan_of(rt: &HostRuntime) -> Result<HostPlan, Ending>
     }
 }
 
-/// Says on standard error above which number a run begins, where that can be written.
-fn say_begin(rt: &HostRuntime, first: u64) -> Result<(), Starved> {
-    let line = format!(in rt.alloc(); "rd_host: locations and entity tags count above {first}\n")?;
-    let _ = rt.stderr().write_all(line.as_bytes());
-    Ok(())
-}
-
-/// Begins a run above `first` by the seat of the first end, before any worker serves, and says so.
+/// Begins a run above `first` by the seat of the first end, before any worker serves.
 ///
 /// # Errors
 ///
 /// Out of memory.
 fn begin_run<R: Wait, L, C: Clock>(
-    rt: &HostRuntime,
     handles: &R,
     hall: &Hall,
     ends: &mut [End<L, C>],
@@ -162,10 +156,11 @@ fn begin_run<R: Wait, L, C: Clock>(
             }
         }
     }
-    say_begin(rt, first)
+    Ok(())
 }
 
-/// Makes a hall for the ends, begins its run above `first`, and serves as the plan says.
+/// Makes a hall for the ends, begins its run above `first`, says its line on standard error where
+/// that can be written, and serves.
 ///
 /// # Errors
 ///
@@ -174,27 +169,21 @@ fn serve_above<R: Threads + Wait + Sync + AllocGlobal, L: Link + Send, C: Clock 
     rt: &HostRuntime,
     handles: &R,
     ends: &mut [End<L, C>],
+    plan: &HostPlan,
     first: u64,
-    turns: u64,
 ) -> Result<ServeStatus, Starved>
     requires ends { (1 ≤ length ends.old) × (length ends.old ≤ 16) }
-    requires turns { turns ≤ 10 ^ 12 }
+    requires turns { plan.now.turns ≤ 10 ^ 12 }
 {
+    let line = plan.start_line(rt.alloc(), first)?;
     let hall = make_hall(handles, ends)?;
-    if let Err(starved) = begin_run(rt, handles, &hall, ends, first) {
+    if let Err(starved) = begin_run(handles, &hall, ends, first) {
         hall.end(handles);
         return Err(starved);
     }
+    let _ = rt.stderr().write_all(line.as_bytes());
     let mut out = StdSink::of(rt.stdout());
-    Ok(serve_seats(handles, hall, ends, &OpenGate, turns, &mut out))
-}
-
-/// How the program ends after the server ended so, with the trouble of its links.
-fn ending_of(status: ServeStatus, crew: &Crew) -> Ending {
-    match (status, crew.trouble()) {
-        (ServeStatus::Link, Some(trouble)) => Ending::Link(trouble),
-        _ => Ending::Served(status),
-    }
+    Ok(serve_seats(handles, hall, ends, &OpenGate, plan.turns, &mut out))
 }
 
 fn main(rt: HostRuntime) -> ExitCode {
@@ -211,8 +200,8 @@ fn main(rt: HostRuntime) -> ExitCode {
         Err(ending) => return ending.exit(&rt),
     };
     let first = plan.begin.unwrap_or(shared.origin.begin());
-    match serve_above(&rt, &rt, &mut ends, first, plan.turns) {
-        Ok(status) => ending_of(status, &shared.crew).exit(&rt),
+    match serve_above(&rt, &rt, &mut ends, &plan, first) {
+        Ok(status) => Ending::of(status, &shared.crew).exit(&rt),
         Err(starved) => Ending::from(starved).exit(&rt),
     }
 }
