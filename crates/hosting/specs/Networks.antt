@@ -1,6 +1,6 @@
 -- Networks, as a prefix of an address and how many bits of it count (RFC 4632 section 3.1, RFC 4291
 -- section 2.3).
-use Rattle.std.specs.Prelude.{ℕ, ◌+◌, ◌*◌, ◌-◌, ◌/◌, ◌^◌, Bool, true, false, ◌&&◌, ◌||◌, List, ◌==◌}
+use Rattle.std.specs.Prelude.{ℕ, ◌+◌, ◌*◌, ◌-◌, ◌/◌, ◌^◌, Bool, true, false, ◌&&◌, List, ◌==◌}
 use Rattle.std.specs.Prelude.{Option, Some, None, option_and_then, option_map, nat_le, slice_index}
 use Rattle.std.specs.Prelude.{drop, position, take, if◌then◌else◌}
 use Rattle.std.specs.List.{list_any}

@@ -1,5 +1,5 @@
 -- What a link answers a request that it keeps from the directory.
-use Rattle.std.specs.Prelude.{◌≡◌, ◌≤◌, ℕ, ◌*◌, ◌+◌, Bool, true, List, [], ◌∷◌, ◌++◌, Option, Some, Ok}
+use Rattle.std.specs.Prelude.{◌≡◌, ◌≤◌, ℕ, ◌*◌, ◌+◌, true, List, [], ◌∷◌, ◌++◌, Option, Ok}
 use Rattle.std.specs.Prelude.{codes, is_some, unwrap_or, ◌⊎◌, ⊤}
 use Rattle.message_model.specs.declared.messages.Kind4.TheVariants.{Con, Ack}
 use Rattle.message_model.specs.Codes.{bad_request}

@@ -1,8 +1,8 @@
-use Rattle.std.proofs.Common.{◌≡◌, ◌+◌, ℕ, List, ◌∷◌, refl, sym, ap, subst, ◌∙◌, rules, arith}
+use Rattle.std.proofs.Common.{◌≡◌, ◌+◌, ℕ, List, refl, sym, ap, subst, ◌∙◌, rules, arith}
 use Rattle.std.proofs.Common.{nat_eq}
-use Rattle.lru.specs.LruCache.{LruCache, lru_cache, put_entries}
+use Rattle.lru.specs.LruCache.{LruCache, put_entries}
 use Rattle.hosting.specs.declared.shares.Tally.{Tally}
-use Rattle.hosting.specs.Shares.{Asked, AreWithin, asked_in, counted_in, remembered}
+use Rattle.hosting.specs.Shares.{Asked, AreWithin, remembered}
 use Rattle.hosting.proofs.ShareLaws.{one_more_came, put_within, remembered_put, remembered_within}
 use Rattle.hosting.proofs.ShareLaws.{within_more}
 use Rattle.hosting.proofs.shares.Share.hear.Goals as goal
