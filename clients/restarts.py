@@ -15,8 +15,8 @@ from messages import (ACK, CON, CONTENT, CONTENT_FORMAT, CREATED, ETAG, GET, LOC
 
 DEVICES = 100
 
-# What rd_host says on standard error at its start, before the number.
-SAID = "rd_host: locations and entity tags count above "
+# What stands before the number in the line that rd_host says on standard error at its start.
+SAID = " begin="
 
 # Seconds: how long an answer is waited for, and how long the server stays ended. No number of one
 # run is one of another if less than 1,000 changes a second are made from one start to the next.
@@ -84,9 +84,10 @@ def start(run, words: list[str]) -> int:
     """Starts rd_host; the number above which it says that it counts. Its sockets are there then."""
     run.server = run.start([run.beside("rd_host"), *words])
     said = run.server.stderr.readline().decode().strip()
-    if not said.startswith(SAID):
+    name, _, number = said.rpartition(SAID)
+    if not name.startswith("rd_host "):
         run.end_ungreeted()
-    return int(said.removeprefix(SAID))
+    return int(number)
 
 
 def words_of(run, *more: str) -> list[str]:

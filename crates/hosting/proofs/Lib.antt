@@ -1,3 +1,6 @@
 mod EndLaws
+mod LinkLaws
+mod NetworkNames
+mod ShareLaws
 mod OptionSteps
 mod examples

@@ -9,7 +9,8 @@ ghost use Rattle.rd_server.specs.serving.Servers.{AreOfHall};
 mod endings;
 
 use endings::Ending;
-use hosting::{Crew, HostClock, HostLink, HostPlan, Listener, Origin, Routes, Wanted, host_words};
+use hosting::{Crew, Failure, Guard, GuardedLink, HostClock, HostLink, HostPlan, Listener, Origin};
+use hosting::{Routes, Wanted, read_words};
 use rd_base::{Starved, StdSink};
 use rd_desk::Stepped;
 use rd_seat::{Hall, OpenGate};
@@ -21,8 +22,15 @@ use std::sync::{Mutex, Wait};
 use std::thread::Threads;
 use udp_link::{Clock, Link};
 
+/// The clock of one worker.
+type WorkerClock<'a> = HostClock<'a, HostRuntime>;
+
+/// The link of one worker.
+type WorkerLink<'a> =
+    GuardedLink<'a, HostRuntime, HostLink<'a, HostRuntime>, WorkerClock<'a>>;
+
 /// The end of one worker.
-type HostEnd<'a> = End<HostLink<'a, HostRuntime>, HostClock<'a, HostRuntime>>;
+type HostEnd<'a> = End<WorkerLink<'a>, WorkerClock<'a>>;
 
 /// The ends of the server: the workers of all addresses.
 type Ends<'a> = Vec<HostEnd<'a>>;
@@ -32,7 +40,7 @@ fn wanted(rt: &HostRuntime) -> Result<Wanted, Ending>
     ensures { IfOk result IsWanted }
 {
     let words = given_words(rt)?;
-    Ok(host_words(rt.alloc(), words.as_slice())?)
+    Ok(read_words(rt.alloc(), words.as_slice())?)
 }
 
 /// A socket at each address.
@@ -42,10 +50,10 @@ fn listeners_at(rt: &HostRuntime, plan: &HostPlan) -> Result<Vec<Listener>, Endi
     let addresses = plan.listen.as_slice();
     let mut listeners = Vec::with_capacity(rt.alloc(), addresses.len())?;
     'addresses: for address in addresses {
-        let Ok(listener) = Listener::bind(rt, rt.alloc(), *address) else {
-            return Err(Ending::Socket(*address));
-        };
-        listeners.push_reserved(listener);
+        match Listener::bind(rt, rt.alloc(), *address) {
+            Ok(listener) => listeners.push_reserved(listener),
+            Err(fault) => return Err(Failure::Socket(*address, fault).into()),
+        }
     }
     Ok(listeners)
 }
@@ -59,6 +67,8 @@ struct Shared {
     routes: Mutex<Routes>,
     /// How many of their links began, and why they end.
     crew: Crew,
+    /// What they keep from the directory.
+    guard: Guard,
     /// From when on their clocks count.
     origin: Origin,
 }
@@ -69,17 +79,18 @@ fn shared_of(rt: &HostRuntime, plan: &HostPlan) -> Result<Shared, Ending>
     ensures { IfOk result (λ shared. vec_len shared.listeners ≡ length plan.now.listen) }
 {
     let Ok(origin) = Origin::read(rt) else {
-        return Err(Ending::Clock);
+        return Err(Failure::Clock.into());
     };
     let listeners = listeners_at(rt, plan)?;
     let Ok(keys) = RandomState::new(rt) else {
-        return Err(Ending::Keys);
+        return Err(Failure::Keys.into());
     };
     let routes = Mutex::new(Routes::new(rt.alloc(), keys)?);
     Ok(Shared {
         listeners,
         routes,
         crew: Crew::of(plan.ends() as u64),
+        guard: Guard::of(rt, rt.alloc(), plan)?,
         origin,
     })
 }
@@ -92,11 +103,13 @@ fn end_over<'a>(rt: &'a HostRuntime, shared: &'a Shared, own: usize) -> Result<H
         listeners,
         routes,
         crew,
+        guard,
         origin,
     } = shared;
     let link = HostLink::over(rt, rt.alloc(), routes, crew, listeners.as_slice(), own)?;
+    let link = GuardedLink::over(rt, guard, link, HostClock::of(rt, origin, [0; 32]));
     let Ok(clock) = HostClock::seeded(rt, origin) else {
-        return Err(Ending::Keys);
+        return Err(Failure::Keys.into());
     };
     Ok(End::of(link, clock))
 }
@@ -116,8 +129,8 @@ fn ends_over<'a>(rt: &'a HostRuntime, shared: &'a Shared, number: usize) -> Resu
 /// Says a text about the program.
 fn tell(rt: &HostRuntime, text: &str) -> Ending {
     match rt.stdout().write_all(text.as_bytes()) {
-        Ok(()) => Ending::Told,
-        Err(_) => Ending::Served(ServeStatus::Write),
+        Ok(()) => Ending::Done,
+        Err(_) => Ending::Failed(Failure::Write),
     }
 }
 
@@ -131,20 +144,12 @@ fn plan_of(rt: &HostRuntime) -> Result<HostPlan, Ending>
     }
 }
 
-/// Says on standard error above which number a run begins, where that can be written.
-fn say_begin(rt: &HostRuntime, first: u64) -> Result<(), Starved> {
-    let line = format!(in rt.alloc(); "rd_host: locations and entity tags count above {first}\n")?;
-    let _ = rt.stderr().write_all(line.as_bytes());
-    Ok(())
-}
-
-/// Begins a run above `first` by the seat of the first end, before any worker serves, and says so.
+/// Begins a run above `first` by the seat of the first end, before any worker serves.
 ///
 /// # Errors
 ///
 /// Out of memory.
 fn begin_run<R: Wait, L, C: Clock>(
-    rt: &HostRuntime,
     handles: &R,
     hall: &Hall,
     ends: &mut [End<L, C>],
@@ -162,10 +167,11 @@ fn begin_run<R: Wait, L, C: Clock>(
             }
         }
     }
-    say_begin(rt, first)
+    Ok(())
 }
 
-/// Makes a hall for the ends, begins its run above `first`, and serves as the plan says.
+/// Makes a hall for the ends, begins its run above `first`, says its line on standard error where
+/// that can be written, and serves.
 ///
 /// # Errors
 ///
@@ -174,27 +180,21 @@ fn serve_above<R: Threads + Wait + Sync + AllocGlobal, L: Link + Send, C: Clock 
     rt: &HostRuntime,
     handles: &R,
     ends: &mut [End<L, C>],
+    plan: &HostPlan,
     first: u64,
-    turns: u64,
 ) -> Result<ServeStatus, Starved>
     requires ends { (1 ≤ length ends.old) × (length ends.old ≤ 16) }
-    requires turns { turns ≤ 10 ^ 12 }
+    requires turns { plan.now.turns ≤ 10 ^ 12 }
 {
+    let line = plan.start_line(rt.alloc(), first)?;
     let hall = make_hall(handles, ends)?;
-    if let Err(starved) = begin_run(rt, handles, &hall, ends, first) {
+    if let Err(starved) = begin_run(handles, &hall, ends, first) {
         hall.end(handles);
         return Err(starved);
     }
+    let _ = rt.stderr().write_all(line.as_bytes());
     let mut out = StdSink::of(rt.stdout());
-    Ok(serve_seats(handles, hall, ends, &OpenGate, turns, &mut out))
-}
-
-/// How the program ends after the server ended so, with the trouble of its links.
-fn ending_of(status: ServeStatus, crew: &Crew) -> Ending {
-    match (status, crew.trouble()) {
-        (ServeStatus::Link, Some(trouble)) => Ending::Link(trouble),
-        _ => Ending::Served(status),
-    }
+    Ok(serve_seats(handles, hall, ends, &OpenGate, plan.turns, &mut out))
 }
 
 fn main(rt: HostRuntime) -> ExitCode {
@@ -211,8 +211,8 @@ fn main(rt: HostRuntime) -> ExitCode {
         Err(ending) => return ending.exit(&rt),
     };
     let first = plan.begin.unwrap_or(shared.origin.begin());
-    match serve_above(&rt, &rt, &mut ends, first, plan.turns) {
-        Ok(status) => ending_of(status, &shared.crew).exit(&rt),
+    match serve_above(&rt, &rt, &mut ends, &plan, first) {
+        Ok(status) => Ending::of(status, &shared.crew).exit(&rt),
         Err(starved) => Ending::from(starved).exit(&rt),
     }
 }

@@ -1,0 +1,136 @@
+//! Why the program ends, in a sentence each: what it is about, a colon, and the reason.
+ghost use Rattle.std.specs.Prelude.{◌≤◌};
+
+use crate::crews::Trouble;
+use rd_base::{Peer, Starved, peer_text};
+use std::alloc::{AllocError, Global};
+use std::io;
+use std::io::ErrorKind;
+
+/// The number of Linux for a family of addresses that the machine does not have.
+const EAFNOSUPPORT: i32 = 97;
+
+/// The first port that needs no privilege.
+const FIRST_FREE_PORT: u16 = 1024;
+
+/// Why the program ends before each worker has made its receives.
+#[derive(Debug, Drop)]
+pub enum Failure {
+    /// The words are not those of the program; what is wrong about them.
+    Words(String),
+    /// A word is not UTF-8.
+    Unread,
+    /// No socket could be made at this address, for this reason of the system.
+    Socket(Peer, io::Error),
+    /// All links of the server ended, for this trouble where one is known.
+    Link(Option<Trouble>),
+    /// The output could not be written.
+    Write,
+    /// Out of memory.
+    Memory,
+    /// The system gave no random numbers.
+    Keys,
+    /// The system's monotonic clock could not be read.
+    Clock,
+}
+
+impl From<Starved> for Failure {
+    fn from(_: Starved) -> Failure {
+        Failure::Memory
+    }
+}
+
+impl From<AllocError> for Failure {
+    fn from(_: AllocError) -> Failure {
+        Failure::Memory
+    }
+}
+
+/// What is said of a permission that lacks.
+fn denied(port: u16) -> &'static str {
+    if port < FIRST_FREE_PORT {
+        return "permission denied (ports below 1024 need CAP_NET_BIND_SERVICE)";
+    }
+    "permission denied (by a filter of this machine, as SocketBindAllow of its unit)"
+}
+
+/// The sentence for a socket that was refused at this port, where this program has one.
+fn refusal(port: u16, fault: &io::Error) -> Option<&'static str> {
+    if fault.raw_os_error() == Some(EAFNOSUPPORT) {
+        return Some("this machine has no addresses of this family");
+    }
+    match fault.kind() {
+        ErrorKind::AddrInUse => Some("address already in use"),
+        ErrorKind::AddrNotAvailable => Some("not an address of this machine"),
+        ErrorKind::PermissionDenied => Some(denied(port)),
+        _ => None,
+    }
+}
+
+/// The line for a socket that was refused.
+fn socket_line(alloc: Global, address: &Peer, fault: &io::Error) -> Result<String, Starved> {
+    let text = peer_text(alloc, address)?;
+    let text = text.as_str();
+    Ok(match refusal(address.port, fault) {
+        Some(reason) => format!(in alloc; "{text}: {reason}\n")?,
+        None => format!(in alloc; "{text}: no socket: {fault}\n")?,
+    })
+}
+
+/// The line for a trouble of the links.
+fn trouble_line(alloc: Global, trouble: &Trouble) -> Result<String, Starved> {
+    Ok(match trouble {
+        Trouble::Receives(address, fault) => {
+            let text = peer_text(alloc, address)?;
+            let text = text.as_str();
+            format!(in alloc; "{text}: receives fail: {fault}\n")?
+        }
+        Trouble::Threads(begun) => {
+            format!(in alloc; "threads: the system started them for {begun} workers alone\n")?
+        }
+    })
+}
+
+impl Failure {
+    /// Gives the exit status.
+    pub fn status(&self) -> u8
+        ensures { 1 ≤ result }
+    {
+        match self {
+            Failure::Link(_) => 1,
+            Failure::Write => 2,
+            Failure::Words(_) | Failure::Unread => 3,
+            Failure::Memory => 5,
+            Failure::Socket(..) | Failure::Keys | Failure::Clock => 6,
+        }
+    }
+
+    /// Gives the line that is said where there is no memory for the whole one.
+    pub fn short_line(&self) -> &'static str {
+        match self {
+            Failure::Words(_) => "words: not those of rd_host (--help tells them)\n",
+            Failure::Unread => "words: one is not UTF-8\n",
+            Failure::Socket(..) => "socket: the system refuses it\n",
+            Failure::Link(_) => "link: receives fail\n",
+            Failure::Write => "standard output: it cannot be written\n",
+            Failure::Memory => "memory: it ran out\n",
+            Failure::Keys => "random numbers: the system gives none\n",
+            Failure::Clock => "clock: the monotonic clock cannot be read\n",
+        }
+    }
+
+    /// Gives the whole line that is said on standard error: what it is about, a colon, and the
+    /// reason.
+    ///
+    /// # Errors
+    ///
+    /// Out of memory.
+    pub fn line(&self, alloc: Global) -> Result<String, Starved> {
+        match self {
+            Failure::Words(wrong) => Ok(format!(in alloc; "{wrong}\n")?),
+            Failure::Socket(address, fault) => socket_line(alloc, address, fault),
+            Failure::Link(Some(trouble)) => trouble_line(alloc, trouble),
+            _ => Ok(String::from_str(alloc, self.short_line())?),
+        }
+    }
+}
