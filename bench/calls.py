@@ -191,10 +191,10 @@ def running(words: Callable[[int], list[str]]) -> Iterator[Server]:
 
 
 def without_bounds(program: str) -> list[str]:
-    """What lifts the bounds of a sender, where the program has them."""
-    usage = subprocess.run([program, "--help"], capture_output=True, text=True, check=False)
-    has = "--share" in usage.stdout + usage.stderr
-    return ["--share", "0", "--criteria", "0", "--quiet"] if has else []
+    """The words that lift the bounds of a sender, of those that the program has."""
+    usage = subprocess.run([program, "--help"], capture_output=True, text=True, check=False).stdout
+    bounds = {"--share": ["0"], "--criteria": ["0"], "--quiet": []}
+    return [word for name, value in bounds.items() if name in usage for word in (name, *value)]
 
 
 def kind_of(program: str) -> tuple[str, Callable[[int], list[str]], bool]:
