@@ -9,8 +9,10 @@ ghost use Rattle.rd_server.specs.serving.Servers.{AreOfHall};
 mod endings;
 
 use endings::Ending;
-use hosting::{Crew, Failure, Guard, GuardedLink, HostClock, HostLink, HostPlan, Listener, Origin};
-use hosting::{Routes, Wanted, read_words};
+use hosting::{
+    Crew, Failure, Guard, GuardedLink, HostClock, HostLink, HostPlan, Listener, Origin, Routes,
+    Wanted, read_words,
+};
 use rd_base::{Starved, StdSink};
 use rd_desk::Stepped;
 use rd_seat::{Hall, OpenGate};
@@ -26,8 +28,7 @@ use udp_link::{Clock, Link};
 type WorkerClock<'a> = HostClock<'a, HostRuntime>;
 
 /// The link of one worker.
-type WorkerLink<'a> =
-    GuardedLink<'a, HostRuntime, HostLink<'a, HostRuntime>, WorkerClock<'a>>;
+type WorkerLink<'a> = GuardedLink<'a, HostRuntime, HostLink<'a, HostRuntime>, WorkerClock<'a>>;
 
 /// The end of one worker.
 type HostEnd<'a> = End<WorkerLink<'a>, WorkerClock<'a>>;
