@@ -1,5 +1,6 @@
 pub mod ReportedOutcomes
 pub mod SettledNotes
 pub mod CommitAnswers
+pub mod AdmittedRows
 pub mod SingleAnswers
 pub mod AnsweredAlike

@@ -48,7 +48,7 @@ use Rattle.journal_model.specs.declared.rows.Row.{Row}
 use Rattle.journal_model.specs.Journal.{events, entries, entries_of}
 use Rattle.journal_model.specs.Requests.{is_write, method_of, refusal_of_request}
 use Rattle.journal_model.specs.Changes.{number_after}
-use Rattle.journal_model.specs.PlacedRows.{Within, Placed, Commits}
+use Rattle.journal_model.specs.PlacedRows.{Within, Placed, Commits, code_sent}
 use Rattle.journal_model.specs.CarriedBlocks.{Sent}
 use Rattle.journal_model.specs.SentDatagrams.{is_response}
 
@@ -116,6 +116,26 @@ pub record HearsWrite (r : Row) (m : Message) : Type 0 where
   pub writes : is_write (path_in m) (method_of m.code) ≡ true
   pub ample : r.starved ≡ false
 
+-- ---- how an exchange begins and ends
+
+-- the row admits a write: it hears it, the write meets no refusal, and memory suffices. It sends
+-- nothing, and notes nothing else: the commit is to answer (RFC 7252 section 4.5)
+pub record AdmitsWrite (r : Row) (peer : Peer) (mid : ℕ) : Type 0 where
+  pub request : Message
+  pub hears : HearsWrite r request
+  pub from : peer ≡ r.step.peer
+  pub mid_is : mid ≡ request.mid
+  pub silent : r.sent ≡ []
+  pub alone : r.notes ≡ note.Admitted peer mid ∷ []
+
+-- the row ends an exchange without an answer that is kept: it commits its write, memory ran out in
+-- it, and 5.00 is sent; it notes nothing else (RFC 7252 section 4.5)
+pub record FailsWrite (r : Row) (place : ℕ) : Type 0 where
+  pub commits : Commits r place
+  pub starved : r.starved ≡ true
+  pub sent : code_sent r.sent ≡ codes_of.internal_server_error
+  pub alone : r.notes ≡ note.Failed place ∷ []
+
 -- ---- locations
 
 -- the values of the Location-Path options, in order (RFC 7252 section 5.10.7)
@@ -175,6 +195,14 @@ pub record AnsweredAlike (rows : List Row) : Type 0 where
       → Within rows before r
       → IsAmong r.notes (note.Settled place octets)
       → Commits r place × IsAmong r.sent (r.step.peer, octets)
+  pub admitted : (before : List Row) (r : Row) (peer : Peer) (mid : ℕ)
+      → Within rows before r
+      → IsAmong r.notes (note.Admitted peer mid)
+      → AdmitsWrite r peer mid
+  pub failed : (before : List Row) (r : Row) (place : ℕ)
+      → Within rows before r
+      → IsAmong r.notes (note.Failed place)
+      → FailsWrite r place
   pub located : (sent : Sent rows)
       → IsNotOfTick sent.here.row.step.kind
       → sent.message.code ≡ codes_of.created

@@ -31,6 +31,7 @@ use Rattle.std.proofs.lemmas.Bool.{false≢true}
 use Rattle.rd_base.specs.declared.peers.Peer.{Peer}
 use Rattle.rd_base.proofs.lemmas.Among.{all_at_index}
 use Rattle.rd_base.proofs.lemmas.Each.{none_pass}
+use Rattle.rd_base.proofs.lemmas.Numbers.{eqb-refl}
 use Rattle.message_model.specs.declared.messages.Kind4.TheVariants.{Rst, Ack}
 use Rattle.message_model.specs.Codes as codes_of
 use Rattle.message_model.specs.declared.messages.Role.TheVariants as role
@@ -43,7 +44,7 @@ use Rattle.history_model.specs.declared.entries.Entry.{Entry}
 use Rattle.event_model.specs.declared.notes.Note.{Note}
 use Rattle.event_model.specs.declared.notes.Note.TheVariants as note
 use Rattle.event_model.specs.Events.{Event}
-use Rattle.event_model.specs.Repeats.{is_admission_of, is_admitting, repeated, settled}
+use Rattle.event_model.specs.Repeats.{is_admission_of, is_admitting, is_failure_of, repeated, settled}
 use Rattle.journal_model.specs.declared.steps.Step.{Step}
 use Rattle.journal_model.specs.declared.steps.StepKind.{StepKind}
 use Rattle.journal_model.specs.declared.steps.StepKind.TheVariants as step
@@ -83,6 +84,8 @@ use Rattle.headline_law.specs.AnsweredAlike.{
   IsNotOfTick,
   AnsweredAlike,
 }
+use Rattle.headline_law.proofs.entries.Failures.{rows-FailsWrite}
+use Rattle.headline_law.proofs.answers.AdmittedRows.{any_at_index, rows-AdmitsWrite}
 use Rattle.headline_law.proofs.answers.ReportedOutcomes.{LocatesEntry}
 use Rattle.headline_law.proofs.answers.SettledNotes.{SettlesAnswer, SettleFact}
 use Rattle.headline_law.proofs.answers.SingleAnswers.{
@@ -362,6 +365,11 @@ rows-AnsweredAlike rows made placed all = record {
   again = λ before r m first within hears found.
       answers_again rows before r m first made within hears found;
   kept = λ before r place octets within there. keeps before r place octets within there;
+  admitted = λ before r peer mid within there.
+      rows-AdmitsWrite rows before r peer mid made within there;
+  failed = λ before r place within there.
+      rows-FailsWrite rows before r place made within
+      (any_at_index (is_failure_of place) r.notes (note.Failed place) there (eqb-refl place));
   located = λ sent no_tick created. names sent sent.here.row.step.kind refl no_tick created;
 }
   where
