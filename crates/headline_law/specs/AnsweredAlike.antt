@@ -6,6 +6,8 @@ use Rattle.std.specs.Prelude.{
   ℕ,
   ◌≤◌,
   ◌==◌,
+  ◌||◌,
+  Bool,
   true,
   false,
   List,
@@ -136,6 +138,14 @@ pub record FailsWrite (r : Row) (place : ℕ) : Type 0 where
   pub sent : code_sent r.sent ≡ codes_of.internal_server_error
   pub alone : r.notes ≡ note.Failed place ∷ []
 
+-- ---- answers that say what was done
+
+-- the code says that a write was done, or that a block of it was taken: 2.01, 2.02, 2.04 or 2.31
+abbrev pub is_code_of_write : ℕ → Bool
+is_code_of_write code =
+    code == codes_of.created || code == codes_of.deleted || code == codes_of.changed
+    || code == codes_of.continue
+
 -- ---- locations
 
 -- the values of the Location-Path options, in order (RFC 7252 section 5.10.7)
@@ -203,6 +213,11 @@ pub record AnsweredAlike (rows : List Row) : Type 0 where
       → Within rows before r
       → IsAmong r.notes (note.Failed place)
       → FailsWrite r place
+  pub commits : (sent : Sent rows)
+      → IsNotOfTick sent.here.row.step.kind
+      → is_code_of_write sent.message.code ≡ true
+      → ((place : ℕ) × Commits sent.here.row place)
+      ⊎ RepeatsReply sent.here sent.peer sent.octets
   pub located : (sent : Sent rows)
       → IsNotOfTick sent.here.row.step.kind
       → sent.message.code ≡ codes_of.created
