@@ -120,4 +120,5 @@ pub mod WrongMoments
 pub mod WrongInventions
 pub mod WrongKeptAnswers
 pub mod WrongEchoes
+pub mod WrongReadings
 pub mod WholeHeadlineLaw
