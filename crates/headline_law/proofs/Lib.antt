@@ -74,7 +74,7 @@
 -- again.
 --   answers: ReportedOutcomes (the reply of each write: its code, no Observe, the location of its
 -- entry), SettledNotes (what is settled was sent), CommitAnswers (a commit answers once; what is
---   admitted is a write), SingleAnswers (any other step sends at most one), and AnsweredAlike, the
+--   admitted is a write), AdmittedRows (a row that admits sends nothing), SingleAnswers (any other step sends at most one), and AnsweredAlike, the
 -- sentence, by the table of `whom`.
 --
 -- ObserversStand: an answer with Observe makes an observer, which ends only for a reason.
@@ -82,7 +82,8 @@
 -- rejected, given up or cancelled does not stand), ToldObservers (who is added is told so), and
 --   ObserversStand, the sentence, by the table of `whom`.
 --
--- WrongPeers, WrongAnswers and WrongObservers: rows that fall by these.
+-- WrongPeers, WrongAnswers and WrongObservers: rows that fall by these. WrongReadings: rows that a
+-- second reader thought of, by any of the sentences of this crate's own specs.
 --
 -- WholeHeadlineLaw: all sentences, of journals, of desks and of traces.
 --

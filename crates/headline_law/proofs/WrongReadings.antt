@@ -27,8 +27,9 @@ use Rattle.rd_base.specs.declared.peers.Host.{Host}
 use Rattle.rd_base.specs.declared.peers.Host.TheVariants as host
 use Rattle.rd_base.specs.declared.peers.Peer.{Peer}
 use Rattle.message_model.specs.declared.messages.Kind4.TheVariants.{Con, Non, Ack, Rst}
+use Rattle.message_model.specs.declared.messages.Role.TheVariants as role
 use Rattle.message_model.specs.Codes as codes_of
-use Rattle.message_model.specs.Message.{Message}
+use Rattle.message_model.specs.Message.{Message, role_of}
 use Rattle.message_model.specs.OptionTable as table
 use Rattle.message_model.specs.Request.{path_in}
 use Rattle.message_model.specs.Spelling.{spelling}
@@ -53,6 +54,7 @@ use Rattle.headline_law.specs.AnsweredAlike.{
 }
 use Rattle.headline_law.specs.EchoedFirst.{IsChallenge, EchoedFirst}
 use Rattle.headline_law.specs.KeptAnswers.{AsksFurther, KeptAnswers}
+use Rattle.headline_law.specs.ObserversStand.{HearsAcknowledgement, WaitedOnce, ObserversStand}
 use Rattle.headline_law.specs.SentToWhom.{Rejects, SentToWhom}
 use Rattle.headline_law.proofs.WrongRows.{row_of, lookup, answer, sent_first}
 
@@ -299,3 +301,53 @@ fails_and_settles_falls datagram octets place sent later before h =
     (record { later = later; whole = refl }) (0, (omega arith, refl)) in
     absurd (let no :
     note.Failed place ∷ note.Settled place octets ∷ [] ≡ note.Failed place ∷ [] = it.alone in cc)
+
+-- ---- notices in flight
+
+-- a tick notes that a notice was acknowledged: its observer stays, though it never answers
+-- An end theorem: nothing here cites it.
+pub tick_lands_falls : (datagram : List ℕ) (mid : ℕ) (later before : List Row)
+    → ObserversStand
+    (later ++ row_of step.Tick datagram false [] (note.Landed (peer 1) mid ∷ []) ∷ before)
+    → ⊥
+tick_lands_falls datagram mid later before h =
+    let it : HearsAcknowledgement
+    (row_of step.Tick datagram false [] (note.Landed (peer 1) mid ∷ [])) (peer 1) mid =
+    h.landed before (row_of step.Tick datagram false [] (note.Landed (peer 1) mid ∷ [])) (peer 1)
+    mid (record { later = later; whole = refl }) (0, (omega arith, refl)) in
+    absurd (let no : step.Tick ≡ step.Admit = it.heard in cc)
+
+-- a lookup is taken for an acknowledgement of the same Message ID
+abbrev lands_by_lookup : Row
+lands_by_lookup =
+    row_of step.Admit (spelling lookup) false [] (note.Landed (peer 1) 16 ∷ [])
+
+-- An end theorem: nothing here cites it.
+pub lands_by_lookup_falls : (later before : List Row)
+    → ObserversStand (later ++ lands_by_lookup ∷ before)
+    → ⊥
+unfolding messages_on_literals
+lands_by_lookup_falls later before h =
+    let it : HearsAcknowledgement lands_by_lookup (peer 1) 16 =
+    h.landed before lands_by_lookup (peer 1) 16 (record { later = later; whole = refl })
+    (0, (omega arith, refl)) in
+    let same : it.message ≡ lookup =
+    same_message it.message lookup (spelling lookup) it.read refl in
+    absurd (let no : role.Request ≡ role.Acknowledgement =
+    ap (λ (m : Message). role_of m.kind m.code) (sym same) ∙ it.acknowledges in cc)
+
+-- a tick notes four times that a notice was sent again, which it never sent
+abbrev gives_up : Row
+gives_up =
+    row_of step.Tick [] false []
+    (note.Again (peer 1) 7 ∷ note.Again (peer 1) 7 ∷ note.Again (peer 1) 7 ∷ note.Again (peer 1) 7
+    ∷ [])
+
+-- An end theorem: nothing here cites it.
+pub gives_up_falls : ObserversStand (gives_up ∷ []) → ⊥
+unfolding machine_on_literals
+gives_up_falls h =
+    let it : WaitedOnce [] gives_up (peer 1) 7 =
+    h.again [] gives_up (peer 1) 7 (record { later = []; whole = refl })
+    (0, (omega arith, refl)) in
+    let none = it.stands.1.0 in absurd (omega (arith, none))

@@ -176,9 +176,11 @@ IsNotOfTick _ = Unit {0}
 -- request wants, and its exchange keeps that. Each other row that is made for a request sends at
 -- most one, and of that type, unless a write comes again. A write that comes again is answered by
 -- the octets that its exchange keeps, or by nothing, and nothing is noted of it. What an exchange
--- keeps was noted by its own commit, which sent it. And a 2.01 names the location of the
--- registration that its row entered, unless it is such a kept answer. (In a tick each response is a
--- 2.05, as SendsToWhoAsked says.)
+-- keeps was noted by its own commit, which sent it. A row that admits hears a write, and sends
+-- nothing; a write fails only in its own commit, where memory ran out, and with 5.00. What says
+-- that a write was done stands in a commit, and a 2.01 names the location of the registration that
+-- its row entered, unless it is such a kept answer. (In a tick each response is a 2.05, as
+-- SendsToWhoAsked says.)
 pub record AnsweredAlike (rows : List Row) : Type 0 where
   pub once : (before : List Row) (r : Row) (place : ℕ) (m : Message)
       → Within rows before r
