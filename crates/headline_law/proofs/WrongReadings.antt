@@ -34,6 +34,7 @@ use Rattle.message_model.specs.OptionTable as table
 use Rattle.message_model.specs.Request.{path_in}
 use Rattle.message_model.specs.Spelling.{spelling}
 use Rattle.message_model.proofs.OnLiterals.{messages_on_literals}
+use Rattle.event_model.specs.declared.notes.Note.{Note}
 use Rattle.event_model.specs.declared.notes.Note.TheVariants as note
 use Rattle.event_model.specs.Events.{Event}
 use Rattle.event_model.proofs.ManyObservers.{peer}
@@ -50,6 +51,7 @@ use Rattle.headline_law.specs.AnsweredAlike.{
   RepeatsReply,
   AdmitsWrite,
   FailsWrite,
+  RunsOut,
   AnsweredAlike,
 }
 use Rattle.headline_law.specs.EchoedFirst.{IsChallenge, EchoedFirst}
@@ -301,6 +303,25 @@ fails_and_settles_falls datagram octets place sent later before h =
     (record { later = later; whole = refl }) (0, (omega arith, refl)) in
     absurd (let no :
     note.Failed place ∷ note.Settled place octets ∷ [] ≡ note.Failed place ∷ [] = it.alone in cc)
+
+-- ---- where memory runs out
+
+-- a commit where memory ran out answers 4.04 and notes nothing: the same datagram again gets no
+-- answer
+abbrev leaves_open : Row
+leaves_open =
+    row_of (step.Commit 0) (spelling removing) true ((peer 1, spelling not_found) ∷ []) []
+
+-- An end theorem: nothing here cites it.
+pub leaves_open_falls : (later before : List Row)
+    → AnsweredAlike (later ++ leaves_open ∷ before)
+    → ⊥
+unfolding machine_on_literals
+leaves_open_falls later before h =
+    let it : RunsOut leaves_open =
+    h.starved before leaves_open removing (record { later = later; whole = refl }) tt refl refl
+    refl in
+    absurd (let no : ◌≡◌ {A = List Note} [] (note.Failed 0 ∷ []) = it.notes in cc)
 
 -- ---- notices in flight
 

@@ -41,6 +41,7 @@ use Rattle.message_model.specs.Reading.{reading}
 use Rattle.message_model.specs.Request.{path_in}
 use Rattle.history_model.specs.declared.entries.Change.TheVariants as change
 use Rattle.history_model.specs.declared.entries.Entry.{Entry}
+use Rattle.event_model.specs.declared.notes.Note.{Note}
 use Rattle.event_model.specs.declared.notes.Note.TheVariants as note
 use Rattle.event_model.specs.Events.{Event}
 use Rattle.event_model.specs.Repeats.{repeated, settled}
@@ -138,6 +139,24 @@ pub record FailsWrite (r : Row) (place : ℕ) : Type 0 where
   pub sent : code_sent r.sent ≡ codes_of.internal_server_error
   pub alone : r.notes ≡ note.Failed place ∷ []
 
+-- ---- where memory runs out
+
+-- the step is made for the request in its datagram
+abbrev pub IsForDatagram : StepKind → Type 0
+IsForDatagram step.Tick = ⊥
+IsForDatagram (step.Begin first) = ⊥
+IsForDatagram _ = Unit {0}
+
+-- then a commit notes that its write failed, and any other step nothing
+abbrev pub NotesOutOfMemory : StepKind → List Note → Type 0
+NotesOutOfMemory (step.Commit place) notes = notes ≡ note.Failed place ∷ []
+NotesOutOfMemory _ notes = notes ≡ []
+
+-- the row answers 5.00, and changes nothing
+pub record RunsOut (r : Row) : Type 0 where
+  pub sent : code_sent r.sent ≡ codes_of.internal_server_error
+  pub notes : NotesOutOfMemory r.step.kind r.notes
+
 -- ---- answers that say what was done
 
 -- the code says that a write was done, or that a block of it was taken: 2.01, 2.02, 2.04 or 2.31
@@ -177,7 +196,8 @@ IsNotOfTick _ = Unit {0}
 -- most one, and of that type, unless a write comes again. A write that comes again is answered by
 -- the octets that its exchange keeps, or by nothing, and nothing is noted of it. What an exchange
 -- keeps was noted by its own commit, which sent it. A row that admits hears a write, and sends
--- nothing; a write fails only in its own commit, where memory ran out, and with 5.00. What says
+-- nothing; a write fails only in its own commit, where memory ran out, and with 5.00. Where memory
+-- ran out, a row that is made for a request answers 5.00 and changes nothing. What says
 -- that a write was done stands in a commit, and a 2.01 names the location of the registration that
 -- its row entered, unless it is such a kept answer. (In a tick each response is a 2.05, as
 -- SendsToWhoAsked says.)
@@ -215,6 +235,13 @@ pub record AnsweredAlike (rows : List Row) : Type 0 where
       → Within rows before r
       → IsAmong r.notes (note.Failed place)
       → FailsWrite r place
+  pub starved : (before : List Row) (r : Row) (m : Message)
+      → Within rows before r
+      → IsForDatagram r.step.kind
+      → reading r.step.datagram ≡ Ok m
+      → role_of m.kind m.code ≡ role.Request
+      → r.starved ≡ true
+      → RunsOut r
   pub commits : (sent : Sent rows)
       → IsNotOfTick sent.here.row.step.kind
       → is_code_of_write sent.message.code ≡ true

@@ -87,6 +87,7 @@ use Rattle.headline_law.specs.AnsweredAlike.{
 }
 use Rattle.headline_law.proofs.entries.Failures.{rows-FailsWrite}
 use Rattle.headline_law.proofs.answers.AdmittedRows.{any_at_index, rows-AdmitsWrite}
+use Rattle.headline_law.proofs.answers.StarvedRows.{row_runs_out}
 use Rattle.headline_law.proofs.answers.ReportedOutcomes.{LocatesEntry}
 use Rattle.headline_law.proofs.answers.SettledNotes.{SettlesAnswer, SettleFact}
 use Rattle.headline_law.proofs.answers.SingleAnswers.{
@@ -414,6 +415,8 @@ rows-AnsweredAlike rows made placed all = record {
   failed = λ before r place within there.
       rows-FailsWrite rows before r place made within
       (any_at_index (is_failure_of place) r.notes (note.Failed place) there (eqb-refl place));
+  starved = λ before r m within fits read asks out.
+      row_runs_out before r m (does rows before r made within) fits read asks out;
   commits = λ sent no_tick says. does_it sent sent.here.row.step.kind refl no_tick says;
   located = λ sent no_tick created. names sent sent.here.row.step.kind refl no_tick created;
 }
