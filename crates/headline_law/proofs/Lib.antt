@@ -74,8 +74,9 @@
 -- again.
 --   answers: ReportedOutcomes (the reply of each write: its code, no Observe, the location of its
 -- entry), SettledNotes (what is settled was sent), CommitAnswers (a commit answers once; what is
---   admitted is a write), AdmittedRows (a row that admits sends nothing), StarvedRows (5.00 where memory ran out), SingleAnswers (any other step sends at most one), and AnsweredAlike, the
--- sentence, by the table of `whom`.
+--   admitted is a write), AdmittedRows (a row that admits sends nothing), StarvedRows (5.00 where
+-- memory ran out), SingleAnswers (any other step sends at most one), and AnsweredAlike, the
+--   sentence, by the table of `whom`.
 --
 -- ObserversStand: an answer with Observe makes an observer, which ends only for a reason.
 --   watchers: ObserverNotes (what each step notes of who observes, and why), ObserversEnd (who is
