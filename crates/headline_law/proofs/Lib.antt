@@ -74,15 +74,17 @@
 -- again.
 --   answers: ReportedOutcomes (the reply of each write: its code, no Observe, the location of its
 -- entry), SettledNotes (what is settled was sent), CommitAnswers (a commit answers once; what is
---   admitted is a write), SingleAnswers (any other step sends at most one), and AnsweredAlike, the
--- sentence, by the table of `whom`.
+--   admitted is a write), AdmittedRows (a row that admits sends nothing), StarvedRows (5.00 where
+-- memory ran out), SingleAnswers (any other step sends at most one), and AnsweredAlike, the
+--   sentence, by the table of `whom`.
 --
 -- ObserversStand: an answer with Observe makes an observer, which ends only for a reason.
 --   watchers: ObserverNotes (what each step notes of who observes, and why), ObserversEnd (who is
 -- rejected, given up or cancelled does not stand), ToldObservers (who is added is told so), and
 --   ObserversStand, the sentence, by the table of `whom`.
 --
--- WrongPeers, WrongAnswers and WrongObservers: rows that fall by these.
+-- WrongPeers, WrongAnswers and WrongObservers: rows that fall by these. WrongReadings: rows that a
+-- second reader thought of, by any of the sentences of this crate's own specs.
 --
 -- WholeHeadlineLaw: all sentences, of journals, of desks and of traces.
 --
@@ -120,4 +122,5 @@ pub mod WrongMoments
 pub mod WrongInventions
 pub mod WrongKeptAnswers
 pub mod WrongEchoes
+pub mod WrongReadings
 pub mod WholeHeadlineLaw

@@ -6,6 +6,8 @@ use Rattle.std.specs.Prelude.{
   ℕ,
   ◌≤◌,
   ◌==◌,
+  ◌||◌,
+  Bool,
   true,
   false,
   List,
@@ -39,6 +41,7 @@ use Rattle.message_model.specs.Reading.{reading}
 use Rattle.message_model.specs.Request.{path_in}
 use Rattle.history_model.specs.declared.entries.Change.TheVariants as change
 use Rattle.history_model.specs.declared.entries.Entry.{Entry}
+use Rattle.event_model.specs.declared.notes.Note.{Note}
 use Rattle.event_model.specs.declared.notes.Note.TheVariants as note
 use Rattle.event_model.specs.Events.{Event}
 use Rattle.event_model.specs.Repeats.{repeated, settled}
@@ -48,7 +51,7 @@ use Rattle.journal_model.specs.declared.rows.Row.{Row}
 use Rattle.journal_model.specs.Journal.{events, entries, entries_of}
 use Rattle.journal_model.specs.Requests.{is_write, method_of, refusal_of_request}
 use Rattle.journal_model.specs.Changes.{number_after}
-use Rattle.journal_model.specs.PlacedRows.{Within, Placed, Commits}
+use Rattle.journal_model.specs.PlacedRows.{Within, Placed, Commits, code_sent}
 use Rattle.journal_model.specs.CarriedBlocks.{Sent}
 use Rattle.journal_model.specs.SentDatagrams.{is_response}
 
@@ -116,6 +119,52 @@ pub record HearsWrite (r : Row) (m : Message) : Type 0 where
   pub writes : is_write (path_in m) (method_of m.code) ≡ true
   pub ample : r.starved ≡ false
 
+-- ---- how an exchange begins and ends
+
+-- the row admits a write: it hears it, the write meets no refusal, and memory suffices. It sends
+-- nothing, and notes nothing else: the commit is to answer (RFC 7252 section 4.5)
+pub record AdmitsWrite (r : Row) (peer : Peer) (mid : ℕ) : Type 0 where
+  pub request : Message
+  pub hears : HearsWrite r request
+  pub from : peer ≡ r.step.peer
+  pub mid_is : mid ≡ request.mid
+  pub silent : r.sent ≡ []
+  pub alone : r.notes ≡ note.Admitted peer mid ∷ []
+
+-- the row ends an exchange without an answer that is kept: it commits its write, memory ran out in
+-- it, and 5.00 is sent; it notes nothing else (RFC 7252 section 4.5)
+pub record FailsWrite (r : Row) (place : ℕ) : Type 0 where
+  pub commits : Commits r place
+  pub starved : r.starved ≡ true
+  pub sent : code_sent r.sent ≡ codes_of.internal_server_error
+  pub alone : r.notes ≡ note.Failed place ∷ []
+
+-- ---- where memory runs out
+
+-- the step is made for the request in its datagram
+abbrev pub IsForDatagram : StepKind → Type 0
+IsForDatagram step.Tick = ⊥
+IsForDatagram (step.Begin first) = ⊥
+IsForDatagram _ = Unit {0}
+
+-- then a commit notes that its write failed, and any other step nothing
+abbrev pub NotesOutOfMemory : StepKind → List Note → Type 0
+NotesOutOfMemory (step.Commit place) notes = notes ≡ note.Failed place ∷ []
+NotesOutOfMemory _ notes = notes ≡ []
+
+-- the row answers 5.00, and changes nothing
+pub record RunsOut (r : Row) : Type 0 where
+  pub sent : code_sent r.sent ≡ codes_of.internal_server_error
+  pub notes : NotesOutOfMemory r.step.kind r.notes
+
+-- ---- answers that say what was done
+
+-- the code says that a write was done, or that a block of it was taken: 2.01, 2.02, 2.04 or 2.31
+abbrev pub is_code_of_write : ℕ → Bool
+is_code_of_write code =
+    code == codes_of.created || code == codes_of.deleted || code == codes_of.changed
+    || code == codes_of.continue
+
 -- ---- locations
 
 -- the values of the Location-Path options, in order (RFC 7252 section 5.10.7)
@@ -146,9 +195,12 @@ IsNotOfTick _ = Unit {0}
 -- request wants, and its exchange keeps that. Each other row that is made for a request sends at
 -- most one, and of that type, unless a write comes again. A write that comes again is answered by
 -- the octets that its exchange keeps, or by nothing, and nothing is noted of it. What an exchange
--- keeps was noted by its own commit, which sent it. And a 2.01 names the location of the
--- registration that its row entered, unless it is such a kept answer. (In a tick each response is a
--- 2.05, as SendsToWhoAsked says.)
+-- keeps was noted by its own commit, which sent it. A row that admits hears a write, and sends
+-- nothing; a write fails only in its own commit, where memory ran out, and with 5.00. Where memory
+-- ran out, a row that is made for a request answers 5.00 and changes nothing. What says
+-- that a write was done stands in a commit, and a 2.01 names the location of the registration that
+-- its row entered, unless it is such a kept answer. (In a tick each response is a 2.05, as
+-- SendsToWhoAsked says.)
 pub record AnsweredAlike (rows : List Row) : Type 0 where
   pub once : (before : List Row) (r : Row) (place : ℕ) (m : Message)
       → Within rows before r
@@ -175,6 +227,26 @@ pub record AnsweredAlike (rows : List Row) : Type 0 where
       → Within rows before r
       → IsAmong r.notes (note.Settled place octets)
       → Commits r place × IsAmong r.sent (r.step.peer, octets)
+  pub admitted : (before : List Row) (r : Row) (peer : Peer) (mid : ℕ)
+      → Within rows before r
+      → IsAmong r.notes (note.Admitted peer mid)
+      → AdmitsWrite r peer mid
+  pub failed : (before : List Row) (r : Row) (place : ℕ)
+      → Within rows before r
+      → IsAmong r.notes (note.Failed place)
+      → FailsWrite r place
+  pub starved : (before : List Row) (r : Row) (m : Message)
+      → Within rows before r
+      → IsForDatagram r.step.kind
+      → reading r.step.datagram ≡ Ok m
+      → role_of m.kind m.code ≡ role.Request
+      → r.starved ≡ true
+      → RunsOut r
+  pub commits : (sent : Sent rows)
+      → IsNotOfTick sent.here.row.step.kind
+      → is_code_of_write sent.message.code ≡ true
+      → ((place : ℕ) × Commits sent.here.row place)
+      ⊎ RepeatsReply sent.here sent.peer sent.octets
   pub located : (sent : Sent rows)
       → IsNotOfTick sent.here.row.step.kind
       → sent.message.code ≡ codes_of.created

@@ -4,6 +4,7 @@ use Rattle.std.specs.Prelude.{
   ◌≡◌,
   ◌⊎◌,
   ℕ,
+  ◌<◌,
   ◌≤◌,
   Bool,
   true,
@@ -23,6 +24,7 @@ use Rattle.message_model.specs.OptionTable as table
 use Rattle.message_model.specs.OptionTable.{stands_in}
 use Rattle.message_model.specs.Reading.{reading}
 use Rattle.message_model.specs.Request.{path_in, observe_in}
+use Rattle.event_model.specs.declared.notes.Note.TheVariants as note
 use Rattle.event_model.specs.declared.notes.Observer.{Observer}
 use Rattle.event_model.specs.Observers.{observers}
 use Rattle.event_model.specs.Flights.{Flight, max_again, deadline, flight}
@@ -116,6 +118,30 @@ pub data EndsObserving (before : List Row) (r : Row) (o : Observer) : Type 0 whe
   rejects_notice : RejectsNotice before r o → EndsObserving before r o
   never_acknowledges : NeverAcknowledges before r o → EndsObserving before r o
 
+-- ---- notices in flight
+
+-- the row hears an acknowledgement of this peer, with this Message ID (RFC 7252 section 4.2)
+pub record HearsAcknowledgement (r : Row) (peer : Peer) (mid : ℕ) : Type 0 where
+  pub heard : r.step.kind ≡ step.Admit
+  pub message : Message
+  pub read : reading r.step.datagram ≡ Ok message
+  pub acknowledges : role_of message.kind message.code ≡ role.Acknowledgement
+  pub from : peer ≡ r.step.peer
+  pub mid_is : mid ≡ message.mid
+
+-- a tick finds that the wait for the acknowledgement of a notice has ended, which is in flight to
+-- an observer and was sent again fewer than four times (RFC 7252 section 4.2)
+pub record WaitedOnce (before : List Row) (r : Row) (peer : Peer) (mid : ℕ) : Type 0 where
+  pub ticks : r.step.kind ≡ step.Tick
+  pub observer : Observer
+  pub stands : IsAmong (observers (events before)) observer
+  pub peer_is : peer ≡ observer.peer
+  pub notice : Flight
+  pub flies : flight observer (events before) ≡ Some notice
+  pub mid_is : mid ≡ notice.mid
+  pub sent : length notice.again < max_again
+  pub waited : deadline notice.formed notice.again ≤ r.moment.0
+
 -- ---- the sentence
 
 -- the row hears a lookup with Observe 0 that asks to be this observer, and tells it so: it sends it
@@ -142,7 +168,8 @@ pub record Cancels (r : Row) (request : Message) : Type 0 where
 -- exactly what it asked for. Who observes asked to, and was told so. An observer ends only where
 -- its peer asks anew under its token, rejects the notice in flight, or never acknowledges it. It
 -- does end where its notice is rejected or never acknowledged; and after a cancellation nobody
--- observes under its token.
+-- observes under its token. A notice is noted as acknowledged only where its peer acknowledges it,
+-- and as sent again only where the wait for that has ended.
 pub record ObserversStand (rows : List Row) : Type 0 where
   pub observed : (sent : Sent rows)
       → is_response sent.message ≡ true
@@ -166,3 +193,11 @@ pub record ObserversStand (rows : List Row) : Type 0 where
       → Within rows before r
       → Cancels r request
       → observer_named (r.step.peer, request.token) (r ∷ before) ≡ None
+  pub landed : (before : List Row) (r : Row) (peer : Peer) (mid : ℕ)
+      → Within rows before r
+      → IsAmong r.notes (note.Landed peer mid)
+      → HearsAcknowledgement r peer mid
+  pub again : (before : List Row) (r : Row) (peer : Peer) (mid : ℕ)
+      → Within rows before r
+      → IsAmong r.notes (note.Again peer mid)
+      → WaitedOnce before r peer mid

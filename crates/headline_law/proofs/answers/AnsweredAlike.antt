@@ -31,6 +31,7 @@ use Rattle.std.proofs.lemmas.Bool.{false≢true}
 use Rattle.rd_base.specs.declared.peers.Peer.{Peer}
 use Rattle.rd_base.proofs.lemmas.Among.{all_at_index}
 use Rattle.rd_base.proofs.lemmas.Each.{none_pass}
+use Rattle.rd_base.proofs.lemmas.Numbers.{eqb-refl}
 use Rattle.message_model.specs.declared.messages.Kind4.TheVariants.{Rst, Ack}
 use Rattle.message_model.specs.Codes as codes_of
 use Rattle.message_model.specs.declared.messages.Role.TheVariants as role
@@ -43,7 +44,7 @@ use Rattle.history_model.specs.declared.entries.Entry.{Entry}
 use Rattle.event_model.specs.declared.notes.Note.{Note}
 use Rattle.event_model.specs.declared.notes.Note.TheVariants as note
 use Rattle.event_model.specs.Events.{Event}
-use Rattle.event_model.specs.Repeats.{is_admission_of, is_admitting, repeated, settled}
+use Rattle.event_model.specs.Repeats.{is_admission_of, is_admitting, is_failure_of, repeated, settled}
 use Rattle.journal_model.specs.declared.steps.Step.{Step}
 use Rattle.journal_model.specs.declared.steps.StepKind.{StepKind}
 use Rattle.journal_model.specs.declared.steps.StepKind.TheVariants as step
@@ -77,12 +78,16 @@ use Rattle.headline_law.specs.AnsweredAlike.{
   AnswersOnce,
   RepeatsReply,
   sent_to,
+  is_code_of_write,
   HearsWrite,
   location_named,
   NamesEntry,
   IsNotOfTick,
   AnsweredAlike,
 }
+use Rattle.headline_law.proofs.entries.Failures.{rows-FailsWrite}
+use Rattle.headline_law.proofs.answers.AdmittedRows.{any_at_index, rows-AdmitsWrite}
+use Rattle.headline_law.proofs.answers.StarvedRows.{row_runs_out}
 use Rattle.headline_law.proofs.answers.ReportedOutcomes.{LocatesEntry}
 use Rattle.headline_law.proofs.answers.SettledNotes.{SettlesAnswer, SettleFact}
 use Rattle.headline_law.proofs.answers.SingleAnswers.{
@@ -237,6 +242,49 @@ dispatch_located before r kind peer octets m of_kind e created
     (ap (λ (x : Peer × List ℕ). reading x.1) (sym is) ∙ e)) ∙ created in
     absurd (omega (arith, no))
 
+-- a code that says nothing of writes
+not_of_write : {A : Type 0} (m n : Message)
+    → m ≡ n
+    → is_code_of_write m.code ≡ false
+    → is_code_of_write n.code ≡ true
+    → A
+not_of_write m n same none some =
+    absurd (false≢true (sym none ∙ (ap (λ (x : Message). is_code_of_write x.code) same ∙ some)))
+
+-- what says that a write was done is the answer of its commit, or a kept one
+dispatch_commits : (before : List Row) (r : Row) (kind : StepKind) (peer : Peer) (octets : List ℕ)
+    (m : Message)
+    → r.step.kind ≡ kind
+    → reading octets ≡ Ok m
+    → is_code_of_write m.code ≡ true
+    → IsDispatch before r.moment.0 kind r.step r.notes (peer, octets)
+    → ((place : ℕ) × Commits r place)
+    ⊎ RepeatsReply (record { row = r; before = before }) peer octets
+dispatch_commits before r kind peer octets m of_kind e says (answers n reply read asks h is) =
+    let same : answer r.step n reply ≡ m =
+    answer_read r.step n reply m read h.good
+    (ap (λ (x : Peer × List ℕ). reading x.1) (sym is) ∙ e) in
+    let it : (place : ℕ) × (kind ≡ step.Commit place) =
+    h.commits (ap (λ (x : Message). is_code_of_write x.code) same ∙ says) in
+    inl (it.0, of_kind ∙ it.1)
+dispatch_commits before r kind peer octets m of_kind e says
+    (repeats n first kept here read asks rep stl is) =
+    inr (repeated_reply before r kind peer octets n first kept of_kind here read rep stl is)
+dispatch_commits before r kind peer octets m of_kind e says (rejects mid here so is) =
+    not_of_write (empty_message Rst mid) m
+    (same_message (empty_message Rst mid) m (spelling (empty_message Rst mid))
+    (empty_read Rst mid) (ap (λ (x : Peer × List ℕ). reading x.1) (sym is) ∙ e)) refl says
+dispatch_commits before r kind peer octets m of_kind e says (acknowledges mid here so is) =
+    not_of_write (empty_message Ack mid) m
+    (same_message (empty_message Ack mid) m (spelling (empty_message Ack mid))
+    (empty_read Ack mid) (ap (λ (x : Peer × List ℕ). reading x.1) (sym is) ∙ e)) refl says
+dispatch_commits before r kind peer octets m of_kind e says
+    (fetches_block mid token b small asked runs is) =
+    not_of_write (fetch_request mid token b) m
+    (same_message (fetch_request mid token b) m (spelling (fetch_request mid token b))
+    (request_read mid token b small)
+    (ap (λ (x : Peer × List ℕ). reading x.1) (sym is) ∙ e)) refl says
+
 -- ---- rows
 
 -- what a row of a step sends and notes
@@ -362,6 +410,14 @@ rows-AnsweredAlike rows made placed all = record {
   again = λ before r m first within hears found.
       answers_again rows before r m first made within hears found;
   kept = λ before r place octets within there. keeps before r place octets within there;
+  admitted = λ before r peer mid within there.
+      rows-AdmitsWrite rows before r peer mid made within there;
+  failed = λ before r place within there.
+      rows-FailsWrite rows before r place made within
+      (any_at_index (is_failure_of place) r.notes (note.Failed place) there (eqb-refl place));
+  starved = λ before r m within fits read asks out.
+      row_runs_out before r m (does rows before r made within) fits read asks out;
+  commits = λ sent no_tick says. does_it sent sent.here.row.step.kind refl no_tick says;
   located = λ sent no_tick created. names sent sent.here.row.step.kind refl no_tick created;
 }
   where
@@ -450,6 +506,16 @@ rows-AnsweredAlike rows made placed all = record {
     names sent kind is no_tick created =
         dispatch_located sent.here.before sent.here.row kind sent.peer sent.octets sent.message is
         sent.read created (its sent kind is no_tick)
+
+    does_it : (sent : Sent rows) (kind : StepKind)
+        → sent.here.row.step.kind ≡ kind
+        → IsNotOfTick sent.here.row.step.kind
+        → is_code_of_write sent.message.code ≡ true
+        → ((place : ℕ) × Commits sent.here.row place)
+        ⊎ RepeatsReply sent.here sent.peer sent.octets
+    does_it sent kind is no_tick says =
+        dispatch_commits sent.here.before sent.here.row kind sent.peer sent.octets sent.message is
+        sent.read says (its sent kind is no_tick)
 
     keeps : (before : List Row) (r : Row) (place : ℕ) (octets : List ℕ)
         → Within rows before r

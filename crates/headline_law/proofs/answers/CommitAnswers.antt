@@ -388,6 +388,30 @@ admit_writes starved rows moment s m read asks some =
     by true h = absurd (false≢true h)
     by false h = request_writes rows moment s m h
 
+-- what says nothing of exchanges admits nothing
+pub aside_admits_none : (notes : List Note)
+    → are is_aside notes ≡ true
+    → list_any is_admitting notes ≡ true
+    → ⊥
+aside_admits_none notes all some =
+    false≢true (sym (none_of is_aside is_admitting never notes all) ∙ some)
+  where
+    never : (n : Note) → is_aside n ≡ true → is_admitting n ≡ false
+    never (note.Admitted peer mid) h = absurd (false≢true h)
+    never _ h = refl
+
+-- and so does the end of an exchange
+pub end_admits_none : (place : ℕ) (notes : List Note)
+    → are (ends_at place) notes ≡ true
+    → list_any is_admitting notes ≡ true
+    → ⊥
+end_admits_none place notes all some =
+    false≢true (sym (none_of (ends_at place) is_admitting never notes all) ∙ some)
+  where
+    never : (n : Note) → ends_at place n ≡ true → is_admitting n ≡ false
+    never (note.Admitted peer mid) h = absurd (false≢true h)
+    never _ h = refl
+
 -- so it is of the row of a step
 pub row_writes : (rows : List Row) (s : Step) (starved : Bool) (m : Message)
     → list_any is_admitting (row rows s starved).notes ≡ true
@@ -396,31 +420,19 @@ pub row_writes : (rows : List Row) (s : Step) (starved : Bool) (m : Message)
 unfolding row
 row_writes rows s starved m some read = by (row-Touches rows s starved)
   where
-    never_aside : (n : Note) → is_aside n ≡ true → is_admitting n ≡ false
-    never_aside (note.Admitted peer mid) h = absurd (false≢true h)
-    never_aside _ h = refl
-
-    never_ends : (place : ℕ) (n : Note) → ends_at place n ≡ true → is_admitting n ≡ false
-    never_ends place (note.Admitted peer mid) h = absurd (false≢true h)
-    never_ends place _ h = refl
-
     same : (x y : Message) → reading s.datagram ≡ Ok x → reading s.datagram ≡ Ok y → x ≡ y
     same x y h g = same_message x y s.datagram h g
 
     by : Touches s.kind rows (row rows s starved).moment.0 s (row rows s starved).notes
         → is_write (path_in m) (method_of m.code) ≡ true
-    by (aside all) =
-        absurd (false≢true
-        (sym (none_of is_aside is_admitting never_aside (row rows s starved).notes all) ∙ some))
+    by (aside all) = absurd (aside_admits_none (row rows s starved).notes all some)
     by (admits n here told asks is none) =
         admit_writes starved rows (row_moment rows s) s m read
         (subst (λ (x : Message). role_of x.kind x.code ≡ role.Request) (same n m told read) asks)
         (subst (λ k. list_any is_admitting (effects k starved rows (row_moment rows s) s).notes
         ≡ true) here some)
     by (ends place here all) =
-        absurd (false≢true
-        (sym (none_of (ends_at place) is_admitting (never_ends place)
-        (row rows s starved).notes all) ∙ some))
+        absurd (end_admits_none place (row rows s starved).notes all some)
 
 -- ---- a write that comes again
 

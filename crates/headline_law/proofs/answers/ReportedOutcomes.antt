@@ -98,7 +98,7 @@ use Rattle.journal_model.specs.Registrations.{
 }
 use Rattle.journal_model.specs.Commits.{location_outcome}
 use Rattle.journal_model.proofs.EntriesNoted.{entries_in}
-use Rattle.headline_law.specs.AnsweredAlike.{location_named}
+use Rattle.headline_law.specs.AnsweredAlike.{is_code_of_write, location_named}
 
 -- the options name the location of the one registration that is noted
 pub record LocatesEntry (history : List Entry) (moment : ℕ) (options : List Opt)
@@ -141,7 +141,7 @@ ReportedIf None = Unit {0}
 ReportedIf (Some reply) =
     (codes_of.is_response_code reply.code ≡ true)
     × (stands_in table.observe reply.options ≡ false)
-    × (reply.code ≡ codes_of.created → ⊥)
+    × (is_code_of_write reply.code ≡ false)
 
 refusal_ReportedIf : (m : Message) → ReportedIf (refusal_of_request m)
 unfolding refusal_of_request
@@ -149,20 +149,20 @@ refusal_ReportedIf m = by (refusal_of m)
   where
     coded : (why : requests.Refusal)
         → (codes_of.is_response_code (refusal_code why) ≡ true)
-        × (refusal_code why ≡ codes_of.created → ⊥)
-    coded (refused_for.BadOption number) = (refl, λ e. absurd (omega (arith, e)))
-    coded refused_for.Proxy = (refl, λ e. absurd (omega (arith, e)))
-    coded refused_for.Path = (refl, λ e. absurd (omega (arith, e)))
-    coded refused_for.Method = (refl, λ e. absurd (omega (arith, e)))
-    coded refused_for.Block = (refl, λ e. absurd (omega (arith, e)))
-    coded refused_for.Accept = (refl, λ e. absurd (omega (arith, e)))
-    coded refused_for.Format = (refl, λ e. absurd (omega (arith, e)))
+        × (is_code_of_write (refusal_code why) ≡ false)
+    coded (refused_for.BadOption number) = (refl, refl)
+    coded refused_for.Proxy = (refl, refl)
+    coded refused_for.Path = (refl, refl)
+    coded refused_for.Method = (refl, refl)
+    coded refused_for.Block = (refl, refl)
+    coded refused_for.Accept = (refl, refl)
+    coded refused_for.Format = (refl, refl)
 
     later : (a b : Bool) (query payload : List ℕ)
         → ReportedIf (cond a (Some (diagnostic codes_of.bad_request query))
         (cond b (Some (diagnostic codes_of.bad_request payload)) None))
-    later true b query payload = (refl, refl, λ e. absurd (omega (arith, e)))
-    later false true query payload = (refl, refl, λ e. absurd (omega (arith, e)))
+    later true b query payload = (refl, refl, refl)
+    later false true query payload = (refl, refl, refl)
     later false false query payload = tt
 
     by : (why : Option requests.Refusal) → ReportedIf (refusal_or_next why m)
@@ -174,7 +174,7 @@ pub refusal_reported : (m : Message) (reply : Reply)
     → refusal_of_request m ≡ Some reply
     → (codes_of.is_response_code reply.code ≡ true)
     × (stands_in table.observe reply.options ≡ false)
-    × (reply.code ≡ codes_of.created → ⊥)
+    × (is_code_of_write reply.code ≡ false)
 refusal_reported m reply e = subst ReportedIf e (refusal_ReportedIf m)
 
 -- ---- changes

@@ -42,10 +42,10 @@ use Rattle.journal_model.specs.declared.steps.StepKind.{StepKind}
 use Rattle.journal_model.specs.declared.steps.StepKind.TheVariants as step
 use Rattle.journal_model.specs.declared.rows.Row.{Row}
 use Rattle.journal_model.specs.Journal.{events, entries}
-use Rattle.journal_model.specs.Effects.{answering}
+use Rattle.journal_model.specs.Effects.{Effects, answering}
 use Rattle.journal_model.specs.Commits.{commit_effects}
 use Rattle.journal_model.specs.Rows.{done, effects, row_moment, row, AreRows}
-use Rattle.journal_model.specs.PlacedRows.{Within, Placed, Commits, code_sent}
+use Rattle.journal_model.specs.PlacedRows.{Within, Placed, code_sent}
 use Rattle.journal_model.specs.AdmittedWrites.{EndedWithoutMemory}
 use Rattle.journal_model.proofs.NoteKinds.{
   of_lookup,
@@ -71,6 +71,7 @@ use Rattle.journal_model.proofs.notes.ChangeNotes.{
   response_effects-notes,
 }
 use Rattle.journal_model.proofs.entries.JournalLaws.{RowMade, each_made}
+use Rattle.headline_law.specs.AnsweredAlike.{FailsWrite}
 
 -- one of the notes says that the write of a place failed
 abbrev fails : ℕ → List Note → Bool
@@ -134,14 +135,20 @@ commit_of_failure kind starved rows moment s place ns it h = by it
         (ap (are of_done) is
         ∙ beginning-notes of_done (λ entry. refl) starved (entries rows) moment s first))
 
--- and then 5.00 is sent
+-- and then 5.00 is sent, for memory ran out, and nothing else is noted
+record FailedDone (starved : Bool) (place : ℕ) (e : Effects) : Type 0 where
+  ran_out : starved ≡ true
+  sent : code_sent e.sent ≡ codes_of.internal_server_error
+  alone : e.notes ≡ note.Failed place ∷ []
+
 failure_sent : (starved : Bool) (rows : List Row) (moment place : ℕ) (s : Step)
     (read : Result Message Unread)
     → fails place (done starved rows moment place s read).notes ≡ true
-    → code_sent (done starved rows moment place s read).sent ≡ codes_of.internal_server_error
+    → FailedDone starved place (done starved rows moment place s read)
 unfolding answering spelling header_spelling
 failure_sent starved rows moment place s (Err fault) h = absurd (false≢true h)
-failure_sent true rows moment place s (Ok m) h = refl
+failure_sent true rows moment place s (Ok m) h =
+    record { ran_out = refl; sent = refl; alone = refl }
 failure_sent false rows moment place s (Ok m) h =
     absurd (false≢true
     (sym (never_of of_done (λ q. refl) place (commit_effects rows moment place s m).notes
@@ -149,24 +156,24 @@ failure_sent false rows moment place s (Ok m) h =
     ∙ h))
 
 -- so it is of each row
-record FailedRow (place : ℕ) (r : Row) : Type 0 where
-  commits : Commits r place
-  sent : code_sent r.sent ≡ codes_of.internal_server_error
-
 row_failed : (rows : List Row) (s : Step) (starved : Bool) (place : ℕ)
     → fails place (row rows s starved).notes ≡ true
-    → FailedRow place (row rows s starved)
+    → FailsWrite (row rows s starved) place
 unfolding row effects
 row_failed rows s starved place h =
     let is : s.kind ≡ step.Commit place =
     commit_of_failure s.kind starved rows (row_moment rows s) s place _
     (effects-StepNoted s.kind starved rows (row_moment rows s) s) h in
+    let it : FailedDone starved place
+    (done starved rows (row_moment rows s) place s (reading s.datagram)) =
+    failure_sent starved rows (row_moment rows s) place s (reading s.datagram)
+    (sym (ap (λ k. fails place (effects k starved rows (row_moment rows s) s).notes) is) ∙ h) in
     record {
       commits = is;
+      starved = it.ran_out;
       sent = ap (λ k. code_sent (effects k starved rows (row_moment rows s) s).sent) is
-          ∙ failure_sent starved rows (row_moment rows s) place s (reading s.datagram)
-          (sym (ap (λ k. fails place (effects k starved rows (row_moment rows s) s).notes) is)
-          ∙ h);
+          ∙ it.sent;
+      alone = ap (λ k. (effects k starved rows (row_moment rows s) s).notes) is ∙ it.alone;
     }
 
 -- ---- rows of steps
@@ -233,18 +240,25 @@ row_noting test (r ∷ before) h =
         }
 
 -- so it is among rows of steps
+pub rows-FailsWrite : (rows before : List Row) (r : Row) (place : ℕ)
+    → AreRows rows
+    → Within rows before r
+    → list_any (is_failure_of place) r.notes ≡ true
+    → FailsWrite r place
+rows-FailsWrite rows before r place all within h =
+    let made : RowMade before r = each_made rows before r all within in
+    subst (λ (x : Row). FailsWrite x place) (sym made.is)
+    (row_failed before made.step made.starved place
+    (subst (λ (x : Row). fails place x.notes ≡ true) made.is h))
+
 pub ended_without_memory : (rows : List Row) (place : ℕ)
     → AreRows rows
     → has_event (is_failure_of place) (events rows) ≡ true
     → EndedWithoutMemory rows place
 ended_without_memory rows place all h =
     let it : Noting (is_failure_of place) rows = row_noting (is_failure_of place) rows h in
-    let made : RowMade it.placed.before it.placed.row =
-    each_made rows it.placed.before it.placed.row all it.within in
-    let failed : FailedRow place it.placed.row =
-    subst (λ (r : Row). FailedRow place r) (sym made.is)
-    (row_failed it.placed.before made.step made.starved place (subst (λ (r : Row). fails place
-    r.notes ≡ true) made.is it.notes)) in
+    let failed : FailsWrite it.placed.row place =
+    rows-FailsWrite rows it.placed.before it.placed.row place all it.within it.notes in
     record {
       before = it.placed.before;
       row = it.placed.row;

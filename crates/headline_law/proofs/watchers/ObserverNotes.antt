@@ -215,10 +215,34 @@ pub record Added (kind : StepKind) (s : Step) (o : Observer) : Type 0 where
   pub registers : observe_in asked.message ≡ Some register
   pub is : o ≡ observer_of s asked.message
 
+-- a step hears an acknowledgement of its peer, with this Message ID
+pub record Landed (kind : StepKind) (s : Step) (peer : Peer) (mid : ℕ) : Type 0 where
+  pub heard : kind ≡ step.Admit
+  pub message : Message
+  pub read : reading s.datagram ≡ Ok message
+  pub acknowledges : role_of message.kind message.code ≡ role.Acknowledgement
+  pub from : peer ≡ s.peer
+  pub mid_is : mid ≡ message.mid
+
+-- a notice is sent again: the wait for its acknowledgement has ended, and it was not the last
+pub record SentAgain (rows : List Row) (moment : ℕ) (kind : StepKind) (peer : Peer) (mid : ℕ) :
+    Type 0 where
+  pub ticks : kind ≡ step.Tick
+  pub observer : Observer
+  pub stands : Among observer (observers (events rows))
+  pub peer_is : peer ≡ observer.peer
+  pub notice : Flight
+  pub flies : flight observer (events rows) ≡ Some notice
+  pub mid_is : mid ≡ notice.mid
+  pub over : nat_le (deadline notice.formed notice.again) moment ≡ true
+  pub further : nat_le max_again (length notice.again) ≡ false
+
 -- so it is of each note
 abbrev pub WatchFact : List Row → ℕ → StepKind → Step → Note → Type 0
 WatchFact rows moment kind s (note.Watched o) = Added kind s o
 WatchFact rows moment kind s (note.Unwatched peer token) = Ended rows moment kind s peer token
+WatchFact rows moment kind s (note.Landed peer mid) = Landed kind s peer mid
+WatchFact rows moment kind s (note.Again peer mid) = SentAgain rows moment kind peer mid
 WatchFact rows moment kind s _ = Unit {0}
 
 -- of all notes
@@ -229,17 +253,21 @@ WatchFacts rows moment kind s notes = AllByRecursion (WatchFact rows moment kind
 asides : (of_kind : Note → Bool)
     → ((o : Observer) → of_kind (note.Watched o) ≡ false)
     → ((peer : Peer) (token : List ℕ) → of_kind (note.Unwatched peer token) ≡ false)
+    → ((peer : Peer) (mid : ℕ) → of_kind (note.Landed peer mid) ≡ false)
+    → ((peer : Peer) (mid : ℕ) → of_kind (note.Again peer mid) ≡ false)
     → (rows : List Row) (moment : ℕ) (kind : StepKind) (s : Step) (notes : List Note)
     → are of_kind notes ≡ true
     → WatchFacts rows moment kind s notes
-asides of_kind watched unwatched rows moment kind s [] h = tt
-asides of_kind watched unwatched rows moment kind s (n ∷ notes) h =
+asides of_kind watched unwatched landed again rows moment kind s [] h = tt
+asides of_kind watched unwatched landed again rows moment kind s (n ∷ notes) h =
     let both = and_parts (of_kind n) (are of_kind notes) h in
-    (by n both.0, asides of_kind watched unwatched rows moment kind s notes both.1)
+    (by n both.0, asides of_kind watched unwatched landed again rows moment kind s notes both.1)
   where
     by : (x : Note) → of_kind x ≡ true → WatchFact rows moment kind s x
     by (note.Watched o) e = absurd (false≢true (sym (watched o) ∙ e))
     by (note.Unwatched peer token) e = absurd (false≢true (sym (unwatched peer token) ∙ e))
+    by (note.Landed peer mid) e = absurd (false≢true (sym (landed peer mid) ∙ e))
+    by (note.Again peer mid) e = absurd (false≢true (sym (again peer mid) ∙ e))
     by _ e = tt
 
 -- no notes
@@ -354,7 +382,7 @@ lookup_watches rows moment s m read asks none looks = by (is_later_block m) refl
         → is_later_block m ≡ b
         → WatchFacts rows moment step.Admit s (block_effects b rows moment s m).notes
     by true e =
-        asides of_read (λ o. refl) (λ p t. refl) rows moment step.Admit s
+        asides of_read (λ o. refl) (λ p t. refl) (λ p n. refl) (λ p n. refl) rows moment step.Admit s
         (later_block rows moment s m).notes (later_block-kept rows moment s m)
     by false e = observe (observe_in m) e refl
 
@@ -371,14 +399,14 @@ request_watches rows moment s m read asks = by (refusal_of_request m) refl
   where
     written : WatchFacts rows moment step.Admit s (write_effects (events rows) moment s m).notes
     written =
-        asides of_write (λ o. refl) (λ p t. refl) rows moment step.Admit s
+        asides of_write (λ o. refl) (λ p t. refl) (λ p n. refl) (λ p n. refl) rows moment step.Admit s
         (write_effects (events rows) moment s m).notes
         (write_effects-notes (events rows) moment s m)
 
     there : (w : Method)
         → WatchFacts rows moment step.Admit s (served_on_location w rows moment s m).notes
     there get =
-        asides of_read (λ o. refl) (λ p t. refl) rows moment step.Admit s
+        asides of_read (λ o. refl) (λ p t. refl) (λ p n. refl) (λ p n. refl) rows moment step.Admit s
         (read_effects rows moment s m).notes (read_effects-kept rows moment s m)
     there post = written
     there put = written
@@ -484,16 +512,26 @@ reset_watches rows moment s m read resets =
         by false e more = more
 
 -- an acknowledgement
-acknowledged_watches : (rows : List Row) (moment : ℕ) (s : Step) (mid : ℕ)
-    → WatchFacts rows moment step.Admit s (acknowledged s.peer mid (events rows)).notes
+acknowledged_watches : (rows : List Row) (moment : ℕ) (s : Step) (m : Message)
+    → reading s.datagram ≡ Ok m
+    → role_of m.kind m.code ≡ role.Acknowledgement
+    → WatchFacts rows moment step.Admit s (acknowledged s.peer m.mid (events rows)).notes
 unfolding acknowledged
-acknowledged_watches rows moment s mid =
+acknowledged_watches rows moment s m read is =
     each_append (WatchFact rows moment step.Admit s)
-    (map (λ o. note.Landed s.peer mid) (waited_for s.peer mid (events rows))) _
-    (each_map (WatchFact rows moment step.Admit s) (λ o. note.Landed s.peer mid)
-    (waited_for s.peer mid (events rows))
-    (among_all (λ o. Unit {0}) (waited_for s.peer mid (events rows)) (λ o there. tt)))
-    (waits (is_last_request s.peer mid (events rows)))
+    (map (λ o. note.Landed s.peer m.mid) (waited_for s.peer m.mid (events rows))) _
+    (each_map (WatchFact rows moment step.Admit s) (λ o. note.Landed s.peer m.mid)
+    (waited_for s.peer m.mid (events rows))
+    (among_all (λ o. Landed step.Admit s s.peer m.mid) (waited_for s.peer m.mid (events rows))
+    (λ o there. record {
+      heard = refl;
+      message = m;
+      read = read;
+      acknowledges = is;
+      from = refl;
+      mid_is = refl;
+    })))
+    (waits (is_last_request s.peer m.mid (events rows)))
   where
     waits : (b : Bool)
         → WatchFacts rows moment step.Admit s (cond b (note.Waiting s.peer ∷ []) [])
@@ -508,13 +546,13 @@ role_watches : (r : Role) (starved : Bool) (rows : List Row) (moment : ℕ) (s :
 unfolding answering
 role_watches role.Ping starved rows moment s m read is = tt
 role_watches role.Acknowledgement starved rows moment s m read is =
-    acknowledged_watches rows moment s m.mid
+    acknowledged_watches rows moment s m read is
 role_watches role.Reset starved rows moment s m read is = reset_watches rows moment s m read is
 role_watches role.Request true rows moment s m read is = tt
 role_watches role.Request false rows moment s m read is = request_watches rows moment s m read is
 role_watches role.Response true rows moment s m read is = tt
 role_watches role.Response false rows moment s m read is =
-    asides of_response (λ o. refl) (λ p t. refl) rows moment step.Admit s
+    asides of_response (λ o. refl) (λ p t. refl) (λ p n. refl) (λ p n. refl) rows moment step.Admit s
     (response_effects rows moment s m).notes (response_effects-notes rows moment s m)
 role_watches role.Ignored starved rows moment s m read is = tt
 
@@ -532,7 +570,7 @@ each_of_noted P does (x ∷ xs) all =
 requests_aside : (rows : List Row) (moment : ℕ) (s : Step)
     → WatchFacts rows moment step.Tick s (requests_again rows moment).notes
 requests_aside rows moment s =
-    asides of_resent (λ o. refl) (λ p t. refl) rows moment step.Tick s
+    asides of_resent (λ o. refl) (λ p t. refl) (λ p n. refl) (λ p n. refl) rows moment step.Tick s
     (requests_again rows moment).notes (requests_again-notes rows moment)
 
 -- the first part
@@ -547,9 +585,10 @@ again_watches rows moment s =
     (observers (events rows)) (λ o there. flying o (flight o (events rows)) there refl))
   where
     sent : (o : Observer) (f : Flight) (d : Option (Peer × List ℕ))
+        → SentAgain rows moment step.Tick o.peer f.mid
         → WatchFacts rows moment step.Tick s (sent_again d (note.Again o.peer f.mid)).notes
-    sent o f None = (tt, tt)
-    sent o f (Some d) = (tt, tt)
+    sent o f None it = (it, tt)
+    sent o f (Some d) it = (it, tt)
 
     again : (b c : Bool) (o : Observer) (f : Flight)
         → Among o (observers (events rows))
@@ -573,6 +612,17 @@ again_watches rows moment s =
     )
     again true false o f there flies over last =
         sent o f (confirmable_sent (row_at f.formed.place rows) o.peer f.mid)
+        (record {
+          ticks = refl;
+          observer = o;
+          stands = there;
+          peer_is = refl;
+          notice = f;
+          flies = flies;
+          mid_is = refl;
+          over = over;
+          further = last;
+        })
 
     flying : (o : Observer) (f : Option Flight)
         → Among o (observers (events rows))
@@ -659,7 +709,7 @@ effects_watch (step.Commit place) starved rows moment s = by starved (reading s.
     by b (Err fault) = tt
     by true (Ok m) = (tt, tt)
     by false (Ok m) =
-        asides of_commit (λ o. refl) (λ p t. refl) rows moment (step.Commit place) s
+        asides of_commit (λ o. refl) (λ p t. refl) (λ p n. refl) (λ p n. refl) rows moment (step.Commit place) s
         (commit_effects rows moment place s m).notes (commit_effects-notes rows moment place s m)
 effects_watch (step.Keep body current) starved rows moment s = by starved (reading s.datagram)
   where
@@ -673,6 +723,6 @@ effects_watch (step.Keep body current) starved rows moment s = by starved (readi
         (sym (keep_effects-notes s m body current)) (tt, tt)
 effects_watch step.Tick starved rows moment s = tick_watches starved rows moment s
 effects_watch (step.Begin first) starved rows moment s =
-    asides of_commit (λ o. refl) (λ p t. refl) rows moment (step.Begin first) s
+    asides of_commit (λ o. refl) (λ p t. refl) (λ p n. refl) (λ p n. refl) rows moment (step.Begin first) s
     (beginning starved (entries rows) moment s first).notes
     (beginning-notes of_commit (λ entry. refl) starved (entries rows) moment s first)

@@ -28,7 +28,7 @@ use Rattle.std.proofs.Common.{
   leb-true,
 }
 use Rattle.std.specs.List.{list_any, IsAmong, AllByRecursion}
-use Rattle.std.proofs.lemmas.Bool.{false≢true}
+use Rattle.std.proofs.lemmas.Bool.{false≢true, leb-false}
 use Rattle.rd_base.specs.declared.peers.Peer.{Peer}
 use Rattle.rd_base.proofs.lemmas.Among.{Among, all_among, among_all, all_at_index, any_among}
 use Rattle.message_model.specs.declared.messages.Kind4.TheVariants.{Rst, Ack}
@@ -126,6 +126,8 @@ use Rattle.headline_law.proofs.watchers.ObserverNotes.{
   by_asking,
   by_rejecting,
   by_waiting,
+  Landed,
+  SentAgain,
   WatchFact,
   WatchFacts,
   effects_watch,
@@ -590,6 +592,33 @@ rows-ObserversStand rows made all = record {
         (among_of o (observers (events (r ∷ before))) there)
   ];
   cancels = λ before r request within it. cancelled_none rows before r request made within it;
+  landed = λ before r peer mid within there.
+      let it : Landed r.step.kind r.step peer mid =
+      all_at_index (WatchFact before r.moment.0 r.step.kind r.step) r.notes
+      (note.Landed peer mid) there (row_watches rows before r made within) in
+      record {
+        heard = it.heard;
+        message = it.message;
+        read = it.read;
+        acknowledges = it.acknowledges;
+        from = it.from;
+        mid_is = it.mid_is;
+      };
+  again = λ before r peer mid within there.
+      let it : SentAgain before r.moment.0 r.step.kind peer mid =
+      all_at_index (WatchFact before r.moment.0 r.step.kind r.step) r.notes
+      (note.Again peer mid) there (row_watches rows before r made within) in
+      record {
+        ticks = it.ticks;
+        observer = it.observer;
+        stands = among_index it.observer (observers (events before)) it.stands;
+        peer_is = it.peer_is;
+        notice = it.notice;
+        flies = it.flies;
+        mid_is = it.mid_is;
+        sent = leb-false max_again (length it.notice.again) it.further;
+        waited = leb-true (deadline it.notice.formed it.notice.again) r.moment.0 it.over;
+      };
 }
   where
     own : (sent : Sent rows) (kind : StepKind)

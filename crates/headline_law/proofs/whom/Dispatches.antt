@@ -235,6 +235,7 @@ use Rattle.journal_model.proofs.datagrams.FittingReplies.{
   good_not_live,
 }
 use Rattle.journal_model.proofs.notes.LookupNotes.{found_KeptAt}
+use Rattle.headline_law.specs.AnsweredAlike.{is_code_of_write}
 use Rattle.headline_law.specs.SentToWhom.{is_asking, is_con, is_acknowledged, is_rejected}
 use Rattle.headline_law.proofs.answers.ReportedOutcomes.{
   LocatesEntry,
@@ -271,6 +272,7 @@ pub record IsReply (rows : List Row) (moment : ℕ) (kind : StepKind) (s : Step)
   pub good : IsGoodReply reply
   pub responds : codes_of.is_response_code reply.code ≡ true
   pub observed : stands_in table.observe reply.options ≡ true → AddsObserver kind s m notes
+  pub commits : is_code_of_write reply.code ≡ true → (place : ℕ) × (kind ≡ step.Commit place)
   pub located : reply.code ≡ codes_of.created
       → LocatesEntry (entries rows) moment reply.options notes
 
@@ -320,12 +322,16 @@ Dispatches rows moment kind s e = AreDispatches rows moment kind s e.notes e.sen
 
 -- ---- replies
 
--- a reply without Observe that is no 2.01
+-- a code that says nothing of writes is not 2.01
+not_created : (code : ℕ) → is_code_of_write code ≡ false → code ≡ codes_of.created → ⊥
+not_created code other e = false≢true (sym other ∙ ap is_code_of_write e)
+
+-- a reply without Observe that says nothing of writes
 record IsBare (reply : Reply) : Type 0 where
   good : IsGoodReply reply
   responds : codes_of.is_response_code reply.code ≡ true
   unobserved : stands_in table.observe reply.options ≡ false
-  other : reply.code ≡ codes_of.created → ⊥
+  other : is_code_of_write reply.code ≡ false
 
 -- is one to any request
 of_bare : (rows : List Row) (moment : ℕ) (kind : StepKind) (s : Step) (m : Message) (reply : Reply)
@@ -336,19 +342,21 @@ of_bare rows moment kind s m reply notes h = record {
   good = h.good;
   responds = h.responds;
   observed = λ e. absurd (false≢true (sym h.unobserved ∙ e));
-  located = λ e. absurd (h.other e);
+  commits = λ e. absurd (false≢true (sym h.other ∙ e));
+  located = λ e. absurd (not_created reply.code h.other e);
 }
 
 -- and so is what comes of a write
-of_reported : (rows : List Row) (moment : ℕ) (kind : StepKind) (s : Step) (m : Message)
+of_reported : (rows : List Row) (moment : ℕ) (place : ℕ) (s : Step) (m : Message)
     (reply : Reply) (notes : List Note)
     → IsGoodReply reply
     → IsReported (entries rows) moment reply notes
-    → IsReply rows moment kind s m reply notes
-of_reported rows moment kind s m reply notes good h = record {
+    → IsReply rows moment (step.Commit place) s m reply notes
+of_reported rows moment place s m reply notes good h = record {
   good = good;
   responds = h.responds;
   observed = λ e. absurd (false≢true (sym h.unobserved ∙ e));
+  commits = λ e. (place, refl);
   located = h.located;
 }
 
@@ -357,7 +365,7 @@ bare_starved = record {
   good = good_starved;
   responds = refl;
   unobserved = refl;
-  other = λ e. absurd (omega (arith, e));
+  other = refl;
 }
 
 bare_unavailable : (word : List ℕ)
@@ -367,15 +375,7 @@ bare_unavailable word short = record {
   good = good_unavailable word short;
   responds = refl;
   unobserved = refl;
-  other = λ e. absurd (omega (arith, e));
-}
-
-bare_changed : IsBare (bare codes_of.changed)
-bare_changed = record {
-  good = good_bare codes_of.changed refl (λ e. absurd (omega (arith, e)));
-  responds = refl;
-  unobserved = refl;
-  other = λ e. absurd (omega (arith, e));
+  other = refl;
 }
 
 bare_not_live : IsBare not_live
@@ -383,7 +383,7 @@ bare_not_live = record {
   good = good_not_live;
   responds = refl;
   unobserved = refl;
-  other = λ e. absurd (omega (arith, e));
+  other = refl;
 }
 
 bare_challenge : (value : List ℕ) → length value ≡ 8 → IsBare (challenge value)
@@ -391,7 +391,7 @@ bare_challenge value short = record {
   good = good_challenge value short;
   responds = refl;
   unobserved = refl;
-  other = λ e. absurd (omega (arith, e));
+  other = refl;
 }
 
 bare_valid : (current : List ℕ) → length current ≡ 8 → IsBare (still_valid current)
@@ -399,7 +399,7 @@ bare_valid current short = record {
   good = good_valid current short;
   responds = refl;
   unobserved = refl;
-  other = λ e. absurd (omega (arith, e));
+  other = refl;
 }
 
 -- of a part of a body, with Observe or without
@@ -411,10 +411,9 @@ part_responds t o asked (Some part) = refl
 
 part_other : (t : Option (List ℕ)) (o : Option ℕ) (asked : Option Block)
     (part : Option (List ℕ × Bool))
-    → (part_reply t o asked part).code ≡ codes_of.created
-    → ⊥
-part_other t o asked None e = absurd (omega (arith, e))
-part_other t o asked (Some part) e = absurd (omega (arith, e))
+    → is_code_of_write (part_reply t o asked part).code ≡ false
+part_other t o asked None = refl
+part_other t o asked (Some part) = refl
 
 part_unobserved : (t : Option (List ℕ)) (asked : Option Block) (part : Option (List ℕ × Bool))
     → stands_in table.observe (part_reply t None asked part).options ≡ false
@@ -713,8 +712,7 @@ body_responds t o asked whole =
     part_responds t o asked (block_of whole (number_of asked) (szx_of asked))
 
 body_other : (t : Option (List ℕ)) (o : Option ℕ) (asked : Option Block) (whole : List ℕ)
-    → (body_reply t o asked whole).code ≡ codes_of.created
-    → ⊥
+    → is_code_of_write (body_reply t o asked whole).code ≡ false
 unfolding body_reply
 body_other t o asked whole =
     part_other t o asked (block_of whole (number_of asked) (szx_of asked))
@@ -748,6 +746,13 @@ lookup_sends rows moment s m tags read asks none looks = by (is_later_block m) r
         (listing_now rows moment m).body) _ read asks
         (bare_body (tag (entries rows) moment) m (listing_now rows moment m).body short)
 
+    other : is_code_of_write (body_reply (Some (tag (entries rows) moment))
+        (Some (observe_value (events rows))) (asked_block m)
+        (listing_now rows moment m).body).code ≡ false
+    other =
+        body_other (Some (tag (entries rows) moment)) (Some (observe_value (events rows)))
+        (asked_block m) (listing_now rows moment m).body
+
     with_value : is_later_block m ≡ false
         → observe_in m ≡ Some register
         → (b : Bool)
@@ -780,10 +785,10 @@ lookup_sends rows moment s m tags read asks none looks = by (is_later_block m) r
                 keeps_quiet (is_long (asked_block m) (listing_now rows moment m).body)
                 (listing_now rows moment m).body;
           };
+          commits =
+              λ e. absurd (false≢true (sym other ∙ e));
           located =
-              λ e. absurd (body_other (Some (tag (entries rows) moment))
-              (Some (observe_value (events rows))) (asked_block m)
-              (listing_now rows moment m).body e);
+              λ e. absurd (not_created _ other e);
         })
     with_value first asked false = unobserved_answer
 
@@ -899,7 +904,7 @@ commit_sends rows moment place s m read asks = by (path_in m)
         → Dispatches rows moment (step.Commit place) s (settling place s m o)
     settled_by o good told = (
       answers m o.reply read asks
-          (of_reported rows moment (step.Commit place) s m o.reply
+          (of_reported rows moment place s m o.reply
           (o.notes ++ note.Settled place (spelling (answer s m o.reply)) ∷ []) good
           (reported_before (entries rows) moment o.reply o.notes
           (note.Settled place (spelling (answer s m o.reply)) ∷ []) refl told)) refl,
@@ -919,7 +924,13 @@ commit_sends rows moment place s m read asks = by (path_in m)
         (bare_unavailable (codes "fetches") (omega arith))
     simple false false = (
       answers m (bare codes_of.changed) read asks
-          (of_bare rows moment (step.Commit place) s m (bare codes_of.changed) _ bare_changed) refl,
+          (record {
+            good = good_bare codes_of.changed refl (λ e. absurd (omega (arith, e)));
+            responds = refl;
+            observed = λ e. absurd (false≢true e);
+            commits = λ e. (place, refl);
+            located = λ e. absurd (omega (arith, e));
+          }) refl,
       (
         fetches_block (mid_of s.worker (s.drawn + drawn_for m.kind)) (next_token (events rows))
             None (next_short (events rows))
