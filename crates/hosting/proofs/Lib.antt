@@ -1,6 +1,3 @@
 mod EndLaws
-mod LinkLaws
-mod NetworkNames
-mod ShareLaws
 mod OptionSteps
 mod examples

@@ -10,8 +10,7 @@ mod endings;
 
 use endings::Ending;
 use hosting::{
-    Crew, Failure, Guard, GuardedLink, HostClock, HostLink, HostPlan, Listener, Origin, Routes,
-    Wanted, read_words,
+    Crew, Failure, HostClock, HostLink, HostPlan, Listener, Origin, Routes, Wanted, read_words,
 };
 use rd_base::{Starved, StdSink};
 use rd_desk::Stepped;
@@ -24,14 +23,8 @@ use std::sync::{Mutex, Wait};
 use std::thread::Threads;
 use udp_link::{Clock, Link};
 
-/// The clock of one worker.
-type WorkerClock<'a> = HostClock<'a, HostRuntime>;
-
-/// The link of one worker.
-type WorkerLink<'a> = GuardedLink<'a, HostRuntime, HostLink<'a, HostRuntime>, WorkerClock<'a>>;
-
 /// The end of one worker.
-type HostEnd<'a> = End<WorkerLink<'a>, WorkerClock<'a>>;
+type HostEnd<'a> = End<HostLink<'a, HostRuntime>, HostClock<'a, HostRuntime>>;
 
 /// The ends of the server: the workers of all addresses.
 type Ends<'a> = Vec<HostEnd<'a>>;
@@ -68,8 +61,6 @@ struct Shared {
     routes: Mutex<Routes>,
     /// How many of their links began, and why they end.
     crew: Crew,
-    /// What they keep from the directory.
-    guard: Guard,
     /// From when on their clocks count.
     origin: Origin,
 }
@@ -91,7 +82,6 @@ fn shared_of(rt: &HostRuntime, plan: &HostPlan) -> Result<Shared, Ending>
         listeners,
         routes,
         crew: Crew::of(plan.ends() as u64),
-        guard: Guard::of(rt, rt.alloc(), plan)?,
         origin,
     })
 }
@@ -104,11 +94,9 @@ fn end_over<'a>(rt: &'a HostRuntime, shared: &'a Shared, own: usize) -> Result<H
         listeners,
         routes,
         crew,
-        guard,
         origin,
     } = shared;
     let link = HostLink::over(rt, rt.alloc(), routes, crew, listeners.as_slice(), own)?;
-    let link = GuardedLink::over(rt, guard, link, HostClock::of(rt, origin, [0; 32]));
     let Ok(clock) = HostClock::seeded(rt, origin) else {
         return Err(Failure::Keys.into());
     };
