@@ -250,7 +250,7 @@ def main():
     for program in programs:
         if not shutil.which(program):
             sys.exit(f"{program} is not there: make build")
-        name, given, is_ours = kind_of(shutil.which(program))
+        name, given, is_ours = kind_of(os.path.abspath(shutil.which(program)))
         try:
             for row, cost in rows(given, is_ours, words.quick):
                 print(f"{name:<10} {row:<56} {cost:>12,.0f}", flush=True)
