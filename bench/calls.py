@@ -163,9 +163,8 @@ class Server:
     def location(self, number: int) -> str:
         """The path of a registration, made again."""
         answer = self.ask(REGISTRATION, number)
-        found = re.search(rb"\x82rd[\x01-\x0d]", answer)
-        length = answer[found.end() - 1]
-        return "rd/" + answer[found.end():found.end() + length].decode()
+        found = re.search(rb"\x82rd([\x01-\x0c]|\x0d.)([0-9]+)$", answer, re.S)
+        return "rd/" + found[2].decode()
 
     def end(self):
         """Ends it."""

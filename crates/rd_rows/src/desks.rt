@@ -16,15 +16,20 @@ fn add(text: &mut String, ended: Option<String>) -> Result<(), Starved> {
     Ok(())
 }
 
+/// Takes these lines, and adds how each table came out.
+fn take_all(text: &mut String, told: &mut Tables, lines: &str) -> Result<(), Starved> {
+    'lines: for line in lines.lines() {
+        add(text, told.take(line)?)?;
+    }
+    add(text, told.end()?)
+}
+
 /// How the tables came out that these lines say: a line `desk NAME` begins one, and its lines
 /// follow. Empty lines and those that begin with `#` are passed over.
 pub(crate) fn coming(alloc: Global, lines: &str) -> Result<String, Starved> {
     let mut text = String::new(alloc);
     let mut told = Tables::new(alloc);
-    'lines: for line in lines.lines() {
-        add(&mut text, told.take(line)?)?;
-    }
-    add(&mut text, told.end()?)?;
+    take_all(&mut text, &mut told, lines)?;
     let Tally { tables, differ } = told.tally();
     writeln!(text, "{tables} tables, {differ} differ")?;
     Ok(text)
