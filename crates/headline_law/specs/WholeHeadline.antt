@@ -1,5 +1,5 @@
--- The whole headline: the five sentences of `journal_model`, and those that make each of them a claim
--- of any journal by itself (RFC 7252, RFC 7641, RFC 7959, RFC 9175, RFC 9176).
+-- The whole headline: the five sentences of `journal_model`, and those that make each of them a
+-- claim of any journal by itself (RFC 7252, RFC 7641, RFC 7959, RFC 9175, RFC 9176).
 use Rattle.std.specs.Prelude.{List}
 use Rattle.journal_model.specs.declared.rows.Row.{Row}
 use Rattle.journal_model.specs.Headline.{Headline, DeskHeadline}

@@ -21,8 +21,8 @@ use Rattle.rd_seat.specs.Turns.{IsDeskRow, IsPublished}
 -- it, and none is of a look. The registrations are the replay of their entries, which is legal
 -- and holds each accepted request once, despite repeats; an observer with no notice due was last
 -- given the listing now; equal tags mean one state, and answers whose bodies were formed in these
--- rows are what the headline says, with all that is said of moments, answers, observers, fetches and
--- kept answers beside it (`WholeDeskHeadline`). The version that is published stands for the
+-- rows are what the headline says, with all that is said of moments, answers, observers, fetches
+-- and kept answers beside it (`WholeDeskHeadline`). The version that is published stands for the
 -- same entries.
 pub record IsHistoryOfHall (rows : List Row) (desk : Shown PublisherSeen) : Type 0 where
   pub journal : IsDeskJournal rows
