@@ -11,6 +11,7 @@ module _ {A : Type 0} (is_option : List ℕ → Bool) (given : List ℕ → List
   joined None asked = None
   joined (Some parts) asked = given parts.0 parts.1 asked
 
+  -- what is asked for with one argument that is the last
   abbrev pub alone : List ℕ → A → Option A
   alone word asked = if is_option word then None else joined (cut 61 word) asked
 

@@ -113,6 +113,7 @@ words_found matches = record {
 abbrev pub IsWithin : ℕ → Option ℕ → Type 0
 IsWithin limit o = IfSome o (λ n. (1 ≤ n) × (n ≤ limit))
 
+-- all that is asked for is within its limits
 pub record AreAsked (asked : Words) : Type 0 where
   pub workers : IsWithin max_workers asked.workers
   pub devices : IsWithin max_devices asked.devices
