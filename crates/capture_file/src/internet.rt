@@ -127,9 +127,9 @@ fn ipv4_header(octets: &[u8]) -> Option<Ipv4Header> {
 
 /// Returns the UDP datagram of an IPv4 packet, or `None` if it carries another protocol.
 ///
-/// Returns `Version` if the packet is of another version, `Cut` if it ends before its header does,
-/// `Length` if its header says that it is shorter than the header, and `Fragment` if it is a
-/// fragment.
+/// Returns `Version` if the packet is of another version, and `Cut` if it ends before its header
+/// does. Returns `Length` if its header says that it is shorter than the header, and `Fragment` if
+/// it is a fragment.
 pub(crate) fn ipv4_udp(octets: &[u8]) -> Result<Option<UdpPacket<'_>>, PacketFault> {
     check_version(4, octets)?;
     let header = ipv4_header(octets).ok_or(PacketFault::Cut)?;

@@ -195,8 +195,8 @@ fn raw(frame: &[u8]) -> Result<Carried<'_>, PacketFault> {
 }
 
 /// Returns what a packet with this link type carries. Returns `LinkLayer` if the link type is not
-/// one that is read, `Cut` if the packet ends before its link layer does, and `Version` if it is an
-/// IP packet of neither version.
+/// one that is read. Returns `Cut` if the packet ends before its link layer does, and `Version` if
+/// it is an IP packet of neither version.
 pub(crate) fn behind_link_layer(
     link_type: LinkType,
     frame: &[u8],

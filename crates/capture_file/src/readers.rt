@@ -402,8 +402,8 @@ impl Reader {
     /// # Errors
     ///
     /// - `NoCapture` if what was read does not begin as a capture does.
-    /// - `Block` if a block has a length that no block has, if the description of an interface is
-    ///   cut, or if a section is of an unknown version. What follows it cannot be found.
+    /// - `Block` if a block has a length that no block has, or a section is of an unknown version.
+    ///   Also if the description of an interface is cut. What follows it cannot be found.
     /// - `Starved` if memory runs out.
     pub fn read<'p>(&mut self, part: &'p [u8]) -> Result<Found<'p>, CaptureFault> {
         match self.part {

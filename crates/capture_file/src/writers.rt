@@ -9,9 +9,9 @@ use std::alloc::Global;
 
 /// The header of a capture, in little-endian numbers.
 ///
-/// It has the magic number of times in microseconds, the version 2.4, eight octets that are not
-/// used, the maximum length of a packet (262,144 octets), and the link type 101: IP packets without
-/// a link layer.
+/// It has the magic number of times in microseconds, the version 2.4, and eight octets that are not
+/// used. The maximum length of a packet (262,144 octets) and the link type 101 follow: IP packets
+/// without a link layer.
 pub const FILE_HEADER: [u8; 24] = [
     0xd4, 0xc3, 0xb2, 0xa1, 2, 0, 4, 0, 0, 0, 0, 0, 0, 0, 0, 0, 0, 0, 4, 0, 101, 0, 0, 0,
 ];

@@ -14,8 +14,8 @@ const PING: &[u8] = b"in 0 5 192.0.2.10:5683 40001234\n";
 /// The error text for a trace whose second line is bad.
 const SAID: &[u8] = b"line 2: form\n";
 
-/// A trace of an observer that gets notifications of a link and of its lapse, and none of a link
-/// that comes and goes between two ticks (RFC 7641).
+/// A trace of an observer that gets notifications of a link and of its lapse (RFC 7641). It gets
+/// none of a link that comes and goes between two ticks.
 const OBSERVED: &[u8] = b"\
     in 0 1000 192.0.2.30:40000 41010010c1605972642d6c6f6f6b7570037265734c72743d6c696768742d6c7\
       578\n\

@@ -115,8 +115,9 @@ impl<'a> Reader<'a> {
 ///
 /// # Errors
 ///
-/// `Form` with the number of the line if the file does not begin with a comment, does not end with
-/// a line feed, or has a line that is not of a case; `Starved` if memory runs out.
+/// - `Form` with the number of the line if a line is not of a case. Also if the file does not begin
+///   with a comment, or does not end with a line feed.
+/// - `Starved` if memory runs out.
 pub fn read_case(alloc: Global, text: &str) -> Result<Case, Fault> {
     let Some(lines) = text.strip_suffix('\n') else {
         return Err(Fault::Form(1));

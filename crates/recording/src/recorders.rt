@@ -150,7 +150,8 @@ impl Recorder {
     }
 
     /// Writes a datagram that can appear in a line, for one worker, if datagrams in its direction
-    /// are written. Other datagrams let time pass.
+    /// are written. In a trace, a sent datagram lets time pass, and gives its word to the request
+    /// that it answers.
     fn write_alone(
         &mut self,
         moment: Moment,

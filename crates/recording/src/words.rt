@@ -176,9 +176,9 @@ fn takes_value(word: &str) -> bool {
 
 /// Returns what the arguments ask for, or `None` if they are not those of the program.
 ///
-/// They are `--port` with a port from 1 to 65,535 and `--begin` with a number of at most 2^48 - 1,
-/// each as two arguments or joined by `=`; `--workers`; and `--replies` or `--pcap`. Each is given
-/// at most once, in any order. With `--pcap` only the port can be given.
+/// They are `--port` with a port from 1 to 65,535, and `--begin` with a number of at most 2^48 - 1.
+/// Each of these is two arguments, or joined by `=`. The others are `--workers`, and `--replies` or
+/// `--pcap`. Each is given at most once, in any order. With `--pcap` only the port can be given.
 pub(crate) fn words_read(words: &[String]) -> Option<Words> {
     let mut said = Said::nothing();
     let mut left = words;

@@ -94,8 +94,8 @@ fn register_by(alloc: Global, uri: &Parts<'_>, links: &[u8]) -> Result<Ask, AskB
 /// The first that applies. `Starved` can take the place of any of them.
 /// - `Uri` if the text is not a URI or has a fragment.
 /// - `Scheme` if the scheme is not `coap`.
-/// - `Host` if the host is not an address in its printed form (RFC 5952), if user information
-///   precedes it, or if the port is not a number from 1 to 65,535 without a leading zero.
+/// - `Host` if the host is not an address in its printed form (RFC 5952), or if user information
+///   precedes it. Also if the port is not a number from 1 to 65,535 without a leading zero.
 /// - `Part` if a segment of the path or a part of the query does not decode to UTF-8, or decodes to
 ///   more than 255 octets.
 /// - `Size` if the datagram would exceed 1,280 octets.

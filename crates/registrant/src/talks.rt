@@ -214,9 +214,9 @@ impl Talk {
 
     /// Handles a datagram from a peer (RFC 7252 sections 4.2 and 5.3.2).
     ///
-    /// Returns `Over` if it decides the request (see `verdict`, which looks back over the events of
-    /// the request), `Quiet` if it acknowledges the request, and `Other` otherwise. `Starved`
-    /// leaves the pending request unchanged.
+    /// Returns `Over` if it decides the request, `Quiet` if it acknowledges the request, and
+    /// `Other` otherwise. `verdict` says what decides a request, by looking back over its events.
+    /// `Starved` leaves the pending request unchanged.
     pub fn heard(&mut self, alloc: Global, now: Moment, peer: &Peer, datagram: &[u8]) -> TalkHeard
         ensures { (a : Asked) (octets : List ℕ) (past : List Event)
             → StandsFor a octets past self.old

@@ -11,10 +11,10 @@ use std::alloc::Global;
 use std::sync::Wait;
 use std::test::Fail;
 
-/// A request to observe the links, and the registration of the next one, each with room for its
-/// Message ID (RFC 7641 section 3, RFC 9176 section 5).
+/// A request to observe the links (RFC 7641 section 3), with room for its Message ID.
 const OBSERVE: &[u8; 33] = b"\x41\x01\x00\x00\xc0\x60\x59rd-lookup\x03res\x4crt=light-lux";
 
+/// The registration of the next link, with room for its Message ID (RFC 9176 section 5).
 const REGISTER: &[u8; 53] =
     b"\x41\x02\x00\x00\xa1\xb2rd\x48ep=node1\xff</light>;rt=\"light-lux\";if=\"sensor\"";
 

@@ -125,7 +125,8 @@ impl Writes {
         Ok(())
     }
 
-    /// Admits writes with the Message IDs from one up to another, and writes how many are new.
+    /// Admits writes with the Message IDs from one up to, but not including, another. Writes how
+    /// many are new.
     fn admit_many(&mut self, page: &mut String, said: &str) -> Result<(), NoAnswer> {
         let (write, count) = write_of(said)?;
         let end = number_of(count, 65_535)? as u16;

@@ -148,8 +148,8 @@ fn put_runs<V: MapValue>(map: &mut ChunkMap<u64, V>, kind: &V, said: &str) -> Re
     Ok(())
 }
 
-/// Puts or takes a key. Returns a checksum extended by the value then at the key, as one more than
-/// its number or 0 if there is none, and by the number of pairs.
+/// Puts or takes a key. Returns a checksum extended by two numbers. The first is one more than the
+/// value then at the key, or 0 if there is none; the second is the number of pairs.
 fn change_drawn<V: MapValue>(
     map: &mut ChunkMap<u64, V>,
     key: u64,

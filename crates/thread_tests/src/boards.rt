@@ -87,7 +87,7 @@ fn lookers_see_entries_grow(rt: HostRuntime) -> Result<(), Fail> {
     Ok(())
 }
 
-/// Alternately publishes, meets and looks. Returns how many entries the last look showed.
+/// Publishes, meets and looks, alternately. Returns how many entries the last look showed.
 fn met<R: Wait>(
     alloc: Global,
     rt: &R,

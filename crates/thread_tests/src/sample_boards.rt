@@ -142,6 +142,10 @@ impl SampleBoard {
     }
 
     /// Lets a looker of the board meet the publisher.
+    ///
+    /// # Requires
+    ///
+    /// The looker is one of this board.
     pub fn meet(&mut self, looker: &mut Looker)
         requires name { looker.old.name ≡ self.old.publisher.name }
         ensures name { looker.new.name ≡ looker.old.name }

@@ -8,8 +8,11 @@ ghost use Rattle.trace_replay.specs.declared.words.Words.{Words};
 use clap::{Arg, ArgMatches, Command, Error};
 use std::alloc::Global;
 
-/// Parses with clap the arguments that ask for something, as `words_of` of the definitions spells
-/// them. Clap then fails only if memory runs out.
+/// Parses the arguments with clap. They must be the ones that `words_of` of the definitions gives.
+///
+/// # Errors
+///
+/// The error of clap, which occurs only if memory runs out.
 pub fn matches_of<'a>(alloc: Global, words: &'a [String]) -> Result<ArgMatches<'a>, Error>
     ensures { (asked : Words) → map string_bytes words.entry.now ≡ words_of asked
         → IsRead asked result }

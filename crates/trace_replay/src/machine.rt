@@ -173,7 +173,9 @@ impl Machine {
     ///
     /// # Requires
     ///
-    /// The moment of the line is at most 10^15 milliseconds (`IsLine`).
+    /// The machine stands for some journal (`IsMachine`): it is new, or no step has run out of
+    /// memory. The numbers of the line are within their limits (`IsLine`), so its moment is at most
+    /// 10^15 milliseconds.
     ///
     /// # Errors
     ///
@@ -255,6 +257,10 @@ impl Machine {
 
     /// Returns the line that ends the output: the number of accepted changes, of registrations that
     /// are live at the greatest moment so far, and of observers.
+    ///
+    /// # Requires
+    ///
+    /// The machine stands for some journal (`IsMachine`), as for [`Machine::perform`].
     ///
     /// # Errors
     ///

@@ -228,8 +228,8 @@ pub fn report<E: Sink>(err: &mut E, status: Status)
 /// once, as two arguments or joined by `=`. Without `--workers` there is one worker.
 ///
 /// With `--make`, the trace of that number of devices is generated, and replaces the trace of
-/// `source`. The output then has the number of its lines, the number of the datagrams that it sent
-/// with their octets, and the line that ends the output.
+/// `source`. The output then has the number of its lines and the number of the datagrams that it
+/// sent, with their octets. The line that ends the output follows.
 pub fn replay<S: Source, K: Sink, E: Sink>(
     alloc: Global,
     words: &[String],

@@ -53,8 +53,8 @@ fn worker_of(line: &Line) -> u8
 ///
 /// # Errors
 ///
-/// - `Bad` if the line is not a line of a trace, if the worker does not exist, or if a datagram is
-///   for a worker that holds a job. The machine then has made no step.
+/// - `Bad` if the line is not a line of a trace, or its worker does not exist. Also if it is a
+///   datagram for a worker that holds a job. The machine then has made no step.
 /// - `Starved` if memory runs out. The machine must then not be used any more.
 pub fn perform(alloc: Global, machine: &mut Machine, line: &[u8]) -> Result<u8, Trouble>
     requires { IsMachine machine.old }
