@@ -22,7 +22,7 @@ use trace_text::{Line, Reason, out_print};
 /// A directory that lines of a trace drive, without any socket (RFC 9176, RFC 7252, RFC 7641, RFC
 /// 7959).
 ///
-/// It has one desk and from 1 to 16 workers. These receive datagrams, do the jobs that the
+/// It has one desk and at most 16 workers. These receive datagrams, do the jobs that the
 /// datagrams leave, and let time pass. It stores what the last step sent. Contracts say which
 /// journal it stands for (`IsMachineAt`).
 #[derive(Drop)]
