@@ -403,7 +403,7 @@ impl Reader {
     ///
     /// - `NoCapture` if what was read does not begin as a capture does.
     /// - `Block` if a block has a length that no block has, or a section is of an unknown version.
-    ///   Also if the description of an interface is cut. What follows it cannot be found.
+    ///   Also if the description of an interface is cut. What follows such a block cannot be found.
     /// - `Starved` if memory runs out.
     pub fn read<'p>(&mut self, part: &'p [u8]) -> Result<Found<'p>, CaptureFault> {
         match self.part {

@@ -42,7 +42,8 @@ fn put_equal(page: &mut String, equal: &[u8], next: Option<&u8>) -> Result<(), S
 /// Writes octets as [`octets_of`](crate::octets_of) reads them.
 ///
 /// Printable ASCII is written as itself. Any other octet, and a backslash before `x`, is written as
-/// `\xHH`. From 32 on, equal octets are written as `\x{HH*32}`. No octets are written as `-`.
+/// `\xHH`. A run of 32 or more equal octets is written as `\x{HH*32}`. No octets are written as
+/// `-`.
 ///
 /// # Errors
 ///
@@ -89,7 +90,8 @@ fn put_digits(page: &mut String, equal: &[u8]) -> Result<(), Starved> {
     Ok(())
 }
 
-/// Writes octets in hexadecimal: from 32 on, equal octets as `{HH*32}`, and no octets as `-`.
+/// Writes octets in hexadecimal: a run of 32 or more equal octets as `{HH*32}`, and no octets as
+/// `-`.
 ///
 /// # Errors
 ///

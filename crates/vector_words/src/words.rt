@@ -12,7 +12,7 @@ pub fn cut(said: &str) -> (&str, &str) {
     }
 }
 
-/// Returns the number of decimal digits, at most `most`.
+/// Returns the number that decimal digits express, which is at most `most`.
 ///
 /// # Errors
 ///

@@ -44,11 +44,11 @@ pub fn make_hall<R: Wait + AllocGlobal, L, C>(
 
 /// Serves by the seats that the ends have in a hall.
 ///
-/// Each end makes `turns` receives, as [`serve_worker`] does, by its seat and from where that is.
-/// All ends serve at the same time. If a thread cannot be started, the caller does its work. When
-/// all have finished, the hall ends. If all were served to the end, the line `served HEARD SENT
-/// LOST` with their sums is written. Each end keeps its seat and the result of its service. An end
-/// without a seat is not served.
+/// Each end makes `turns` receives, as [`serve_worker`] does, and its seat goes on from its present
+/// state. All ends serve at the same time. If a thread cannot be started, the caller does its work.
+/// When all have finished, the hall ends. If all were served to the end, the line `served HEARD
+/// SENT LOST` with their sums is written. Each end keeps its seat and the result of its service. An
+/// end without a seat is not served.
 ///
 /// Returns the first of these that applies:
 /// - `Memory` if memory ran out or an end has no seat. An end whose outcome is `Memory` has
