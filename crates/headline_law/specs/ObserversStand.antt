@@ -66,9 +66,9 @@ pub record AsksOfObservation (s : Step) (request : Message) : Type 0 where
 abbrev pub carries_observe : Message → Bool
 carries_observe m = stands_in table.observe m.options
 
--- A response whose row handles a lookup with Observe 0. After that row the observer with the peer
--- and the token of the response is the one that the request asks to be: of its query and its block
--- size (RFC 7641 sections 3.1 and 4.1).
+-- A response whose row handles a lookup with Observe 0. After that row there is an observer with
+-- the peer and the token of the response. It is the one that the request asks to be: of its query
+-- and its block size (RFC 7641 sections 3.1 and 4.1).
 pub record MakesObserver (here : Placed) (peer : Peer) (answer : Message) : Type 0 where
   pub request : Message
   pub asks : AsksOfObservation here.row.step request
@@ -145,8 +145,8 @@ pub record WaitedOnce (before : List Row) (r : Row) (peer : Peer) (mid : ℕ) : 
 
 -- ---- the sentence
 
--- A row that handles a lookup with Observe 0 that asks to be this observer, and confirms it: it
--- sends a response with its token that carries Observe (RFC 7641 section 4.1).
+-- A row that handles a lookup with Observe 0 that asks to be this observer. The row confirms it by
+-- a response with its token that carries Observe (RFC 7641 section 4.1).
 pub record AsksToBe (r : Row) (o : Observer) : Type 0 where
   pub request : Message
   pub asks : AsksOfObservation r.step request
@@ -169,7 +169,7 @@ pub record Cancels (r : Row) (request : Message) : Type 0 where
 -- The sentence about who observes.
 -- - `observed`: take a response that carries Observe. After its row its peer observes, under its
 --   token, exactly what it requested.
--- - `begins`: whoever observes asked to, and got a response that says so.
+-- - `begins`: an observer asked to observe, and got a response that says so.
 -- - `ends`: an observer ends only if its peer asks anew under its token, rejects the notification
 --   in flight, or never acknowledges it.
 -- - `leaves`: it does end if its notification is rejected or never acknowledged.

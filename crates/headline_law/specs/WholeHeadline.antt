@@ -23,9 +23,9 @@ pub record WholeHeadline (rows : List Row) : Type 0 where
   pub whom : SentToWhom rows
   pub echo : EchoedFirst rows
 
--- What holds of every journal of a desk. Three sentences hold if each look, commit and keep is made
--- for a request, and each keep has a tag of eight octets: the answers to writes, who observes, and
--- to whom it sends.
+-- What holds of every journal of a desk. The sentences about the answers to writes, about who
+-- observes and about to whom it sends have a condition. Each look, commit and keep is made for a
+-- request, and each keep has a tag of eight octets.
 pub record WholeDeskHeadline (rows : List Row) : Type 0 where
   pub five : DeskHeadline rows
   pub moments : Moments rows
