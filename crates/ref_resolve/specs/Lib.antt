@@ -1,4 +1,4 @@
--- What the contracts say beyond reference_model: the components that parts show, classes of
+-- What the contracts say beyond `reference_model`: the components that parts show, classes of
 -- characters, paths as they grow, merged paths, and paths that are read in one walk.
 pub mod ComponentsOfParts
 pub mod Classes
