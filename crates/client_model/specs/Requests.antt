@@ -68,8 +68,8 @@ message_of ask mid token = record {
   payload = ask.payload;
 }
 
--- Returns how many octets its datagram has, whatever its Message ID and its token: the four of a
--- header, those of the token, its options and its payload (RFC 7252 section 3).
+-- Returns how many octets its datagram has, whatever its Message ID and its token (RFC 7252 section
+-- 3). These are the four of a header, and those of the token, its options and its payload.
 abbrev pub ask_size : Ask → ℕ
 ask_size ask =
     4

@@ -55,8 +55,8 @@ sent_for_datagram peer octets None = []
 sent_for_datagram peer octets (Some o) =
     to_peer peer (acknowledgement_in (readable (reading octets)))
 
--- Returns what is sent at an event after those before it, for a request with these octets: what
--- acknowledges an answer, and the request again at its deadlines.
+-- Returns what is sent at an event after those before it, for a request with these octets. This is
+-- what acknowledges an answer, and the request again at its deadlines.
 abbrev pub sent_for : Asked → List ℕ → List Event → Event → List Sent
 sent_for a octets before (event.Came now peer datagram) =
     sent_for_datagram peer datagram (datagram_decides a.request peer datagram)

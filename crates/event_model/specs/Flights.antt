@@ -56,8 +56,8 @@ moment_of_last (e ∷ before) moment = e.moment
 unfoldable pub deadline : Event → List Event → ℕ
 deadline first again = moment_of_last again first.moment + first_wait first.word * 2 ^ length again
 
--- The timing of a message that waits for its acknowledgement: when it was last sent, how long it
--- waits from then on, and how often it was retransmitted. The wait is in milliseconds.
+-- The timing of a message that waits for its acknowledgement. It is when the message was last sent,
+-- how many milliseconds it waits from then on, and how often it was retransmitted.
 pub record Retransmission : Type 0 where
   pub sent : ℕ
   pub wait : ℕ

@@ -92,7 +92,7 @@ pub record AnswersOnce (r : Row) (place : ℕ) (request : Message) : Type 0 wher
   pub sent : IsAmong r.sent (r.step.peer, octets)
   pub keeps : r.starved ≡ false → IsAmong r.notes (note.Settled place octets)
 
--- ---- writes that come again
+-- ---- duplicate writes
 
 -- A row that handles a duplicate write, and the octets with which the first admission of the write
 -- was answered (RFC 7252 section 4.5).
@@ -140,7 +140,7 @@ pub record FailsWrite (r : Row) (place : ℕ) : Type 0 where
   pub sent : code_sent r.sent ≡ codes_of.internal_server_error
   pub alone : r.notes ≡ note.Failed place ∷ []
 
--- ---- where memory runs out
+-- ---- if memory runs out
 
 -- States that the step is made for the request in its datagram.
 abbrev pub IsForDatagram : StepKind → Type 0

@@ -119,7 +119,7 @@ pub data EndsObserving (before : List Row) (r : Row) (o : Observer) : Type 0 whe
   rejects_notice : RejectsNotice before r o → EndsObserving before r o
   never_acknowledges : NeverAcknowledges before r o → EndsObserving before r o
 
--- ---- notices in flight
+-- ---- notifications in flight
 
 -- A row that handles an acknowledgement of this peer, with this Message ID (RFC 7252 section 4.2).
 pub record HearsAcknowledgement (r : Row) (peer : Peer) (mid : ℕ) : Type 0 where

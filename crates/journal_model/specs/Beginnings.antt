@@ -1,4 +1,4 @@
--- The beginning of a run: a directory that is told so gives numbers, and counts entries, above one
+-- The beginning of a run: a directory that begins one gives numbers, and counts entries, above one
 -- (this project's profile). So none of its locations and entity tags is one of an earlier run.
 use Rattle.std.specs.Prelude.{ℕ, Bool, true, false, List, [], ◌∷◌, Option, Some, None}
 use Rattle.history_model.specs.declared.entries.Change.TheVariants as change

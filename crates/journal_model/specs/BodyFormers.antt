@@ -54,8 +54,7 @@ reads_answer name (note.Used peer key) = is_same_request (peer, key) name
 reads_answer name _ = false
 
 -- Returns whether a later block is read from a kept answer. The request is for a block with a
--- number above 0, and its row notes that it reads the kept answer of the request's own peer and
--- key.
+-- number above 0. Its row notes that it reads the kept answer of the request's own peer and key.
 abbrev pub reads_further_block : Result Message Unread → Placed → Bool
 reads_further_block (Err fault) here = false
 reads_further_block (Ok m) here =
@@ -94,7 +93,7 @@ abbrev pub asker_at : StepKind → Placed → Option Placed
 asker_at (step.Keep body tag) here = look_of here.row.step.worker here.before
 asker_at _ here = Some here
 
--- ---- where nothing is known of keeps, as in a journal of a desk
+-- ---- if nothing is known of keeps, as in a journal of a desk
 
 -- Returns whether a step is a keep.
 abbrev pub is_keep : StepKind → Bool

@@ -78,8 +78,8 @@ pub record FormedAs (here : Placed) (peer : Peer) (m : Message) : Type 0 where
       → (asker : Placed) → asker_at here.row.step.kind here ≡ Some asker
       → IsFront (seen asker) (entries (former.row ∷ former.before))
 
--- Returns whether the request is a look for a listing, or for the source of a live registration,
--- and names the tag of a history at a moment.
+-- Returns whether the request is a look that names the tag of a history at a moment. The look is
+-- for a listing, or for the source of a live registration.
 abbrev pub looks_with_tag : List Entry → ℕ → Result Message Unread → Bool
 looks_with_tag history moment (Err fault) = false
 looks_with_tag history moment (Ok m) =

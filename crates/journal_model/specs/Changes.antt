@@ -37,12 +37,12 @@ use Rattle.event_model.specs.declared.notes.Note.TheVariants as note
 use Rattle.journal_model.specs.declared.steps.Step.{Step}
 use Rattle.journal_model.specs.Effects.{Reply, diagnostic}
 
--- The outcome of a write: its response, and what is noted beside it.
+-- The outcome of a write: its response, and what is noted with it.
 pub record Outcome : Type 0 where
   pub reply : Reply
   pub notes : List Note
 
--- Returns the outcome of a refusal: an error response, and no note beside it.
+-- Returns the outcome of a refusal: an error response, and no note.
 abbrev pub refused : ℕ → List ℕ → Outcome
 refused code word = record { reply = diagnostic code word; notes = [] }
 
@@ -114,7 +114,7 @@ created_at number further = record {
 }
 
 -- Returns the outcome of a registration of links after a history, answered with further options. If
--- it is accepted, `notes` are noted beside its entry.
+-- it is accepted, `notes` are noted with its entry.
 abbrev pub registration_made : List Entry → ℕ → Entry → Name → List Opt → List Note → Outcome
 registration_made history moment entry name further notes =
     change_made history entry (record {
@@ -156,7 +156,7 @@ abbrev pub changed_with : List Opt → Reply
 changed_with further = record { code = codes_of.changed; options = further; payload = [] }
 
 -- Returns the outcome of the replacement of the links of a registration by what was read of a body,
--- answered with further options. If it is accepted, `notes` are noted beside its entry.
+-- answered with further options. If it is accepted, `notes` are noted with its entry.
 abbrev pub replaced_links : List Entry
     → ℕ
     → Step
@@ -171,8 +171,8 @@ replaced_links history moment s number further notes (good_body links) =
     change_made history (entry_of_step moment s (change.Replace number links))
     (record { reply = changed_with further; notes = notes })
 
--- Returns the outcome of the replacement of the links of a registration by those of a whole body:
--- refused for its links, refused as a change, or entered (RFC 9176 section 5.3.3).
+-- Returns the outcome of the replacement of the links of a registration by those of a whole body
+-- (RFC 9176 section 5.3.3). It is refused for its links, refused as a change, or entered.
 unfoldable pub replacement : List Entry
     → ℕ
     → Step

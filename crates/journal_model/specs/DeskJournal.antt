@@ -1,5 +1,5 @@
 -- The journals of a desk: which steps follow which rows, whether those of a replay or of workers
--- that look beside the desk. The definition leaves open which job a worker holds and how many
+-- that look alongside the desk. The definition leaves open which job a worker holds and how many
 -- Message IDs it drew. Looks may be in the journal or not.
 use Rattle.std.specs.Prelude.{◌≡◌, ℕ, ◌<◌, ◌≤◌, max, Bool, true, false, List, [], ◌∷◌, Some}
 use Rattle.std.specs.List.{list_any}

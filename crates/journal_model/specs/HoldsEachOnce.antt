@@ -15,10 +15,10 @@ use Rattle.journal_model.specs.AdmittedWrites.{EndedWithoutMemory, AdmittedAt}
 -- The sentence: registrations are the replay of one legal history that holds each accepted request
 -- once, despite duplicates.
 -- - `legal`, `single`: the history is legal, and a row has at most one entry.
--- - `origin`: the row of an entry is that of a commit, of a beginning, or of a response that
---   completed a fetch with the end of a whole body.
--- - `entry`: it has the moment, the worker and the peer of that row. The change of a commit is the
---   one that its own request asks for, with its last block or a whole body. The change of a
+-- - `origin`: the row of an entry is that of a commit, of a beginning, or of a completion. A
+--   completion is a response that completed a fetch with the end of a whole body.
+-- - `entry`: an entry has the moment, the worker and the peer of its row. The change of a commit is
+--   the one that its own request asks for, with its last block or a whole body. The change of a
 --   response is the one that the fetch was made for, and that of a beginning its own.
 -- - `answered`, `enters_none`: a commit whose response says that a change was made has exactly one
 --   entry, and any other has none.

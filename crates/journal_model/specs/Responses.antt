@@ -113,8 +113,8 @@ pub data ResponseUse : Type 0 where
   the_end : ResponseUse
   next_part : ResponseUse
 
--- Returns what a response is to a fetch: first by whether its block begins elsewhere than what is
--- collected ends, then by whether it ends the fetch without a registration.
+-- Returns what a response is to a fetch. The first argument is whether its block begins elsewhere
+-- than what is collected ends. The second is whether it ends the fetch without a registration.
 abbrev pub response_use : Bool → Bool → ResponseUse
 response_use true ends = of_elsewhere
 response_use false true = the_end

@@ -122,8 +122,8 @@ pub record SendsToWhoAsked (rows : List Row) : Type 0 where
       → Within rows before r
       → IsAmong r.notes (note.Formed peer token body mid) → SendsFirst r peer token body
 
--- States that a look, a commit or a keep is made for a request, the message in its datagram, and
--- that a keep has a tag of eight octets. Nothing is required of the other steps.
+-- States that a look, a commit or a keep is made for a request, the message in its datagram. A keep
+-- has a tag of eight octets. Nothing is required of the other steps.
 abbrev pub IsForRequest : StepKind → Message → Type 0
 IsForRequest step.Admit m = Unit {0}
 IsForRequest step.Look m = role_of m.kind m.code ≡ role.Request

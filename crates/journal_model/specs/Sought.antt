@@ -1,5 +1,6 @@
--- What a request seeks, and what is found of it in a history at a moment: the listing of a lookup,
--- the source of a registration, and the directory's own links (RFC 9176 sections 4.1, 5.3.3 and 6).
+-- What a request seeks, and what is found of it in a history at a moment (RFC 9176 sections 4.1,
+-- 5.3.3 and 6). It seeks the listing of a lookup, the source of a registration, or the directory's
+-- own links.
 use Rattle.std.specs.Prelude.{ℕ, Bool, true, false, List, Option, Some, None, is_some, option_map}
 use Rattle.rd_base.specs.declared.queries.Query.{Query}
 use Rattle.message_model.specs.declared.requests.Path.{Path}

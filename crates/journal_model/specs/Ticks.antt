@@ -83,7 +83,7 @@ confirmable_sent (Some r) peer mid =
     find (λ d. is_same_peer d.0 peer && is_confirmable_with mid d.1) r.sent
 
 -- Returns the octets of the confirmable message with a Message ID that the row of a place sent to a
--- peer, or none if it sent no such message.
+-- peer. Returns none if it sent no such message.
 unfoldable pub octets_sent : List Row → OctetsSent
 octets_sent rows place peer mid =
     unwrap_or (option_map (λ d. d.1) (confirmable_sent (row_at place rows) peer mid)) []

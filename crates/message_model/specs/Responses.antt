@@ -74,8 +74,9 @@ is_other_tag (Some first) tag = not (is_same_tag first tag)
 abbrev pub tag_in : Message → Option (List ℕ)
 tag_in m = first_of (etags_in m)
 
--- Returns whether a response ends the fetch without a registration, by the tag of the first block,
--- if one has arrived, and by the size of what is collected. It does in each of these cases:
+-- Returns whether a response ends the fetch without a registration. The arguments are the tag of
+-- the first block, if one has arrived, and the size of what is collected. A response ends it in
+-- each of these cases:
 -- - it is no 2.05, or has another format;
 -- - its Block2 has the reserved exponent, or its block is cut short;
 -- - it is no block, but a first block has arrived;

@@ -25,9 +25,9 @@ pub(crate) fn write_hexadecimal(page: &mut String, octets: &[u8]) -> Result<(), 
     Ok(())
 }
 
-/// Returns whether a character is invisible among others. It is a space other than that of ASCII,
-/// the end of a line or a paragraph, a control or format character, or any other that is ignored
-/// when it is shown.
+/// Returns whether a character is invisible among others. It is the end of a line or a paragraph, a
+/// control or format character, or a space other than that of ASCII. Or it is any other that is
+/// ignored when it is shown.
 fn is_unseen(character: char) -> bool {
     match GeneralCategory::for_char(character) {
         GeneralCategory::Control

@@ -73,8 +73,8 @@ pub record IsReferenceFault (bytes : List ℕ) (n : ℕ) : Type 0 where
 
 -- ---- how far a text begins some text of a kind: the length of its longest prefix that does
 
--- Returns the length of the longest prefix that begins a text of this kind: this many hexadecimal
--- digits, and then characters that pass the test and percent escapes.
+-- Returns the length of the longest prefix that begins a text of this kind. Such a text is this
+-- many hexadecimal digits, and then characters that pass the test and percent escapes.
 abbrev pub prefix_after_digits : (ℕ → Bool) → ℕ → List ℕ → ℕ
 prefix_after_digits test digits [] = 0
 prefix_after_digits test zero (c ∷ cs) =

@@ -71,7 +71,7 @@ abbrev pub begins_with : ℕ → List ℕ → Bool
 begins_with mark [] = false
 begins_with mark (c ∷ cs) = c == mark
 
--- ---- taking a reference apart (RFC 3986 appendix B)
+-- ---- splitting a reference (RFC 3986 appendix B)
 
 -- Returns the text without its fragment.
 abbrev pub without_fragment : List ℕ → List ℕ
@@ -163,7 +163,7 @@ recomposed c =
     ++ (authority_text c.authority
     ++ (c.path ++ (query_text c.query ++ fragment_text c.fragment)))
 
--- ---- what may stand in each component
+-- ---- what each component may have
 
 -- Returns whether there is no text, or it passes the test.
 abbrev pub where_present : (List ℕ → Bool) → Option (List ℕ) → Bool
@@ -249,7 +249,7 @@ is_authority authority =
     where_present (is_text_of is_userinfo_character) (userinfo_of authority)
     && is_host_and_port (after_userinfo authority)
 
--- Returns whether the path is allowed beside the scheme and the authority (RFC 3986 section 3.3).
+-- Returns whether the path is allowed with the scheme and the authority (RFC 3986 section 3.3).
 -- After an authority it begins with a slash or is empty, and without one it does not begin with
 -- two. If there is neither authority nor scheme, its first segment has no colon.
 abbrev pub path_fits : Components → Bool

@@ -31,8 +31,8 @@ use Rattle.stream_model.specs.Streams.{
 use Rattle.stream_reader.specs.declared.feeding.Fed.{Fed}
 use Rattle.stream_reader.specs.declared.feeding.Fed.TheVariants as fed
 
--- What a reader holds: the octets of the message that it is reading, or that the last piece
--- completed, and whether this message is the first of its stream.
+-- What a reader holds: the octets of a message, and whether this message is the first of its
+-- stream. It is the message that the reader is reading, or that the last piece completed.
 pub record Held : Type 0 where
   pub is_first : Bool
   pub pending : List ℕ

@@ -46,8 +46,8 @@ fn has_short_token(octets: &[u8]) -> bool
     (*first % 16) as usize <= MAX_TOKEN
 }
 
-/// Returns how many octets of a piece that begins a message may be taken at once: all of the
-/// message if they are there, and otherwise the first.
+/// Returns how many octets of a piece that begins a message may be taken at once. These are all of
+/// the message if they are there, and otherwise the first.
 pub(crate) fn leap(piece: &[u8]) -> usize
     requires { 0 < length piece.now }
     ensures some { 0 < result }

@@ -45,7 +45,7 @@ impl<R: Clock + Copy> TcpAccept<R> {
     /// Returns an acceptor of the connections that are made to `listener`, which it polls every 50
     /// ms.
     ///
-    /// `clock` tells the time that passes. Each connection takes some memory of `alloc`.
+    /// `clock` measures the time that passes. Each connection takes some memory of `alloc`.
     pub fn of(clock: R, alloc: Global, listener: TcpListener) -> TcpAccept<R>
         ensures { result ≡ record { opened = 0; faults = 0 } }
     {

@@ -14,10 +14,10 @@ const TURNS: u64 = 1 << 40;
 
 /// The octets that are read from a connection. Contracts do not see them.
 ///
-/// The source is at its end at the peer's end. It is also at its end if no message ends for as long
-/// as one may take: 10 s for the first, 60 s for each later one. The time in which the process was
-/// stopped does not count. When the source is dropped after such a wait, it sends the peer a
-/// Release or an Abort. Dropping it ends the connection so that what was written is delivered.
+/// The source is at its end at the peer's end. It is also at its end if no message ends in time:
+/// the first within 10 s, and each later one within 60 s. The time in which the process was stopped
+/// does not count. When the source is dropped after such a wait, it sends the peer a Release or an
+/// Abort. Dropping it ends the connection so that what was written is delivered.
 pub struct TcpSource<R: Clock + Copy> {
     stream: Arc<TcpStream>,
     patience: Patience,

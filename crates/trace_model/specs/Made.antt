@@ -24,8 +24,8 @@ abbrev pub sent_line : List (Peer × List ℕ) → List ℕ
 sent_line sent =
     ended (codes "sent " ++ (decimal (length sent) ++ (codes " " ++ decimal (octets_sent sent))))
 
--- Returns the output of a make run for a number of devices and of workers: the number of lines that
--- it made, what it sent, and the last line.
+-- Returns the output of a make run for a number of devices and of workers. It has the number of
+-- lines that were made, what was sent, and the last line.
 unfoldable pub made_output : ℕ → ℕ → List ℕ
 made_output devices workers =
     made_line (length (generated_lines devices workers))

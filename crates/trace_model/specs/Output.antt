@@ -36,8 +36,8 @@ unfoldable pub text : List Row → List ℕ
 text [] = []
 text (r ∷ before) = text before ++ out_lines r
 
--- Returns the last line: the count of accepted changes, how many registrations are live at the
--- greatest moment that was passed in, and how many observers there are.
+-- Returns the last line. It has the count of accepted changes, the number of registrations that are
+-- live at the greatest moment passed in, and the number of observers.
 unfoldable pub last_line : List Row → List ℕ
 last_line rows =
     ended (codes "end " ++ (decimal (counted 0 (entries rows)) ++ (codes " "
