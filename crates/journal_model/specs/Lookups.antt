@@ -79,8 +79,8 @@ block_of_found s m None = answering s m not_live []
 block_of_found s m (Some fresh) =
     block_now s m fresh (block_of fresh.body (number_of (asked_block m)) (szx_of (asked_block m)))
 
--- Sends a later block of the kept answer, or else of what is found now. A block of the kept answer
--- is a use of it even after its end.
+-- Sends a later block of the kept answer, or else of what is found now. To read the kept answer is
+-- a use of it, even if the block lies after its end.
 abbrev pub block_of_kept : Step → Message → Option Answer → Option Answer → Effects
 block_of_kept s m fresh (Some answer) =
     answering s m (body_reply (Some answer.tag) None (asked_block m) answer.body)

@@ -288,8 +288,8 @@ fn put_device(text: &mut Bytes, alloc: Global, i: u16, workers: u8) -> Result<()
 ///
 /// Devices are numbered from 1 and 200 milliseconds apart, and the workers step one after another.
 /// Each device registers (RFC 9176 section 5) and is served a millisecond later. After each tenth
-/// an observer looks up the links of its kind (RFC 9176 section 6, RFC 7641 section 2). After each
-/// hundredth time passes. A last tick ends the trace.
+/// device, an observer looks up the links of its kind (RFC 9176 section 6, RFC 7641 section 2).
+/// After each hundredth device, time passes. A last tick ends the trace.
 ///
 /// # Requires
 ///
