@@ -1,4 +1,4 @@
-//! The lock: a value behind one word and one slot.
+//! The lock: a value protected by one word and one slot.
 ghost use Rattle.std.specs.Prelude.{◌≡◌, ℕ, ◌+◌, false, [], ◌∷◌, Some};
 ghost use Rattle.std.specs.Mem.{manually_drop_value};
 ghost use Rattle.turn_lock.specs.Rule.{word_of, SeenInOrder, HistoryOfPasses};
@@ -14,35 +14,36 @@ use std::snapshot::Snapshot;
 use std::sync::Wait;
 use std::sync::atomic::{AtomicU64, Ordering};
 
-/// A value that many workers change, each at its turn. A lock may be let go where its value may.
-/// Any other is taken apart, by `end` or `into_inner`.
+/// A value that many workers change in turn. A lock may be dropped if its value may be. Any other
+/// lock is taken apart by [`TurnLock::end`] or [`TurnLock::into_inner`].
 #[derive(Drop)]
 pub struct TurnLock<T: Replays> {
     table: Table<Option<T>, View<T::Row, T::Label>, About<T>, Turn<T>, Global>,
-    /// How many workers sleep until the turn is given back, or are about to. Where it is 0, a give
-    /// wakes nobody.
+    /// How many workers sleep until the turn is given back, or are about to. If it is 0, giving the
+    /// turn back wakes no worker.
     sleepers: AtomicU64,
     ghost words: { table.shared.table_id.words ≡ 1 },
     ghost slots: { table.shared.table_id.slots ≡ 1 },
 }
 
-/// No memory was found for a lock. The value comes back.
+/// A value that came back because there was no memory for its lock.
 #[derive(Drop)]
 pub struct Unmade<T> {
-    /// The value that was handed in.
+    /// The value that was passed in.
     pub value: T,
 }
 
-/// What a lock leaves when it ends.
+/// The result of taking a lock apart.
 #[derive(Drop)]
 pub enum Ended<T> {
-    /// The turn was free: the value.
+    /// The turn was free, and this is the value.
     Free(T),
-    /// A pass held the turn, and has the value. What lay in the slot, of which no contract speaks.
+    /// A pass held the turn, and has the value. This is what was in the slot, of which no contract
+    /// speaks.
     Held(Option<T>),
 }
 
-/// The word of a history that has one row more.
+/// Returns the word of a history that has one more row.
 fn next_word(word: u64) -> u64
     ensures { (n : ℕ) → word ≡ word_of n false → result ≡ word_of (n + 1) false }
 {
@@ -53,7 +54,7 @@ fn next_word(word: u64) -> u64
     }
 }
 
-/// The value of the one slot.
+/// Returns the value of the only slot.
 fn only<T>(mut slots: Vec<Option<T>>) -> T
     requires { (value : T) × (slots.items ≡ Some value ∷ []) }
     ensures { slots.items ≡ Some result ∷ [] }
@@ -65,7 +66,7 @@ fn only<T>(mut slots: Vec<Option<T>>) -> T
     value
 }
 
-/// A pass that has seen nothing.
+/// Returns a pass that has seen nothing.
 fn new_pass<T: Replays>(seat: Seat<Option<T>, View<T::Row, T::Label>>) -> Pass<T>
     requires idle { seat.me.0.holding ≡ false }
     requires seen { seat.me.0.seen ≡ [] }
@@ -90,7 +91,12 @@ impl<T: Replays> TurnLock<T> {
     ghost use Rattle.turn_lock.specs.Shown.{id_of, lock_of, number_of, label_of, is_holding};
     ghost use Rattle.turn_lock.specs.Shown.{count_of, passes_of, seen_of, mine_of, list_of, IsNew};
 
-    /// Waits for the turn and takes the value out. It stands for all that the pass has seen then.
+    /// Waits for the turn and takes the value out. The value stands for all rows that the pass has
+    /// seen then.
+    ///
+    /// # Requires
+    ///
+    /// The pass is of this lock, and does not hold the turn.
     pub fn take<R: Wait>(&self, rt: &R, pass: &mut Pass<T>) -> T
         requires lock { lock_of pass.old ≡ id_of self.now }
         requires idle { is_holding pass.old ≡ false }
@@ -111,7 +117,7 @@ impl<T: Replays> TurnLock<T> {
         self.slot_out(&mut pass.seat)
     }
 
-    /// Waits until the turn is taken. The word as it was found.
+    /// Waits until the turn is taken. Returns the word as it was found.
     fn win<R: Wait>(&self, rt: &R, seat: &mut Seat<Option<T>, View<T::Row, T::Label>>) -> u64
         requires lock { seat.old.table_id ≡ self.now.table.shared.table_id }
         requires bare { seat.old.me.1 ≡ [] }
@@ -134,16 +140,16 @@ impl<T: Replays> TurnLock<T> {
 
     /// Sleeps while the word is this one.
     ///
-    /// A sleeper is counted before the word is compared, and a give changes the word before it
-    /// reads the count: so a give that finds no sleeper changed the word before it was compared,
-    /// and nobody sleeps through it.
+    /// The sleeper is counted before the word is compared. [`TurnLock::give`] changes the word
+    /// before it reads the count. So if it finds no sleeper, it changed the word before the
+    /// comparison, and no worker sleeps through it.
     fn sleep<R: Wait>(&self, rt: &R, word: u64) {
         self.sleepers.fetch_add(1, Ordering::SeqCst);
         self.table.shared.park(rt, 0, (word & 0xffff_ffff) as u32);
         self.sleepers.fetch_sub(1, Ordering::SeqCst);
     }
 
-    /// Takes the turn if the word is this one.
+    /// Takes the turn if the word is this one, and returns whether it did.
     fn try_take(&self, seat: &mut Seat<Option<T>, View<T::Row, T::Label>>, word: u64) -> bool
         requires lock { seat.old.table_id ≡ self.now.table.shared.table_id }
         requires bare { seat.old.me.1 ≡ [] }
@@ -157,7 +163,7 @@ impl<T: Replays> TurnLock<T> {
         shared.compare_exchange::<Take<T>>(seat, 0, word, word + 1) == word
     }
 
-    /// Moves the value out of the slot.
+    /// Moves the value out of the slot, and returns it.
     fn slot_out(&self, seat: &mut Seat<Option<T>, View<T::Row, T::Label>>) -> T
         requires lock { seat.old.table_id ≡ self.now.table.shared.table_id }
         requires full { (value : T) × (seat.old.me.1 ≡ (0, Some value) ∷ []) }
@@ -178,8 +184,13 @@ impl<T: Replays> TurnLock<T> {
         let None = out else { unreachable!() };
     }
 
-    /// Gives the turn back with the value, which stands for what the pass has seen with one row
-    /// more.
+    /// Gives the turn back with the value and one more row, which the caller's contract names
+    /// (`S`).
+    ///
+    /// # Requires
+    ///
+    /// The pass is of this lock, and holds the turn. The row has the number of the pass. The value
+    /// has the lock's label, and stands for what the pass has seen with this row added.
     pub fn give<S: Added<T::Row>>(&self, pass: &mut Pass<T>, value: T)
         requires lock { lock_of pass.old ≡ id_of self.now }
         requires holding { is_holding pass.old ≡ true }
@@ -203,7 +214,7 @@ impl<T: Replays> TurnLock<T> {
         pass.word = word;
     }
 
-    /// Makes the turn free, and wakes one that sleeps.
+    /// Makes the turn free, and wakes one worker that sleeps.
     fn release<S: Added<T::Row>>(
         &self,
         seat: &mut Seat<Option<T>, View<T::Row, T::Label>>,
@@ -226,7 +237,7 @@ impl<T: Replays> TurnLock<T> {
         }
     }
 
-    /// Cuts a pass with the next number off the one that was made last.
+    /// Splits a pass with the next number off the pass that was made last.
     fn next(
         &self,
         last: &mut Seat<Option<T>, View<T::Row, T::Label>>,
@@ -242,7 +253,7 @@ impl<T: Replays> TurnLock<T> {
         self.table.shared.split_seat::<Next>(last)
     }
 
-    /// As many passes as are wanted, cut off one after another.
+    /// Returns the passes, each split off the one before it.
     fn cut(
         &self,
         mut passes: Vec<Pass<T>>,
@@ -271,8 +282,15 @@ impl<T: Replays> TurnLock<T> {
         passes
     }
 
-    /// The lock round the value, and its passes, numbered from 0. Where no memory is found, the
-    /// value comes back.
+    /// Creates a lock for the value, and its passes, numbered from 0.
+    ///
+    /// # Requires
+    ///
+    /// `seats` is 1 to 16, and the value stands for the empty history.
+    ///
+    /// # Errors
+    ///
+    /// `Unmade` with the value if memory runs out.
     pub fn make_or_return(
         alloc: Global,
         seats: u32,
@@ -316,7 +334,7 @@ impl<T: Replays> TurnLock<T> {
         Ok((lock, Passes::of(passes)))
     }
 
-    /// What a closed table leaves.
+    /// Returns what is left of a closed table.
     fn left(mut closed: Closed<Option<T>, Global>) -> Ended<T>
         requires counts { (slots_len closed.words ≡ 1) × (slots_len closed.slots ≡ 1) }
         requires full { IsFull closed.words × IsFull closed.slots }
@@ -333,8 +351,12 @@ impl<T: Replays> TurnLock<T> {
         Ended::Free(value)
     }
 
-    /// Takes the lock apart, with one of its passes. The value comes back where the turn is free,
-    /// and stands for a history that goes on from what this pass has seen.
+    /// Takes the lock apart, with one of its passes. If the turn is free, returns the value, which
+    /// stands for a history that continues what this pass has seen.
+    ///
+    /// # Requires
+    ///
+    /// The pass is of this lock.
     pub fn end(self, pass: Pass<T>) -> Ended<T>
         requires lock { lock_of pass ≡ id_of self }
         ensures value { IfFree result (λ value. (history : List T.Row) ×
@@ -350,8 +372,8 @@ impl<T: Replays> TurnLock<T> {
         TurnLock::left(table.close_with(seat))
     }
 
-    /// Takes the lock apart, with none of its passes. The value comes back where the turn is free,
-    /// and stands for some history.
+    /// Takes the lock apart, without a pass. If the turn is free, returns the value, which stands
+    /// for some history.
     pub fn into_inner(self) -> Ended<T>
         ensures value { IfFree result (λ value. (history : List T.Row) × T.stands history value) }
     {
@@ -360,13 +382,14 @@ impl<T: Replays> TurnLock<T> {
     }
 }
 
-/// Of what two passes of one lock have seen, one is the other as it once was.
+/// States a law: of what two passes of one lock have seen, one is an earlier state of the other.
 pub fn seen_in_order<T: Replays>()
     ensures { SeenInOrder T.stands T.number T.label }
 {}
 
-/// The history of a lock is that of its passes: each row is of one of them, and those of each are
-/// its own, in its order. While none of them has a row of its own, it is empty.
+/// States a law: the history of a lock is that of its passes. Each row is of one of them. The rows
+/// of a pass are exactly its own, in order. Until a pass has a row of its own, the history is
+/// empty.
 pub fn history_is_of_passes<T: Replays>()
     ensures { HistoryOfPasses T.stands T.number T.label }
 {}
@@ -375,7 +398,15 @@ impl<T: Replays + Drop> TurnLock<T> {
     ghost use Rattle.std.specs.Prelude.{◌≤◌, ◌<◌, length, IfOk, slice_index_or, All};
     ghost use Rattle.turn_lock.specs.Shown.{id_of, lock_of, count_of, list_of, IsNew};
 
-    /// The lock round the value, and its passes, numbered from 0.
+    /// Creates a lock for the value, and its passes, numbered from 0.
+    ///
+    /// # Requires
+    ///
+    /// `seats` is 1 to 16, and the value stands for the empty history.
+    ///
+    /// # Errors
+    ///
+    /// `Starved` if memory runs out. The value is dropped then.
     pub fn make(alloc: Global, seats: u32, value: T) -> Result<(TurnLock<T>, Passes<T>), Starved>
         requires seats { (1 ≤ seats) × (seats ≤ 16) }
         requires value { T.stands [] value }

@@ -1,4 +1,4 @@
-//! What a value behind a lock stands for, and the row that a step adds.
+//! What a locked value stands for, and the row that a step adds.
 
 use std::marker::Brand;
 
@@ -7,7 +7,7 @@ pub trait Replays {
     /// One step of one worker.
     type Row;
 
-    /// Plain data that every value of one lock shows alike.
+    /// Plain data that is the same for all values of one lock.
     type Label;
 
     ghost use Rattle.std.specs.Prelude.{ℕ, List};
@@ -22,7 +22,8 @@ pub trait Replays {
     ghost label: { Self → Self.Label };
 }
 
-/// The row that a call of `give` adds, which contracts alone see. The call names it.
+/// The row that a call of [`crate::TurnLock::give`] adds, which only contracts see. The caller
+/// names it.
 pub trait Added<R> {
     ghost use Rattle.std.specs.Prelude.{Option};
 
