@@ -1,4 +1,4 @@
-//! Connections over TCP as a door.
+//! Connections over TCP as an [`Accept`].
 ghost use Rattle.std.specs.Prelude.{None};
 ghost use Rattle.tcp_door.specs.Doors as tcp;
 ghost use Rattle.coap_stream.specs.Serving.{CountsOpened, Opens, opened_peer};
@@ -7,7 +7,7 @@ use crate::doors::{Accept, Opened};
 use std::time;
 use tcp_door::{TcpAccept, TcpConnection, TcpSink, TcpSource};
 
-/// It tells nothing of what its connections give and take.
+/// It exposes nothing of what its connections receive and send.
 impl<R: time::Clock + Copy> Accept for TcpAccept<R> {
     type In = TcpSource<R>;
 
@@ -17,7 +17,7 @@ impl<R: time::Clock + Copy> Accept for TcpAccept<R> {
 
     ghost faults = { λ d. d.faults };
 
-    /// Opens the next connection, and waits for it.
+    /// Waits for the next connection, and opens it.
     fn next(&mut self) -> Opened<TcpSource<R>, TcpSink>
         ensures opened { Opens (λ _. None) None None result }
         ensures cause { CountsOpened self.old.faults self.new.faults result }
