@@ -112,8 +112,9 @@ is_simple m = m.code == code_named.post && is_simple_rd (path_in m)
 abbrev pub is_baseless : Message → Bool
 is_baseless m = is_registration m && not (has_named base (queries_in m))
 
--- The reason, given the first refusal that a request alone decides before its query, if there is
--- one, and whether the request is a simple registration or one without a base.
+-- The reason for which a request is answered without a seat. It depends on the first refusal that
+-- the request alone decides before its query, if there is one. It also depends on whether the
+-- request is a simple registration or one without a base.
 abbrev pub unasked_by : Option Refusal → Bool → Bool → Option Unasked
 unasked_by None simple baseless =
     if simple then Some unasked_for.Simple

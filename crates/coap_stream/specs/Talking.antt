@@ -85,7 +85,7 @@ pub record Answering (peer : Peer) (before now : TalkSeen) (still : Bool) (count
   pub asked : counts.asked ≡ asked_of exchanges
   pub dropped : counts.dropped ≡ dropped_of exchanges
 
--- What was read so far consists of these messages, all of which are answered, and then of what the
+-- What was read so far begins with these messages, all of which are answered. The rest is what the
 -- reader finds in the remaining octets of the last piece and in any that follow. The conversation
 -- continues.
 pub record TalksSo (peer : Peer) (before now : TalkSeen) (counts : Counts) (held : Held)

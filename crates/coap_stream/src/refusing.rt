@@ -144,9 +144,11 @@ fn unasked_refused(view: &View<'_>, refusal: Refusal) -> Option<Unasked>
 }
 
 /// Returns the reason for which a request of a connection is answered without a seat, or `None` if
-/// it is for a seat. The reasons are that an option, a proxy or the path is refused; that it is a
-/// simple registration; or that it is a registration without a base that is not refused before its
-/// query options are examined.
+/// it is for a seat.
+///
+/// The reasons are that an option, a proxy or the path is refused, or that it is a simple
+/// registration. Another reason is that it is a registration without a base, and is not refused
+/// before its query options are examined.
 pub fn why_unasked(view: &View<'_>) -> Option<Unasked>
     ensures { result ≡ spec.unasked_of (message_in view.now) }
 {

@@ -255,7 +255,7 @@ pub fn converse<R: Wait + AllocGlobal, S: Source, K: Sink, C: Clock, G: Gate>(
         seat.old out.old clock.old)
         (talk_seen K.Sink.own C.Clock.own (source_seen S.Source.own source.new)
         seat.new out.new clock.new) result }
-    // Where the source tells its octets, what was handed to the seat is what they say.
+    // If the source exposes its octets, they determine what was handed to the seat.
     ensures counts { IfOk result (λ talked. IfSome (S.left source.old)
         (λ octets. talked.asked ≡ asked_in octets)) }
     ensures few { IfOk result (λ talked. talked.asked ≤ spec.most_asked) }

@@ -38,9 +38,9 @@ lease_of r = record { lapse = record { 0 = lapse r }; number = r.number }
 abbrev pub leases_of : List Record → List Lease
 leases_of records = map lease_of (in_order_of_lapse records)
 
--- what a version stores besides its records agrees with them: their leases, and the number and the
--- weight of those that were live when they were counted; neither these nor the counted entries
--- exceed their limits
+-- What a version stores besides its records agrees with them: their leases, and the number and the
+-- weight of those that were live when they were counted. Neither these nor the counted entries
+-- exceed their limits.
 pub record IsKept (v : Version) (names : List NameSlot) (leases : List Lease) (count sum : ℕ) : Type
     0 where
   pub rising : PairsByRecursion IsBelow v.records

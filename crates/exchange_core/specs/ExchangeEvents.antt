@@ -49,8 +49,8 @@ keyed_as None moment events = keyed_new (is_full_of_exchanges moment events)
 unfoldable pub keyed_after : ℕ → Peer → ℕ → List Event → Keyed
 keyed_after moment peer mid events = keyed_as (repeated moment peer mid events) moment events
 
--- a write of a peer under a Message ID was looked up in a table at a moment: the answer that it
--- would get, and the table still stands for the same events
+-- A write of a peer under a Message ID was looked up in a table at a moment: the answer that it
+-- would get. The table still stands for the same events.
 pub record IsFoundAt (now : ℕ) (peer : Peer) (mid : ℕ) (before after : Table) (answer : Keyed) :
     Type 0 where
   -- it would get the answer that it gets after those events
@@ -68,8 +68,9 @@ pub record IsFoundAt (now : ℕ) (peer : Peer) (mid : ℕ) (before after : Table
   -- the table was changed at no later moment
   pub moment : after.moment ≤ now
 
--- a write of a peer under a Message ID was passed to a table at a moment: the answer that it gets,
--- and what the table stands for afterwards, for all events that the table stood for at that moment
+-- A write of a peer under a Message ID was passed to a table at a moment: the answer that it gets,
+-- and what the table stands for afterwards. This holds for all events that the table stood for at
+-- that moment.
 pub record IsKeyedAt (now : ℕ) (peer : Peer) (mid : ℕ) (before after : Table) (answer : Keyed) :
     Type 0 where
   -- it gets the answer that it gets after those events
@@ -95,8 +96,8 @@ pub record IsKeyedAt (now : ℕ) (peer : Peer) (mid : ℕ) (before after : Table
   -- the table was changed at no later moment
   pub moment : after.moment ≤ now
 
--- a write of a peer under a Message ID is new at a moment, and the remaining table has room for it:
--- it would get this answer, and it gets it once it is the latest of the exchanges
+-- A write of a peer under a Message ID is new at a moment, and the remaining table has room for it.
+-- It would get this answer, and it gets it once it is the latest of the exchanges.
 pub record MayBeAdmitted (now : ℕ) (peer : Peer) (mid : ℕ) (before after : Table) : Type 0 where
   pub found : IsFoundAt now peer mid before after keyed.Fresh
   pub room : length after.exchanges < max_exchanges

@@ -65,8 +65,8 @@ abbrev pub EachAwaitsOne : List Standing → Type 0
 EachAwaitsOne [] = Unit {0}
 EachAwaitsOne (w ∷ ws) = AllByRecursion (AwaitsOne w) ws × EachAwaitsOne ws
 
--- by the queries in their slots and by the octets that rows sent, a table stands for events and
--- transitions: it shows their observers, in order, and no peer has two notifications in flight
+-- By the queries in their slots and by the octets that rows sent, a table stands for events and
+-- transitions. It shows their observers, in order, and no peer has two notifications in flight.
 pub record ObserversStandFor (queries : ℕ → Query) (octets : OctetsSent) (events : List Event)
     (transitions : List Transition) (ws : List Standing) : Type 0 where
   pub standing : observers_standing octets events transitions ≡ map (shown queries) ws

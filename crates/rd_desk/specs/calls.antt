@@ -1,7 +1,11 @@
--- The contracts of a desk's calls: what a desk shows and the journal that it stands for (Desks,
--- Shown), a call as a step (Steps), how a step ends (Stepping), the result of a datagram and what a
--- tick needs (Admitting, Ticking), the job of a write (WriteJobs), what a step leaves staged on the
--- board (Staging), and an observer as it is shown (ShownObservers).
+-- The contracts of a desk's calls.
+--
+-- - what a desk shows and the journal that it stands for: Desks, Shown
+-- - a call as a step, and how a step ends: Steps, Stepping
+-- - the result of a datagram, and what a tick needs: Admitting, Ticking
+-- - the job of a write: WriteJobs
+-- - what a step leaves staged on the board: Staging
+-- - an observer as it is shown: ShownObservers
 
 -- what a desk shows and the journal that it stands for, a call as a step, how a step ends
 pub mod Desks

@@ -1,7 +1,11 @@
--- The parts of a step, which no call shows: a step in progress (UnderWay); received datagrams
--- (Hearing, Responding, Lookups); answers to writes (Replies), the purpose of their links
--- (Purposes), and a write as it is planned, settled and staged on the board (Outcomes, Committing,
--- Laying); a beginning (Beginnings); the parts of a tick (Noticing, Planning, Resending).
+-- The parts of a step, which no call shows.
+--
+-- - a step in progress: UnderWay
+-- - received datagrams: Hearing, Responding, Lookups
+-- - answers to writes, and the purpose of their links: Replies, Purposes
+-- - a write as it is planned, settled and staged on the board: Outcomes, Committing, Laying
+-- - a beginning: Beginnings
+-- - the parts of a tick: Noticing, Planning, Resending
 
 -- a step in progress
 pub mod UnderWay

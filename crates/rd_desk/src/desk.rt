@@ -138,8 +138,8 @@ impl<B: Board> Desk<B> {
         requires empty { out.old ≡ [] }
         requires free { B.has_staged self.old.board ≡ false }
         requires told { AreToldOf self.old.tables.version (B.told self.old.board) }
-        // The desk stands for the journal with the row of the step, which is what was sent and
-        // drawn.
+        // The desk stands for the journal with the row of the step, and the call sent and drew what
+        // the row says.
         ensures made { (rows : List Row) (s : Step)
             → s.kind ≡ step.Admit
             → s.peer ≡ peer
@@ -148,7 +148,7 @@ impl<B: Board> Desk<B> {
             → IsCalled rows s now mids.old self.old.tables
             → Made rows (row rows s (is_starved_admission result)) self.new.tables out.new mids.old
             mids.new }
-        // The worker has the job of the write that the row admits, where it admits one.
+        // The worker has the job of the write that the row admits, if it admits one.
         ensures held { (rows : List Row) (s : Step)
             → s.kind ≡ step.Admit
             → s.peer ≡ peer
@@ -156,14 +156,15 @@ impl<B: Board> Desk<B> {
             → IsCalled rows s now mids.old self.old.tables
             → IsHeldFor result (row rows s (is_starved_admission result)).notes s
             (row_moment rows s) }
-        // Refusals, repeats, empty messages, and responses that belong to no fetch take no memory.
+        // Refusals, duplicates, empty messages, and responses that belong to no fetch do not
+        // allocate.
         ensures unstarved { (rows : List Row) (s : Step)
             → s.peer ≡ peer
             → s.datagram ≡ datagram.now
             → IsCalled rows s now mids.old self.old.tables
             → takes_memory rows (row_moment rows s) s (reading datagram.now) ≡ false
             → is_starved_admission result ≡ false }
-        // Its version is staged where it makes an entry, and else nothing is.
+        // If the step makes an entry, its version is staged. Otherwise nothing is.
         ensures staged { (rows : List Row) (s : Step)
             → s.kind ≡ step.Admit
             → s.peer ≡ peer
@@ -268,8 +269,8 @@ impl<B: Board> Desk<B> {
         requires empty { out.old ≡ [] }
         requires free { B.has_staged self.old.board ≡ false }
         requires told { AreToldOf self.old.tables.version (B.told self.old.board) }
-        // The desk stands for the journal with the row of the step, which is what was sent and
-        // drawn.
+        // The desk stands for the journal with the row of the step, and the call sent and drew what
+        // the row says.
         ensures made { (rows : List Row) (s : Step) (place : ℕ) (m : Message)
             → s.kind ≡ step.Commit place
             → s.peer ≡ job.peer
@@ -280,7 +281,7 @@ impl<B: Board> Desk<B> {
             → IsCalled rows s now mids.old self.old.tables
             → Made rows (row rows s (is_starved_step result)) self.new.tables out.new mids.old
             mids.new }
-        // Its version is staged where it makes an entry, and else nothing is.
+        // If the step makes an entry, its version is staged. Otherwise nothing is.
         ensures staged { (rows : List Row) (s : Step) (place : ℕ) (m : Message)
             → s.kind ≡ step.Commit place
             → s.peer ≡ job.peer
@@ -309,8 +310,8 @@ impl<B: Board> Desk<B> {
     pub fn keep(&mut self, now: Moment, mids: &mut Mids, job: KeepJob, out: &mut Outbox) -> Stepped
         requires moment { now.0 ≤ 10 ^ 15 }
         requires empty { out.old ≡ [] }
-        // The desk stands for the journal with the row of the step, which is what was sent and
-        // drawn.
+        // The desk stands for the journal with the row of the step, and the call sent and drew what
+        // the row says.
         ensures made { (rows : List Row) (s : Step)
             → s.kind ≡ step.Keep job.answer.body job.answer.tag
             → s.peer ≡ job.peer
@@ -341,15 +342,16 @@ impl<B: Board> Desk<B> {
     pub fn tick(&mut self, now: Moment, word: u32, mids: &mut Mids, out: &mut Outbox) -> Stepped
         requires moment { now.0 ≤ 10 ^ 15 }
         requires empty { out.old ≡ [] }
-        // The desk stands for the journal with the row of the step, which is what was sent and
-        // drawn.
+        // The desk stands for the journal with the row of the step, and the call sent and drew what
+        // the row says.
         ensures made { (rows : List Row) (s : Step)
             → s.kind ≡ step.Tick
             → s.word ≡ word
             → IsCalled rows s now mids.old self.old.tables
             → Made rows (row rows s (is_starved_step result)) self.new.tables out.new mids.old
             mids.new }
-        // Where no observer is due whose peer waits for no notice, it takes no memory.
+        // The tick does not allocate unless an observer is due to whose peer no notification is in
+        // flight.
         ensures unstarved { (rows : List Row) (s : Step)
             → s.kind ≡ step.Tick
             → IsCalled rows s now mids.old self.old.tables
@@ -387,7 +389,7 @@ impl<B: Board> Desk<B> {
             → IsCalled rows s now mids.now self.old.tables
             → Made rows (row rows s (is_starved_step result)) self.new.tables [] mids.now
             mids.now }
-        // Its version is staged where it makes its entry, and else nothing is.
+        // If the step makes its entry, its version is staged. Otherwise nothing is.
         ensures staged { (rows : List Row) (s : Step)
             → s.kind ≡ step.Begin first
             → IsCalled rows s now mids.now self.old.tables

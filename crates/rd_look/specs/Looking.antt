@@ -21,8 +21,8 @@ use Rattle.rd_look.specs.declared.looks.Found.TheVariants as found
 use Rattle.rd_look.specs.declared.looks.Looked.{Looked}
 use Rattle.rd_look.specs.declared.looks.Looked.TheVariants as ended
 
--- the result of a look that found this: 2.03 if the client has it, 4.04 if a registration is not
--- live, and otherwise the body, which is held if it is a listing or a source longer than a block
+-- The result of a look that found this: 2.03 if the client has it, 4.04 if a registration is not
+-- live, and otherwise the body. A listing or source longer than a block is held.
 abbrev pub look_found : Message → Found → Look
 look_found m (found.Valid current) = answered (still_valid current.0)
 look_found m (found.Links links) =

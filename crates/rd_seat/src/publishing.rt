@@ -21,7 +21,7 @@ fn publish_staged<E: Entering, R: Wait>(rt: &R, publisher: &mut Publisher)
     if publisher.is_staged() {
         publisher.publish::<E, R>(rt);
     }
-    // No clause of a step of a desk keeps what is published.
+    // No clause of a desk's step preserves what is published.
     let _published = publisher.published();
 }
 

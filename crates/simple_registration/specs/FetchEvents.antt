@@ -88,9 +88,9 @@ heard_after mid peer m request events =
     (heard_block (block_in m) mid peer request.token request.params
     (collected peer events ++ m.payload))
 
--- what is due at a moment of the fetch of a peer, by the event of its last request: nothing before
--- the deadline; then a retransmission, or the end if it was retransmitted the most times allowed or
--- was acknowledged
+-- What is due at a moment of the fetch of a peer, by the event of its last request. Nothing is due
+-- before the deadline. Then a retransmission is due, or the end of the fetch if the request was
+-- retransmitted the most times allowed or was acknowledged.
 unfoldable pub fetch_due : ℕ → Peer → Event → List Event → Again
 fetch_due now peer e events =
     if nat_le (fetch_deadline peer e events) now

@@ -9,8 +9,8 @@ use Rattle.record_model.specs.AllowedParameters.{AreAllowed}
 use Rattle.simple_registration.specs.declared.hearing.Heard.{Heard}
 use Rattle.simple_registration.specs.declared.hearing.Heard.TheVariants as heard
 
--- a request that can be sent: it is the request of a fetch under its Message ID, its token is no
--- longer than a token may be, and it is no longer than a datagram may be
+-- A request that can be sent: the request of a fetch under its Message ID. Its token is no longer
+-- than a token may be, and it is no longer than a datagram may be.
 pub record IsSendable (mid : ℕ) (octets : List ℕ) : Type 0 where
   pub token : List ℕ
   pub block : Option Block

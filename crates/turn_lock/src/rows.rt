@@ -12,13 +12,13 @@ pub trait Replays {
 
     ghost use Rattle.std.specs.Prelude.{ℕ, List};
 
-    // That the value stands for these rows.
+    // Whether the value stands for these rows.
     ghost stands: { List Self.Row → Self → Type 0 };
 
-    // The number of the pass whose step the row is.
+    // The number of the pass whose step made the row.
     ghost number: { Self.Row → ℕ };
 
-    // The label that the value shows.
+    // The label of the value.
     ghost label: { Self → Self.Label };
 }
 

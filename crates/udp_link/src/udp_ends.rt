@@ -73,10 +73,12 @@ impl UdpLink {
     }
 }
 
-/// Returns whether an error of a receive is not a fault of the link. These errors are not: no
-/// datagram came in time; a signal interrupted the wait (the system does not restart a receive that
-/// has a timeout); an earlier datagram of this socket did not reach its peer (RFC 792, destination
-/// unreachable), which the system reports at a later receive.
+/// Returns whether an error of a receive is not a fault of the link. These errors are not:
+///
+/// - No datagram came in time.
+/// - A signal interrupted the wait. The system does not restart a receive that has a timeout.
+/// - An earlier datagram of this socket did not reach its peer (RFC 792, destination unreachable).
+///   The system reports this at a later receive.
 fn is_no_fault(kind: ErrorKind) -> bool {
     matches!(
         kind,

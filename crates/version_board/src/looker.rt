@@ -93,8 +93,8 @@ impl Looker {
         let Some(shown) = shown? else {
             return Ok(None);
         };
-        // What is shown is never older than what was shown before, though no clause of its readers
-        // says so.
+        // The published version is never older than what was published before, though no clause of
+        // its readers says so.
         let entries = shown.version.entries();
         if entries < self.entries {
             return Err(Starved);

@@ -22,9 +22,9 @@ abbrev pub staged_after : List Entry → Version → Option Version → Option V
 staged_after [] version before = before
 staged_after (entry ∷ entries) version before = Some version
 
--- a step with these notes left this version; if the board exposes what is staged, this version is
--- staged if the step made an entry, and nothing new is staged otherwise; on every board, nothing is
--- staged after a step that made no entry
+-- A step with these notes left this version. If the board exposes what is staged, this version is
+-- staged if the step made an entry; otherwise nothing new is staged. On every board, nothing is
+-- staged after a step that made no entry.
 abbrev pub LeavesStaged : List Note → Version → Option (Option Version)
     → Option (Option Version)
     → Bool → Type 0

@@ -27,9 +27,8 @@ abbrev pub write_heard : Bool → List Row → Step → Message → Effects
 write_heard true rows s m = without_memory s m
 write_heard false rows s m = write_effects (events rows) (row_moment rows s) s m
 
--- a write that is not admitted: a duplicate gets the octets of the first answer, or nothing while
--- the write is in progress, and a write for which there is no room is refused (RFC 7252 section
--- 4.5)
+-- A write that is not admitted (RFC 7252 section 4.5). A duplicate gets the octets of the first
+-- answer, or nothing while the write is in progress. A write for which there is no room is refused.
 abbrev pub unadmitted : Keyed → Step → Message → Effects
 unadmitted keyed.Fresh s m = nothing
 unadmitted keyed.InFlight s m = nothing

@@ -19,8 +19,9 @@ use Rattle.directory_core.specs.Boards.{HasOneMore}
 use Rattle.rd_desk.specs.declared.write.outcomes.Entering.{Entering}
 use Rattle.rd_desk.specs.declared.write.outcomes.Outcome.{Outcome}
 
--- a part of a step found one version and left another, with a board: either it made one entry and
--- staged the version with it, or it left version and board as they were, and then nothing is staged
+-- A part of a step found one version and left another, with a board. Either it made one entry and
+-- staged the version with it, or it left version and board as they were. In the second case,
+-- nothing is staged.
 pub record IsLaid (old new : Version) (before after : Option (Option Version))
     (is_staged : Bool) : Type 0 where
   pub entered : Bool

@@ -139,9 +139,9 @@ abbrev pub planned_kept : List ℕ → Observer → Planned → List NamedAnswer
 planned_kept current o planned.Unchanged = []
 planned_kept current o (planned.Noticed sent body) = kept_of o (arc_value body) current
 
--- a notification may be sent to an observer in a row that did this so far: the row has not sent a
--- confirmable message with its Message ID to that peer, it is confirmable, its timeout starts in
--- this row, and it is no longer than a datagram may be
+-- A notification may be sent to an observer in a row that did this so far. The row has not sent a
+-- confirmable message with its Message ID to that peer. The notification is confirmable, its
+-- timeout starts in this row, and it is no longer than a datagram may be.
 pub record MayBeSent (rows : List Row) (s : Step) (done : Effects) (o : Observer) (sent : Sent) :
     Type 0 where
   pub unsent :
