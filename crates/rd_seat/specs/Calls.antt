@@ -85,7 +85,7 @@ job_held heard.Done = None
 job_held (heard.Held j) = Some j
 job_held heard.Starved = None
 
--- what is to be done, where an admission stands at this place
+-- the step that the job is for, if its admission has this place
 abbrev pub job_at : ℕ → Job → machine.Job
 job_at place (job.Write j) =
     record { kind = step.Commit place; peer = j.peer; datagram = j.datagram }

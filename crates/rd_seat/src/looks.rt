@@ -14,8 +14,8 @@ use rd_base::{Moment, Peer};
 use rd_desk::{Looked, Outbox, Request, answer_look, look_starved};
 
 impl Share {
-    /// Answers a look from the latest published version. Returns `Starved` if memory for that
-    /// version is missing.
+    /// Answers a look from the latest published version. If no version is available, answers 5.00
+    /// and returns `Starved`.
     pub(crate) fn look(
         &mut self,
         now: Moment,

@@ -203,7 +203,8 @@ impl Tables {
     }
 
     /// Adds an observer in place of that of its peer and token, if there is room. Returns the
-    /// Observe value that it gets then. `Starved` leaves everything unchanged.
+    /// Observe value that it gets then, or `None` if there is no room. `Starved` leaves everything
+    /// unchanged.
     fn join(&mut self, query: &Query, joining: Joining) -> Result<Option<u32>, Starved>
         ensures value { (rows : List Row) (s : Step) (starved : Bool) (out : List (Endpoint
             × List ℕ)) (mids : MidsSeen)
