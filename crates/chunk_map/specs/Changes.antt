@@ -1,4 +1,4 @@
--- What a change of the value at a key makes of ascending pairs.
+-- The effect of a change of the value at a key on ascending pairs.
 use Rattle.std.specs.Prelude.{◌≡◌, ℕ, ◌+◌, ◌<◌, List, Option, Some, None}
 use Rattle.std.specs.declared.cmp.Ordering.{Ordering}
 use Rattle.std.specs.Map.{lookup, remove_entry}
@@ -16,7 +16,8 @@ abbrev pub with_value : {K V : Type 0}
 with_value cmp es key None = remove_entry (is_at (cmp key)) es
 with_value cmp es key (Some v) = insert_entry cmp es key v
 
--- the pairs differ by a value, or none, that may come in place of that at the key, or of none
+-- the pairs differ in one value, or its absence: the change may put the new one in place of the old
+-- one at the key
 abbrev pub IsChanged : {K V : Type 0}
     → (K → K → Ordering)
     → (Option V → Option V → Type 0)
@@ -27,13 +28,13 @@ abbrev pub IsChanged : {K V : Type 0}
 IsChanged {K} {V} cmp gives es key es' =
     (new : Option V) × gives (lookup (is_at (cmp key)) es) new × (es' ≡ with_value cmp es key new)
 
--- how many there are after a change, where there were so many
+-- the number of pairs after a change, given the number before
 abbrev pub IsCounted : Tally → ℕ → ℕ → Type 0
 IsCounted Same before after = after ≡ before
 IsCounted More before after = after ≡ before + 1
 IsCounted Fewer before after = after + 1 ≡ before
 
--- there is a pair to go, where one goes
+-- a pair can only be removed if there is one
 abbrev pub CanCount : Tally → ℕ → Type 0
 CanCount Same before = Unit {0}
 CanCount More before = Unit {0}

@@ -6,7 +6,7 @@ use Rattle.std.specs.declared.alloc.Global.{Global}
 use Rattle.std.specs.declared.sync.Arc.{Arc}
 use Rattle.std.specs.Arc.{arc_value}
 
--- the pairs of a shared list of parts, part after part
+-- the pairs of a shared list of parts, one part after another
 abbrev pub list_pairs : {P E : Type 0} → (P → List E) → Arc (Vec P) Global → List E
 list_pairs pairs list = flat_map pairs (arc_value list).items
 
@@ -19,11 +19,11 @@ IsWholeList is_whole list =
 abbrev pub chunk_pairs : {K V : Type 0} → Arc (Vec (K × V)) Global → List (K × V)
 chunk_pairs chunk = list_pairs (λ p. p ∷ []) chunk
 
--- the pairs of a group, chunk after chunk
+-- the pairs of a group, one chunk after another
 abbrev pub group_pairs : {K V : Type 0} → Arc (Vec (Arc (Vec (K × V)) Global)) Global → List (K × V)
 group_pairs group = list_pairs chunk_pairs group
 
--- the pairs of a section, group after group
+-- the pairs of a section, one group after another
 abbrev pub section_pairs : {K V : Type 0}
     → Arc (Vec (Arc (Vec (Arc (Vec (K × V)) Global)) Global)) Global
     → List (K × V)

@@ -1,24 +1,33 @@
-//! Changes of the value at a key: a put, a take, and those that callers write.
+//! Changes of the value at a key: putting a value, removing the key, and changes that callers
+//! define.
 ghost use Rattle.std.specs.Prelude.{◌≡◌, Option, Some, None, IfOk};
 ghost use Rattle.chunk_map.specs.Changes.{CanCount, IsCounted};
 
 use rd_base::Starved;
 
-/// What becomes of the value at a key, where one is there, and of a key that is not there.
+/// A change of the value at a key, whether the key exists or not.
 pub trait Change<V>: Drop {
-    /// Whether this value, or none, may come in place of that value, or of none.
+    /// Whether the change may replace one value, or its absence, by another, or by its absence.
     ghost gives: { Self → Option V → Option V → Type 0 };
 
-    /// The value that comes to a key that is not there; None where none comes.
+    /// Returns the value of a key that does not exist yet, or `None` if it is not to exist.
+    ///
+    /// # Errors
+    ///
+    /// `Starved` if memory runs out.
     fn begin(self) -> Result<Option<V>, Starved>
         ensures { IfOk result (λ new. gives self None new) };
 
-    /// The value that comes in place of this one; None where the key goes.
+    /// Returns the value that replaces this one, or `None` if the key is to be removed.
+    ///
+    /// # Errors
+    ///
+    /// `Starved` if memory runs out.
     fn follow(self, old: &V) -> Result<Option<V>, Starved>
         ensures { IfOk result (λ new. gives self (Some old.now) new) };
 }
 
-/// This value comes to the key.
+/// The change that gives the key this value.
 #[derive(Drop)]
 pub(crate) struct Put<V: Drop> {
     /// The value.
@@ -37,7 +46,7 @@ impl<V: Drop> Change<V> for Put<V> {
     }
 }
 
-/// The key goes.
+/// The change that removes the key.
 #[derive(Drop)]
 pub(crate) struct Take;
 
@@ -53,21 +62,20 @@ impl<V: Drop> Change<V> for Take {
     }
 }
 
-/// What a change does to the number of pairs.
+/// The effect of a change on the number of pairs.
 #[derive(Clone, Copy, Drop)]
 pub(crate) enum Tally {
-    /// There are as many as before.
+    /// The number stays the same.
     Same,
-    /// There is one more.
+    /// There is one more pair.
     More,
-    /// There is one fewer.
+    /// There is one pair fewer.
     Fewer,
 }
 
 impl Tally {
-    /// How many pairs there are after the change, where there were so many. It answers `Starved`
-    /// where they are more than a
-    /// `u64` counts: no memory holds so many.
+    /// Returns the number of pairs after the change, given the number before. Returns `Starved` if
+    /// a `u64` cannot count them, which no memory could hold.
     pub(crate) fn count(self, before: u64) -> Result<u64, Starved>
         requires { CanCount self before }
         ensures { IfOk result (λ after. IsCounted self before after) }

@@ -1,4 +1,4 @@
-//! The pairs of a map in as many levels of parts as they need.
+//! The pairs of a map, in as many levels of parts as they need.
 ghost use Rattle.std.specs.Prelude.{◌≡◌, ◌<◌, length, IfOk, option_map};
 ghost use Rattle.std.specs.List.{All, flat_map};
 ghost use Rattle.std.specs.Map.{lookup};
@@ -17,29 +17,29 @@ use rd_base::Starved;
 use std::alloc::Global;
 use std::sync::Arc;
 
-/// A chunk: one pair or more, in ascending order of their keys.
+/// A chunk: at least one pair, in ascending order of the keys.
 pub(crate) type Chunk<K, V> = Arc<Vec<(K, V)>>;
 
-/// A group: one to 12 chunks, whose pairs ascend from chunk to chunk.
+/// A group: one to 12 chunks, with ascending pairs from chunk to chunk.
 pub(crate) type Group<K, V> = Arc<Vec<Chunk<K, V>>>;
 
-/// A section: one to 12 groups, whose pairs ascend from group to group.
+/// A section: one to 12 groups, with ascending pairs from group to group.
 pub(crate) type Section<K, V> = Arc<Vec<Group<K, V>>>;
 
-/// The pairs of a map, in the levels that they need: with too many parts for one list comes one
-/// level more.
+/// The pairs of a map, in the levels that they need. If there are too many parts for one list,
+/// there is one more level.
 #[derive(Drop)]
 pub(crate) enum Levels<K: Ord + Shared, V: Shared> {
     /// At most 12 chunks.
     Chunks(Vec<Chunk<K, V>>),
     /// At most 12 groups of chunks.
     Groups(Vec<Group<K, V>>),
-    /// Sections of groups, as many as there are.
+    /// Any number of sections of groups.
     Sections(Vec<Section<K, V>>),
 }
 
-/// Two parts that have these parts after a change of the value at this key; or one, where they are
-/// not too many for one.
+/// Returns two lists of these parts after a change of the value at this key, or one if that is not
+/// too long.
 fn raised<K: Ord + Drop, V: Drop, P: Part<K, V>>(
     alloc: Global,
     mut parts: Vec<P>,
@@ -65,7 +65,7 @@ fn raised<K: Ord + Drop, V: Drop, P: Part<K, V>>(
     }
 }
 
-/// Levels over these chunks, after a change of the value at this key.
+/// Returns levels over these chunks, after a change of the value at this key.
 fn over_chunks<K: Ord + Shared, V: Shared>(
     alloc: Global,
     chunks: Vec<Chunk<K, V>>,
@@ -82,7 +82,7 @@ fn over_chunks<K: Ord + Shared, V: Shared>(
     Ok(Levels::Groups(groups))
 }
 
-/// Levels over these groups, after a change of the value at this key.
+/// Returns levels over these groups, after a change of the value at this key.
 fn over_groups<K: Ord + Shared, V: Shared>(
     alloc: Global,
     groups: Vec<Group<K, V>>,
@@ -99,7 +99,7 @@ fn over_groups<K: Ord + Shared, V: Shared>(
     Ok(Levels::Sections(sections))
 }
 
-/// Counts the chunks of these groups.
+/// Returns the number of chunks of these groups.
 fn chunks_of_groups<K: Ord + Shared, V: Shared>(groups: &[Group<K, V>]) -> usize {
     let mut count = 0;
     for group in groups {
@@ -108,7 +108,7 @@ fn chunks_of_groups<K: Ord + Shared, V: Shared>(groups: &[Group<K, V>]) -> usize
     count
 }
 
-/// Counts the chunks of these sections.
+/// Returns the number of chunks of these sections.
 fn chunks_of_sections<K: Ord + Shared, V: Shared>(sections: &[Section<K, V>]) -> usize {
     let mut count = 0;
     for section in sections {
@@ -118,7 +118,7 @@ fn chunks_of_sections<K: Ord + Shared, V: Shared>(sections: &[Section<K, V>]) ->
 }
 
 impl<K: Ord + Shared, V: Shared> Levels<K, V> {
-    /// Counts the chunks.
+    /// Returns the number of chunks.
     pub(crate) fn count_chunks(&self) -> usize {
         match self {
             Levels::Chunks(chunks) => chunks.len(),
@@ -127,7 +127,7 @@ impl<K: Ord + Shared, V: Shared> Levels<K, V> {
         }
     }
 
-    /// Levels that show the same pairs, and share all parts.
+    /// Returns levels that show the same pairs, and share all parts.
     pub(crate) fn again(&self, alloc: Global) -> Result<Levels<K, V>, Starved>
         requires whole { AreWhole self.now }
         ensures pairs { IfOk result (λ levels. pairs_in levels ≡ pairs_in self.now) }
@@ -142,7 +142,7 @@ impl<K: Ord + Shared, V: Shared> Levels<K, V> {
         }
     }
 
-    /// The value at this key, where the key is there.
+    /// Returns the value at this key, if the key exists.
     pub(crate) fn get(&self, key: &K) -> Option<&V>
         requires whole { AreWhole self.now }
         requires ascends { IsAscending K.cmp (pairs_in self.now) }
@@ -156,8 +156,8 @@ impl<K: Ord + Shared, V: Shared> Levels<K, V> {
         }
     }
 
-    /// Levels that show the pairs after a change of the value at this key, and what it does to
-    /// their number. What nobody else has is changed in place.
+    /// Returns levels with the pairs after a change of the value at this key, and the effect on
+    /// their number. Changes parts in place that no other version shares.
     pub(crate) fn changed<C: Change<V>>(
         self,
         alloc: Global,

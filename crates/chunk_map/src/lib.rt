@@ -1,5 +1,5 @@
-//! Sorted maps as versions that never change. A version shares with the next one all that did not
-//! change, and a change costs about the same whatever the number of pairs.
+//! Sorted maps as immutable versions. A version shares everything with the next one that stays the
+//! same. A change costs about the same, whatever the number of pairs.
 #![tactic(auto)]
 
 mod change;

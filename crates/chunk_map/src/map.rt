@@ -14,17 +14,16 @@ use std::alloc::Global;
 use std::marker::Model;
 
 /// A version of a sorted map. A version never changes: [`ChunkMap::put`] and [`ChunkMap::take`]
-/// make another one, which copies one part of each level, and shares all else.
-/// [`ChunkMap::changed`] makes another one of a version that is given up, and changes in place what
-/// no other version has. Contracts see it as the list of its pairs in ascending order of their
-/// keys, each key once.
+/// make another one, which copies one part of each level and shares the rest. [`ChunkMap::changed`]
+/// consumes a version, and changes in place what no other version shares. Contracts see the list of
+/// pairs in ascending order of their keys, each key once.
 #[derive(Drop)]
 pub struct ChunkMap<K: Ord + Shared, V: Shared> {
     /// The pairs.
     levels: Levels<K, V>,
-    /// The allocator of what is made of it.
+    /// The allocator of the versions made from this one.
     alloc: Global,
-    /// How many pairs there are.
+    /// The number of pairs.
     count: u64,
 }
 
@@ -43,7 +42,11 @@ impl<K: Ord + Shared, V: Shared> Model for ChunkMap<K, V> {
 }
 
 impl<K: Ord + Shared, V: Shared> ChunkMap<K, V> {
-    /// The map without a pair. It keeps `alloc` for the maps that are made of it.
+    /// Returns the map without pairs. It stores `alloc` for the maps made from it.
+    ///
+    /// # Errors
+    ///
+    /// `Starved` if memory runs out.
     pub fn empty(alloc: Global) -> Result<ChunkMap<K, V>, Starved>
         ensures { IfOk result (λ map. map ≡ []) }
     {
@@ -54,7 +57,11 @@ impl<K: Ord + Shared, V: Shared> ChunkMap<K, V> {
         })
     }
 
-    /// An equal map, which shares all parts.
+    /// Returns an equal map, which shares all parts.
+    ///
+    /// # Errors
+    ///
+    /// `Starved` if memory runs out.
     pub fn share(&self) -> Result<ChunkMap<K, V>, Starved>
         ensures same { IfOk result (λ map. map ≡ self.now) }
         ensures ascends { IsAscending K.cmp self.now }
@@ -67,34 +74,34 @@ impl<K: Ord + Shared, V: Shared> ChunkMap<K, V> {
         })
     }
 
-    /// How many pairs there are. Takes no time.
+    /// Returns the number of pairs. Takes constant time.
     pub fn len(&self) -> u64
         ensures { result ≡ length self.now }
     {
         self.count
     }
 
-    /// Counts the chunks that the pairs lie in: a measure of how full they are, of which no clause
-    /// speaks. Takes time for each part that has chunks.
+    /// Returns the number of chunks in which the pairs lie. It measures how full the chunks are; no
+    /// clause mentions it. Takes time for each part that has chunks.
     pub fn count_chunks(&self) -> usize {
         self.levels.count_chunks()
     }
 
-    /// The value at this key, where the key is there.
+    /// Returns the value at this key, if the key exists.
     pub fn get(&self, key: &K) -> Option<&V>
         ensures { option_map (λ v. v.now) result ≡ lookup (is_at (K.cmp key.now)) self.now }
     {
         self.levels.get(key)
     }
 
-    /// A cursor over the pairs from the first key that is not below this one, in ascending order.
+    /// Returns a cursor over the pairs whose keys are not below this one, in ascending order.
     pub fn range<'a>(&'a self, from: &K) -> RangeIter<'a, K, V>
         ensures { result ≡ entries_from (K.cmp from.now) self.now }
     {
         RangeIter::from(&self.levels, from)
     }
 
-    /// A cursor over all pairs, in ascending order.
+    /// Returns a cursor over all pairs, in ascending order.
     pub fn all(&self) -> RangeIter<'_, K, V>
         ensures pairs { result ≡ self.now }
         ensures ascends { IsAscending K.cmp self.now }
@@ -102,8 +109,12 @@ impl<K: Ord + Shared, V: Shared> ChunkMap<K, V> {
         RangeIter::all(&self.levels)
     }
 
-    /// The map after a change of the value at this key. A key that is there stays, where a value is
-    /// there then.
+    /// Returns the map after a change of the value at this key. If the key exists and keeps a
+    /// value, the stored key stays.
+    ///
+    /// # Errors
+    ///
+    /// `Starved` if memory runs out.
     pub fn change<C: Change<V>>(&self, key: &K, change: C) -> Result<ChunkMap<K, V>, Starved>
         ensures ascends { IfOk result (λ map. IsAscending K.cmp map) }
         ensures pairs { IfOk result (λ map. IsChanged K.cmp (C.gives change) self.now key.now map) }
@@ -111,9 +122,14 @@ impl<K: Ord + Shared, V: Shared> ChunkMap<K, V> {
         self.share()?.changed(key, change)
     }
 
-    /// This map after a change of the value at this key, as [`ChunkMap::change`] makes one: what no
-    /// other version has is changed in place, so that several changes of one version copy each part
-    /// of it once. `Starved`: out of memory; this map is gone then, and all others are as before.
+    /// Consumes this map and returns it with one value changed, as [`ChunkMap::change`] does.
+    ///
+    /// Parts that no other version shares are changed in place, so a series of changes copies each
+    /// part once.
+    ///
+    /// # Errors
+    ///
+    /// `Starved` if memory runs out. This version is lost then; the others are unaffected.
     pub fn changed<C: Change<V>>(self, key: &K, change: C) -> Result<ChunkMap<K, V>, Starved>
         ensures ascends { IfOk result (λ map. IsAscending K.cmp map) }
         ensures pairs { IfOk result (λ map. IsChanged K.cmp (C.gives change) self key.now map) }
@@ -132,8 +148,12 @@ impl<K: Ord + Shared, V: Shared> ChunkMap<K, V> {
         })
     }
 
-    /// The map with this value at this key. A key that is there already stays, and its value is
-    /// replaced.
+    /// Returns the map with this value at this key. If the key exists, the stored key stays and its
+    /// value is replaced.
+    ///
+    /// # Errors
+    ///
+    /// `Starved` if memory runs out.
     pub fn put(&self, key: K, value: V) -> Result<ChunkMap<K, V>, Starved>
         ensures ascends { IfOk result (λ map. IsAscending K.cmp map) }
         ensures pairs { IfOk result (λ map. map ≡ insert_entry K.cmp self.now key value) }
@@ -141,7 +161,11 @@ impl<K: Ord + Shared, V: Shared> ChunkMap<K, V> {
         self.change(&key, Put { value })
     }
 
-    /// The map without this key; an equal one where the key is not there.
+    /// Returns the map without this key, or an equal one if the key does not exist.
+    ///
+    /// # Errors
+    ///
+    /// `Starved` if memory runs out.
     pub fn take(&self, key: &K) -> Result<ChunkMap<K, V>, Starved>
         ensures ascends { IfOk result (λ map. IsAscending K.cmp map) }
         ensures pairs { IfOk result (λ map. map ≡ remove_entry (is_at (K.cmp key.now)) self.now) }

@@ -1,4 +1,4 @@
-//! A part of a sorted map: a pair, or a list of smaller parts, or what is shared of one.
+//! A part of a sorted map: a pair, a list of smaller parts, or a shared part.
 ghost use Rattle.std.specs.Prelude.{◌≡◌, ◌<◌, length, List, [], ◌∷◌, ◌++◌, Option, Some, None};
 ghost use Rattle.std.specs.Prelude.{IfOk, IfSome, option_map};
 ghost use Rattle.std.specs.List.{All, flat_map};
@@ -18,68 +18,68 @@ use std::cmp::Ordering;
 use std::mem;
 use std::sync::Arc;
 
-/// The greatest number of pairs that a chunk keeps where each is numbers alone.
+/// The most pairs of a chunk whose pairs consist of numbers.
 const MOST_PLAIN_PAIRS: usize = 56;
 
-/// The greatest number of pairs that a chunk keeps where a count is raised for each that is copied.
+/// The most pairs of a chunk if copying a pair raises a reference count.
 const MOST_SHARED_PAIRS: usize = 24;
 
-/// The greatest number of parts that a list of shared parts keeps. Most of what a change of a large
-/// map costs is raising and lowering their counts.
+/// The most parts of a list of shared parts. Most of the cost of changing a large map is raising
+/// and lowering their reference counts.
 pub(crate) const MOST_PARTS: usize = 12;
 
-/// What a change in place leaves where a part stands.
+/// What a change in place leaves of a part.
 #[derive(Drop)]
 pub(crate) enum Outcome<P: Drop> {
-    /// No pair: the part is to go.
+    /// No pair: the part is to be removed.
     Gone,
     /// The part, as it is now.
     Kept,
-    /// The part, as it is now, and this one behind it, since one part would be too large.
+    /// The part, as it is now, and this one after it, because one part would be too large.
     Split(P),
 }
 
-/// A part of a map. It shows one pair or more, in ascending order of their keys. A pair is the
-/// smallest part, a list of parts is a part, and so is an `Arc` of one: chunks, groups, sections
-/// and lists of them share this one code.
+/// A part of a map. It shows at least one pair, in ascending order of the keys. A pair is the
+/// smallest part, a list of parts is a part, and so is an `Arc` of a part. Chunks, groups, sections
+/// and lists of them share this code.
 pub(crate) trait Part<K: Ord + Drop, V: Drop>: Drop {
     /// The pairs that it shows.
     ghost pairs: { Self → List (K × V) };
 
-    /// Whether no list in it is empty.
+    /// Whether every list in it has an element.
     ghost is_whole: { Self → Type 0 };
 
-    /// The greatest number of such parts that a list keeps: with one more it is split in two.
+    /// Returns the most such parts that a list has. With one more, the list is split in two.
     fn most() -> usize
         ensures { 1 < result };
 
-    /// A part that shows one pair.
+    /// Creates a part that shows one pair.
     fn one(alloc: Global, key: &K, value: V) -> Result<Self, Starved>
         ensures pairs { IfOk result (λ part. pairs part ≡ (key.now, value) ∷ []) }
         ensures whole { IfOk result is_whole };
 
-    /// A part that shows the same pairs.
+    /// Returns a part that shows the same pairs.
     fn again(&self) -> Result<Self, Starved>
         requires whole { is_whole self.now }
         ensures pairs { IfOk result (λ part. pairs part ≡ pairs self.now) }
         ensures whole { IfOk result is_whole };
 
-    /// Whether its first key is not above this one.
+    /// Returns whether its first key is not above this one.
     fn begins_by(&self, key: &K) -> bool
         requires whole { is_whole self.now }
         ensures begins { result ≡ begins_by K.cmp (pairs self.now) key.now }
         ensures any { HasAny (pairs self.now) };
 
-    /// The value at this key, where the key is there.
+    /// Returns the value at this key, if the key exists.
     fn get(&self, key: &K) -> Option<&V>
         requires whole { is_whole self.now }
         requires ascends { IsAscending K.cmp (pairs self.now) }
         ensures { option_map (λ v. v.now) result
             ≡ lookup (is_at (K.cmp key.now)) (pairs self.now) };
 
-    /// Changes the value at this key: what is left where the part stands, and what that does to the
-    /// number of its pairs. What nobody else has is changed in place, and a copy comes in place of
-    /// the rest.
+    /// Changes the value at this key. Returns what is left of the part, and the effect on the
+    /// number of its pairs. Changes in place what no other version shares, and replaces the rest by
+    /// a copy.
     fn change<C: Change<V>>(
         &mut self,
         alloc: Global,
@@ -96,7 +96,8 @@ pub(crate) trait Part<K: Ord + Drop, V: Drop>: Drop {
             (length (standing pairs self.new changed.0))) }
         ensures whole { IfOk result (λ changed. StandWhole is_whole self.new changed.0) };
 
-    /// One part that shows the pairs of this and of the next; None where it would be too large.
+    /// Returns one part with the pairs of this one and of the next, or `None` if it would be too
+    /// large.
     fn joined(&self, alloc: Global, next: &Self) -> Result<Option<Self>, Starved>
         requires whole { is_whole self.now × is_whole next.now }
         ensures pairs { IfOk result
@@ -126,7 +127,7 @@ fn change_at<K: Ord + Shared, V: Shared, C: Change<V>>(
     }
 }
 
-/// The pair that a change brings to a key that is not there, where it brings one.
+/// Returns the pair that a change gives to a key that does not exist, if it gives one.
 fn begun<K: Ord + Shared, V: Shared, C: Change<V>>(
     key: &K,
     change: C,
@@ -145,7 +146,7 @@ fn begun<K: Ord + Shared, V: Shared, C: Change<V>>(
     }
 }
 
-/// Changes the value at a key before that of a pair.
+/// Changes the value at a key below that of a pair.
 fn change_before<K: Ord + Shared, V: Shared, C: Change<V>>(
     pair: &mut (K, V),
     key: &K,
@@ -168,7 +169,7 @@ fn change_before<K: Ord + Shared, V: Shared, C: Change<V>>(
     }
 }
 
-/// Changes the value at a key behind that of a pair.
+/// Changes the value at a key above that of a pair.
 fn change_behind<K: Ord + Shared, V: Shared, C: Change<V>>(
     pair: &mut (K, V),
     key: &K,
@@ -243,7 +244,7 @@ impl<K: Ord + Shared, V: Shared> Part<K, V> for (K, V) {
     }
 }
 
-/// What is left where a part stands, of what is shared of it.
+/// Shares what is left of a part.
 fn shared<K: Ord + Drop, V: Drop, P: Part<K, V>>(
     alloc: Global,
     outcome: Outcome<P>,
@@ -267,7 +268,7 @@ fn shared<K: Ord + Drop, V: Drop, P: Part<K, V>>(
     }
 }
 
-/// What is shared of a part shows its pairs. To make it again copies nothing.
+/// A shared part shows the pairs of the part. Sharing it again copies nothing.
 impl<K: Ord + Drop, V: Drop, P: Part<K, V>> Part<K, V> for Arc<P> {
     ghost pairs = { λ a. P.pairs (arc_value a) };
 

@@ -17,10 +17,10 @@ use rd_base::Starved;
 use std::alloc::Global;
 use std::sync::Arc;
 
-/// Three quarters of the greatest number of parts that a list keeps. With at most so many together
-/// two lists that stand side by side are joined. A list that was changed in its last part keeps so
-/// many when it is split in two: so lists that are filled in ascending order are three quarters
-/// full; fuller ones would be fewer, but a change copies one of them.
+/// Returns three quarters of the most parts that a list has. Two adjacent lists are joined if they
+/// have at most this many parts together. If a list is split after a change in its last part, the
+/// first half keeps this many. So lists that are filled in ascending order are three quarters full.
+/// Fuller lists would be fewer, but each change copies one of them.
 pub(crate) fn three_quarters(most: usize) -> usize
     requires { 1 < most }
     ensures any { 0 < result }
@@ -29,7 +29,7 @@ pub(crate) fn three_quarters(most: usize) -> usize
     most - most / 4
 }
 
-/// The index of the part where this key stands, or would stand.
+/// Returns the index of the part that has this key, or would have it.
 pub(crate) fn find<K: Ord + Drop, V: Drop, P: Part<K, V>>(parts: &[P], key: &K) -> usize
     requires any { 0 < length parts.now }
     requires whole { All P.is_whole parts.now }
@@ -72,7 +72,7 @@ fn append<K: Ord + Drop, V: Drop, P: Part<K, V>>(
     Ok(())
 }
 
-/// Parts that show the same pairs as these, one for each, with room for one more.
+/// Returns parts that show the same pairs as these, one for each, with room for one more.
 pub(crate) fn copied<K: Ord + Drop, V: Drop, P: Part<K, V>>(
     alloc: Global,
     parts: &[P],
@@ -87,7 +87,7 @@ pub(crate) fn copied<K: Ord + Drop, V: Drop, P: Part<K, V>>(
     Ok(copy)
 }
 
-/// Parts that show the same pairs as these and then as those, one for each.
+/// Returns parts that show the same pairs as `parts` followed by `more`, one for each.
 pub(crate) fn join<K: Ord + Drop, V: Drop, P: Part<K, V>>(
     alloc: Global,
     parts: &[P],
@@ -108,7 +108,7 @@ pub(crate) fn join<K: Ord + Drop, V: Drop, P: Part<K, V>>(
     Ok(joined)
 }
 
-/// The first part, and those after it.
+/// Returns the first part, and those after it.
 pub(crate) fn first<'a, K: Ord + Drop, V: Drop, P: Part<K, V>>(parts: &'a [P]) -> (&'a P, &'a [P])
     requires any { 0 < length parts.now }
     requires whole { All P.is_whole parts.now }
@@ -119,7 +119,7 @@ pub(crate) fn first<'a, K: Ord + Drop, V: Drop, P: Part<K, V>>(parts: &'a [P]) -
     (&parts[0], &parts[1..])
 }
 
-/// The parts of a list that is shared.
+/// Returns the parts of a shared list.
 pub(crate) fn parts_of<'a, K: Ord + Drop, V: Drop, P: Part<K, V>>(list: &'a Arc<Vec<P>>) -> &'a [P]
     requires { IsWholeList P.is_whole list.now }
     ensures pairs { flat_map P.pairs result.now ≡ list_pairs P.pairs list.now }
@@ -129,8 +129,8 @@ pub(crate) fn parts_of<'a, K: Ord + Drop, V: Drop, P: Part<K, V>>(list: &'a Arc<
     list.as_slice()
 }
 
-/// The part where this key stands or would stand, and those after it; None if and only if there is
-/// no part.
+/// Returns the part that has this key, or would have it, and those after it. Returns `None` if
+/// there is no part.
 pub(crate) fn cut<'a, K: Ord + Drop, V: Drop, P: Part<K, V>>(
     parts: &'a [P],
     key: &K,
@@ -152,7 +152,7 @@ pub(crate) fn cut<'a, K: Ord + Drop, V: Drop, P: Part<K, V>>(
     Some((&parts[at], &parts[at + 1..]))
 }
 
-/// The value at this key, where the key is there.
+/// Returns the value at this key, if the key exists.
 pub(crate) fn get<'a, K: Ord + Drop, V: Drop, P: Part<K, V>>(
     parts: &'a [P],
     key: &K,
@@ -169,7 +169,7 @@ pub(crate) fn get<'a, K: Ord + Drop, V: Drop, P: Part<K, V>>(
     parts[at].get(key)
 }
 
-/// Joins the part at this index with the next, where there is one and the two are small.
+/// Joins the part at this index with the next, if there is one and both are small.
 fn join_next<K: Ord + Drop, V: Drop, P: Part<K, V>>(
     alloc: Global,
     parts: &mut Vec<P>,
@@ -194,7 +194,7 @@ fn join_next<K: Ord + Drop, V: Drop, P: Part<K, V>>(
     }
 }
 
-/// Joins the part at this index with the one before it, where there is one and the two are small.
+/// Joins the part at this index with the one before it, if there is one and both are small.
 fn join_before<K: Ord + Drop, V: Drop, P: Part<K, V>>(
     alloc: Global,
     parts: &mut Vec<P>,
@@ -211,8 +211,7 @@ fn join_before<K: Ord + Drop, V: Drop, P: Part<K, V>>(
     join_next(alloc, parts, at - 1)
 }
 
-/// Puts what is left where the part at this index stands: small parts that stand side by side are
-/// joined.
+/// Puts what is left of the part at this index in its place, and joins small adjacent parts.
 fn settle<K: Ord + Drop, V: Drop, P: Part<K, V>>(
     alloc: Global,
     parts: &mut Vec<P>,
@@ -246,8 +245,7 @@ fn settle<K: Ord + Drop, V: Drop, P: Part<K, V>>(
     }
 }
 
-/// Gives a list that has no part its first one, where the change of the value at this key brings a
-/// value.
+/// Gives an empty list its first part, if the change of the value at this key gives a value.
 fn begin_in<K: Ord + Drop, V: Drop, P: Part<K, V>, C: Change<V>>(
     alloc: Global,
     parts: &mut Vec<P>,
@@ -270,8 +268,8 @@ fn begin_in<K: Ord + Drop, V: Drop, P: Part<K, V>, C: Change<V>>(
     }
 }
 
-/// Changes the value at this key in these parts: what that does to the number of their pairs. What
-/// nobody else has is changed in place, and a copy comes in place of the rest.
+/// Changes the value at this key in these parts. Returns the effect on the number of their pairs.
+/// Changes in place what no other version shares, and replaces the rest by a copy.
 pub(crate) fn change_in<K: Ord + Drop, V: Drop, P: Part<K, V>, C: Change<V>>(
     alloc: Global,
     parts: &mut Vec<P>,
@@ -297,8 +295,8 @@ pub(crate) fn change_in<K: Ord + Drop, V: Drop, P: Part<K, V>, C: Change<V>>(
     Ok(tally)
 }
 
-/// How many parts the first list keeps when a list with more than so many is split in two after a
-/// change of the value at this key.
+/// Returns how many parts the first list keeps when a list with more than `most` parts is split in
+/// two, after a change of the value at this key.
 fn front_count<K: Ord + Drop, V: Drop, P: Part<K, V>>(parts: &[P], most: usize, key: &K) -> usize
     requires some { 1 < most }
     requires many { most < length parts.now }
@@ -313,8 +311,8 @@ fn front_count<K: Ord + Drop, V: Drop, P: Part<K, V>>(parts: &[P], most: usize, 
     }
 }
 
-/// Leaves of these parts what one list keeps, after a change of the value at this key: the parts
-/// behind, where they are too many for one.
+/// Splits these parts after a change of the value at this key, if they are too many for one list.
+/// Returns the second list.
 pub(crate) fn divide<K: Ord + Drop, V: Drop, P: Part<K, V>>(
     parts: &mut Vec<P>,
     key: &K,

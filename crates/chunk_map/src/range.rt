@@ -1,4 +1,4 @@
-//! The pairs of a map from a key on, one after another.
+//! The pairs of a map from a key on.
 ghost use Rattle.std.specs.Prelude.{◌≡◌, ◌<◌, ◌+◌, [], ◌∷◌, ◌++◌, length, IfSome, IfNone};
 ghost use Rattle.std.specs.Prelude.{option_map};
 ghost use Rattle.std.specs.List.{All, flat_map};
@@ -19,16 +19,16 @@ use std::cmp::Ordering;
 use std::marker::Model;
 use std::sync::ledger::Ledger;
 
-/// A cursor over pairs of a map: contracts see it as the pairs that are left, in order.
+/// A cursor over pairs of a map. Contracts see the remaining pairs, in order.
 #[derive(Drop)]
 pub struct RangeIter<'a, K: Ord + Shared, V: Shared> {
-    /// The pairs that are left of the chunk where it stands.
+    /// The remaining pairs of the current chunk.
     pairs: &'a [(K, V)],
-    /// The chunks after that one in its group.
+    /// The chunks after the current one in its group.
     chunks: &'a [Chunk<K, V>],
-    /// The groups after that group in its section.
+    /// The groups after the current one in its section.
     groups: &'a [Group<K, V>],
-    /// The sections after that section.
+    /// The sections after the current one.
     sections: &'a [Section<K, V>],
 }
 
@@ -50,7 +50,7 @@ impl<'a, K: Ord + Shared, V: Shared> Model for RangeIter<'a, K, V> {
         × All IsWholeSection r.sections.now };
 }
 
-/// The pairs from the first key that is not below this one.
+/// Returns the pairs from the first key that is not below this one.
 fn pairs_from<'a, K: Ord + Shared, V: Shared>(pairs: &'a [(K, V)], from: &K) -> &'a [(K, V)]
     requires ascends { IsAscending K.cmp pairs.now }
     ensures { result.now ≡ entries_from (K.cmp from.now) pairs.now }
@@ -67,7 +67,7 @@ fn pairs_from<'a, K: Ord + Shared, V: Shared>(pairs: &'a [(K, V)], from: &K) -> 
     }
 }
 
-/// The pairs of a chunk.
+/// Returns the pairs of a chunk.
 fn pairs_of<'a, K: Ord + Shared, V: Shared>(chunk: &'a Chunk<K, V>) -> &'a [(K, V)]
     requires { IsWholeChunk chunk.now }
     ensures pairs { result.now ≡ chunk_pairs chunk.now }
@@ -76,7 +76,7 @@ fn pairs_of<'a, K: Ord + Shared, V: Shared>(chunk: &'a Chunk<K, V>) -> &'a [(K, 
     chunk.as_slice()
 }
 
-/// The next group, and the groups and sections after it; None if and only if there is none.
+/// Returns the next group, and the groups and sections after it, or `None` if there is none.
 fn next_group<'a, K: Ord + Shared, V: Shared>(
     groups: &'a [Group<K, V>],
     sections: &'a [Section<K, V>],
@@ -113,7 +113,7 @@ type Next<'a, K, V> = (
     &'a [Section<K, V>],
 );
 
-/// The next chunk; None if and only if there is none.
+/// Returns the next chunk, or `None` if there is none.
 fn next_chunk<'a, K: Ord + Shared, V: Shared>(
     chunks: &'a [Chunk<K, V>],
     groups: &'a [Group<K, V>],
@@ -148,8 +148,8 @@ fn next_chunk<'a, K: Ord + Shared, V: Shared>(
     Some((pairs_of(chunk), chunks, groups, sections))
 }
 
-/// The pairs of these chunks from the first key that is not below this one: those of the first
-/// chunk, and the chunks after it.
+/// Returns the pairs of these chunks from the first key that is not below this one: those of the
+/// first such chunk, and the chunks after it.
 fn in_chunks<'a, K: Ord + Shared, V: Shared>(
     chunks: &'a [Chunk<K, V>],
     from: &K,
@@ -166,8 +166,8 @@ fn in_chunks<'a, K: Ord + Shared, V: Shared>(
     (pairs_from(pairs_of(chunk), from), chunks)
 }
 
-/// The pairs of these groups from the first key that is not below this one: those of the first
-/// chunk, and the chunks and groups after it.
+/// Returns the pairs of these groups from the first key that is not below this one: those of the
+/// first such chunk, and the chunks and groups after it.
 fn in_groups<'a, K: Ord + Shared, V: Shared>(
     groups: &'a [Group<K, V>],
     from: &K,
@@ -187,8 +187,8 @@ fn in_groups<'a, K: Ord + Shared, V: Shared>(
     (pairs, chunks, groups)
 }
 
-/// The pairs of these sections from the first key that is not below this one: those of the first
-/// chunk, and the chunks, groups and sections after it.
+/// Returns the pairs of these sections from the first key that is not below this one: those of the
+/// first such chunk, and the chunks, groups and sections after it.
 fn in_sections<'a, K: Ord + Shared, V: Shared>(
     sections: &'a [Section<K, V>],
     from: &K,
@@ -210,7 +210,7 @@ fn in_sections<'a, K: Ord + Shared, V: Shared>(
     (pairs, chunks, groups, sections)
 }
 
-/// Whether the pairs of these parts begin by a key that is not above this one.
+/// Returns whether the pairs of these parts begin with a key that is not above this one.
 fn begin_by<K: Ord + Drop, V: Drop, P: Part<K, V>>(parts: &[P], key: &K) -> bool
     requires whole { All P.is_whole parts.now }
     ensures { result ≡ begins_by K.cmp (flat_map P.pairs parts.now) key.now }
@@ -222,8 +222,8 @@ fn begin_by<K: Ord + Drop, V: Drop, P: Part<K, V>>(parts: &[P], key: &K) -> bool
     first.begins_by(key)
 }
 
-/// What is left of these pairs and of the chunks behind them from the first key that is not below
-/// this one.
+/// Returns the rest of these pairs and of the chunks after them, from the first key that is not
+/// below this one.
 fn from_chunks<'a, K: Ord + Shared, V: Shared>(
     pairs: &'a [(K, V)],
     chunks: &'a [Chunk<K, V>],
@@ -241,7 +241,7 @@ fn from_chunks<'a, K: Ord + Shared, V: Shared>(
     (pairs_from(pairs, from), chunks)
 }
 
-/// The same with groups behind the chunks.
+/// Returns the same as [`from_chunks`], with groups after the chunks.
 fn from_groups<'a, K: Ord + Shared, V: Shared>(
     pairs: &'a [(K, V)],
     chunks: &'a [Chunk<K, V>],
@@ -266,7 +266,7 @@ fn from_groups<'a, K: Ord + Shared, V: Shared>(
     (pairs, chunks, groups)
 }
 
-/// The same with sections behind the groups.
+/// Returns the same as [`from_groups`], with sections after the groups.
 fn from_sections<'a, K: Ord + Shared, V: Shared>(
     pairs: &'a [(K, V)],
     chunks: &'a [Chunk<K, V>],
@@ -297,7 +297,7 @@ fn from_sections<'a, K: Ord + Shared, V: Shared>(
     (pairs, chunks, groups, sections)
 }
 
-/// The value of the first pair, where it has this key.
+/// Returns the value of the first pair, if it has this key.
 fn value_at<'a, K: Ord + Shared, V: Shared>(pairs: &'a [(K, V)], key: &K) -> Option<&'a V>
     ensures { option_map (λ v. v.now) result ≡ first_value K.cmp key.now pairs.now }
 {
@@ -309,7 +309,8 @@ fn value_at<'a, K: Ord + Shared, V: Shared>(pairs: &'a [(K, V)], key: &K) -> Opt
 }
 
 impl<'a, K: Ord + Shared, V: Shared> RangeIter<'a, K, V> {
-    /// A cursor over the pairs in these levels from the first key that is not below this one.
+    /// Returns a cursor over the pairs in these levels from the first key that is not below this
+    /// one.
     pub(crate) fn from(levels: &'a Levels<K, V>, from: &K) -> RangeIter<'a, K, V>
         requires whole { AreWhole levels.now }
         requires ascends { IsAscending K.cmp (pairs_in levels.now) }
@@ -346,7 +347,7 @@ impl<'a, K: Ord + Shared, V: Shared> RangeIter<'a, K, V> {
         }
     }
 
-    /// A cursor over all pairs in these levels.
+    /// Returns a cursor over all pairs in these levels.
     pub(crate) fn all(levels: &'a Levels<K, V>) -> RangeIter<'a, K, V>
         requires whole { AreWhole levels.now }
         ensures { result ≡ pairs_in levels.now }
@@ -365,7 +366,7 @@ impl<'a, K: Ord + Shared, V: Shared> RangeIter<'a, K, V> {
         cursor
     }
 
-    /// The value of the next pair, where it has this key: the pair stays.
+    /// Returns the value of the next pair, if it has this key. The pair remains.
     fn next_value(&mut self, key: &K) -> Option<&'a V>
         ensures same { self.new ≡ self.old }
         ensures found { option_map (λ v. v.now) result ≡ first_value K.cmp key.now self.old }
@@ -385,9 +386,13 @@ impl<'a, K: Ord + Shared, V: Shared> RangeIter<'a, K, V> {
         value_at(pairs, key)
     }
 
-    /// Goes forward to the first pair whose key is not below this one: its value, where it has this
-    /// key. It goes on from where it stands, so that keys that ascend are found without a walk from
-    /// the first level for each. Takes no memory.
+    /// Moves forward to the first pair whose key is not below this one. Returns its value, if it
+    /// has this key. The cursor continues from its position, so ascending keys are found without
+    /// starting each time from the first level. Does not allocate.
+    ///
+    /// # Requires
+    ///
+    /// The remaining pairs are in ascending order of their keys.
     pub fn seek(&mut self, key: &K) -> Option<&'a V>
         requires { IsAscending K.cmp self.old }
         ensures left { self.new ≡ entries_from (K.cmp key.now) self.old }
@@ -407,8 +412,8 @@ impl<'a, K: Ord + Shared, V: Shared> RangeIter<'a, K, V> {
         self.next_value(key)
     }
 
-    /// The next pair; None exactly at the end. Each call counts one step, that at the end too.
-    /// Takes no memory.
+    /// Returns the next pair, or `None` at the end. Each call counts one step, including the one at
+    /// the end. Does not allocate.
     pub fn step<L: Ledger>(&mut self, steps: &mut Steps<L>) -> Option<(&'a K, &'a V)>
         ensures next { IfSome result (λ pair. self.old ≡ (pair.0.now, pair.1.now) ∷ self.new) }
         ensures end { IfNone result ((self.old ≡ []) × (self.new ≡ [])) }

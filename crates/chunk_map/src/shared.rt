@@ -3,20 +3,24 @@ ghost use Rattle.std.specs.Prelude.{◌≡◌, IfOk};
 
 use rd_base::Starved;
 
-/// A value of which an equal one costs little: keys and values of maps.
+/// A value of which an equal one is cheap to make, such as the keys and values of maps.
 pub trait Shared: Drop {
-    /// An equal value.
+    /// Returns an equal value.
+    ///
+    /// # Errors
+    ///
+    /// `Starved` if memory runs out.
     fn share(&self) -> Result<Self, Starved>
         ensures { IfOk result (λ equal. equal ≡ self.now) };
 
-    /// Whether a value is numbers alone, so that an equal one costs nothing: chunks of such pairs
-    /// are larger.
+    /// Returns whether a value consists of numbers, so that an equal one costs nothing. Chunks of
+    /// such pairs are larger.
     fn is_plain() -> bool {
         false
     }
 }
 
-/// A number costs nothing.
+/// Sharing a number copies it.
 impl Shared for u64 {
     fn share(&self) -> Result<u64, Starved> {
         Ok(*self)

@@ -11,14 +11,14 @@ use Rattle.journal_model.specs.Ticks.{is_confirmable_with}
 use Rattle.journal_model.specs.UnfinishedRow.{drawing}
 use Rattle.coap_answers.specs.declared.mids.Mids.{Mids}
 
--- the step is of this peer, and of the worker of these Message IDs, who has drawn as many as it
--- names
+-- the step is of this peer, and of the worker with these Message IDs, which has drawn as many as
+-- the step says
 pub record IsStepOf (s : Step) (peer : Peer) (mids : Mids) : Type 0 where
   pub peer_is : s.peer ≡ peer
   pub worker : s.worker ≡ mids.worker
   pub drawn : s.drawn ≡ mids.drawn
 
--- its datagrams are sent after the others, and so many Message IDs are drawn
+-- the datagrams of these effects are sent after the others, and their Message IDs are drawn
 pub record Sends (e : Effects) (before now : List (Peer × List ℕ)) (mids_before mids : Mids) : Type
     0 where
   pub sent : now ≡ before ++ e.sent
@@ -30,12 +30,12 @@ abbrev pub is_confirmable_sent : List (Peer × List ℕ) → Peer → ℕ → Bo
 is_confirmable_sent sent peer mid =
     list_any (λ d. is_same_peer d.0 peer && is_confirmable_with mid d.1) sent
 
--- the request of a fetch that a note makes is sent
+-- the request of a fetch that a note records is sent
 abbrev pub IsRequestSent : List (Peer × List ℕ) → Note → Type 0
 IsRequestSent sent (note.Asked peer token mid params number) =
     is_confirmable_sent sent peer mid ≡ true
 IsRequestSent sent _ = Unit {0}
 
--- the requests of fetches that are noted are sent
+-- the noted requests of fetches are sent
 abbrev pub AreRequestsSent : Effects → Type 0
 AreRequestsSent e = AllByRecursion (IsRequestSent e.sent) e.notes

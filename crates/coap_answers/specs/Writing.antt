@@ -1,4 +1,4 @@
--- A message that is being written option by option.
+-- A message while it is written, option by option.
 use Rattle.std.specs.Prelude.{◌≡◌, ℕ, ◌≤◌, ◌<◌, List, [], ◌++◌}
 use Rattle.message_model.specs.declared.messages.Kind4.TheVariants.{Con}
 use Rattle.message_model.specs.Codes.{empty}
@@ -9,8 +9,8 @@ use Rattle.journal_model.specs.Effects.{Reply}
 abbrev pub with_options : Message → List Opt → Message
 with_options m more = record m { options = m.options ++ more }
 
--- an option of this number may follow: the message is not an empty one, it has no payload yet, and
--- no later option (RFC 7252 section 3.1)
+-- an option with this number may follow: the message is not empty, it has no payload yet, and it
+-- has no later option (RFC 7252 section 3.1)
 pub record IsReadyFor (number : ℕ) (m : Message) : Type 0 where
   pub filled : empty < m.code
   pub open_end : m.payload ≡ []

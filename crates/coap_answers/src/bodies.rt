@@ -1,4 +1,4 @@
-//! Answers with a body, whole or a block of it (RFC 7959 section 2.4, RFC 7641 section 3).
+//! Answers with a body, whole or one block of it (RFC 7959 section 2.4, RFC 7641 section 3).
 ghost use Rattle.std.specs.Prelude.{◌≡◌, ◌<◌, ◌^◌};
 ghost use Rattle.std.specs.Option.{ForSome};
 ghost use Rattle.message_model.specs.Blocks.{IsBlock};
@@ -13,7 +13,7 @@ use message_model::codes::CONTENT;
 use message_model::{Block, MAX_SZX};
 use rd_base::Tag;
 
-/// The number of the block that is asked for, 0 where none is.
+/// Returns the number of the requested block, or 0 if none is requested.
 fn number_of(asked: &Option<Block>) -> u32
     ensures { result ≡ requests_of.number_of asked.now }
 {
@@ -23,7 +23,12 @@ fn number_of(asked: &Option<Block>) -> u32
     }
 }
 
-/// The exponent of the size of that block.
+/// Returns the exponent of the size of the requested block, or the greatest one if none is
+/// requested.
+///
+/// # Requires
+///
+/// `asked` is a valid block.
 pub fn szx_of(asked: &Option<Block>) -> u8
     requires { ForSome asked.now IsBlock }
     ensures szx { result ≡ requests_of.szx_of asked.now }
@@ -35,8 +40,7 @@ pub fn szx_of(asked: &Option<Block>) -> u8
     }
 }
 
-/// The block that the answer names: the one that was asked for, or else the first, where more
-/// follow.
+/// Returns the block that the answer names: the requested one, or else the first if more follow.
 fn answered_block(asked: &Option<Block>, more: bool) -> Option<Block>
     requires { ForSome asked.now IsBlock }
     ensures answered { result ≡ bodies_of.answered_block asked.now more }
@@ -54,7 +58,7 @@ fn answered_block(asked: &Option<Block>, more: bool) -> Option<Block>
     }
 }
 
-/// The first block of the greatest size, where more follow.
+/// Returns the first block of the greatest size, if more follow.
 fn first_block(more: bool) -> Option<Block>
     ensures answered { result ≡ bodies_of.answered_block None more }
     ensures block { ForSome result IsBlock }
@@ -69,8 +73,12 @@ fn first_block(more: bool) -> Option<Block>
     })
 }
 
-/// The answer with the block of a body that is asked for, the first where none is, under a tag and
-/// an Observe value; 4.00 where it lies past the end of the body.
+/// Returns the answer with the requested block of a body, or with the first if none is requested,
+/// under a tag and an Observe value. Returns 4.00 if the block lies past the end of the body.
+///
+/// # Requires
+///
+/// `asked` is a valid block, and an Observe value is below 2^24.
 #[tactic(auto, unfolding(journal_model::specs::Bodies::body_reply))]
 pub fn body_reply<'a>(
     tag: Option<Tag>,
@@ -99,7 +107,11 @@ pub fn body_reply<'a>(
     }
 }
 
-/// Whether a body is longer than the block size that is asked for.
+/// Returns whether a body is longer than the requested block size, in octets.
+///
+/// # Requires
+///
+/// `asked` is a valid block.
 pub fn is_long(asked: &Option<Block>, body: &[u8]) -> bool
     requires { ForSome asked.now IsBlock }
     ensures { result ≡ bodies_of.is_long asked.now body.now }
@@ -107,7 +119,12 @@ pub fn is_long(asked: &Option<Block>, body: &[u8]) -> bool
     body.len() > 1usize << (szx_of(asked) + 4)
 }
 
-/// Whether a body has the block that is asked for, the first where none is (RFC 7959 section 2.2).
+/// Returns whether a body has the requested block, or the first if none is requested (RFC 7959
+/// section 2.2).
+///
+/// # Requires
+///
+/// `asked` is a valid block.
 pub fn has_asked_block(asked: &Option<Block>, body: &[u8]) -> bool
     requires { ForSome asked.now IsBlock }
     ensures { result ≡ has_asked_block asked.now body.now }

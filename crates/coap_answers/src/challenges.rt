@@ -1,4 +1,4 @@
-//! Challenges: 4.01 with a value that the client is to send back (RFC 9175 section 2.3).
+//! Challenges: 4.01 with a value that the client is to return (RFC 9175 section 2.3).
 ghost use Rattle.std.specs.Prelude.{◌≡◌, ◌+◌, ◌<◌, ◌≤◌, [], List, length};
 ghost use Rattle.message_model.specs.Codes as codes_of;
 ghost use Rattle.message_model.specs.Message.{end_number};
@@ -22,7 +22,7 @@ use message_model::codes::UNAUTHORIZED;
 use message_model::options::ECHO;
 use rd_base::Peer;
 
-/// 4.01 alone.
+/// Returns 4.01 without payload.
 fn unauthorized() -> Reply<'static>
     ensures said { reply_said result ≡ effects.bare codes_of.unauthorized }
     ensures reply { IsReply result }
@@ -30,7 +30,7 @@ fn unauthorized() -> Reply<'static>
     Reply::plain(UNAUTHORIZED, b"")
 }
 
-/// The value that the client is to send back, in Echo (RFC 9175 section 2.2.1).
+/// Appends Echo with the value that the client is to return (RFC 9175 section 2.2.1).
 fn put_echo(writer: &mut Writer, value: &[u8])
     requires filled { codes_of.empty < writer.old.code }
     requires open_end { writer.old.payload ≡ [] }
@@ -45,8 +45,12 @@ fn put_echo(writer: &mut Writer, value: &[u8])
     };
 }
 
-/// A request is answered 4.01: the client is to send it again with this value (RFC 9175 section
-/// 2.3).
+/// Answers 4.01 to a request. The client is to send the request again with this value (RFC 9175
+/// section 2.3).
+///
+/// # Requires
+///
+/// `out` has room for one more datagram.
 pub fn answer_challenge(
     mids: &mut Mids,
     peer: Peer,

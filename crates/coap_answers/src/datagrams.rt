@@ -1,8 +1,8 @@
-//! The octets of a datagram that is sent.
+//! The octets of a datagram to be sent.
 ghost use Rattle.std.specs.Prelude.{◌≤◌, length};
 ghost use Rattle.coap_message.specs.PartialMessages.{longest_datagram};
 
-/// The octets of a datagram, no more than one has at most, 1,280 (RFC 7252 section 4.6).
+/// The octets of a datagram, at most 1,280 (RFC 7252 section 4.6).
 #[derive(Clone, Copy)]
 pub struct Datagram<'a> {
     /// The octets.

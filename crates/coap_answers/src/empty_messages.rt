@@ -12,8 +12,12 @@ use crate::{Datagram, Outbox};
 use coap_message::{Kind4, TokenRef, Writer};
 use rd_base::Peer;
 
-/// An empty message of this type is sent: a Reset of a message, as to a ping, or its
-/// acknowledgement (RFC 7252 sections 4.2 and 4.3).
+/// Sends an empty message of this type: a Reset, as for a ping, or an acknowledgement (RFC 7252
+/// sections 4.2 and 4.3).
+///
+/// # Requires
+///
+/// `out` has room for one more datagram.
 pub fn send_empty(peer: Peer, kind: Kind4, mid: u16, out: &mut Outbox)
     requires { length out.old < most_datagrams }
     ensures sent { out.new ≡ out.old ++ (peer, spelling (effects.empty_message kind mid)) ∷ [] }

@@ -1,4 +1,4 @@
-//! How a server answers: what a reply says, its octets, and the datagrams that a step sends (RFC
+//! Responses of a server: what they say, their octets, and the datagrams that a step sends (RFC
 //! 7252 sections 4.2 and 5.2, RFC 7959 section 2.4).
 #![tactic(auto)]
 

@@ -6,7 +6,7 @@ ghost use Rattle.journal_model.specs.UnfinishedRow.{drawing};
 
 use journal_model::limits::WORKER_MIDS;
 
-/// The Message IDs of one worker. Each worker has 4,096 of its own, which it draws in turn, again
+/// The Message IDs of one worker. Each worker has 4,096 of its own, which it draws in order, again
 /// and again.
 #[derive(Drop)]
 pub struct Mids {
@@ -18,7 +18,11 @@ pub struct Mids {
 }
 
 impl Mids {
-    /// Those of a worker that has drawn none. There are at most 16 workers, numbered from 0.
+    /// Returns the Message IDs of a worker that has drawn none.
+    ///
+    /// # Requires
+    ///
+    /// `worker` is below 16.
     pub fn of(worker: u8) -> Mids
         requires { worker < max_workers }
         ensures worker { result.worker ≡ worker }
@@ -27,14 +31,14 @@ impl Mids {
         Mids { worker, drawn: 0 }
     }
 
-    /// The one that is drawn next.
+    /// Returns the Message ID that is drawn next.
     pub fn upcoming(&self) -> u16
         ensures { result ≡ mid_of self.now.worker self.now.drawn }
     {
         self.after(0)
     }
 
-    /// The one that is drawn after so many more.
+    /// Returns the Message ID that is drawn after `more` others.
     pub fn after(&self, more: u64) -> u16
         ensures { result ≡ mid_of self.now.worker (self.now.drawn + more) }
     {
@@ -42,7 +46,7 @@ impl Mids {
             + (self.drawn.wrapping_add(more) % u64::from(WORKER_MIDS)) as u16
     }
 
-    /// Draws the next.
+    /// Draws the next Message ID, and returns it.
     pub fn next(&mut self) -> u16
         ensures mid { result ≡ mid_of self.old.worker self.old.drawn }
         ensures worker { self.new.worker ≡ self.old.worker }

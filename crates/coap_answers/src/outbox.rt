@@ -1,4 +1,4 @@
-//! What a step sends: datagrams with the peers that they go to.
+//! The output of a step: datagrams with their destinations.
 ghost use Rattle.std.specs.Prelude.{◌≡◌, ◌<◌, ◌≤◌, [], ◌∷◌, ◌++◌, length, IfOk, IsTrue, ◌↔◌};
 ghost use Rattle.std.specs.Prelude.{option_map, slice_get};
 ghost use Rattle.coap_message.specs.PartialMessages.{longest_datagram};
@@ -10,16 +10,16 @@ use rd_base::{Peer, Starved};
 use std::alloc::Global;
 use std::marker::Model;
 
-/// How many datagrams one step sends at most.
+/// The most datagrams that one step sends.
 const MOST: usize = 1_152;
 
-/// How many octets they have at most together: 1,280 each.
+/// The most octets that they have together: 1,280 each.
 const OCTETS: usize = 1_474_560;
 
-/// Where a datagram lies among the octets.
+/// The position of a datagram among the octets.
 #[derive(Clone, Copy)]
 struct Span {
-    /// Where it goes.
+    /// The peer that it goes to.
     peer: Peer,
     /// The offset of its first octet.
     start: usize,
@@ -27,13 +27,13 @@ struct Span {
     end: usize,
 }
 
-/// The datagrams that a step sends, in order: at most 1,152, of at most 1,280 octets each. It is
-/// made once, and takes no memory afterwards.
+/// The datagrams that a step sends, in order: at most 1,152, of at most 1,280 octets each. Only
+/// creating it allocates.
 #[derive(Drop)]
 pub struct Outbox {
-    /// The octets of all, one after the other.
+    /// The octets of all datagrams, one after the other.
     octets: Vec<u8>,
-    /// Where each lies.
+    /// The position of each.
     spans: Vec<Span>,
 }
 
@@ -50,7 +50,11 @@ impl Model for Outbox {
 }
 
 impl Outbox {
-    /// No datagram, with room for all that one step sends.
+    /// Creates an empty outbox, with room for all that one step sends.
+    ///
+    /// # Errors
+    ///
+    /// `Starved` if memory runs out.
     pub fn make(alloc: Global) -> Result<Outbox, Starved>
         ensures { IfOk result (λ outbox. outbox ≡ []) }
     {
@@ -59,7 +63,11 @@ impl Outbox {
         Ok(Outbox { octets, spans })
     }
 
-    /// One more datagram after the others. Takes no memory.
+    /// Appends a datagram. Does not allocate.
+    ///
+    /// # Requires
+    ///
+    /// There are fewer than 1,152 datagrams.
     pub fn push(&mut self, peer: Peer, datagram: Datagram<'_>)
         requires room { length self.old < most_datagrams }
         ensures { self.new ≡ self.old ++ (peer, datagram.entry.octets.now) ∷ [] }
@@ -72,8 +80,7 @@ impl Outbox {
         self.spans.push_reserved(Span { peer, start, end });
     }
 
-    /// One more datagram after the others, where there is room for it and it is no longer than a
-    /// datagram may be. Takes no memory.
+    /// Appends a datagram if there is room and it has at most 1,280 octets. Does not allocate.
     pub fn push_fitting(&mut self, peer: Peer, datagram: &[u8])
         ensures { length self.old < most_datagrams
             → length datagram.now ≤ longest_datagram
@@ -84,7 +91,7 @@ impl Outbox {
         }
     }
 
-    /// How many datagrams there are: no more than one step sends.
+    /// Returns the number of datagrams, at most 1,152.
     pub fn len(&self) -> usize
         ensures count { result ≡ length self.now }
         ensures few { result ≤ most_datagrams }
@@ -92,14 +99,15 @@ impl Outbox {
         self.spans.len()
     }
 
-    /// Whether there is none.
+    /// Returns whether there are no datagrams.
     pub fn is_empty(&self) -> bool
         ensures { IsTrue result ↔ (self.now ≡ []) }
     {
         self.spans.is_empty()
     }
 
-    /// The datagram of this index from 0, with the peer that it goes to; none past the end.
+    /// Returns the datagram with this index, from 0, and the peer that it goes to, or `None` past
+    /// the end.
     pub fn at(&self, index: usize) -> Option<(Peer, &[u8])>
         ensures { option_map (λ found. (found.0, found.1.now)) result ≡ slice_get self.now index }
     {
@@ -107,7 +115,7 @@ impl Outbox {
         Some((peer, self.octets.as_slice().get(start..end)?))
     }
 
-    /// Takes all datagrams out.
+    /// Removes all datagrams.
     pub fn clear(&mut self)
         ensures { self.new ≡ [] }
     {

@@ -1,12 +1,12 @@
-//! The refusals that a request alone decides, as answers (RFC 7252 sections 5.4, 5.8 and 5.9, RFC
-//! 9176 sections 5 and 6).
+//! Answers to requests that are refused by their content alone (RFC 7252 sections 5.4, 5.8 and 5.9,
+//! RFC 9176 sections 5 and 6).
 ghost use Rattle.std.specs.Prelude.{◌≡◌};
 ghost use Rattle.message_model.specs.Refusals as refusals_of;
 ghost use Rattle.message_model.specs.Refusals.{refusal_code, diagnostic_of};
 
 use message_model::Refusal;
 
-/// The code of a refusal.
+/// Returns the code of a refusal.
 pub fn refusal_code(refusal: Refusal) -> u8
     ensures { result ≡ refusal_code refusal }
 {
@@ -21,7 +21,7 @@ pub fn refusal_code(refusal: Refusal) -> u8
     }
 }
 
-/// Its diagnostic payload (RFC 7252 section 5.5.2).
+/// Returns the diagnostic payload of a refusal (RFC 7252 section 5.5.2).
 pub fn refusal_diagnostic(refusal: Refusal) -> &'static [u8]
     ensures { result.now ≡ diagnostic_of refusal }
 {

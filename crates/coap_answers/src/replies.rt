@@ -34,7 +34,8 @@ use message_model::options::{BLOCK1, BLOCK2, CONTENT_FORMAT, ETAG, LOCATION_PATH
 use rd_base::{Bytes, Peer, Starved, Tag};
 use std::alloc::Global;
 
-/// What a response says: its code, the options that answers of a directory have, and its payload.
+/// The content of a response: its code, the options that a directory's answers have, and its
+/// payload.
 #[derive(Clone, Copy)]
 pub struct Reply<'a> {
     /// The code.
@@ -43,20 +44,21 @@ pub struct Reply<'a> {
     pub tag: Option<Tag>,
     /// The value of Observe, below 2^24.
     pub observe: Option<u32>,
-    /// The number of a registration, in Location-Path.
+    /// The number of a registration, for Location-Path.
     pub location: Option<u64>,
-    /// Whether the payload is a link document, in Content-Format.
+    /// Whether Content-Format says that the payload is a link document.
     pub format: bool,
-    /// The block that the payload is, in Block2.
+    /// The block that the payload contains, in Block2.
     pub block2: Option<Block>,
-    /// The block of the request that is answered, in Block1.
+    /// The block of the answered request, in Block1.
     pub block1: Option<Block>,
     /// The payload.
     pub payload: &'a [u8],
 }
 
 impl<'a> Reply<'a> {
-    /// A code with a payload, without options: the diagnostic of a refusal, or nothing.
+    /// Returns a reply of a code and a payload, without options: the diagnostic payload of a
+    /// refusal, or nothing.
     pub fn plain(code: u8, payload: &'a [u8]) -> Reply<'a>
         ensures { reply_said result ≡ effects.diagnostic code payload.now }
     {
@@ -73,7 +75,7 @@ impl<'a> Reply<'a> {
     }
 }
 
-/// One more option, of a value that has at most 20 octets.
+/// Appends an option with a value of at most 20 octets.
 fn put(writer: &mut Writer, number: u32, value: &[u8])
     requires ready { IsReadyFor number writer.old }
     requires number { number ≤ table.block1 }
@@ -88,7 +90,7 @@ fn put(writer: &mut Writer, number: u32, value: &[u8])
     };
 }
 
-/// An option whose value is a number (RFC 7252 section 3.2).
+/// Appends an option whose value is a number (RFC 7252 section 3.2).
 fn put_uint(writer: &mut Writer, number: u32, value: u32)
     requires ready { IsReadyFor number writer.old }
     requires number { number ≤ table.block1 }
@@ -103,7 +105,7 @@ fn put_uint(writer: &mut Writer, number: u32, value: u32)
     put(writer, number, &octets[..end]);
 }
 
-/// An option whose value is a block (RFC 7959 section 2.2).
+/// Appends an option whose value is a block (RFC 7959 section 2.2).
 fn put_block(writer: &mut Writer, number: u32, block: &Block)
     requires ready { IsReadyFor number writer.old }
     requires number { number ≤ table.block1 }
@@ -118,7 +120,7 @@ fn put_block(writer: &mut Writer, number: u32, block: &Block)
     put(writer, number, &octets[..end]);
 }
 
-/// The entity tag, where there is one.
+/// Appends the entity tag, if there is one.
 fn put_tag(writer: &mut Writer, tag: Option<Tag>)
     requires ready { IsReadyFor table.etag writer.old }
     requires room { length (spelling writer.old) ≤ 200 }
@@ -135,7 +137,7 @@ fn put_tag(writer: &mut Writer, tag: Option<Tag>)
     }
 }
 
-/// The value of Observe, where there is one.
+/// Appends the value of Observe, if there is one.
 fn put_observe(writer: &mut Writer, observe: Option<u32>)
     requires ready { IsReadyFor table.observe writer.old }
     requires value { ForSome observe (λ value. value < 2 ^ 24) }
@@ -150,7 +152,7 @@ fn put_observe(writer: &mut Writer, observe: Option<u32>)
     }
 }
 
-/// The location of a registration, where there is one (RFC 9176 section 5).
+/// Appends the location of a registration, if there is one (RFC 9176 section 5).
 fn put_location(writer: &mut Writer, location: Option<u64>)
     requires ready { IsReadyFor table.location_path writer.old }
     requires room { length (spelling writer.old) ≤ 150 }
@@ -164,7 +166,7 @@ fn put_location(writer: &mut Writer, location: Option<u64>)
     }
 }
 
-/// The two segments of that location.
+/// Appends the two segments of a location.
 fn put_place(writer: &mut Writer, number: u64)
     requires ready { IsReadyFor table.location_path writer.old }
     requires room { length (spelling writer.old) ≤ 150 }
@@ -177,7 +179,7 @@ fn put_place(writer: &mut Writer, number: u64)
     put(writer, LOCATION_PATH, digits.format(number).as_bytes());
 }
 
-/// The format of link documents, where it is named (RFC 7252 section 12.3).
+/// Appends the format of link documents, if it is named (RFC 7252 section 12.3).
 fn put_format(writer: &mut Writer, format: bool)
     requires ready { IsReadyFor table.content_format writer.old }
     requires room { length (spelling writer.old) ≤ 200 }
@@ -191,7 +193,7 @@ fn put_format(writer: &mut Writer, format: bool)
     put_uint(writer, CONTENT_FORMAT, u32::from(LINK_FORMAT));
 }
 
-/// The block that the payload is, where it is one.
+/// Appends the block that the payload contains, if it is one.
 fn put_block2(writer: &mut Writer, block: &Option<Block>)
     requires ready { IsReadyFor table.block2 writer.old }
     requires block { ForSome block.now IsBlock }
@@ -206,7 +208,7 @@ fn put_block2(writer: &mut Writer, block: &Option<Block>)
     }
 }
 
-/// The block of the request that is answered, where there is one.
+/// Appends the block of the answered request, if there is one.
 fn put_block1(writer: &mut Writer, block: &Option<Block>)
     requires ready { IsReadyFor table.block1 writer.old }
     requires block { ForSome block.now IsBlock }
@@ -221,7 +223,7 @@ fn put_block1(writer: &mut Writer, block: &Option<Block>)
     }
 }
 
-/// All options of a reply, in ascending order of their numbers (RFC 7252 section 3.1).
+/// Appends all options of a reply, in ascending order of their numbers (RFC 7252 section 3.1).
 fn put_options(writer: &mut Writer, reply: &Reply<'_>)
     requires ready { IsReadyFor 0 writer.old }
     requires reply { IsReply reply.now }
@@ -238,7 +240,7 @@ fn put_options(writer: &mut Writer, reply: &Reply<'_>)
     put_block1(writer, &reply.block1);
 }
 
-/// The type of the answer to a request of this type (RFC 7252 section 5.2).
+/// Returns the type of the answer to a request of this type (RFC 7252 section 5.2).
 fn answer_kind(kind: Kind4) -> Kind4
     ensures { result ≡ effects.answer_kind kind }
 {
@@ -248,7 +250,7 @@ fn answer_kind(kind: Kind4) -> Kind4
     }
 }
 
-/// The Message ID of that answer: the one of a confirmable request, and else the next that is drawn
+/// Returns the Message ID of the answer: that of a confirmable request, or else the next one drawn
 /// (RFC 7252 section 4.4).
 fn answer_mid(mids: &mut Mids, kind: Kind4, mid: u16) -> u16
     ensures mid { (s : Step) (m : Message)
@@ -265,7 +267,12 @@ fn answer_mid(mids: &mut Mids, kind: Kind4, mid: u16) -> u16
     }
 }
 
-/// A message that begins as the answer to a request, with its options.
+/// Begins the answer to a request, and appends its options.
+///
+/// # Requires
+///
+/// `reply` has a code that is neither empty nor reserved, an Observe value below 2^24 if any, valid
+/// blocks, and a payload of at most 1,024 octets.
 pub fn begin_answer(mids: &mut Mids, view: &View<'_>, reply: &Reply<'_>) -> Writer
     requires reply { IsReply reply.now }
     ensures begun { (s : Step)
@@ -286,8 +293,13 @@ pub fn begin_answer(mids: &mut Mids, view: &View<'_>, reply: &Reply<'_>) -> Writ
     writer
 }
 
-/// The answer to a request is sent (RFC 7252 section 5.3.1). It draws a Message ID where the
-/// request was not confirmable.
+/// Sends the answer to a request (RFC 7252 section 5.3.1). Draws a Message ID if the request was
+/// not confirmable.
+///
+/// # Requires
+///
+/// `reply` has a code that is neither empty nor reserved, an Observe value below 2^24 if any, valid
+/// blocks, and a payload of at most 1,024 octets. `out` has room for one more datagram.
 pub fn answer(mids: &mut Mids, peer: Peer, view: &View<'_>, reply: &Reply<'_>, out: &mut Outbox)
     requires reply { IsReply reply.now }
     requires room { length out.old < most_datagrams }
@@ -303,8 +315,17 @@ pub fn answer(mids: &mut Mids, peer: Peer, view: &View<'_>, reply: &Reply<'_>, o
     out.push(peer, Datagram { octets: datagram });
 }
 
-/// The octets of a notice (RFC 7641 section 4.2): a confirmable message with a reply, under this
-/// Message ID and token. `Starved`: out of memory.
+/// Returns the octets of a notification (RFC 7641 section 4.2): a confirmable message with a reply,
+/// under this Message ID and token.
+///
+/// # Requires
+///
+/// `reply` has a code that is neither empty nor reserved, an Observe value below 2^24 if any, valid
+/// blocks, and a payload of at most 1,024 octets.
+///
+/// # Errors
+///
+/// `Starved` if memory runs out.
 pub fn spell_notice(
     alloc: Global,
     mid: u16,

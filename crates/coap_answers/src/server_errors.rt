@@ -15,7 +15,7 @@ use coap_message::View;
 use message_model::codes::{INTERNAL_SERVER_ERROR, SERVICE_UNAVAILABLE};
 use rd_base::Peer;
 
-/// 5.00 alone.
+/// Returns 5.00 without payload.
 pub fn internal_server_error() -> Reply<'static>
     ensures said { reply_said result ≡ effects.bare codes_of.internal_server_error }
     ensures reply { IsReply result }
@@ -23,7 +23,7 @@ pub fn internal_server_error() -> Reply<'static>
     Reply::plain(INTERNAL_SERVER_ERROR, b"")
 }
 
-/// 5.03 with the diagnostic that says what has no room.
+/// Returns 5.03 with a diagnostic payload that names what is full.
 fn service_unavailable(diagnostic: &'static [u8]) -> Reply<'static>
     requires { length diagnostic.now ≤ 1_024 }
     ensures said { reply_said result
@@ -33,7 +33,11 @@ fn service_unavailable(diagnostic: &'static [u8]) -> Reply<'static>
     Reply::plain(SERVICE_UNAVAILABLE, diagnostic)
 }
 
-/// A request is answered 5.00: memory ran out.
+/// Answers 5.00 to a request, because memory ran out.
+///
+/// # Requires
+///
+/// `out` has room for one more datagram.
 pub fn answer_starved(mids: &mut Mids, peer: Peer, view: &View<'_>, out: &mut Outbox)
     requires room { length out.old < most_datagrams }
     ensures sends { (s : Step)
@@ -43,7 +47,12 @@ pub fn answer_starved(mids: &mut Mids, peer: Peer, view: &View<'_>, out: &mut Ou
     answer(mids, peer, view, &internal_server_error(), out);
 }
 
-/// A request is answered 5.03: there is no room for one more of what the diagnostic says.
+/// Answers 5.03 to a request, because there is no room for one more of what the diagnostic payload
+/// names.
+///
+/// # Requires
+///
+/// `diagnostic` has at most 1,024 octets, and `out` has room for one more datagram.
 pub fn answer_full(
     mids: &mut Mids,
     peer: Peer,

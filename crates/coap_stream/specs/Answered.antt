@@ -1,4 +1,4 @@
--- What was done with one message of a connection.
+-- What was done for one message of a connection.
 use Rattle.std.specs.Prelude.{◌≡◌, ◌+◌, ◌≤◌, ℕ, Option}
 use Rattle.rd_base.specs.declared.peers.Peer.{Peer}
 use Rattle.coap_answers.specs.Outboxes.{most_datagrams}
@@ -8,8 +8,7 @@ use Rattle.rd_seat.specs.Callers.{CallerSeen}
 use Rattle.coap_stream.specs.Made.{VoiceSeen, CallsMade, Speaks}
 use Rattle.coap_stream.specs.Talks.{Exchange, AnswersRequest, Answers}
 
--- Its calls were made, its octets were written, and its ticks sent so many datagrams, which are
--- counted.
+-- Its calls were made, its octets were written, and the datagrams that its ticks sent are counted.
 pub record IsDone (e : Exchange) (before after : CallerSeen) (voice spoken : VoiceSeen)
     (dropped dropped_then : ℕ) : Type 0 where
   pub made : CallsMade e.calls before after
@@ -17,8 +16,8 @@ pub record IsDone (e : Exchange) (before after : CallerSeen) (voice spoken : Voi
   pub drops : dropped_then ≡ dropped + e.dropped
   pub few : e.dropped ≤ most_datagrams
 
--- A request was answered, by why it is answered without a seat, where so many were handed to it
--- before.
+-- A request was answered, given the reason for which it is answered without a seat, if there is
+-- one, and the number of requests handed to the seat before.
 pub record RequestDone (peer : Peer) (asked : ℕ) (message : Shown) (why : Option Unasked)
     (before after : CallerSeen) (voice spoken : VoiceSeen) (dropped dropped_then : ℕ)
     : Type 0 where
@@ -27,7 +26,7 @@ pub record RequestDone (peer : Peer) (asked : ℕ) (message : Shown) (why : Opti
   pub answers : AnswersRequest peer asked why exchange
   pub done : IsDone exchange before after voice spoken dropped dropped_then
 
--- So was a message.
+-- The same of a message.
 pub record MessageDone (peer : Peer) (asked : ℕ) (message : Shown) (before after : CallerSeen)
     (voice spoken : VoiceSeen) (dropped dropped_then : ℕ) : Type 0 where
   pub exchange : Exchange

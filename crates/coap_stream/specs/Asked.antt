@@ -1,4 +1,4 @@
--- How many requests a stream hands to the seat, by its octets alone.
+-- How many requests a stream hands to the seat, computed from its octets alone.
 use Rattle.std.specs.Prelude.{ℕ, ◌+◌, ◌==◌, List, [], ◌∷◌, Option, Some, None}
 use Rattle.udp_link.specs.Links.{Datagram}
 use Rattle.stream_model.specs.Streams.{stream_of}
@@ -7,23 +7,25 @@ use Rattle.coap_stream.specs.declared.talked.TalkEnd.{TalkEnd}
 use Rattle.coap_stream.specs.Requests.{meant_by}
 use Rattle.coap_stream.specs.Talks.{asked_by, ends_by, end_by, most_asked}
 
--- How many were handed to it after a message.
+-- How many requests were handed to the seat after a message.
 abbrev pub asked_after : ℕ → Option Shown → ℕ
 asked_after asked None = asked
 asked_after asked (Some message) = asked + asked_by asked message
 
--- How the message ends the conversation, if it does; so many were handed to the seat then.
+-- How the message ends the conversation, if it does, given how many requests were handed to the
+-- seat.
 abbrev pub end_with : Option Shown → ℕ → Option TalkEnd
 end_with None asked = None
 end_with (Some message) asked =
     end_by (ends_by (meant_by message.code)) (asked == most_asked)
 
--- Where it goes on, what further messages give.
+-- The count, or that of further messages if the conversation continues.
 abbrev pub unless_ended : Option TalkEnd → ℕ → ℕ → ℕ
 unless_ended None asked further = further
 unless_ended (Some end) asked further = asked
 
--- How many are handed to it after these messages, up to the one that ends the conversation.
+-- How many requests are handed to the seat after these messages, up to the one that ends the
+-- conversation.
 abbrev pub asked_over : ℕ → List (List ℕ) → ℕ
 asked_over asked [] = asked
 asked_over asked (octets ∷ messages) =
@@ -31,11 +33,11 @@ asked_over asked (octets ∷ messages) =
     (asked_after asked (shown_in octets))
     (asked_over (asked_after asked (shown_in octets)) messages)
 
--- How many the octets of a connection hand to it.
+-- How many requests the octets of a connection hand to the seat.
 abbrev pub asked_in : List ℕ → ℕ
 asked_in octets = asked_over 0 (stream_of octets).messages
 
--- And those of connections.
+-- The same of several connections.
 abbrev pub asked_in_all : List Datagram → ℕ
 asked_in_all [] = 0
 asked_in_all (stream ∷ streams) = asked_in stream.1 + asked_in_all streams

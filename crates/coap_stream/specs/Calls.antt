@@ -1,5 +1,4 @@
--- The calls that a conversation makes on its seat, and what came out of each. The last stands
--- first.
+-- The calls that a conversation makes on its seat, and the result of each. The last comes first.
 use Rattle.std.specs.Prelude.{List, [], ◌∷◌, ◌++◌}
 use Rattle.udp_link.specs.Links.{Datagram}
 use Rattle.rd_seat.specs.Seats.{SeatSeen}

@@ -42,7 +42,7 @@ use Rattle.coap_stream.specs.Talks.{
   farewell,
 }
 
--- ---- what is seen of it
+-- ---- what contracts see of it
 
 -- What a source shows.
 pub record SourceSeen : Type 0 where
@@ -52,7 +52,7 @@ pub record SourceSeen : Type 0 where
 abbrev pub source_seen : {S : Type 0} → sources.Ghosts S → S → SourceSeen
 source_seen g source = record { left = g.left source; faults = g.faults source }
 
--- What a conversation has: its seat and its clock, what it reads from, and what it writes to.
+-- What a conversation uses: its seat and its clock, its input, and its output.
 pub record TalkSeen : Type 0 where
   pub caller : CallerSeen
   pub source : SourceSeen
@@ -78,19 +78,19 @@ AreShown (octets ∷ earlier) (e ∷ es) = (shown_in octets ≡ Some e.message)
 AreShown [] (e ∷ es) = ⊥
 AreShown (octets ∷ earlier) [] = ⊥
 
--- These messages, the last first, are the first of the stream.
+-- These messages, the last first, are the first ones of the stream.
 pub record AreFirst (messages : List (List ℕ)) (s : Stream) : Type 0 where
   pub more : List (List ℕ)
   pub all : s.messages ≡ reverse messages ++ more
 
--- These messages are all of the stream, and what follows them is this.
+-- These messages are all of the stream, and this follows them.
 pub record AreAll (messages : List (List ℕ)) (why : Option StreamBad) (s : Stream) : Type 0 where
   pub all : s.messages ≡ reverse messages
   pub follows : s.fault ≡ why
 
--- How it ended, by the octets that were read, the messages in them that were answered, and what is
--- left to be read: between two messages or within one at the end of the source, at a bad one,
--- whatever follows it, or with what its last message says.
+-- How the conversation ended, by the octets that were read, the messages in them that were
+-- answered, and what is left to be read. It ended between two messages or within one, at the end of
+-- the source; at a bad message, whatever follows it; or as its last message says.
 abbrev pub EndsSo : TalkEnd → List ℕ → List (List ℕ) → List Exchange → Option (List ℕ)
     → Type 0
 EndsSo end_as.Closed taken messages es left =
@@ -108,13 +108,13 @@ EndsSo (end_as.Refused why) taken messages es left =
     × (ended_by es ≡ None)
 EndsSo end taken messages es left = ended_by es ≡ Some end
 
--- A front of these octets was written.
+-- A prefix of these octets was written.
 abbrev pub WritesFront : Option (List ℕ) → List ℕ → Option (List ℕ) → Type 0
 WritesFront before octets now =
     (n : ℕ) × (n ≤ length octets) × Appends before now (take n octets)
 
--- What was to be written when a writing failed: what is answered to the messages, and, where the
--- conversation had ended, what it says then.
+-- What was to be written when a write failed: the responses to the messages, followed, if the
+-- conversation had ended, by its last message.
 abbrev pub WasSaying : Option TalkEnd → List ℕ → List (List ℕ) → List Exchange
     → Option (List ℕ) → List ℕ → Type 0
 WasSaying None taken messages es left octets = octets ≡ opening ++ written_of es
@@ -122,7 +122,8 @@ WasSaying (Some end) taken messages es left octets =
     EndsSo end taken messages es left
     × (octets ≡ opening ++ (written_of es ++ farewell end))
 
--- What it answers, by the octets that were read and the messages in them that were answered.
+-- The result of a conversation, by the octets that were read and the messages in them that were
+-- answered.
 abbrev pub Concludes : List ℕ → List (List ℕ) → List Exchange → TalkSeen → TalkSeen
     → Result Talked TalkFault → Type 0
 Concludes taken messages es before after (Ok talked) =
@@ -158,14 +159,14 @@ pub record Talks (peer : Peer) (before after : TalkSeen) (result : Result Talked
   -- The octets that were read.
   pub taken : List ℕ
   pub read : Consumes before.source.left after.source.left taken
-  -- Their first messages are answered, in order, whatever follows what was read.
+  -- Their first messages are answered, in order, whatever follows the octets that were read.
   pub messages : List (List ℕ)
   pub exchanges : List Exchange
   pub shown : AreShown messages exchanges
   pub first : (further : List ℕ) → AreFirst messages (stream_of (taken ++ further))
   pub answered : AreAnswered peer exchanges
-  -- Each call led the seat from where the one before it had led it, with the moments and words
-  -- that the clock gave, in order.
+  -- Each call changed the seat from the state in which the one before it left it, with the moments
+  -- and words that the clock gave, in order.
   pub made : CallsMade (calls_of exchanges) before.caller after.caller
-  -- And it ended so.
+  -- The conversation ended so.
   pub concludes : Concludes taken messages exchanges before after result

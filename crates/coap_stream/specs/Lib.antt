@@ -1,15 +1,15 @@
--- what a message is for, how it is heard, why it is answered without a seat (RFC 8323 sections
--- 3.4 and 5, RFC 9176 section 5)
+-- the purpose of a message, how a seat handles it, why it is answered without a seat (RFC 8323
+-- sections 3.4 and 5, RFC 9176 section 5)
 pub mod Requests
 -- what is written (RFC 8323 section 3.2)
 pub mod Spoken
--- calls of a seat by a connection; `rd_seat` has those of every caller
+-- the calls that a connection makes on its seat; `rd_seat` has those of every caller
 pub mod Calls
--- what is written for a message, which calls it leads to (RFC 8323 sections 3.2 to 3.4 and 5)
+-- what is written for a message, the calls that it leads to (RFC 8323 sections 3.2 to 3.4 and 5)
 pub mod Talks
 pub mod Made
 pub mod Answered
--- a conversation and how it ends; what its loops carry (RFC 8323 sections 3.3 and 5)
+-- a conversation and how it ends; the invariants of its loops (RFC 8323 sections 3.3 and 5)
 pub mod Endings
 pub mod Talking
 -- how many requests octets hand to the seat (RFC 8323 section 3.3, this project's profile)

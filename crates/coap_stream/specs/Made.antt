@@ -1,4 +1,4 @@
--- What the calls of a conversation do: to its seat, with what its clock gives, and to its output.
+-- The effects of a conversation's calls: on its seat, with what its clock gives, and on its output.
 use Rattle.std.specs.Prelude.{
   ◌≡◌,
   ◌%◌,
@@ -30,7 +30,7 @@ CallsMade calls before after = callers.CallsMade as_they_came calls before after
 
 -- ---- the output
 
--- An output, and whether no writing failed so far.
+-- An output, and whether no write has failed.
 pub record VoiceSeen : Type 0 where
   pub holds : Option (List ℕ)
   pub faults : ℕ
@@ -40,8 +40,8 @@ abbrev pub voice_seen : {K : Type 0} → sinks.Ghosts K → K → Bool → Voice
 voice_seen g out still =
     record { holds = g.holds out; faults = g.faults out; open_still = still }
 
--- All octets were written; or a front of them, where the count of the output's faults rose; or
--- nothing any more, where a writing failed before.
+-- All octets were written; or a prefix of them, if the count of the output's faults rose; or
+-- nothing, if a write failed before.
 abbrev pub SpeaksBy : Bool → Bool → List ℕ → VoiceSeen → VoiceSeen → Type 0
 SpeaksBy true true octets before after =
     Appends before.holds after.holds octets × (after.faults ≡ before.faults)
@@ -57,7 +57,8 @@ Speaks before octets after = SpeaksBy before.open_still after.open_still octets 
 
 -- ---- a request that is handed to the seat
 
--- The seat heard it and did its job, the replies were written, and after each 64th time passed.
+-- The seat handled the request and did its job, the replies were written, and time passed after
+-- each 64th request.
 pub record IsAsked (peer : Peer) (number : ℕ) (datagram : List ℕ) (dropped : ℕ)
     (before after : CallerSeen) (voice spoken : VoiceSeen) : Type 0 where
   pub heard : List Call

@@ -1,5 +1,5 @@
--- What the messages of a connection are for, how a request is heard, and which requests are
--- answered without a seat (RFC 8323 sections 3.4 and 5, RFC 9176 section 5).
+-- The purpose of the messages of a connection, the form in which a seat handles a request, and
+-- which requests are answered without a seat (RFC 8323 sections 3.4 and 5, RFC 9176 section 5).
 use Rattle.std.specs.Prelude.{
   ◌≡◌,
   ◌+◌,
@@ -42,8 +42,8 @@ use Rattle.coap_stream.specs.declared.purposes.Meant.TheVariants as meant
 use Rattle.coap_stream.specs.declared.refusing.Unasked.{Unasked}
 use Rattle.coap_stream.specs.declared.refusing.Unasked.TheVariants as unasked_for
 
--- What a message with this code is for: a CSM, a Pong, an empty message and a response want no
--- answer (RFC 8323 sections 3.4 and 5).
+-- The purpose of a message with this code. A CSM, a Pong, an empty message and a response need no
+-- response (RFC 8323 sections 3.4 and 5).
 abbrev pub meant_by : ℕ → Meant
 meant_by c =
     if c == signals.PING then meant.Ping
@@ -52,14 +52,14 @@ meant_by c =
     else if code_named.is_request_code c then meant.Request
     else meant.Passed
 
--- ---- how it is heard
+-- ---- how a seat handles it
 
--- It asks for no observation (RFC 7641 section 2).
+-- The option is not Observe (RFC 7641 section 2).
 abbrev pub is_not_observe : Opt → Bool
 is_not_observe option = not (option.0 == observe)
 
--- A request of a connection as a seat hears it: a confirmable one with this Message ID, and
--- without Observe, so that it is answered as a plain request.
+-- A request of a connection in the form in which a seat handles it: confirmable, with this Message
+-- ID and without Observe, so that it gets a plain response.
 abbrev pub heard_as : ℕ → Shown → Message
 heard_as mid s = record {
   kind = Con;
@@ -70,7 +70,7 @@ heard_as mid s = record {
   payload = s.payload;
 }
 
--- A message with options more.
+-- A message with further options.
 abbrev pub with_options : Message → List Opt → Message
 with_options m options = record m { options = m.options ++ options }
 
@@ -84,7 +84,7 @@ pub record IsRequest (s : Shown) : Type 0 where
 
 -- ---- which are answered without a seat
 
--- A refusal that is looked for before the method.
+-- A refusal that is tested before the method.
 abbrev pub is_before_method : Refusal → Bool
 is_before_method (refusal.BadOption number) = true
 is_before_method refusal.Proxy = true
@@ -112,8 +112,9 @@ is_simple m = m.code == code_named.post && is_simple_rd (path_in m)
 abbrev pub is_baseless : Message → Bool
 is_baseless m = is_registration m && not (has_named base (queries_in m))
 
--- By the first refusal of those that a request alone decides before its query, where there is
--- one, by whether it is a simple registration, and by whether it is one without a base.
+-- The reason for which a request is answered without a seat. It depends on the first refusal that
+-- the request alone decides before its query, if there is one. It also depends on whether the
+-- request is a simple registration or one without a base.
 abbrev pub unasked_by : Option Refusal → Bool → Bool → Option Unasked
 unasked_by None simple baseless =
     if simple then Some unasked_for.Simple
@@ -124,16 +125,16 @@ unasked_by (Some why) simple baseless =
     else if simple then Some unasked_for.Simple
     else None
 
--- Why a request is answered without a seat; nothing where it is for a seat.
+-- The reason for which a request is answered without a seat; none if it is for a seat.
 abbrev pub unasked_of : Message → Option Unasked
 unasked_of m = unasked_by (refusal_of m) (is_simple m) (is_baseless m)
 
--- How many requests that hands to the seat.
+-- How many requests it hands to the seat.
 abbrev pub number_asked : Option Unasked → ℕ
 number_asked None = 1
 number_asked (Some why) = 0
 
--- The code of that answer (RFC 7252 section 5.9).
+-- The code of the response without a seat (RFC 7252 section 5.9).
 abbrev pub unasked_code : Unasked → ℕ
 unasked_code (unasked_for.Refused why) = refusal_code why
 unasked_code unasked_for.Simple = code_named.not_found

@@ -1,4 +1,4 @@
--- Connections that are served one after the other by one seat. The last stands first.
+-- Connections that are served one after the other by one seat. The last comes first.
 use Rattle.std.specs.Prelude.{◌≡◌, ◌⊎◌, ℕ, ◌+◌, ◌<◌, ◌≤◌, true, false}
 use Rattle.std.specs.Prelude.{List, [], ◌∷◌, ◌++◌, length, take}
 use Rattle.std.specs.Prelude.{codes, Option, Some, None, Result, Ok, Err, ⊤}
@@ -28,7 +28,7 @@ use Rattle.coap_stream.specs.Endings.{TalkSeen, Talks}
 
 -- ---- what a door opens
 
--- A connection is the first of those that were coming, and its source has its octets. A failure
+-- A connection is the first of those that were to come, and its source has its octets. A failure
 -- opens none.
 abbrev pub Opens : {S K : Type 0} → (S → Option (List ℕ)) → Option (List Datagram)
     → Option (List Datagram) → Opened S K → Type 0
@@ -38,7 +38,7 @@ Opens left before now (opened.One peer source sink) = WhereTold
     before now
 Opens left before now opened.Failed = Stays before now
 
--- It failed only where the count rose, and otherwise the count stands.
+-- A call failed only if the count rose; otherwise the count is the same.
 abbrev pub CountsOpened : {S K : Type 0} → ℕ → ℕ → Opened S K → Type 0
 CountsOpened before now (opened.One peer source sink) = now ≡ before
 CountsOpened before now opened.Failed = (before ≤ now) × Rose before now
@@ -50,28 +50,28 @@ opened_peer opened.Failed = None
 
 -- ---- connections
 
--- A connection that was served: its peer, what was seen before its conversation and after it, and
--- what that answered.
+-- A connection that was served: its peer, what contracts see before its conversation and after it,
+-- and the result of the conversation.
 pub record Connection : Type 0 where
   pub peer : Peer
   pub before : TalkSeen
   pub after : TalkSeen
   pub result : Result Talked TalkFault
 
--- The seat and the clock were led from one to the other by its conversation.
+-- The conversation of the connection led the seat and the clock from one state to the other.
 pub record WasServed (before : CallerSeen) (c : Connection) (after : CallerSeen) : Type 0 where
   pub begins : c.before.caller ≡ before
   pub ends : c.after.caller ≡ after
   pub talks : Talks c.peer c.before c.after c.result
 
--- Its peer and its octets were the first of those that were coming.
+-- Its peer and its octets were the first of those that were to come.
 pub record WasOpened (before : List Datagram) (c : Connection) (now : List Datagram)
     : Type 0 where
   pub octets : List ℕ
   pub first : before ≡ (c.peer, octets) ∷ now
   pub told : c.before.source.left ≡ Some octets
 
--- How many requests its conversation handed to the seat. One whose reading or writing failed
+-- How many requests its conversation handed to the seat. A conversation with a failed read or write
 -- counts none.
 abbrev pub asked_of : Result Talked TalkFault → ℕ
 asked_of (Ok talked) = talked.asked
@@ -95,7 +95,7 @@ abbrev pub IsLastStarved : List Connection → Type 0
 IsLastStarved [] = ⊥
 IsLastStarved (c ∷ earlier) = (c.result ≡ Err fault.Starved) × AreFed earlier
 
--- No reading and no writing of it failed.
+-- None of its reads and writes failed.
 abbrev pub IsUnfailed : Result Talked TalkFault → Type 0
 IsUnfailed (Err fault.Read) = ⊥
 IsUnfailed (Err fault.Write) = ⊥
@@ -110,13 +110,13 @@ pub record NeverFail {S K : Type 0} (s : sources.Ghosts S) (k : sinks.Ghosts K) 
   pub reads : (source : S) → s.faults source ≡ 0
   pub writes : (out : K) → k.faults out ≡ 0
 
--- These connections were opened one after the other, and their conversations held by one seat.
+-- These connections were opened one after the other, and one seat held their conversations.
 pub record Serves (connections : List Connection) (before after : CallerSeen)
     (coming now : Option (List Datagram)) : Type 0 where
   pub served : Chain WasServed before connections after
   pub opened : WhereTold (λ old new. Chain WasOpened old connections new) coming now
 
--- What it comes to: so many were served, or the opening of one failed, or memory ran out.
+-- The result: this number of connections was served, or opening one failed, or memory ran out.
 abbrev pub EndsAs : ℕ → List Connection → ℕ → ℕ → Result ℕ StreamsFault → Type 0
 EndsAs count connections faults faults_then (Ok asked) =
     (length connections ≡ count)
@@ -138,7 +138,7 @@ asked_unless (Err fault.Read) = Ok 0
 asked_unless (Err fault.Write) = Ok 0
 asked_unless (Err fault.Starved) = Err streams_fault.Memory
 
--- One connection was opened and served; `sure` says that no call of its ends fails.
+-- One connection was opened and served; `sure` says that no call of its source and sink fails.
 pub record Served (sure : Type 0) (before after : CallerSeen)
     (coming now : Option (List Datagram)) (faults faults_then : ℕ)
     (result : Result ℕ StreamsFault) : Type 0 where
@@ -148,7 +148,7 @@ pub record Served (sure : Type 0) (before after : CallerSeen)
   pub stands : faults_then ≡ faults
   pub unfailed : sure → IsUnfailed connection.result
 
--- It was, or it could not be opened.
+-- One connection was served so, or it could not be opened.
 abbrev pub ServesOne : Type 0 → CallerSeen → CallerSeen → Option (List Datagram)
     → Option (List Datagram) → ℕ → ℕ → Result ℕ StreamsFault → Type 0
 ServesOne sure before after coming now faults faults_then (Err streams_fault.Link) =
@@ -158,7 +158,7 @@ ServesOne sure before after coming now faults faults_then (Err streams_fault.Mem
 ServesOne sure before after coming now faults faults_then (Ok asked) =
     Served sure before after coming now faults faults_then (Ok asked)
 
--- So many were, one after the other.
+-- `count` connections were served so, one after the other.
 pub record ServesAll (sure : Type 0) (count : ℕ) (before after : CallerSeen)
     (coming now : Option (List Datagram)) (faults faults_then : ℕ)
     (result : Result ℕ StreamsFault) : Type 0 where
@@ -167,7 +167,7 @@ pub record ServesAll (sure : Type 0) (count : ℕ) (before after : CallerSeen)
   pub ends : EndsAs count connections faults faults_then result
   pub unfailed : sure → AreUnfailed connections
 
--- As far as it came.
+-- The connections that were served so far.
 pub record ServedSo (sure : Type 0) (done asked : ℕ) (before now : CallerSeen)
     (coming left : Option (List Datagram)) (faults faults_now : ℕ) : Type 0 where
   pub connections : List Connection
@@ -180,13 +180,13 @@ pub record ServedSo (sure : Type 0) (done asked : ℕ) (before now : CallerSeen)
 
 -- ---- what is written
 
--- The line of so many connections and requests.
+-- The line with these numbers of connections and requests.
 abbrev pub talked_line : ℕ → ℕ → List ℕ
 talked_line count asked =
     codes "talked " ++ (decimal count ++ (codes " " ++ (decimal asked ++ codes "\n")))
 
--- What is answered, by what it came to: the line is written, or a front of it where the count of
--- the output's faults rose.
+-- The final status, by the result: the line is written, or a prefix of it if the count of the
+-- output's faults rose.
 abbrev pub Concludes : ℕ → Result ℕ StreamsFault → Option (List ℕ) → Option (List ℕ)
     → ℕ → ℕ
     → StreamsStatus → Type 0
@@ -204,8 +204,8 @@ Concludes count _ old new faults faults_then _ = ⊥
 
 -- ---- all of it
 
--- Where the streams are told, and no call of their ends fails, what is counted is what the first of
--- them hand to the seat.
+-- If the door exposes its streams, and no call of their sources and sinks fails, the count is what
+-- the first of them hand to the seat.
 abbrev pub CountsStreams : ℕ → Option (List Datagram) → Result ℕ StreamsFault → Type 0
 CountsStreams count None outcome = ⊤
 CountsStreams count (Some streams) (Err why) = ⊤
@@ -224,8 +224,8 @@ pub record OutSeen : Type 0 where
 abbrev pub out_seen : {K : Type 0} → sinks.Ghosts K → K → OutSeen
 out_seen g out = record { holds = g.holds out; faults = g.faults out }
 
--- By the seat of a new hall all connections were served, and what came of them is answered. The
--- seat is of that hall still.
+-- The seat of a new hall served all connections, and the status is their result. The seat still
+-- belongs to that hall.
 pub record ServesBySeat (sure : Type 0) (count : ℕ) (before after : ClockSeen)
     (door door_then : DoorSeen) (out out_then : OutSeen) (result : StreamsStatus) : Type 0 where
   pub hall : HallSeen
@@ -240,7 +240,7 @@ pub record ServesBySeat (sure : Type 0) (count : ℕ) (before after : ClockSeen)
   pub concludes : Concludes count outcome out.holds out_then.holds out.faults out_then.faults
       result
 
--- That, or memory ran out before the first was opened.
+-- The same, or memory ran out before the first connection was opened.
 abbrev pub ServesStreams : Type 0 → ℕ → ClockSeen → ClockSeen → DoorSeen → DoorSeen
     → OutSeen
     → OutSeen → StreamsStatus → Type 0

@@ -30,12 +30,12 @@ frame_message f = record {
 abbrev pub frame_spelling : Frame → List ℕ
 frame_spelling f = stream_spelling (frame_message f)
 
--- Its token may stand there, and it is no longer than what a datagram carries.
+-- Its token is not too long, and it is no longer than what a datagram carries.
 pub record FitsRoom (f : Frame) : Type 0 where
   pub token : length f.token.now ≤ 8
   pub tail : length f.token.now + length f.options.now + length f.payload.now ≤ 1276
 
--- All octets were written, or a front of them where the count of the output's faults rose.
+-- All octets were written, or a prefix of them if the count of the output's faults rose.
 abbrev pub IsPut : Option (List ℕ) → Option (List ℕ) → ℕ → ℕ → List ℕ → Bool
     → Type 0
 IsPut before now faults faults_then octets true =

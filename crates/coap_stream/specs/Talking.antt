@@ -1,4 +1,4 @@
--- A conversation as far as it came: what its loops carry.
+-- A conversation so far: the invariants of its loops.
 use Rattle.std.specs.Prelude.{
   ◌≡◌,
   ◌+◌,
@@ -47,12 +47,12 @@ use Rattle.coap_stream.specs.Endings.{TalkSeen, AreShown, AreFirst, EndsSo}
 
 -- ---- one message
 
--- What is counted.
+-- The counts of a conversation.
 pub record Counts : Type 0 where
   pub asked : ℕ
   pub dropped : ℕ
 
--- A message that is whole was answered, and the conversation ends with it so, if it does.
+-- A message that is complete was answered, and the conversation ends with it so, if it does.
 pub record WasHeard (peer : Peer) (message : Option Shown) (end : Option TalkEnd)
     (before after : CallerSeen) (voice spoken : VoiceSeen) (counts counted : Counts)
     : Type 0 where
@@ -63,9 +63,9 @@ pub record WasHeard (peer : Peer) (message : Option Shown) (end : Option TalkEnd
   pub asked : counted.asked ≡ counts.asked + asked_by counts.asked shown
   pub ends : end ≡ end_by (ends_by (meant_by shown.code)) (counted.asked == most_asked)
 
--- ---- all of them so far
+-- ---- all messages so far
 
--- These messages, the last first, before those of a stream.
+-- A stream with these messages, the last first, before its own.
 abbrev pub with_messages : List (List ℕ) → Stream → Stream
 with_messages messages s = record s { messages = reverse messages ++ s.messages }
 
@@ -85,8 +85,9 @@ pub record Answering (peer : Peer) (before now : TalkSeen) (still : Bool) (count
   pub asked : counts.asked ≡ asked_of exchanges
   pub dropped : counts.dropped ≡ dropped_of exchanges
 
--- What was read so far is these messages, all of which are answered, and then what the reader
--- finds in the octets that are left of the last piece and in any that follow. It goes on.
+-- What was read so far begins with these messages, all of which are answered. The rest is what the
+-- reader finds in the remaining octets of the last piece and in any that follow. The conversation
+-- continues.
 pub record TalksSo (peer : Peer) (before now : TalkSeen) (counts : Counts) (held : Held)
     (rest : List ℕ) : Type 0 where
   pub taken : List ℕ
@@ -98,7 +99,7 @@ pub record TalksSo (peer : Peer) (before now : TalkSeen) (counts : Counts) (held
       ≡ with_messages messages (stream_after held (rest ++ further))
   pub goes_on : ended_by exchanges ≡ None
 
--- It ends so.
+-- The conversation ends so.
 pub record TalksTo (peer : Peer) (before now : TalkSeen) (counts : Counts) (end : TalkEnd)
     : Type 0 where
   pub taken : List ℕ
@@ -108,7 +109,7 @@ pub record TalksTo (peer : Peer) (before now : TalkSeen) (counts : Counts) (end 
   pub first : (further : List ℕ) → AreFirst messages (stream_of (taken ++ further))
   pub ends : EndsSo end taken messages exchanges now.source.left
 
--- A writing failed.
+-- A write failed.
 pub record TalksUntil (peer : Peer) (before now : TalkSeen) (counts : Counts) : Type 0 where
   pub taken : List ℕ
   pub messages : List (List ℕ)
@@ -118,30 +119,30 @@ pub record TalksUntil (peer : Peer) (before now : TalkSeen) (counts : Counts) : 
 
 -- ---- after a piece
 
--- How the conversation ends, if nothing more comes: the last message is whole, or it is not.
+-- How the conversation ends if nothing more comes: the last message is complete, or it is not.
 abbrev pub WouldEnd : TalkEnd → Stream → Type 0
 WouldEnd end_as.Closed s = s ≡ partial []
 WouldEnd end_as.Cut s = (rest : List ℕ) × (0 < length rest) × (s ≡ partial rest)
 WouldEnd _ s = ⊥
 
--- What came of a piece.
+-- The result of a piece.
 abbrev pub IsHeard : Heard → Peer → TalkSeen → TalkSeen → Counts → Held → Type 0
 IsHeard (heard.Open end) peer before now counts held =
     TalksSo peer before now counts held [] × WouldEnd end (stream_after held [])
 IsHeard (heard.Ended end) peer before now counts held = TalksTo peer before now counts end
 IsHeard heard.Failed peer before now counts held = TalksUntil peer before now counts
 
--- The conversation goes on.
+-- The conversation continues.
 abbrev pub is_open : Heard → Bool
 is_open (heard.Open end) = true
 is_open _ = false
 
--- No writing failed.
+-- No write failed.
 abbrev pub is_still : Heard → Bool
 is_still heard.Failed = false
 is_still _ = true
 
--- What is answered where no writing failed, and where one did.
+-- The result if no write failed, and if one did.
 abbrev pub told_if : Bool → Talked → Result Talked TalkFault
 told_if true talked = Ok talked
 told_if false talked = Err fault.Write

@@ -1,5 +1,5 @@
--- What a conversation answers: each message of a connection with the calls that it led to and the
--- octets that were written for it (RFC 8323 sections 3.3, 3.4 and 5).
+-- The responses of a conversation: each message of a connection with the calls that it led to and
+-- the octets that were written for it (RFC 8323 sections 3.3, 3.4 and 5).
 use Rattle.std.specs.Prelude.{
   ◌≡◌,
   ℕ,
@@ -50,12 +50,12 @@ abbrev pub saying : ℕ → List ℕ → List ℕ → List ℕ
 saying code token payload =
     stream_spelling (record { code = code; token = token; tail = payload_spelling payload })
 
--- With a CSM each connection is opened (RFC 8323 section 5.3).
+-- A CSM begins each connection (RFC 8323 section 5.3).
 abbrev pub opening : List ℕ
 opening = saying signals.CSM [] []
 
--- A bad message ends it with an Abort (RFC 8323 section 5.6), and so many requests with a Release
--- (RFC 8323 section 5.5). Else nothing more is said.
+-- An Abort follows a bad message (RFC 8323 section 5.6), and a Release follows the last possible
+-- request (RFC 8323 section 5.5). Otherwise nothing more is written.
 abbrev pub farewell : TalkEnd → List ℕ
 farewell (end_as.Refused why) = saying signals.ABORT [] []
 farewell end_as.Spent = saying signals.RELEASE [] []
@@ -73,12 +73,12 @@ abbrev pub carried_in : Result Message Unread → List ℕ
 carried_in (Ok m) = carried m
 carried_in (Err why) = []
 
--- No datagram that is sent is longer than a datagram may be.
+-- The octets of a datagram, if it is no longer than a datagram may be.
 abbrev pub carried_of : List ℕ → List ℕ
 carried_of datagram =
     if nat_lt longest_datagram (length datagram) then [] else carried_in (reading datagram)
 
--- A datagram, where it is for this peer.
+-- The octets of a datagram, if it is for this peer.
 abbrev pub reply_of : Peer → Datagram → List ℕ
 reply_of peer d = if is_same_peer d.0 peer then carried_of d.1 else []
 
@@ -89,22 +89,22 @@ replies_to peer (d ∷ ds) = reply_of peer d ++ replies_to peer ds
 
 -- ---- one message
 
--- A message, the calls of the seat that it led to, what was written for it, and how many datagrams
--- of ticks came out, which go nowhere.
+-- A message, the calls of the seat that it led to, the octets that were written for it, and how
+-- many datagrams came out of ticks and were dropped.
 pub record Exchange : Type 0 where
   pub message : Shown
   pub calls : List Call
   pub written : List ℕ
   pub dropped : ℕ
 
--- Answered at once with these octets.
+-- The message is answered at once with these octets.
 pub record Says (octets : List ℕ) (e : Exchange) : Type 0 where
   pub calls : e.calls ≡ []
   pub written : e.written ≡ octets
   pub dropped : e.dropped ≡ 0
 
--- The seat hears this datagram, its job is done at once, and the replies are written; after each
--- 64th request time passes.
+-- The seat handles this datagram and does its job at once, and the replies are written. After each
+-- 64th request, time passes.
 pub record Asks (peer : Peer) (number : ℕ) (datagram : List ℕ) (e : Exchange) : Type 0 where
   pub heard : List Call
   pub ticks : List Call
@@ -114,14 +114,15 @@ pub record Asks (peer : Peer) (number : ℕ) (datagram : List ℕ) (e : Exchange
   pub written : e.written ≡ replies_to peer (calls_sent heard)
   pub dropped : e.dropped ≡ length (calls_sent ticks)
 
--- A request, by why it is answered without a seat; so many were handed to it before.
+-- A request, given the reason for which it is answered without a seat, if there is one, and how
+-- many requests were handed to the seat before.
 abbrev pub AnswersRequest : Peer → ℕ → Option Unasked → Exchange → Type 0
 AnswersRequest peer before (Some why) e =
     Says (saying (unasked_code why) e.message.token (unasked_diagnostic why)) e
 AnswersRequest peer before None e =
     Asks peer (before + 1) (spelling (heard_as before e.message)) e
 
--- A message, by what it is for.
+-- A message, by its purpose.
 abbrev pub AnswersAs : Peer → ℕ → Meant → Exchange → Type 0
 AnswersAs peer before meant.Passed e = Says [] e
 AnswersAs peer before meant.Ping e = Says (saying signals.PONG e.message.token []) e
@@ -174,7 +175,8 @@ ends_by meant.Release = Some end_as.Released
 ends_by meant.Abort = Some end_as.Aborted
 ends_by _ = None
 
--- By what the message is, and by whether so many requests were handed to the seat.
+-- How the conversation ends, given what the message says and whether the last possible request was
+-- handed to the seat.
 abbrev pub end_by : Option TalkEnd → Bool → Option TalkEnd
 end_by (Some end) spent = Some end
 end_by None true = Some end_as.Spent

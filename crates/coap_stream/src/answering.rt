@@ -1,4 +1,4 @@
-//! What is answered to a request of a connection.
+//! Responses to the messages of a connection.
 ghost use Rattle.std.specs.Prelude.{◌≡◌, ◌+◌, ◌≤◌, ◌<◌, ◌^◌, Ok, length};
 ghost use Rattle.message_model.specs.Reading.{reading};
 ghost use Rattle.message_model.specs.Spelling.{spelling};
@@ -26,7 +26,8 @@ use stream_model::signals::PONG;
 use stream_reader::Frame;
 use udp_link::Clock;
 
-/// The code of the answer to a request that is answered without a seat (RFC 7252 section 5.9).
+/// Returns the code of the response to a request that is answered without a seat (RFC 7252 section
+/// 5.9).
 fn unasked_code(why: Unasked) -> u8
     ensures { result ≡ requests.unasked_code why }
 {
@@ -37,7 +38,7 @@ fn unasked_code(why: Unasked) -> u8
     }
 }
 
-/// The diagnostic payload of that answer (RFC 7252 section 5.5.2).
+/// Returns the diagnostic payload of that response (RFC 7252 section 5.5.2).
 fn unasked_diagnostic(why: Unasked) -> &'static [u8]
     ensures word { result.now ≡ requests.unasked_diagnostic why }
     ensures few { length result.now ≤ 6 }
@@ -49,7 +50,7 @@ fn unasked_diagnostic(why: Unasked) -> &'static [u8]
     }
 }
 
-/// Writes a message without options, where no writing failed before; whether none did then.
+/// Writes a message without options, if no write failed before. Returns whether none has failed.
 pub(crate) fn say_plain<K: Sink>(
     out: &mut K,
     still: bool,
@@ -71,7 +72,7 @@ pub(crate) fn say_plain<K: Sink>(
     say(out, still, &frame)
 }
 
-/// A request is answered: at once, or by the seat, which hears this datagram of it.
+/// Answers a request, without a seat or by the seat, which handles this datagram of it.
 fn answer_heard<R: Wait, K: Sink, C: Clock, G: Gate>(
     post: &Post<R, G>,
     seat: &mut Seat,
@@ -111,7 +112,7 @@ fn answer_heard<R: Wait, K: Sink, C: Clock, G: Gate>(
     }
 }
 
-/// A request is answered.
+/// Answers a request.
 fn answer_request<R: Wait, K: Sink, C: Clock, G: Gate>(
     post: &Post<R, G>,
     seat: &mut Seat,
@@ -141,8 +142,8 @@ fn answer_request<R: Wait, K: Sink, C: Clock, G: Gate>(
     answer_heard(post, seat, out, clock, tally, frame, datagram);
 }
 
-/// A message is answered (RFC 8323 sections 3.4 and 5): a Ping by a Pong, a request by the seat or
-/// without one, and every other message by nothing.
+/// Answers a message (RFC 8323 sections 3.4 and 5): a Ping with a Pong, and a request by the seat
+/// or without one. Any other message gets no response.
 pub(crate) fn answer<R: Wait, K: Sink, C: Clock, G: Gate>(
     post: &Post<R, G>,
     seat: &mut Seat,

@@ -1,5 +1,5 @@
-//! Calls of the seat of a conversation: the clock is asked, the seat is called, and the replies
-//! are written.
+//! The calls that a conversation makes on its seat: it queries the clock, calls the seat and writes
+//! the replies.
 ghost use Rattle.std.specs.Prelude.{◌≡◌, ◌+◌, ◌≤◌, ◌<◌, ◌^◌, ℕ};
 ghost use Rattle.std.specs.Prelude.{List, ◌∷◌, [], IfSome, length};
 ghost use Rattle.std.specs.Prelude.{option_map};
@@ -20,11 +20,11 @@ use rd_seat::{Gate, Hall, Seat, SeatHeard};
 use std::sync::Wait;
 use udp_link::Clock;
 
-/// After so many requests time passes.
+/// The number of requests after which time passes.
 const ASKED_BEFORE_TICK: u64 = 64;
 
-/// Where a conversation is held: the runtime, the hall of its seat, the gate that it passes, and
-/// the peer.
+/// What a conversation uses: the runtime, the hall of its seat, the gate that it passes, and the
+/// peer.
 #[derive_where(Clone, Copy)]
 pub(crate) struct Post<'a, R, G> {
     pub(crate) rt: &'a R,
@@ -33,8 +33,8 @@ pub(crate) struct Post<'a, R, G> {
     pub(crate) peer: Peer,
 }
 
-/// What a conversation has at hand: an outbox, which is empty between two calls of its seat, its
-/// counts, and whether no writing failed.
+/// The state of a conversation: an outbox, which is empty between two calls of its seat, its
+/// counts, and whether no write has failed.
 #[derive(Drop)]
 pub(crate) struct Tally {
     pub(crate) out: Outbox,
@@ -44,7 +44,7 @@ pub(crate) struct Tally {
     ghost empty: { out ≡ [] },
 }
 
-/// Time passes at the seat, and what comes out goes nowhere.
+/// Lets time pass at the seat. The datagrams that come out are dropped.
 fn tick<R: Wait, C: Clock, G: Gate>(
     post: &Post<R, G>,
     seat: &mut Seat,
@@ -70,7 +70,7 @@ fn tick<R: Wait, C: Clock, G: Gate>(
     tally.out.clear();
 }
 
-/// The job that is left.
+/// Returns the job that is left.
 fn job_in(heard: SeatHeard) -> Option<Job>
     ensures { result ≡ job_held heard }
 {
@@ -80,7 +80,7 @@ fn job_in(heard: SeatHeard) -> Option<Job>
     }
 }
 
-/// The seat hears a datagram, and leaves a job or none; its replies are written.
+/// Lets the seat handle a datagram, and writes the replies. Returns the job that is left, if any.
 fn hear<R: Wait, K: Sink, C: Clock, G: Gate>(
     post: &Post<R, G>,
     seat: &mut Seat,
@@ -119,7 +119,7 @@ fn hear<R: Wait, K: Sink, C: Clock, G: Gate>(
     job_in(heard)
 }
 
-/// The seat does the job that the datagram before left; its replies are written.
+/// Lets the seat do the job that the previous datagram left, and writes the replies.
 fn go<R: Wait, K: Sink, C: Clock, G: Gate>(
     post: &Post<R, G>,
     seat: &mut Seat,
@@ -146,7 +146,7 @@ fn go<R: Wait, K: Sink, C: Clock, G: Gate>(
     tally.out.clear();
 }
 
-/// The seat hears a request, and its job is done at once; the replies are written.
+/// Lets the seat handle a request and do its job at once, and writes the replies.
 fn hear_request<R: Wait, K: Sink, C: Clock, G: Gate>(
     post: &Post<R, G>,
     seat: &mut Seat,
@@ -172,8 +172,8 @@ fn hear_request<R: Wait, K: Sink, C: Clock, G: Gate>(
     }
 }
 
-/// A request is handed to the seat, its job is done at once, and its replies are written; after
-/// each 64th time passes.
+/// Hands a request to the seat, which does its job at once, and writes the replies. After each 64th
+/// request, lets time pass.
 pub(crate) fn ask<R: Wait, K: Sink, C: Clock, G: Gate>(
     post: &Post<R, G>,
     seat: &mut Seat,

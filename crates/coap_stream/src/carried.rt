@@ -1,4 +1,4 @@
-//! Datagrams of a seat, as they are written to a connection.
+//! Datagrams of a seat, written to a connection.
 ghost use Rattle.std.specs.Prelude.{◌≡◌, ◌+◌, ◌-◌, ◌*◌, ◌≤◌};
 ghost use Rattle.std.specs.Prelude.{◌∷◌, ◌++◌, drop, length, take};
 ghost use Rattle.message_model.specs.Spelling.{spelling};
@@ -16,7 +16,7 @@ use rd_base::{Peer, Sink, write_all};
 use rd_desk::Outbox;
 use stream_reader::Frame;
 
-/// Writes a message, where no writing failed before; whether none did then.
+/// Writes a message, if no write failed before. Returns whether none has failed.
 pub(crate) fn say<K: Sink>(out: &mut K, still: bool, frame: &Frame<'_>) -> bool
     requires { FitsRoom frame.now }
     ensures { Speaks (voice_seen K.Sink.own out.old still) (frame_spelling frame.now)
@@ -28,7 +28,8 @@ pub(crate) fn say<K: Sink>(out: &mut K, still: bool, frame: &Frame<'_>) -> bool
     write_frame(out, frame)
 }
 
-/// Puts a message with this code, whose token of so many octets and whose tail are these.
+/// Puts a message with this code into `octets`, and returns its length. `body` is a token of
+/// `token` octets, followed by the rest of the message.
 fn put_body(octets: &mut [u8; MAX_SPOKEN], code: u8, token: usize, body: &[u8]) -> usize
     requires token { token ≤ 8 }
     requires within { token ≤ length body.now }
@@ -43,7 +44,7 @@ fn put_body(octets: &mut [u8; MAX_SPOKEN], code: u8, token: usize, body: &[u8]) 
     put_octets(octets, behind, body)
 }
 
-/// What stands behind the header of a datagram (RFC 7252 section 3).
+/// Returns the octets of a datagram after its header (RFC 7252 section 3).
 fn behind_header(datagram: &[u8]) -> &[u8]
     requires { 4 ≤ length datagram.now }
     ensures { result.now ≡ drop 4 datagram.now }
@@ -51,7 +52,8 @@ fn behind_header(datagram: &[u8]) -> &[u8]
     &datagram[4..]
 }
 
-/// Puts the message of a datagram without its type and Message ID (RFC 8323 section 3.2).
+/// Puts the message of a datagram without its type and Message ID, and returns its length (RFC 8323
+/// section 3.2).
 fn put_view(octets: &mut [u8; MAX_SPOKEN], view: &View<'_>, datagram: &[u8]) -> usize
     requires spelled { spelling (message_in view.now) ≡ datagram.now }
     requires short { length datagram.now ≤ 1280 }
@@ -66,8 +68,8 @@ fn put_view(octets: &mut [u8; MAX_SPOKEN], view: &View<'_>, datagram: &[u8]) -> 
     )
 }
 
-/// Writes a datagram without its type and Message ID (RFC 8323 section 3.2). False: the output
-/// failed.
+/// Writes a datagram without its type and Message ID (RFC 8323 section 3.2). Returns false if the
+/// output failed.
 fn write_datagram<K: Sink>(out: &mut K, datagram: &[u8]) -> bool
     ensures { IsPut (K.holds out.old) (K.holds out.new) (K.faults out.old) (K.faults out.new)
         (spec.carried_of datagram.now) result }
@@ -83,7 +85,7 @@ fn write_datagram<K: Sink>(out: &mut K, datagram: &[u8]) -> bool
     write_all(out, &octets[..end])
 }
 
-/// Writes a datagram so, where no writing failed before; whether none did then.
+/// Writes a datagram in that form, if no write failed before. Returns whether none has failed.
 fn carry<K: Sink>(out: &mut K, still: bool, datagram: &[u8]) -> bool
     ensures { Speaks (voice_seen K.Sink.own out.old still) (spec.carried_of datagram.now)
         (voice_seen K.Sink.own out.new result) }
@@ -94,15 +96,15 @@ fn carry<K: Sink>(out: &mut K, still: bool, datagram: &[u8]) -> bool
     write_datagram(out, datagram)
 }
 
-/// Whether it is the same peer.
+/// Returns whether both are the same peer.
 fn is_peer(one: &Peer, other: &Peer) -> bool
     ensures { result ≡ is_same_peer one.now other.now }
 {
     *one == *other
 }
 
-/// Writes a datagram, where it is for the peer and no writing failed before; whether none did
-/// then.
+/// Writes a datagram, if it is for the peer and no write failed before. Returns whether none has
+/// failed.
 fn carry_for<K: Sink>(out: &mut K, still: bool, peer: &Peer, to: &Peer, datagram: &[u8]) -> bool
     ensures { Speaks (voice_seen K.Sink.own out.old still)
         (spec.reply_of peer.now (to.now, datagram.now))
@@ -114,8 +116,8 @@ fn carry_for<K: Sink>(out: &mut K, still: bool, peer: &Peer, to: &Peer, datagram
     carry(out, still, datagram)
 }
 
-/// Writes the datagrams for the peer, in order, where no writing failed before; whether none did
-/// then.
+/// Writes the datagrams for the peer, in order, if no write failed before. Returns whether none has
+/// failed.
 pub(crate) fn carry_all<K: Sink>(out: &mut K, still: bool, peer: &Peer, outbox: &Outbox) -> bool
     ensures { Speaks (voice_seen K.Sink.own out.old still) (spec.replies_to peer.now outbox.now)
         (voice_seen K.Sink.own out.new result) }

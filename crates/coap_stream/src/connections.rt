@@ -1,4 +1,4 @@
-//! Connections over TCP as a door.
+//! Connections over TCP as an [`Accept`].
 ghost use Rattle.std.specs.Prelude.{None};
 ghost use Rattle.tcp_door.specs.Doors as tcp;
 ghost use Rattle.coap_stream.specs.Serving.{CountsOpened, Opens, opened_peer};
@@ -7,7 +7,7 @@ use crate::doors::{Accept, Opened};
 use std::time;
 use tcp_door::{TcpAccept, TcpConnection, TcpSink, TcpSource};
 
-/// It tells nothing of what its connections give and take.
+/// It exposes nothing of what its connections receive and send.
 impl<R: time::Clock + Copy> Accept for TcpAccept<R> {
     type In = TcpSource<R>;
 
@@ -17,11 +17,11 @@ impl<R: time::Clock + Copy> Accept for TcpAccept<R> {
 
     ghost faults = { λ d. d.faults };
 
-    /// Opens the next connection, and waits for it.
+    /// Waits for the next connection, and opens it.
     fn next(&mut self) -> Opened<TcpSource<R>, TcpSink>
         ensures opened { Opens (λ _. None) None None result }
         ensures cause { CountsOpened self.old.faults self.new.faults result }
-        // Each connection has a peer that no other one of this door has, and no device.
+        // The peer of a connection is that of no other connection of this door, and of no device.
         ensures peer { tcp.Opens self.old self.new (opened_peer result) }
     {
         match self.open() {

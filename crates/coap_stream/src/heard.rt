@@ -1,4 +1,4 @@
-//! Requests of a connection, as a seat hears them.
+//! Requests of a connection, in the form in which a seat handles them.
 ghost use Rattle.std.specs.Prelude.{◌≡◌, ◌+◌, ◌<◌, ◌≤◌};
 ghost use Rattle.std.specs.Prelude.{◌∷◌, [], filter, length};
 ghost use Rattle.message_model.specs.Codes as codes_of;
@@ -14,7 +14,7 @@ use coap_message::{Kind4, Opt, OptionsIter, TokenRef, Writer, options_in};
 use message_model::options::OBSERVE;
 use stream_reader::Frame;
 
-/// An option, unless it is Observe.
+/// Appends an option, unless it is Observe.
 fn put_option(writer: &mut Writer, option: &Opt<'_>)
     requires filled { codes_of.empty < writer.old.code }
     requires open { writer.old.payload ≡ [] }
@@ -34,7 +34,7 @@ fn put_option(writer: &mut Writer, option: &Opt<'_>)
     };
 }
 
-/// The options, but Observe.
+/// Appends the options except Observe.
 fn put_options(writer: &mut Writer, options: OptionsIter<'_>)
     requires filled { codes_of.empty < writer.old.code }
     requires open { writer.old.payload ≡ [] }
@@ -52,8 +52,13 @@ fn put_options(writer: &mut Writer, options: OptionsIter<'_>)
     }
 }
 
-/// A request of a connection as it is heard, all but its payload: a confirmable one with this
-/// Message ID and without Observe, so that it is answered as a plain request (RFC 7641 section 2).
+/// Begins a request of a connection in the form in which a seat handles it, all except its payload.
+/// It is confirmable, with this Message ID and without Observe, so that it gets a plain response
+/// (RFC 7641 section 2).
+///
+/// # Requires
+///
+/// The frame is a request that fits a message of a stream.
 pub fn begin_request(frame: &Frame<'_>, mid: u16) -> Writer
     requires { IsRequest (frame_shown frame.now) }
     ensures begun { with_payload result frame.now.payload.now

@@ -1,4 +1,4 @@
-//! CoAP over connections (RFC 8323): the messages of a stream, and what a directory does with them.
+//! CoAP over connections (RFC 8323): a directory's responses to the messages of a stream.
 #![tactic(auto)]
 
 mod answering;

@@ -6,8 +6,8 @@ use crate::doors::{Accept, Opened};
 use rd_base::{Bytes, List, Peer, Source, SureSink, SureSource};
 use udp_link::Arrivals;
 
-/// Connections in memory: peers, each with the octets that it sends. Each is opened once, in order,
-/// by ends that never fail; after them each call fails.
+/// Connections in memory: peers, each with the octets that it sends. They are opened once each, in
+/// order, and reading and writing them never fails. After them, each call fails.
 #[derive(Drop)]
 pub struct MemAccept {
     streams: List<(Peer, Bytes)>,
@@ -15,7 +15,7 @@ pub struct MemAccept {
 }
 
 impl MemAccept {
-    /// The connections of these peers, with the octets of each. Takes no memory.
+    /// Returns the connections of these peers, with the octets of each. Does not allocate.
     pub fn of(streams: Arrivals) -> MemAccept
         ensures coming { ⟦<MemAccept as Accept>⟧.coming result ≡ Some streams }
         ensures unfailed { ⟦<MemAccept as Accept>⟧.faults result ≡ 0 }

@@ -1,27 +1,27 @@
-//! What a message of a connection is for.
+//! The purpose of a message of a connection.
 ghost use Rattle.std.specs.Prelude.{◌≡◌};
 ghost use Rattle.coap_stream.specs.Requests as spec;
 
 use message_model::codes::{EMPTY, LAST_REQUEST};
 use stream_model::signals::{ABORT, PING, RELEASE};
 
-/// What a message of a connection is for, by its code (RFC 8323 sections 3.4 and 5).
+/// The purpose of a message of a connection, by its code (RFC 8323 sections 3.4 and 5).
 #[derive(Clone, Copy, Debug, PartialEq, Eq)]
 pub enum Meant {
-    /// It wants no answer: a CSM, a Pong, an empty message, or a response.
+    /// It needs no response: it is a CSM, a Pong, an empty message, or a response.
     Passed,
-    /// A Ping, which a Pong with its token answers (RFC 8323 section 5.4).
+    /// It is a Ping, which is answered by a Pong with its token (RFC 8323 section 5.4).
     Ping,
-    /// A Release, with which the connection ends (RFC 8323 section 5.5).
+    /// It is a Release, which ends the connection (RFC 8323 section 5.5).
     Release,
-    /// An Abort, with which the connection ends (RFC 8323 section 5.6).
+    /// It is an Abort, which ends the connection (RFC 8323 section 5.6).
     Abort,
-    /// A request (RFC 7252 section 12.1.1).
+    /// It is a request (RFC 7252 section 12.1.1).
     Request,
 }
 
-/// What a message with this code is for, where it is none that is bad (RFC 8323 sections 3.4 and
-/// 5).
+/// Returns the purpose of a message with this code, if it is not a bad message (RFC 8323 sections
+/// 3.4 and 5).
 pub fn meant_by(code: u8) -> Meant
     ensures { result ≡ spec.meant_by code }
 {

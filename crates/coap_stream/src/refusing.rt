@@ -13,22 +13,22 @@ use coap_message::View;
 use coap_options::{Meaning, Path, QueryIter, Refusal, meaning, queries, request};
 use message_model::codes::POST;
 
-/// Why a request of a connection is answered without a seat, in the order in which it is looked
-/// for.
+/// The reason for which a request of a connection is answered without a seat. The reasons are
+/// tested in this order.
 #[derive(Clone, Copy, Debug, PartialEq, Eq)]
 pub enum Unasked {
-    /// The refusal of an option, of a proxy, or of a path that names no resource, with its code
-    /// and word (RFC 7252 section 5.9).
+    /// The refusal of an option, of a proxy, or of a path that names no resource, with its code and
+    /// diagnostic payload (RFC 7252 section 5.9).
     Refused(Refusal),
     /// 4.04: it is a simple registration, for which the directory would have to open a connection
     /// to the registrant (RFC 9176 section 5.1).
     Simple,
-    /// 4.00: it is a registration that gives no base, and the address of a connection is no base
-    /// (RFC 9176 section 5).
+    /// 4.00: it is a registration that gives no base, and the address of a connection cannot serve
+    /// as one (RFC 9176 section 5).
     Baseless,
 }
 
-/// Whether a refusal is looked for before the method.
+/// Returns whether a refusal is tested before the method.
 fn is_before_method(refusal: Refusal) -> bool
     ensures { result ≡ spec.is_before_method refusal }
 {
@@ -43,28 +43,29 @@ fn is_before_method(refusal: Refusal) -> bool
     }
 }
 
-/// Whether a path is that of simple registrations.
+/// Returns whether a path is that of simple registrations.
 fn is_simple_rd(path: Path) -> bool
     ensures { result ≡ spec.is_simple_rd path }
 {
     matches!(path, Path::SimpleRd)
 }
 
-/// Whether a path is that of registrations.
+/// Returns whether a path is that of registrations.
 fn is_rd(path: Path) -> bool
     ensures { result ≡ is_rd path }
 {
     matches!(path, Path::Rd)
 }
 
-/// Whether it is a simple registration (RFC 9176 section 5.1).
+/// Returns whether a request is a simple registration (RFC 9176 section 5.1).
 fn is_simple(meaning: &Meaning<'_>) -> bool
     ensures { (m : Message) → IsMeaning m meaning.now → result ≡ spec.is_simple m }
 {
     meaning.view.code == POST && is_simple_rd(meaning.path)
 }
 
-/// The name of a query option: what stands before its first equals sign, or all of it.
+/// Returns the name of a query option: the octets before its first equals sign, or all of them if
+/// it has none.
 fn name_of(query: &[u8]) -> &[u8]
     ensures { result.now ≡ option_name query.now }
 {
@@ -78,14 +79,14 @@ fn name_of(query: &[u8]) -> &[u8]
     query
 }
 
-/// Whether a query option gives a base.
+/// Returns whether a query option gives a base.
 fn is_base(query: &[u8]) -> bool
     ensures { result ≡ is_named parameters.base query.now }
 {
     name_of(query) == b"base".as_slice()
 }
 
-/// Whether a base is given.
+/// Returns whether a base is given.
 fn has_base(queries: QueryIter<'_>) -> bool
     ensures { result ≡ has_named parameters.base (queries_left queries.entry) }
 {
@@ -98,7 +99,7 @@ fn has_base(queries: QueryIter<'_>) -> bool
     false
 }
 
-/// Whether it is a registration that gives no base (RFC 9176 section 5).
+/// Returns whether a request is a registration that gives no base (RFC 9176 section 5).
 fn is_baseless(meaning: &Meaning<'_>) -> bool
     ensures { (m : Message) → IsMeaning m meaning.now → result ≡ spec.is_baseless m }
 {
@@ -111,7 +112,7 @@ fn is_baseless(meaning: &Meaning<'_>) -> bool
     !has_base(queries(meaning))
 }
 
-/// Of a request that nothing refuses for itself before its query is looked at.
+/// Returns the reason for a request that is not refused before its query options are examined.
 fn unasked_read(meaning: &Meaning<'_>) -> Option<Unasked>
     ensures { (m : Message) → IsMeaning m meaning.now
         → result ≡ spec.unasked_by None (spec.is_simple m) (spec.is_baseless m) }
@@ -125,7 +126,7 @@ fn unasked_read(meaning: &Meaning<'_>) -> Option<Unasked>
     None
 }
 
-/// Of a request that is refused for itself.
+/// Returns the reason for a request that is refused by its content alone.
 fn unasked_refused(view: &View<'_>, refusal: Refusal) -> Option<Unasked>
     requires { refusal_of (message_in view.now) ≡ Some refusal }
     ensures { result ≡ spec.unasked_of (message_in view.now) }
@@ -142,9 +143,12 @@ fn unasked_refused(view: &View<'_>, refusal: Refusal) -> Option<Unasked>
     None
 }
 
-/// Why a request of a connection is answered without a seat: an option, a proxy or the path is
-/// refused; it is a simple registration; or it is a registration without a base that nothing else
-/// refuses before its query. None: it is for a seat.
+/// Returns the reason for which a request of a connection is answered without a seat, or `None` if
+/// it is for a seat.
+///
+/// The reasons are that an option, a proxy or the path is refused, or that it is a simple
+/// registration. Another reason is that it is a registration without a base, and is not refused
+/// before its query options are examined.
 pub fn why_unasked(view: &View<'_>) -> Option<Unasked>
     ensures { result ≡ spec.unasked_of (message_in view.now) }
 {

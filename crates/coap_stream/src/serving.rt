@@ -14,29 +14,29 @@ use std::alloc::Global;
 use std::sync::Wait;
 use udp_link::Clock;
 
-/// How the serving of connections ended.
+/// How serving connections ended.
 #[derive(Clone, Copy, Debug, PartialEq, Eq)]
 pub enum StreamsStatus {
-    /// All were served, and the line was written.
+    /// All connections were served, and the line was written.
     Done,
     /// A connection could not be opened.
     Link,
-    /// The output failed; then a front of the line was written.
+    /// The output failed. A prefix of the line was written then.
     Write,
-    /// Out of memory.
+    /// Memory ran out.
     Memory,
 }
 
-/// Why not all connections were served.
+/// The reason for which not all connections were served.
 #[derive(Clone, Copy, Debug, PartialEq, Eq)]
 pub(crate) enum StreamsFault {
-    /// One could not be opened.
+    /// A connection could not be opened.
     Link,
-    /// Out of memory.
+    /// Memory ran out.
     Memory,
 }
 
-/// How many requests a conversation handed to the seat; none where a reading or a writing failed.
+/// Returns how many requests a conversation handed to the seat, or 0 if a read or a write failed.
 fn asked_of(talked: Result<Talked, TalkFault>) -> Result<u64, StreamsFault>
     ensures { result ≡ spec.asked_unless talked }
 {
@@ -48,7 +48,8 @@ fn asked_of(talked: Result<Talked, TalkFault>) -> Result<u64, StreamsFault>
     }
 }
 
-/// Opens the next connection and serves it; how many requests its conversation handed to the seat.
+/// Opens the next connection and serves it. Returns how many requests its conversation handed to
+/// the seat.
 fn serve_one<R: Wait + AllocGlobal, A: Accept, C: Clock, G: Gate>(
     rt: &R,
     hall: &Hall,
@@ -75,7 +76,8 @@ fn serve_one<R: Wait + AllocGlobal, A: Accept, C: Clock, G: Gate>(
     }
 }
 
-/// Serves so many connections, one after the other; how many requests were handed to the seat.
+/// Serves `count` connections, one after the other. Returns how many requests were handed to the
+/// seat.
 fn serve_all<R: Wait + AllocGlobal, A: Accept, C: Clock, G: Gate>(
     rt: &R,
     hall: &Hall,
@@ -104,7 +106,7 @@ fn serve_all<R: Wait + AllocGlobal, A: Accept, C: Clock, G: Gate>(
     Ok(asked)
 }
 
-/// The line of so many connections and requests.
+/// Returns the line with these numbers of connections and requests.
 fn line_of(alloc: Global, count: u64, asked: u64) -> Result<Bytes, Starved>
     ensures { IfOk result (λ line. line ≡ talked_line count asked) }
 {
@@ -112,7 +114,7 @@ fn line_of(alloc: Global, count: u64, asked: u64) -> Result<Bytes, Starved>
     Ok(Bytes::of(text.into_bytes()))
 }
 
-/// Writes the line, where all were served.
+/// Writes the line, if all connections were served.
 fn conclude<K: Sink>(
     alloc: Global,
     count: u64,
@@ -136,13 +138,18 @@ fn conclude<K: Sink>(
     StreamsStatus::Write
 }
 
-/// Serves so many connections, at most 1,000,000, one after the other, by the one seat of a new
-/// hall, in which nothing is registered at first, as [`converse`] does; then the line
-/// `talked CONNECTIONS ASKED` is written. A connection whose reading or writing failed counts no
-/// requests. It waits for each connection.
+/// Serves `count` connections, one after the other, with the only seat of a new, empty hall. Then
+/// writes the line `talked CONNECTIONS ASKED`.
 ///
-/// `Link`: a connection could not be opened. `Write`: the output failed; then a front of the line
-/// was written. `Memory`: out of memory.
+/// Each connection is served as [`converse`] does it, after waiting for it. A connection with a
+/// failed read or write counts no requests.
+///
+/// Returns `Link` if a connection could not be opened, `Memory` if memory ran out, and `Write` if
+/// the output failed. After `Write`, a prefix of the line was written.
+///
+/// # Requires
+///
+/// `count` is at most 1,000,000.
 pub fn serve_streams<R: Wait + AllocGlobal, A: Accept, C: Clock, G: Gate, K: Sink>(
     rt: &R,
     door: &mut A,
@@ -152,9 +159,9 @@ pub fn serve_streams<R: Wait + AllocGlobal, A: Accept, C: Clock, G: Gate, K: Sin
     out: &mut K,
 ) -> StreamsStatus
     requires count { count ≤ 1_000_000 }
-    // The seat of a new hall served the connections that were opened, and what came of them is
-    // answered; or memory ran out before. Where the door tells its connections, and no call of
-    // their ends fails, what is counted is what their octets hand to the seat.
+    // The seat of a new hall served the connections that were opened, and the status is their
+    // result; or memory ran out before. If the door exposes its connections, and no call of their
+    // sources and sinks fails, the count is what their octets hand to the seat.
     ensures serves { ServesStreams (NeverFail A.In.Source.own A.Out.Sink.own) count
         (clock_seen C.Clock.own clock.old) (clock_seen C.Clock.own clock.new)
         (record { coming = A.coming door.old; faults = A.faults door.old })

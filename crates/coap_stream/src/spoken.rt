@@ -10,10 +10,10 @@ use rd_base::{Sink, write_all};
 use stream_model::{FIRST_EXTENDED, FIRST_LONG};
 use stream_reader::Frame;
 
-/// The most octets of a message that is written: those of a datagram, and four of the lengths.
+/// The most octets of a message that is written: those of a datagram, and four for the lengths.
 pub(crate) const MAX_SPOKEN: usize = MAX_MESSAGE_SIZE + 4;
 
-/// Puts octets behind those before a place, and gives the place behind them.
+/// Puts octets at an index, and returns the index after them.
 pub(crate) fn put_octets(octets: &mut [u8], at: usize, piece: &[u8]) -> usize
     requires { at + length piece.now ≤ length octets.old }
     ensures end { result ≡ at + length piece.now }
@@ -23,7 +23,8 @@ pub(crate) fn put_octets(octets: &mut [u8], at: usize, piece: &[u8]) -> usize
     at + piece.len()
 }
 
-/// The lengths of a message with a token and a tail of so many octets (RFC 8323 section 3.2).
+/// Puts the lengths of a message with a token and a tail of these numbers of octets, and returns
+/// the index after them (RFC 8323 section 3.2).
 #[rattlefmt::skip]
 #[tactic(
     auto,
@@ -52,7 +53,7 @@ pub(crate) fn put_lengths(octets: &mut [u8], token: usize, tail: usize) -> usize
     put_octets(octets, 0, &[first, (long / 256) as u8, (long % 256) as u8])
 }
 
-/// How many octets a payload takes, its marker included (RFC 7252 section 3).
+/// Returns how many octets a payload takes, including its marker (RFC 7252 section 3).
 #[tactic(auto, unfolding(message_model::specs::Spelling::payload_spelling))]
 fn payload_size(payload: &[u8]) -> usize
     requires { length payload.now ≤ 1280 }
@@ -65,7 +66,8 @@ fn payload_size(payload: &[u8]) -> usize
     payload.len() + 1
 }
 
-/// Puts a payload with its marker; an empty one has none (RFC 7252 section 3).
+/// Puts a payload with its marker, and returns the index after it. An empty payload has no marker
+/// (RFC 7252 section 3).
 #[tactic(auto, unfolding(message_model::specs::Spelling::payload_spelling))]
 fn put_payload(octets: &mut [u8], at: usize, payload: &[u8]) -> usize
     requires { at + length (payload_spelling payload.now) ≤ length octets.old }
@@ -79,7 +81,7 @@ fn put_payload(octets: &mut [u8], at: usize, payload: &[u8]) -> usize
     put_octets(octets, behind, payload)
 }
 
-/// Puts a message (RFC 8323 section 3.2), and gives its length.
+/// Puts a message, and returns its length (RFC 8323 section 3.2).
 fn put_frame(octets: &mut [u8; MAX_SPOKEN], frame: &Frame<'_>) -> usize
     requires { FitsRoom frame.now }
     ensures few { result ≤ 1284 }
@@ -93,8 +95,12 @@ fn put_frame(octets: &mut [u8; MAX_SPOKEN], frame: &Frame<'_>) -> usize
     put_payload(octets, options, frame.payload)
 }
 
-/// Writes a message of at most 1,276 octets behind its code (RFC 8323 section 3.2). False: the
-/// output failed, when a front of it was written.
+/// Writes a message (RFC 8323 section 3.2). Returns false if the output failed; a prefix of the
+/// message was written then.
+///
+/// # Requires
+///
+/// The token has at most 8 octets. Token, options and payload have at most 1,276 octets together.
 pub fn write_frame<K: Sink>(out: &mut K, frame: &Frame<'_>) -> bool
     requires { FitsRoom frame.now }
     ensures { IsPut (K.holds out.old) (K.holds out.new) (K.faults out.old) (K.faults out.new)

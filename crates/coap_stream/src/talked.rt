@@ -15,29 +15,29 @@ pub enum TalkEnd {
     Aborted,
     /// A message was bad, and was answered by an Abort (RFC 8323 section 5.6).
     Refused(StreamBad),
-    /// So many requests were handed to the seat that their numbers are used up, 65,536, and the
-    /// peer was sent a Release (RFC 8323 section 5.5).
+    /// 65,536 requests were handed to the seat, which uses up their numbers. The peer was sent a
+    /// Release (RFC 8323 section 5.5).
     Spent,
 }
 
-/// What a conversation was.
+/// The result of a conversation.
 #[derive(Clone, Copy, Debug, PartialEq, Eq)]
 pub struct Talked {
     /// How it ended.
     pub end: TalkEnd,
     /// How many requests were handed to the seat.
     pub asked: u64,
-    /// How many datagrams of ticks came out, which go nowhere.
+    /// How many datagrams came out of ticks and were dropped.
     pub dropped: u64,
 }
 
-/// Why a conversation failed.
+/// The reason for which a conversation failed.
 #[derive(Clone, Copy, Debug, PartialEq, Eq)]
 pub enum TalkFault {
-    /// A reading failed.
+    /// A read failed.
     Read,
-    /// A writing failed.
+    /// A write failed.
     Write,
-    /// Out of memory, before the first reading.
+    /// Memory ran out before the first read.
     Starved,
 }

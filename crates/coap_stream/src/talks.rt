@@ -25,10 +25,10 @@ use stream_model::signals::{ABORT, CSM, RELEASE};
 use stream_reader::{Fed, StreamReader};
 use udp_link::Clock;
 
-/// The most requests that one conversation hands to its seat: as many as there are Message IDs.
+/// The most requests that one conversation hands to its seat: the number of Message IDs.
 const MOST_ASKED: u64 = 65_536;
 
-/// Whether so many requests were handed to the seat that there is no number for one more.
+/// Returns `Spent` if there is no number for one more request.
 fn spent_by(asked: u64) -> Option<TalkEnd>
     ensures { result ≡ spec.end_by None (asked == spec.most_asked) }
 {
@@ -38,8 +38,8 @@ fn spent_by(asked: u64) -> Option<TalkEnd>
     None
 }
 
-/// How a message with this code ends the conversation, if it does, where so many requests were
-/// handed to the seat by then.
+/// Returns how a message with this code ends the conversation, if it does. `asked` requests have
+/// been handed to the seat by then.
 fn end_by(code: u8, asked: u64) -> Option<TalkEnd>
     ensures { result
         ≡ spec.end_by (spec.ends_by (requests.meant_by code)) (asked == spec.most_asked) }
@@ -53,18 +53,18 @@ fn end_by(code: u8, asked: u64) -> Option<TalkEnd>
     }
 }
 
-/// What came of a piece.
+/// The result of a piece.
 #[derive(Clone, Copy)]
 pub(crate) enum Heard {
-    /// All of it was taken, and if nothing more comes, the conversation ends so.
+    /// All of it was used. If nothing more comes, the conversation ends so.
     Open(TalkEnd),
     /// The conversation ends so.
     Ended(TalkEnd),
-    /// A writing failed.
+    /// A write failed.
     Failed,
 }
 
-/// The message that is whole is answered; how the conversation ends by it, if it does.
+/// Answers the message that is complete. Returns how the conversation ends with it, if it does.
 fn hear_message<R: Wait, K: Sink, C: Clock, G: Gate>(
     post: &Post<R, G>,
     seat: &mut Seat,
@@ -94,7 +94,7 @@ fn hear_message<R: Wait, K: Sink, C: Clock, G: Gate>(
     end_by(frame.code, tally.asked)
 }
 
-/// The messages of a piece are answered, up to where the conversation ends.
+/// Answers the messages of a piece, up to the end of the conversation.
 fn hear_piece<R: Wait, K: Sink, C: Clock, G: Gate>(
     post: &Post<R, G>,
     seat: &mut Seat,
@@ -141,8 +141,8 @@ fn hear_piece<R: Wait, K: Sink, C: Clock, G: Gate>(
     Heard::Open(TalkEnd::Closed)
 }
 
-/// The conversation ends so: a bad message is answered by an Abort, and so many requests by a
-/// Release (RFC 8323 sections 5.5 and 5.6).
+/// Ends the conversation so: a bad message is answered by an Abort, and the last possible request
+/// is followed by a Release (RFC 8323 sections 5.5 and 5.6).
 fn farewell<K: Sink>(out: &mut K, tally: &mut Tally, end: TalkEnd) -> Result<Talked, TalkFault>
     ensures speaks { Speaks (voice_seen K.Sink.own out.old tally.old.still) (spec.farewell end)
         (voice_seen K.Sink.own out.new tally.new.still) }
@@ -170,7 +170,7 @@ fn farewell<K: Sink>(out: &mut K, tally: &mut Tally, end: TalkEnd) -> Result<Tal
     })
 }
 
-/// A CSM is written, and then piece after piece is answered, to the end.
+/// Writes a CSM, and then answers piece after piece, to the end.
 fn talk<R: Wait, S: Source, K: Sink, C: Clock, G: Gate>(
     post: &Post<R, G>,
     seat: &mut Seat,
@@ -213,20 +213,31 @@ fn talk<R: Wait, S: Source, K: Sink, C: Clock, G: Gate>(
     }
 }
 
-/// Answers the messages of a connection by a seat of the hall, up to its end (RFC 8323): a CSM is
-/// written before the first reading; a Ping is answered by a Pong; a request that is for no seat
-/// ([`why_unasked`](crate::why_unasked)) is answered at once, and every other one is heard by the
-/// seat under the number of requests that were heard before, its job is done at once, and its
-/// replies are written; a bad message is answered by an Abort. After each 64th request time passes
-/// at the seat, and what comes out of that goes nowhere. Before each call of the seat the clock is
-/// asked for a moment, and before those that hear or in which time passes for a word. It waits for
+/// Answers the messages of a connection by a seat of the hall, up to its end (RFC 8323). Waits for
 /// turns at the hall.
 ///
-/// No request of it is taken for a repeat, where the peer has no admission in the 247 seconds
-/// before and no other caller uses it (RFC 7252 section 4.8.2).
+/// - A CSM is written before the first read.
+/// - A Ping is answered by a Pong, and a bad message by an Abort.
+/// - A request that is not for a seat ([`why_unasked`](crate::why_unasked)) is answered at once.
+/// - The seat handles any other request, under the number of requests that it handled before. It
+///   does the job of the request at once, and the replies are written.
+/// - After each 64th request, time passes at the seat. The datagrams that come out are dropped.
 ///
-/// `Read`: a reading failed. `Write`: a writing failed. `Starved`: out of memory, before the first
-/// reading.
+/// Before each call of the seat, the clock is queried for a moment. For a request and for the
+/// passing of time, it is also queried for a word.
+///
+/// No request is taken for a duplicate if the peer had no admission in the 247 seconds before, and
+/// no other caller uses the peer (RFC 7252 section 4.8.2).
+///
+/// # Requires
+///
+/// The seat is of this hall.
+///
+/// # Errors
+///
+/// - `Read` if a read failed.
+/// - `Write` if a write failed.
+/// - `Starved` if memory runs out, before the first read.
 pub fn converse<R: Wait + AllocGlobal, S: Source, K: Sink, C: Clock, G: Gate>(
     rt: &R,
     hall: &Hall,
@@ -244,7 +255,7 @@ pub fn converse<R: Wait + AllocGlobal, S: Source, K: Sink, C: Clock, G: Gate>(
         seat.old out.old clock.old)
         (talk_seen K.Sink.own C.Clock.own (source_seen S.Source.own source.new)
         seat.new out.new clock.new) result }
-    // Where the source tells its octets, what was handed to the seat is what they say.
+    // If the source exposes its octets, they determine what was handed to the seat.
     ensures counts { IfOk result (λ talked. IfSome (S.left source.old)
         (λ octets. talked.asked ≡ asked_in octets)) }
     ensures few { IfOk result (λ talked. talked.asked ≤ spec.most_asked) }

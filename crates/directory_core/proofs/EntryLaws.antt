@@ -190,8 +190,8 @@ entered count v entry = record {
   swept = v.swept;
 }
 
--- what an entry weighs and makes of a version, after so many that are counted: a beginning lifts the
--- count to them
+-- what an entry weighs and makes of a version, after so many that are counted: a beginning raises
+-- the count to them
 pub record Fits (v : Version) (entry : Entry) (entries text : ℕ) (new : Version) : Type 0 where
   pub there : is_gone (live_among entry.moment.0 v.records) entry.change ≡ false
   pub room : is_full_of_records (live_among entry.moment.0 v.records) entry.change ≡ false

@@ -1,4 +1,4 @@
--- A version after an entry, and what it answers where it has no room.
+-- A version after an entry, and the refusal if it has no room.
 use Rattle.std.specs.Prelude.{
   ◌≡◌,
   ⊤,
@@ -29,11 +29,11 @@ use Rattle.directory_core.specs.declared.refusals.Refusal.{Refusal}
 use Rattle.directory_core.specs.declared.refusals.Refusal.TheVariants as answer
 use Rattle.directory_core.specs.LinksAgainst.{AreAgainst}
 
--- the records with this one in place of that of its number
+-- the records with this one in place of the one with its number
 abbrev pub renewed : Record → List Record → List Record
 renewed r records = with_changed r.number (λ _. r) records
 
--- the records without that of a number
+-- the records without the one with a number
 abbrev pub without : ℕ → List Record → List Record
 without number records = filter (λ r. not (is_numbered number r)) records
 
@@ -48,8 +48,8 @@ after_entry v now records last_number = record {
   swept = v.swept;
 }
 
--- a version after a beginning at a moment: its last number and its count are lifted to this number,
--- and one entry more is counted
+-- a version after a beginning at a moment: its last number and its count are raised to this number,
+-- and one more entry is counted
 abbrev pub begun : Version → ℕ → ℕ → Version
 begun v now first = record {
   records = v.records;
@@ -60,14 +60,14 @@ begun v now first = record {
   swept = v.swept;
 }
 
--- what is known of a draft that becomes a record
+-- what holds of a draft that becomes a record
 pub record IsSound (draft : Draft) : Type 0 where
   pub lasting : (0 < draft.lt) × (draft.lt < 2 ^ 32)
   pub references : list_all has_references draft.items ≡ true
   pub against : AreAgainst draft.base draft.items
   pub base : is_base draft.base ≡ true
 
--- so much text may be, and one entry more is counted; else what is answered
+-- this much text is allowed and one more entry can be counted, or the result is this refusal
 abbrev pub HasRoom : ℕ → ℕ → Result ℕ Refusal → Type 0
 HasRoom text entries (Ok sum) = (sum ≡ text) × (text ≤ max_text) × (entries < max_entries)
 HasRoom text entries (Err (answer.FullText sum)) = (sum ≡ capped text) × (max_text < text)
@@ -76,7 +76,7 @@ HasRoom text entries (Err answer.Starved) = ⊥
 HasRoom text entries (Err (answer.Gone number)) = ⊥
 HasRoom text entries (Err (answer.FullCount count)) = ⊥
 
--- the same of a version that is made where there is room
+-- the same of a version that is made if there is room
 abbrev pub IsMadeWithRoom : ℕ → ℕ → Version → Result Version Refusal → Type 0
 IsMadeWithRoom text entries new (Ok version) =
     (version ≡ new) × (text ≤ max_text) × (entries < max_entries)
@@ -88,7 +88,7 @@ IsMadeWithRoom text entries new (Err answer.Starved) = ⊤
 IsMadeWithRoom text entries new (Err (answer.Gone number)) = ⊥
 IsMadeWithRoom text entries new (Err (answer.FullCount count)) = ⊥
 
--- one entry more is counted; else what is answered
+-- one more entry can be counted, or the result is this refusal
 abbrev pub HasEntryRoom : ℕ → Result (Unit {0}) Refusal → Type 0
 HasEntryRoom entries (Ok nothing) = entries < max_entries
 HasEntryRoom entries (Err answer.FullEntries) = max_entries ≤ entries

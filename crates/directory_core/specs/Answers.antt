@@ -1,4 +1,4 @@
--- What a refusal answers of an entry that would come next in a history.
+-- The refusal of an entry that would come next in a history.
 use Rattle.std.specs.Prelude.{◌≡◌, ⊤, ℕ, List, length, Some}
 use Rattle.history_model.specs.declared.entries.Entry.{Entry}
 use Rattle.history_model.specs.declared.refusals.Refusal.TheVariants as cause
@@ -9,8 +9,8 @@ use Rattle.registration.specs.Weights.{capped}
 use Rattle.directory_core.specs.declared.refusals.Refusal.{Refusal}
 use Rattle.directory_core.specs.declared.refusals.Refusal.TheVariants as answer
 
--- the answer is the first refusal of the entry, with the number that it names, how many records are
--- live, or what they would weigh; running out of memory has no cause in the history
+-- The result is the first refusal of the entry, with the number that it names, how many records are
+-- live, or what they would weigh. Running out of memory has no cause in the history.
 abbrev pub IsRefusalOf : ℕ → List Entry → Entry → Refusal → Type 0
 IsRefusalOf first history entry (answer.Gone number) =
     (change_refusal first history entry ≡ Some cause.Registration)

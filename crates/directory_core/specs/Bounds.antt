@@ -1,4 +1,4 @@
--- How many steps a lookup takes at most.
+-- The most steps that a lookup takes.
 use Rattle.std.specs.Prelude.{◌≡◌, Bool, not, ◌&&◌, List, ◌++◌, filter}
 use Rattle.std.specs.List.{list_any, flat_map}
 use Rattle.rd_base.specs.declared.attributes.Pair.{Pair}
@@ -15,16 +15,16 @@ is_of_attributes criterion = not (is_href criterion) && not (is_anchor_criterion
 abbrev pub attribute_criteria : List Criterion → List Criterion
 attribute_criteria criteria = filter is_of_attributes criteria
 
--- the attributes by which a link of a record or its endpoint can match by itself (RFC 9176 section
--- 6.2)
+-- the attributes by which a link of a record, or its endpoint, can match by itself (RFC 9176
+-- section 6.2)
 abbrev pub pairs_of : Record → List Pair
 pairs_of r = endpoint_pairs r ++ flat_map (λ item. item.pairs) r.items
 
--- the entries of a record: which values of which names it carries, with its number
+-- the index entries of a record: the values of its attributes by name, with its number
 abbrev pub record_entries : Record → List Entry
 record_entries r = entries_of_all (pairs_of r) r.number
 
--- these are the entries of the records, each once
+-- these are the index entries of the records, each once
 pub record AreEntriesOf (records : List Record) (entries : List Entry) : Type 0 where
   pub once : IsAscending entries
   pub there : (e : Entry)

@@ -1,5 +1,5 @@
--- Which entry of a history a change of a version is (RFC 9176 sections 5, 5.3, 5.3.1 and 5.3.2).
--- The worker is any.
+-- The entry of a history that a change of a version makes (RFC 9176 sections 5, 5.3, 5.3.1 and
+-- 5.3.2). The worker is arbitrary.
 use Rattle.std.specs.Prelude.{◌≡◌, ℕ, List}
 use Rattle.rd_base.specs.declared.moments.Moment.{Moment}
 use Rattle.rd_base.specs.declared.parameters.RegParams.{RegParams}
@@ -11,7 +11,7 @@ use Rattle.registration.specs.Drafts.{drafted}
 use Rattle.history_model.specs.declared.entries.Change.TheVariants as kind
 use Rattle.history_model.specs.declared.entries.Entry.{Entry}
 
--- the entry registers this draft at this moment: its parameters and links, from its peer, make the
+-- the entry registers this draft at this moment: its parameters and links, with its peer, make the
 -- draft
 pub record IsRegistrationOf (now : Moment) (draft : Draft) (entry : Entry) : Type 0 where
   pub params : RegParams
@@ -20,7 +20,7 @@ pub record IsRegistrationOf (now : Moment) (draft : Draft) (entry : Entry) : Typ
   pub change : entry.change ≡ kind.Register params links
   pub made : draft ≡ drafted entry.peer params links
 
--- the entry updates the registration of this number with what is given, at this moment and from
+-- the entry updates the registration with this number by these parameters, at this moment and from
 -- this peer
 pub record IsUpdateOf (now : Moment) (number : ℕ) (given : UpdateParams) (peer : Peer)
     (entry : Entry) : Type 0 where
@@ -28,13 +28,13 @@ pub record IsUpdateOf (now : Moment) (number : ℕ) (given : UpdateParams) (peer
   pub source : entry.peer ≡ peer
   pub change : entry.change ≡ kind.Update number given
 
--- the entry gives the registration of this number these links at this moment, from any peer
+-- the entry gives these links to the registration with this number at this moment, from any peer
 pub record IsReplacementOf (now : Moment) (number : ℕ) (links : List SubmittedLink)
     (entry : Entry) : Type 0 where
   pub moment : entry.moment ≡ now
   pub change : entry.change ≡ kind.Replace number links
 
--- the entry removes the registration of this number at this moment
+-- the entry removes the registration with this number at this moment
 pub record IsRemovalOf (now : Moment) (number : ℕ) (entry : Entry) : Type 0 where
   pub moment : entry.moment ≡ now
   pub change : entry.change ≡ kind.Remove number

@@ -1,15 +1,16 @@
--- Which records lapse after a moment, by the numbers of the leases that have lapsed at a later one.
+-- The records that lapse after a moment, by the numbers of the leases that have lapsed at a later
+-- one.
 use Rattle.std.specs.Prelude.{ℕ, nat_lt, List, [], ◌∷◌, Option, Some, None, if◌then◌else◌}
 use Rattle.rd_base.specs.declared.records.Record.{Record}
 use Rattle.history_model.specs.Leases.{lapse}
 use Rattle.history_model.specs.Replay.{numbered}
 
--- the record in front of others, where it is there and lapses after a moment
+-- the record before others, if it exists and lapses after a moment
 abbrev pub with_lapsing : ℕ → Option Record → List Record → List Record
 with_lapsing from None others = others
 with_lapsing from (Some r) others = if nat_lt from (lapse r) then r ∷ others else others
 
--- the records of these numbers that lapse after a moment
+-- the records with these numbers that lapse after a moment
 unfoldable pub lapsing_left : ℕ → List Record → List ℕ → List Record
 lapsing_left from records [] = []
 lapsing_left from records (n ∷ numbers) =

@@ -1,11 +1,10 @@
--- What a version answers of an entry, which refusal it is, what lapses, what is left by a sweep
--- (RFC 9176 section 5).
+-- The result of an entry, its refusals, what lapses, and what a sweep leaves (RFC 9176 section 5).
 
--- cursors over carriers that go on by turns
+-- cursors over carriers that advance alternately
 pub mod Races
--- a page of a listing while it is written, the lines that live records give (RFC 9176 section 6)
+-- a page of a listing while it is written, and the lines of live records (RFC 9176 section 6)
 pub mod Pages
--- what these are made of
+-- their parts
 pub mod Changes
 pub mod Answers
 pub mod LapseOrder

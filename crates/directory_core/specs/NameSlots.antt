@@ -28,15 +28,15 @@ use Rattle.history_model.specs.Replay.{is_live_named, numbered}
 use Rattle.directory_core.specs.declared.names.NameSlot.{NameSlot}
 use Rattle.directory_core.specs.LapseOrder.{in_order_of}
 
--- a hash with one octet more
+-- a hash after one more octet
 abbrev pub mixed : ℕ → ℕ → ℕ
 mixed hash octet = (bit_xor hash octet * 0x00000100000001B3) % 2 ^ 64
 
--- a hash with a text more
+-- a hash after one more text
 unfoldable pub with_text : ℕ → List ℕ → ℕ
 with_text hash text = fold mixed hash text
 
--- a hash with the sector of a name, where it has one
+-- a hash after the sector of a name, if it has one
 abbrev pub with_sector : ℕ → Option (List ℕ) → ℕ
 with_sector hash None = hash
 with_sector hash (Some sector) = with_text (mixed hash 0) sector
@@ -45,7 +45,7 @@ with_sector hash (Some sector) = with_text (mixed hash 0) sector
 unfoldable pub hash_of : Name → ℕ
 hash_of name = with_sector (with_text 0xCBF29CE484222325 name.ep) name.sector
 
--- where the number of a record stands
+-- the slot of a record
 abbrev pub slot_of : Record → NameSlot
 slot_of r = record { hash = hash_of r.name; number = r.number }
 
@@ -53,12 +53,12 @@ slot_of r = record { hash = hash_of r.name; number = r.number }
 abbrev pub slots_of : List Record → List NameSlot
 slots_of records = map slot_of (in_order_of (λ r. hash_of r.name) records)
 
--- the numbers of the slots of a hash with which the slots begin
+-- the numbers of the slots of a hash, if the slots begin with them
 unfoldable pub numbers_under : ℕ → List NameSlot → List ℕ
 numbers_under hash [] = []
 numbers_under hash (s ∷ slots) = if s.hash == hash then s.number ∷ numbers_under hash slots else []
 
--- the record of a number, where it has a name and is live at a moment
+-- the record, if it has this name and is live at a moment
 abbrev pub if_live_named : Name → ℕ → Option Record → Option Record
 if_live_named name moment None = None
 if_live_named name moment (Some r) = if is_live_named name moment r then Some r else None
@@ -68,19 +68,19 @@ abbrev pub record_or : Option Record → Option Record → Option Record
 record_or (Some r) other = Some r
 record_or None other = other
 
--- the first of the numbers whose record has a name and is live at a moment
+-- the first record with one of these numbers that has a name and is live at a moment
 unfoldable pub first_live_named : List Record → Name → ℕ → List ℕ → Option Record
 first_live_named records name moment [] = None
 first_live_named records name moment (n ∷ numbers) =
     record_or (if_live_named name moment (numbered n records))
     (first_live_named records name moment numbers)
 
--- a slot stands before another
+-- a slot comes before another
 abbrev pub slot_before : NameSlot → NameSlot → Bool
 slot_before s other =
     nat_lt s.hash other.hash || ((s.hash == other.hash) && nat_lt s.number other.number)
 
--- they are one slot
+-- two slots are the same
 abbrev pub same_slot : NameSlot → NameSlot → Bool
 same_slot s other = (s.hash == other.hash) && (s.number == other.number)
 
@@ -92,7 +92,7 @@ with_slot s (x ∷ slots) =
     then s ∷ x ∷ slots
     else (if same_slot s x then x ∷ slots else x ∷ with_slot s slots)
 
--- the slots without one
+-- the slots without one of them
 unfoldable pub without_slot : NameSlot → List NameSlot → List NameSlot
 without_slot s [] = []
 without_slot s (x ∷ slots) = if same_slot s x then slots else x ∷ without_slot s slots

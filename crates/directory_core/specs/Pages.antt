@@ -1,4 +1,4 @@
--- Pages of listings while they are written, and the lines that live records give to them (RFC 9176
+-- Pages of listings while they are written, and the lines that live records contribute (RFC 9176
 -- section 6).
 use Rattle.std.specs.Prelude.{ℕ, List, [], Option, Some, None, if◌then◌else◌}
 use Rattle.std.specs.List.{flat_map}
@@ -10,24 +10,24 @@ use Rattle.history_model.specs.Replay.{numbered}
 use Rattle.listing.specs.AppendedLines.{appended, shown_lines}
 use Rattle.directory_core.specs.declared.pages.Page.{Page}
 
--- the text of a page once it was given these lines too
+-- the text of a page after these lines
 abbrev pub finished : Page → List (List ℕ) → List ℕ
 finished page lines = appended page.text (shown_lines page.skip page.most lines)
 
--- the lines that a record gives to a query at a moment: none where it is not live then
+-- the lines that a record contributes to a query at a moment: none if it is not live then
 abbrev pub live_part : Query → ℕ → Record → List (List ℕ)
 live_part query moment r = if is_live_at moment r then part query r else []
 
--- the same of a record where there is one
+-- the same of a record, if there is one
 abbrev pub live_part_or_none : Query → ℕ → Option Record → List (List ℕ)
 live_part_or_none query moment None = []
 live_part_or_none query moment (Some r) = live_part query moment r
 
--- the lines that records give, one after another
+-- the lines that records contribute, one after another
 unfoldable pub live_lines : Query → ℕ → List Record → List (List ℕ)
 live_lines query moment records = flat_map (live_part query moment) records
 
--- the lines that the records of these numbers give, one after another
+-- the lines that the records with these numbers contribute, one after another
 unfoldable pub numbered_lines : Query → ℕ → List Record → List ℕ → List (List ℕ)
 numbered_lines query moment records numbers =
     flat_map (λ n. live_part_or_none query moment (numbered n records)) numbers

@@ -1,4 +1,4 @@
--- Cursors over the carriers of criteria, which go on by turns until one of them ends.
+-- Cursors over the carriers of criteria, which advance alternately until one of them ends.
 use Rattle.std.specs.Prelude.{
   ◌≡◌,
   ℕ,
@@ -20,7 +20,7 @@ use Rattle.rd_base.specs.declared.queries.Criterion.{Criterion}
 use Rattle.attribute_index.specs.Entries.{Entry, carriers_of, has_number}
 use Rattle.directory_core.specs.Bounds.{attribute_criteria}
 
--- a cursor: the numbers that it gave, and those that are left
+-- a cursor: the numbers that it returned, and those that remain
 pub record Run : Type 0 where
   pub given : List ℕ
   pub left : List ℕ
@@ -40,7 +40,7 @@ run_of index criterion = record {
 abbrev pub runs_of : List Entry → List Criterion → List Run
 runs_of index criteria = map (run_of index) (attribute_criteria criteria)
 
--- after a turn that answered so: a number more was given, or none was left
+-- after an advance with this result: one more number was returned, or none was left
 abbrev pub HasTurned : {E : Type 0} → Run → Run → Result Bool E → Type 0
 HasTurned old new (Ok true) =
     (whole new ≡ whole old)
@@ -49,7 +49,7 @@ HasTurned old new (Ok true) =
 HasTurned old new (Ok false) = (whole new ≡ whole old) × (whole new ≡ new.given)
 HasTurned old new (Err error) = Unit {0}
 
--- the numbers are those of the carriers of a criterion that is about attributes
+-- the numbers are those of the carriers of one criterion about attributes
 pub record AreNumbersOf (index : List Entry) (criteria : List Criterion) (numbers : List ℕ) : Type 0
   where
     pub criterion : Criterion

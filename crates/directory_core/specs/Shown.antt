@@ -1,4 +1,4 @@
--- What is known of the parts of a version.
+-- What holds of the parts of a version.
 use Rattle.std.specs.Prelude.{◌≡◌, ℕ, ◌+◌, ◌^◌, ◌<◌, ◌≤◌, true, max, List, length, map}
 use Rattle.std.specs.List.{AllByRecursion, list_all}
 use Rattle.rd_base.specs.declared.records.Record.{Record}
@@ -16,11 +16,11 @@ use Rattle.directory_core.specs.LinksAgainst.{AreAgainst}
 use Rattle.directory_core.specs.NameSlots.{slots_of}
 
 -- the moment at which the live records of a version were counted: that of its last entry or of its
--- last sweep, the later one
+-- last sweep, whichever is later
 abbrev pub counted_at : Version → ℕ
 counted_at v = max v.at v.swept
 
--- a record that an entry of a version made, and that no sweep of it dropped
+-- a record that an entry of a version made, and that no sweep of it has dropped
 pub record IsStored (v : Version) (r : Record) : Type 0 where
   pub numbered : (0 < r.number) × (r.number ≤ v.last_number)
   pub granted : r.granted.0 ≤ v.at
@@ -38,8 +38,9 @@ lease_of r = record { lapse = record { 0 = lapse r }; number = r.number }
 abbrev pub leases_of : List Record → List Lease
 leases_of records = map lease_of (in_order_of_lapse records)
 
--- what a version keeps beside its records fits them: their leases, and how many were live and what
--- they weighed when they were counted; and no more are live, weigh more or were counted than may
+-- What a version stores besides its records agrees with them: their leases, and the number and the
+-- weight of those that were live when they were counted. Neither these nor the counted entries
+-- exceed their limits.
 pub record IsKept (v : Version) (names : List NameSlot) (leases : List Lease) (count sum : ℕ) : Type
     0 where
   pub rising : PairsByRecursion IsBelow v.records

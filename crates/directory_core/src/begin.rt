@@ -1,4 +1,4 @@
-//! Where the numbers and the count of entries of a run begin (RFC 9176 section 5).
+//! The number above which a run's registrations and entries are counted (RFC 9176 section 5).
 ghost use Rattle.std.specs.Prelude.{◌≡◌, ◌≤◌, ◌^◌, ◌++◌, ◌∷◌, [], ℕ, List, None, max};
 ghost use Rattle.std.specs.Prelude.{IfOk, IfErr, OnOk};
 ghost use Rattle.history_model.specs.declared.entries.Entry.{Entry};
@@ -12,7 +12,7 @@ use crate::room::room_for_entry;
 use crate::{Directory, Refusal};
 use rd_base::Moment;
 
-/// A count or a number, lifted to another one.
+/// Returns a count or a number, raised to `first` if it is lower.
 fn lifted(count: u64, first: u64) -> u64
     ensures { result ≡ max count first }
 {
@@ -20,8 +20,8 @@ fn lifted(count: u64, first: u64) -> u64
 }
 
 impl Directory {
-    /// The version with the same records, whose last number and whose count of entries are at least
-    /// `first`, with one entry more, where that is counted.
+    /// Returns the version with the same records and one more entry, if that can be counted. Its
+    /// last number is at least `first`, and the new entry is counted above `first`.
     fn begun(&self, now: Moment, first: u64) -> Result<Directory, Refusal>
         requires after_at { self.now.at ≤ now.0 }
         requires after_sweep { self.now.swept ≤ now.0 }
@@ -52,17 +52,23 @@ impl Directory {
         })
     }
 
-    /// The version in which a run begins above `first`: each registration of a new name gets a
-    /// number above it, and the count of entries goes on above it too, so that no entity tag that
-    /// comes counts `first` entries or fewer (RFC 9176 section 5, RFC 7252 section 5.10.6). What is
-    /// registered stays. Numbers and the count never fall: one that is above `first` goes on as it
-    /// would have. The moment is not before the last entry, and not before the last sweep, which is
-    /// that of the new version too. This version is as before.
+    /// Returns the version in which a run begins above `first` (RFC 9176 section 5, RFC 7252
+    /// section 5.10.6).
+    ///
+    /// From then on, each registration of a new name gets a number above `first`, and entries are
+    /// counted above it too. So no later entity tag counts `first` entries or fewer. Registrations
+    /// stay. Numbers and the count never fall: one that is above `first` continues as before.
+    /// `self` does not change.
+    ///
+    /// # Requires
+    ///
+    /// `now` is at most 10^15 milliseconds, and no earlier than the last entry and the last sweep,
+    /// which the new version inherits.
     ///
     /// # Errors
     ///
-    /// `FullEntries` exactly where 2^48 - 1 entries are counted or `first` is at least that.
-    /// `Starved` may come instead.
+    /// - `FullEntries` if 2^48 - 1 entries are counted, or if `first` is at least that.
+    /// - `Starved` if memory runs out. It can take the place of `FullEntries`.
     pub fn begin(&self, now: Moment, first: u64) -> Result<Directory, Refusal>
         requires after_at { self.now.at ≤ now.0 }
         requires after_sweep { self.now.swept ≤ now.0 }

@@ -1,4 +1,4 @@
-//! Where a version is laid before it is published.
+//! Boards, on which a version is staged before it is published.
 ghost use Rattle.std.specs.Prelude.{◌≡◌, ◌≤◌, ℕ, Bool, false, Option, Some, None, List, IfSome};
 ghost use Rattle.std.specs.Prelude.{OnOk, OnErr};
 ghost use Rattle.std.specs.Arc.{arc_value};
@@ -10,22 +10,30 @@ use crate::Directory;
 use rd_base::Starved;
 use std::sync::Arc;
 
-/// A board: it takes the version that is to be published next.
+/// A board: the holder of the version to be published next.
 pub trait Board {
     /// Which board it is.
     ghost name: { Self → List ℕ };
 
-    /// The entries of the version that was published last, where they are told.
+    /// The entries of the version that was published last, if the board exposes them.
     ghost told: { Self → Option (List Entry) };
 
     /// Whether a version is staged.
     ghost has_staged: { Self → Bool };
 
-    /// The version that is staged or that there is none, where it is told.
+    /// The staged version, or that there is none, if the board exposes it.
     ghost staged: { Self → Option (Option Version) };
 
-    /// Takes the version that is to be published next. Waits for nobody. `Starved`: out of memory,
-    /// and the board is as before.
+    /// Stages the version to be published next. Does not wait.
+    ///
+    /// # Requires
+    ///
+    /// Nothing is staged. The version was not swept after its last entry, and has one more entry
+    /// than the board exposes, if it exposes any.
+    ///
+    /// # Errors
+    ///
+    /// `Starved` if memory runs out. The board does not change then.
     fn stage(&mut self, version: Arc<Directory>) -> Result<(), Starved>
         requires free { has_staged self.old ≡ false }
         requires swept { (arc_value version).swept ≤ (arc_value version).at }
@@ -39,7 +47,7 @@ pub trait Board {
         ensures free { OnErr result (has_staged self.new ≡ false) };
 }
 
-/// A board that publishes to nobody: it tells nothing, and never has a version staged.
+/// A board that publishes nothing: it exposes nothing, and never has a version staged.
 #[derive(Clone, Copy, Debug)]
 pub struct NoBoard;
 

@@ -1,4 +1,4 @@
-//! How many records are live, and what they weigh together.
+//! The number of live records, and their weight together.
 ghost use Rattle.std.specs.Prelude.{◌≡◌, ◌<◌, ◌-◌, fold, Option};
 ghost use Rattle.std.specs.Option.{option_copied};
 ghost use Rattle.directory_core.specs.LiveCounts.{without_lapse, without_lapses};
@@ -9,17 +9,17 @@ use lease_queue::LapsedIter;
 use rd_base::{Moment, Steps};
 use std::sync::ledger::{Blank, Ledger};
 
-/// How many records are live at a moment, and what they weigh together, in octets.
+/// The number of records that are live at a moment, and their weight together, in octets.
 #[derive(Clone, Copy, Debug, PartialEq, Eq)]
 pub struct Counts {
-    /// How many there are.
+    /// The number of live records.
     pub live: u64,
-    /// What they weigh.
+    /// Their weight, in octets.
     pub text: u64,
 }
 
-/// The counts without a record, where it is there and lapses after this moment: else it was not
-/// counted.
+/// Returns the counts without a record, if it exists and lapses after this moment. Otherwise it was
+/// not counted.
 fn counts_without(counts: Counts, kept: Option<&Kept>, from: Moment) -> Counts
     ensures { result ≡ without_lapse from.0 counts (option_copied kept.entry) }
 {
@@ -35,7 +35,7 @@ fn counts_without(counts: Counts, kept: Option<&Kept>, from: Moment) -> Counts
     }
 }
 
-/// The counts without the records of these numbers that lapse after this moment.
+/// Returns the counts without the records of these numbers that lapse after this moment.
 pub(crate) fn counts_after<L: Ledger>(
     blank: Blank,
     records: &Records,

@@ -11,37 +11,38 @@ use std::alloc::Global;
 use std::marker::Model;
 
 /// A version of the directory. It stands for the history of the changes that made it, and answers
-/// every lookup as replaying that history would (RFC 9176 sections 5 and 6). A version never
-/// changes: a change makes another one, which shares all that did not change. Contracts see it as
-/// what a version shows: its records, the count of its entries, the moment of the last one, and
-/// what was dropped of it.
+/// every lookup as a replay of that history would (RFC 9176 sections 5 and 6).
+///
+/// A version never changes. A change creates another one, which shares everything that stays the
+/// same. Contracts see a version's records, the count of its entries, the moment of the last one,
+/// and what sweeps have dropped.
 #[derive(Drop)]
 pub struct Directory {
-    /// The records that no sweep dropped, in ascending number.
+    /// The records that no sweep has dropped, in ascending number.
     pub(crate) records: Records,
-    /// Their numbers by their names.
+    /// Their numbers, by name.
     pub(crate) names: Names,
     /// Their leases.
     pub(crate) leases: LeaseQueue,
-    /// Which values of which attributes they carry, with their links.
+    /// The values of their attributes, including those of their links.
     pub(crate) index: AttributeIndex,
-    /// How many of them were live at the moment of the last entry, or at that of the last sweep
-    /// where that is later.
+    /// How many of them were live at the moment of the last entry or of the last sweep, whichever
+    /// is later.
     pub(crate) live: u64,
     /// What those weighed together, in octets.
     pub(crate) text: u64,
-    /// The count of the entries: what was counted before the first and one for each, lifted by a
-    /// beginning.
+    /// The count of the entries: the number counted before the first, plus one for each, raised by
+    /// beginnings.
     pub(crate) entries: u64,
-    /// The moment of the last entry, else 0.
+    /// The moment of the last entry, or 0 if there is none.
     pub(crate) at: Moment,
-    /// The last number that a record got.
+    /// The last number that a record received.
     pub(crate) last_number: u64,
     /// How many records were swept since the last entry that were live after it.
     pub(crate) swept_live: u64,
-    /// The moment of the last sweep, else 0.
+    /// The moment of the last sweep, or 0 if there was none.
     pub(crate) swept: Moment,
-    /// The allocator of what is made of it.
+    /// The allocator of the versions made from this one.
     pub(crate) alloc: Global,
 }
 
@@ -74,8 +75,16 @@ impl Model for Directory {
 }
 
 impl Directory {
-    /// The version without a record. Its entries count from `first`. It keeps `alloc` for the
-    /// versions that are made of it.
+    /// Returns the version without records. Its entries are counted from `first`. It stores `alloc`
+    /// for the versions made from it.
+    ///
+    /// # Requires
+    ///
+    /// `first` is below 2^48.
+    ///
+    /// # Errors
+    ///
+    /// `Starved` if memory runs out.
     pub fn empty(alloc: Global, first: u64) -> Result<Directory, Starved>
         requires { first < 2 ^ 48 }
         ensures stands { IfOk result (λ version. VersionStandsFor first [] version) }
@@ -97,22 +106,24 @@ impl Directory {
         })
     }
 
-    /// The count of the entries: what was counted before the first and one for each, lifted by a
-    /// beginning. Takes no time.
+    /// Returns the count of the entries: the number counted before the first, plus one for each,
+    /// raised by beginnings. Takes constant time.
     pub fn entries(&self) -> u64
         ensures { result ≡ self.now.entries }
     {
         self.entries
     }
 
-    /// The moment of the last entry, else 0. No call asks for a moment before it.
+    /// Returns the moment of the last entry, in milliseconds, or 0 if there is none. Calls require
+    /// moments no earlier than this.
     pub fn at(&self) -> Moment
         ensures { result.0 ≡ self.now.at }
     {
         self.at
     }
 
-    /// The moment of the last sweep, else 0. No call asks for a moment before it.
+    /// Returns the moment of the last sweep, in milliseconds, or 0 if there was none. Calls require
+    /// moments no earlier than this.
     pub fn swept(&self) -> Moment
         ensures { result.0 ≡ self.now.swept }
     {

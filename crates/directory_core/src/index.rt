@@ -1,4 +1,4 @@
-//! Which values of which attributes a record carries, in the index of a version.
+//! The attributes of a record in the index of a version.
 ghost use Rattle.std.specs.Prelude.{◌≡◌, ◌↔◌, ◌||◌, ◌&&◌, not, List, map, Some, IsTrue, IfOk};
 ghost use Rattle.attribute_index.specs.Entries.{Entry, IsAscending, has_entry, entries_of_all};
 ghost use Rattle.rd_base.specs.declared.records.Record.{Record};
@@ -17,7 +17,7 @@ use attribute_index::AttributeIndex;
 use rd_base::{Link, LinkPairs, Links, Pair, PairRef, Record, Starved, Text};
 use std::alloc::Global;
 
-/// An attribute with copies of this name and this value. `Starved`: out of memory.
+/// Returns an attribute with copies of this name and this value.
 fn pair_of(alloc: Global, name: &str, value: &Text) -> Result<Pair, Starved>
     ensures { IfOk result (λ pair. pair ≡ record { name = name.now; value = value.now }) }
 {
@@ -26,7 +26,7 @@ fn pair_of(alloc: Global, name: &str, value: &Text) -> Result<Pair, Starved>
     Ok(Pair { name, value })
 }
 
-/// An attribute, borrowed.
+/// Borrows an attribute.
 fn borrowed(pair: &Pair) -> PairRef<'_>
     ensures { pair_seen result ≡ pair.now }
 {
@@ -36,8 +36,8 @@ fn borrowed(pair: &Pair) -> PairRef<'_>
     }
 }
 
-/// The attributes that each endpoint has: its base, its name, its sector where it has one, and its
-/// type (RFC 9176 section 6.4). `Starved`: out of memory.
+/// Returns the attributes that each endpoint has: its base, its name, its sector if it has one, and
+/// its type (RFC 9176 section 6.4).
 fn own_attributes(alloc: Global, record_of: &Record) -> Result<Vec<Pair>, Starved>
     ensures { IfOk result (λ pairs. pairs.items ≡ own_pairs record_of.now) }
 {
@@ -52,7 +52,7 @@ fn own_attributes(alloc: Global, record_of: &Record) -> Result<Vec<Pair>, Starve
     Ok(pairs)
 }
 
-/// The index with these attributes of the record of this number. `Starved`: out of memory.
+/// Returns the index with these attributes of the record with a number.
 fn with_pairs(
     alloc: Global,
     index: AttributeIndex,
@@ -74,7 +74,7 @@ fn with_pairs(
     Ok(after)
 }
 
-/// The index without these attributes of the record of this number. `Starved`: out of memory.
+/// Returns the index without these attributes of the record with a number.
 fn without_pairs(
     alloc: Global,
     index: AttributeIndex,
@@ -96,8 +96,7 @@ fn without_pairs(
     Ok(after)
 }
 
-/// The index with these attributes of a link of the record of this number. `Starved`: out of
-/// memory.
+/// Returns the index with these attributes of a link of the record with a number.
 fn with_link_pairs(
     alloc: Global,
     index: AttributeIndex,
@@ -117,8 +116,7 @@ fn with_link_pairs(
     Ok(after)
 }
 
-/// The index with the attributes of these links of the record of this number. `Starved`: out of
-/// memory.
+/// Returns the index with the attributes of these links of the record with a number.
 fn with_links(
     alloc: Global,
     index: AttributeIndex,
@@ -138,8 +136,7 @@ fn with_links(
     Ok(after)
 }
 
-/// The index without these attributes of a link of the record of this number. `Starved`: out of
-/// memory.
+/// Returns the index without these attributes of a link of the record with a number.
 fn without_link_pairs(
     alloc: Global,
     index: AttributeIndex,
@@ -159,8 +156,7 @@ fn without_link_pairs(
     Ok(after)
 }
 
-/// The index without the attributes of these links of the record of this number. `Starved`: out of
-/// memory.
+/// Returns the index without the attributes of these links of the record with a number.
 fn without_links(
     alloc: Global,
     index: AttributeIndex,
@@ -180,8 +176,8 @@ fn without_links(
     Ok(after)
 }
 
-/// This index with a record: with every attribute by which one of its links or its endpoint can
-/// match by itself. `Starved`: out of memory.
+/// Consumes an index, and returns it with every attribute by which a link of a record, or its
+/// endpoint, can match by itself.
 fn with_record(
     alloc: Global,
     index: AttributeIndex,
@@ -201,8 +197,8 @@ fn with_record(
     Ok(index)
 }
 
-/// The index with a record: with every attribute by which one of its links or its endpoint can
-/// match by itself. `Starved`: out of memory.
+/// Returns the index with every attribute by which a link of a record, or its endpoint, can match
+/// by itself.
 pub(crate) fn index_with(
     alloc: Global,
     index: &AttributeIndex,
@@ -218,7 +214,7 @@ pub(crate) fn index_with(
     Ok(after)
 }
 
-/// This index without a record. `Starved`: out of memory.
+/// Consumes an index, and returns it without a record.
 pub(crate) fn without_record(
     alloc: Global,
     index: AttributeIndex,
@@ -237,7 +233,7 @@ pub(crate) fn without_record(
     Ok(index)
 }
 
-/// The index without a record. `Starved`: out of memory.
+/// Returns the index without a record.
 pub(crate) fn index_without(
     alloc: Global,
     index: &AttributeIndex,
@@ -252,14 +248,14 @@ pub(crate) fn index_without(
     Ok(after)
 }
 
-/// Whether two links carry the same attributes.
+/// Returns whether two links have the same attributes.
 fn carries_alike(link: &Link<'_>, other: &Link<'_>) -> bool
     ensures { IsTrue result ↔ (link.now.pairs ≡ other.now.pairs) }
 {
     link.pairs() == other.pairs()
 }
 
-/// Whether links carry the same attributes, one link after another.
+/// Returns whether links have the same attributes, one link after another.
 fn carry_alike(links: Links<'_>, others: Links<'_>) -> bool
     ensures { IsTrue result ↔ (map (λ item. item.pairs) links.entry
         ≡ map (λ item. item.pairs) others.entry) }
@@ -277,8 +273,8 @@ fn carry_alike(links: Links<'_>, others: Links<'_>) -> bool
     right.is_empty()
 }
 
-/// Whether the links of two records carry the same attributes. Links that were kept do, and are
-/// not compared.
+/// Returns whether the links of two records have the same attributes. Links that were kept do, and
+/// are not compared.
 fn links_carry_alike(old: &Record, new: &Record, links: LinksAfter) -> bool
     requires { AreAfter links old.now.items new.now.items }
     ensures { IsTrue result
@@ -290,8 +286,8 @@ fn links_carry_alike(old: &Record, new: &Record, links: LinksAfter) -> bool
     }
 }
 
-/// Whether two records of one number and one name carry the same attributes, so that they have the
-/// same entries.
+/// Returns whether two records with the same number and name have the same attributes. If so, they
+/// have the same index entries.
 fn is_indexed_alike(old: &Record, new: &Record, links: LinksAfter) -> bool
     requires numbered { new.now.number ≡ old.now.number }
     requires named { new.now.name ≡ old.now.name }
@@ -301,9 +297,8 @@ fn is_indexed_alike(old: &Record, new: &Record, links: LinksAfter) -> bool
     old.base == new.base && old.attrs == new.attrs && links_carry_alike(old, new, links)
 }
 
-/// The index with a record in place of one of its number and its name. Where both carry the same
-/// attributes, as where only a lease begins anew, that is the index as it is. `Starved`: out of
-/// memory.
+/// Returns the index with a record in place of one with the same number and name. If both have the
+/// same attributes, as after a mere renewal of the lease, the index does not change.
 pub(crate) fn index_renewed(
     alloc: Global,
     index: &AttributeIndex,

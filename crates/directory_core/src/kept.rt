@@ -9,12 +9,12 @@ use std::alloc::Global;
 use std::marker::Model;
 use std::sync::Arc;
 
-/// A record that versions share, with what it weighs. Contracts see it as the record.
+/// A record that versions share, with its weight. Contracts see it as the record.
 #[derive(Drop)]
 pub struct Kept {
     /// The record.
     shared: Arc<Record>,
-    /// What it weighs, in octets.
+    /// Its weight, in octets.
     octets: u64,
 }
 
@@ -33,7 +33,7 @@ impl Model for Kept {
 }
 
 impl Kept {
-    /// A record that is shared from now on, with what it weighs. `Starved`: out of memory.
+    /// Prepares a record to be shared, with its weight.
     pub(crate) fn of(alloc: Global, record_of: Record, octets: u64) -> Result<Kept, Starved>
         requires octets { octets ≡ weight record_of }
         requires granted { record_of.granted.0 ≤ 10 ^ 15 }
@@ -43,21 +43,21 @@ impl Kept {
         Ok(Kept { shared, octets })
     }
 
-    /// The record.
+    /// Returns the record.
     pub(crate) fn as_record(&self) -> &Record
         ensures { result.now ≡ self.now }
     {
         &*self.shared
     }
 
-    /// What the record weighs, in octets.
+    /// Returns the weight of the record, in octets.
     pub(crate) fn octets(&self) -> u64
         ensures { result ≡ weight self.now }
     {
         self.octets
     }
 
-    /// The moment at which the lease of the record lapses.
+    /// Returns the moment at which the lease of the record lapses.
     pub(crate) fn lapse(&self) -> Moment
         ensures { result.0 ≡ leases.lapse self.now }
     {
@@ -65,7 +65,7 @@ impl Kept {
         whole.lapse()
     }
 
-    /// Whether the record is live at this moment: its lease lapses later.
+    /// Returns whether the record is live at this moment: its lease lapses later.
     pub(crate) fn is_live_at(&self, now: Moment) -> bool
         ensures { result ≡ leases.is_live_at now.0 self.now }
     {

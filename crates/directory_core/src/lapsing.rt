@@ -14,8 +14,8 @@ use rd_base::{Moment, Record, Steps};
 use std::marker::{Brand, Model};
 use std::sync::ledger::{Blank, Ledger};
 
-/// Registrations that lapse: contracts see those that are left, in the order in which they lapse,
-/// those of one moment in ascending number.
+/// An iterator over registrations that lapse. Contracts see the remaining ones in the order in
+/// which they lapse. Those of one moment are in ascending number.
 #[derive(Drop)]
 pub struct LapsingIter<'a> {
     /// The records of the version.
@@ -36,7 +36,7 @@ impl<'a> Model for LapsingIter<'a> {
     ghost view = { λ i. lapsing_left i.from.0 i.records.now i.left };
 }
 
-/// The next record of these numbers that lapses after this moment.
+/// Returns the next record of these numbers that lapses after this moment.
 fn next_lapsing<'a, L: Ledger>(
     blank: Blank,
     records: &'a Records,
@@ -63,7 +63,7 @@ fn next_lapsing<'a, L: Ledger>(
 }
 
 impl<'a> LapsingIter<'a> {
-    /// The next registration; None exactly at the end. Takes no memory.
+    /// Returns the next registration, or `None` at the end. Does not allocate.
     pub fn step(&mut self) -> Option<&'a Record>
         ensures next { IfSome result (λ r. self.old ≡ r.now ∷ self.new) }
         ensures end { IfNone result ((self.old ≡ []) × (self.new ≡ [])) }
@@ -73,9 +73,12 @@ impl<'a> LapsingIter<'a> {
 }
 
 impl Directory {
-    /// The registrations that lapse after the first of these moments and not after the second, in
-    /// the order in which they lapse, those of one moment in ascending number. The first moment is
-    /// not before the last sweep. Takes no memory.
+    /// Returns the registrations that lapse after `from` and not after `to`, in the order in which
+    /// they lapse. Those of one moment are in ascending number. Does not allocate.
+    ///
+    /// # Requires
+    ///
+    /// `from` is no earlier than the last sweep.
     pub fn lapsing(&self, from: Moment, to: Moment) -> LapsingIter<'_>
         requires { self.now.swept ≤ from.0 }
         ensures { (first : ℕ) (history : List Entry)

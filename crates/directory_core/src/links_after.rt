@@ -1,11 +1,11 @@
-//! What became of the links of a record in a change.
+//! What a change did to the links of a record.
 
-/// What became of the links of a record in a change. No contract can see whether two pieces of
-/// memory are one, so whoever makes the change says it.
+/// What a change did to the links of a record. No contract can see whether two texts share one
+/// piece of memory, so the code that makes the change says it.
 #[derive(Clone, Copy, Debug, PartialEq, Eq)]
 pub(crate) enum LinksAfter {
-    /// They are as they were, and shared.
+    /// They did not change, and are shared.
     Kept,
-    /// Others stand in their place, which may be equal to them.
+    /// Others replace them, which may be equal to them.
     Replaced,
 }

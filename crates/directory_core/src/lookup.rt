@@ -15,9 +15,9 @@ use rd_base::{Bytes, Moment, Query, Starved, Steps};
 use std::sync::ledger::Ledger;
 
 impl Directory {
-    /// Gives a page the lines of the records that are live at this moment, in ascending number: it
-    /// goes over the carriers of the criterion that has fewest, and over all records where no
-    /// criterion has carriers. `Starved`: out of memory.
+    /// Gives a page the lines of the records that are live at this moment, in ascending number.
+    /// Goes over the carriers of the criterion that has fewest, or over all records if no criterion
+    /// is about attributes.
     fn fill<L: Ledger>(
         &self,
         page: &mut Page,
@@ -42,12 +42,21 @@ impl Directory {
         }
     }
 
-    /// The listing of a lookup at this moment, which is not before the last entry and not before
-    /// the last sweep. Where the query has criteria about attributes, and not about targets or
-    /// anchors alone, it counts at most so many steps: for each of these criteria one, and one for
-    /// each of the fewest carriers that any of them has. A carrier is a record with a value that
-    /// the criterion matches, once for each such value; of the attributes `rel`, `rev`, `rt` and
-    /// `if` the parts are values. `Starved`: out of memory.
+    /// Returns the listing of a lookup at this moment.
+    ///
+    /// If the query has criteria about attributes, and not only about targets or anchors, the
+    /// lookup counts at most `c` × (`n` + 1) steps. Here, `c` is the number of these criteria, and
+    /// `n` is the smallest number of carriers that one of them has. A carrier is a record with a
+    /// value that the criterion matches, counted once for each such value. The parts of `rel`,
+    /// `rev`, `rt` and `if` are values.
+    ///
+    /// # Requires
+    ///
+    /// `now` is no earlier than the last entry and the last sweep.
+    ///
+    /// # Errors
+    ///
+    /// `Starved` if memory runs out.
     pub fn lookup<L: Ledger>(
         &self,
         query: &Query,

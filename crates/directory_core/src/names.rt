@@ -1,4 +1,4 @@
-//! The numbers of records by their names, as versions that never change.
+//! The numbers of records by name, as immutable versions.
 ghost use Rattle.std.specs.Prelude.{◌≡◌, ◌+◌, [], ◌∷◌, IfOk, IfSome, IfNone};
 ghost use Rattle.std.specs.Map.{keys_of, remove_entry};
 ghost use Rattle.std.specs.BTreeMap.{insert_entry, is_at};
@@ -20,7 +20,7 @@ pub struct NameSlot {
     pub number: u64,
 }
 
-/// Two numbers cost nothing.
+/// A slot is two numbers: sharing it copies them.
 impl Shared for NameSlot {
     fn share(&self) -> Result<NameSlot, Starved> {
         Ok(*self)
@@ -31,20 +31,20 @@ impl Shared for NameSlot {
     }
 }
 
-/// The number that a hash begins with (FNV-1a, 64 bits).
+/// The initial value of a hash (FNV-1a, 64 bits).
 const START: u64 = 0xCBF29CE484222325;
 
-/// The number by which each octet multiplies a hash (FNV-1a, 64 bits).
+/// The factor by which each octet multiplies a hash (FNV-1a, 64 bits).
 const PRIME: u64 = 0x00000100000001B3;
 
-/// A hash with one octet more.
+/// Returns a hash after one more octet.
 fn mixed(hash: u64, octet: u8) -> u64
     ensures { result ≡ hashes.mixed hash octet }
 {
     (hash ^ u64::from(octet)).wrapping_mul(PRIME)
 }
 
-/// A hash with a text more.
+/// Returns a hash after one more text.
 #[tactic(auto, unfolding(crate::specs::NameSlots::with_text))]
 fn with_text(hash: u64, text: &[u8]) -> u64
     ensures { result ≡ hashes.with_text hash text.now }
@@ -52,7 +52,7 @@ fn with_text(hash: u64, text: &[u8]) -> u64
     text.iter().fold(hash, |hash, octet| mixed(hash, *octet))
 }
 
-/// The hash of a name.
+/// Returns the hash of a name.
 #[tactic(auto, unfolding(crate::specs::NameSlots::hash_of))]
 fn hash_of(name: &Name) -> u64
     ensures { result ≡ hashes.hash_of name.now }
@@ -64,11 +64,10 @@ fn hash_of(name: &Name) -> u64
     }
 }
 
-/// The numbers of records, each under the hash of its name. Contracts see them as the list of their
-/// slots.
+/// The numbers of records, each under the hash of its name. Contracts see the list of their slots.
 #[derive(Drop)]
 pub struct Names {
-    /// The slots as keys, so that versions share those that did not change.
+    /// The slots as keys, so that versions share those that do not change.
     slots: ChunkMap<NameSlot, ()>,
 }
 
@@ -82,11 +81,11 @@ impl Model for Names {
     ghost view = { λ n. keys_of n.slots };
 }
 
-/// A cursor over the numbers under one hash: contracts see it as the numbers that are left, in
-/// ascending order.
+/// A cursor over the numbers under one hash. Contracts see the remaining numbers, in ascending
+/// order.
 #[derive(Drop)]
 pub struct NumbersUnder<'a> {
-    /// The slots that are left, those of later hashes too.
+    /// The remaining slots, including those of later hashes.
     left: RangeIter<'a, NameSlot, ()>,
     /// The hash.
     hash: u64,
@@ -103,7 +102,7 @@ impl<'a> Model for NumbersUnder<'a> {
 }
 
 impl Names {
-    /// No names. `Starved`: out of memory.
+    /// Returns an empty set of names.
     pub(crate) fn empty(alloc: Global) -> Result<Names, Starved>
         ensures { IfOk result (λ names. names ≡ []) }
     {
@@ -112,7 +111,7 @@ impl Names {
         })
     }
 
-    /// Equal names. `Starved`: out of memory.
+    /// Returns equal names, which share their memory.
     pub(crate) fn share(&self) -> Result<Names, Starved>
         ensures { IfOk result (λ names. names ≡ self.now) }
     {
@@ -121,7 +120,7 @@ impl Names {
         })
     }
 
-    /// The names with this number more, under this name. `Starved`: out of memory.
+    /// Returns the names with one more number, under this name.
     pub(crate) fn put(&self, name: &Name, number: u64) -> Result<Names, Starved>
         ensures { IfOk result (λ names. names ≡ hashes.with_slot
             (record { hash = hashes.hash_of name.now; number = number }) self.now) }
@@ -135,7 +134,7 @@ impl Names {
         })
     }
 
-    /// The names without this number, which stands under this name. `Starved`: out of memory.
+    /// Returns the names without this number, which is under this name.
     pub(crate) fn take(&self, name: &Name, number: u64) -> Result<Names, Starved>
         ensures { IfOk result (λ names. names ≡ hashes.without_slot
             (record { hash = hashes.hash_of name.now; number = number }) self.now) }
@@ -149,8 +148,8 @@ impl Names {
         })
     }
 
-    /// A cursor over the numbers under the hash of this name, which are those of all records of the
-    /// name and of few others.
+    /// Returns a cursor over the numbers under the hash of this name. These are the numbers of all
+    /// records with the name, and of few others.
     pub(crate) fn under(&self, name: &Name) -> NumbersUnder<'_>
         ensures { result ≡ hashes.numbers_of_hash (hashes.hash_of name.now) self.now }
     {
@@ -163,7 +162,7 @@ impl Names {
 }
 
 impl<'a> NumbersUnder<'a> {
-    /// The next number; None exactly at the end. Each call counts one step.
+    /// Returns the next number, or `None` at the end. Each call counts one step.
     pub(crate) fn step<L: Ledger>(&mut self, steps: &mut Steps<L>) -> Option<u64>
         ensures next { IfSome result (λ number. self.old ≡ number ∷ self.new) }
         ensures end { IfNone result (self.old ≡ []) }

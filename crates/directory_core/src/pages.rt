@@ -1,5 +1,5 @@
-//! Pages of listings, to which registrations give their lines one after another (RFC 9176 section
-//! 6).
+//! Pages of listings, to which registrations contribute their lines one after another (RFC 9176
+//! section 6).
 ghost use Rattle.std.specs.Prelude.{◌≡◌, ◌<◌, ◌^◌, ◌++◌, [], ℕ, List, length, OnOk};
 ghost use Rattle.rd_base.proofs.lemmas.Pairs.{PairsByRecursion};
 ghost use Rattle.record_model.specs.ListingLines.{shown};
@@ -15,16 +15,16 @@ use std::sync::ledger::Ledger;
 /// A page of a listing while it is written.
 #[derive(Drop)]
 pub struct Page {
-    /// Its lines, with a comma between each two.
+    /// Its lines, separated by commas.
     text: Bytes,
-    /// How many of the lines that come are still passed over.
+    /// How many of the next lines to skip.
     skip: u64,
-    /// How many lines it still takes at most.
+    /// How many more lines it takes at most.
     most: u64,
 }
 
 impl Page {
-    /// The page that a query asks for, before any line.
+    /// Returns the page that a query requests, before any line.
     pub(crate) fn of(alloc: Global, query: &Query) -> Page
         ensures { (lines : List (List ℕ))
             → length lines < 2 ^ 64
@@ -38,8 +38,7 @@ impl Page {
         }
     }
 
-    /// Adds the lines that the record gives to the query where it is live at this moment.
-    /// `Starved`: out of memory.
+    /// Adds the lines that the record contributes to the query, if it is live at this moment.
     fn add(&mut self, alloc: Global, query: &Query, kept: &Kept, now: Moment) -> Result<(), Starved>
         ensures { OnOk result ((more : List (List ℕ))
             → finished self.new more
@@ -61,8 +60,8 @@ impl Page {
         Ok(())
     }
 
-    /// Adds the lines of all records that are live at this moment, in ascending number; it goes no
-    /// further once the page is full. `Starved`: out of memory.
+    /// Adds the lines of all records that are live at this moment, in ascending number. Stops when
+    /// the page is full.
     pub(crate) fn add_all<L: Ledger>(
         &mut self,
         alloc: Global,
@@ -84,9 +83,8 @@ impl Page {
         Ok(())
     }
 
-    /// Adds the lines of the records of these numbers, which ascend, that are live at this moment,
-    /// in their order; it goes no further once the page is full. One cursor goes forward from
-    /// record to record. `Starved`: out of memory.
+    /// Adds the lines of the records with these ascending numbers that are live at this moment, in
+    /// order. Stops when the page is full. One cursor moves forward from record to record.
     pub(crate) fn add_numbered(
         &mut self,
         alloc: Global,
@@ -113,7 +111,7 @@ impl Page {
         Ok(())
     }
 
-    /// The text of the page, where no more line comes. Takes no memory.
+    /// Returns the text of the page, after its last line. Does not allocate.
     pub(crate) fn into_text(self) -> Bytes
         ensures { result ≡ finished self [] }
     {

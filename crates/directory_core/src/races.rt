@@ -1,5 +1,5 @@
-//! Which records can give a line to a query: cursors over the carriers of its criteria go on by
-//! turns until one of them ends.
+//! The records that can contribute a line to a query. Cursors over the carriers of its criteria
+//! advance alternately until one of them ends.
 ghost use Rattle.std.specs.Prelude.{◌≡◌, ◌+◌, ◌*◌, ◌<◌, ◌≤◌, ℕ, length, map, Contains, IfOk};
 ghost use Rattle.std.specs.Prelude.{OnOk, IfSome, IfNone, vec_len, []};
 ghost use Rattle.std.specs.List.{AllByRecursion, HoldsAt};
@@ -17,12 +17,12 @@ use std::alloc::Global;
 use std::marker::Model;
 use std::sync::ledger::Ledger;
 
-/// A cursor over the carriers of a criterion, with the numbers that it gave.
+/// A cursor over the carriers of a criterion, with the numbers that it returned.
 #[derive(Drop)]
 pub struct Racer<'a> {
-    /// The numbers that it gave, the last one last.
+    /// The numbers that it returned, in order.
     numbers: Vec<u64>,
-    /// The carriers that are left.
+    /// The remaining carriers.
     left: Carriers<'a>,
 }
 
@@ -35,7 +35,7 @@ impl<'a> Model for Racer<'a> {
 }
 
 impl<'a> Racer<'a> {
-    /// Takes the next number of the cursor; false exactly at its end. `Starved`: out of memory.
+    /// Takes the next number of the cursor. Returns false if the cursor is at its end.
     fn advance<L: Ledger>(&mut self, steps: &mut Steps<L>) -> Result<bool, Starved>
         ensures turned { HasTurned self.old self.new result }
         ensures counted { steps.new ≡ steps.old + 1 }
@@ -48,7 +48,7 @@ impl<'a> Racer<'a> {
     }
 }
 
-/// Whether the criterion is about attributes, and not about targets or anchors.
+/// Returns whether the criterion is about attributes, and not about targets or anchors.
 fn is_of_attributes(criterion: &Criterion) -> bool
     ensures { result ≡ bounds.is_of_attributes criterion.now }
 {
@@ -56,8 +56,7 @@ fn is_of_attributes(criterion: &Criterion) -> bool
         && criterion.name.as_bytes() != b"anchor".as_slice()
 }
 
-/// A cursor at the first carrier of each criterion that is about attributes, in their order.
-/// `Starved`: out of memory.
+/// Returns a cursor at the first carrier of each criterion about attributes, in order.
 fn racers_of<'a>(
     alloc: Global,
     index: &'a AttributeIndex,
@@ -81,8 +80,7 @@ fn racers_of<'a>(
     Ok(racers)
 }
 
-/// Lets the cursors go on by turns until one of them ends, and answers where that one stands.
-/// `Starved`: out of memory.
+/// Advances the cursors alternately until one of them ends, and returns its index.
 fn race<L: Ledger>(racers: &mut [Racer<'_>], steps: &mut Steps<L>) -> Result<usize, Starved>
     requires { 0 < length racers.old }
     ensures within { IfOk result (λ at. at < length racers.new) }
@@ -101,7 +99,7 @@ fn race<L: Ledger>(racers: &mut [Racer<'_>], steps: &mut Steps<L>) -> Result<usi
     Ok(at)
 }
 
-/// The numbers of the cursor that ends first where all go on by turns. `Starved`: out of memory.
+/// Returns the numbers of the cursor that ends first when all advance alternately.
 fn fewest<L: Ledger>(mut racers: Vec<Racer<'_>>, steps: &mut Steps<L>) -> Result<Vec<u64>, Starved>
     requires { 0 < vec_len racers }
     ensures found { IfOk result (λ numbers. Contains (map whole racers.entry.items) numbers.items) }
@@ -112,7 +110,7 @@ fn fewest<L: Ledger>(mut racers: Vec<Racer<'_>>, steps: &mut Steps<L>) -> Result
     Ok(racers.swap_remove(at).numbers)
 }
 
-/// The numbers in ascending order, each once.
+/// Returns the numbers in ascending order, each once.
 fn sorted(mut numbers: Vec<u64>) -> Vec<u64>
     ensures rising { PairsByRecursion (λ m n. m < n) result.items }
     ensures same { (n : ℕ) → has_number result.items n ≡ has_number numbers.items n }
@@ -122,9 +120,10 @@ fn sorted(mut numbers: Vec<u64>) -> Vec<u64>
     numbers
 }
 
-/// The numbers, in ascending order and each once, of the carriers of a criterion that is about
-/// attributes; None where no criterion is. It counts at most so many steps: for each such criterion
-/// one, and one for each of the fewest carriers that any of them has. `Starved`: out of memory.
+/// Returns the numbers of the carriers of one criterion about attributes, in ascending order and
+/// each once. Returns `None` if no criterion is about attributes. Counts at most `c` × (`n` + 1)
+/// steps, where `c` is the number of these criteria, and `n` the smallest number of carriers that
+/// one of them has.
 pub(crate) fn fewest_carriers<L: Ledger>(
     alloc: Global,
     index: &AttributeIndex,

@@ -1,5 +1,5 @@
-//! What a version answers of single registrations, of how many are live, and its entity tag (RFC
-//! 9176 sections 5 and 6).
+//! What a version says of single registrations and of the number of live ones, and its entity tag
+//! (RFC 9176 sections 5 and 6).
 ghost use Rattle.std.specs.Prelude.{◌≡◌, ◌+◌, ◌<◌, ◌≤◌, ◌^◌, true, ℕ, List, length, find, Some};
 ghost use Rattle.std.specs.Prelude.{IfSome};
 ghost use Rattle.std.specs.Option.{option_copied};
@@ -22,7 +22,7 @@ use rd_base::{Moment, Name, Record, Steps, Tag};
 use std::marker::Brand;
 use std::sync::ledger::{Blank, Ledger};
 
-/// The record, where it has this name and is live.
+/// Returns the record, if it has this name and is live.
 fn live_of_name<'a>(kept: Option<&'a Kept>, name: &Name, now: Moment) -> Option<&'a Kept>
     ensures { option_copied result ≡ if_live_named name.now now.0 (option_copied kept.entry) }
 {
@@ -36,7 +36,7 @@ fn live_of_name<'a>(kept: Option<&'a Kept>, name: &Name, now: Moment) -> Option<
     Some(kept)
 }
 
-/// The first record of these numbers that has this name and is live.
+/// Returns the first record of these numbers that has this name and is live.
 fn first_of_name<'a, L: Ledger>(
     blank: Blank,
     records: &'a Records,
@@ -58,7 +58,7 @@ fn first_of_name<'a, L: Ledger>(
     None
 }
 
-/// The entity tag of so many entries and so many lapsed records.
+/// Returns the entity tag for a count of entries and a count of lapsed records.
 fn tag_of(entries: u64, lapsed: u64) -> Tag
     requires entries { entries < 2 ^ 48 }
     requires lapsed { lapsed < 2 ^ 16 }
@@ -70,8 +70,8 @@ fn tag_of(entries: u64, lapsed: u64) -> Tag
 }
 
 impl Directory {
-    /// The moment at which the live records were counted: that of the last entry or of the last
-    /// sweep, the later one.
+    /// Returns the moment at which the live records were counted: that of the last entry or of the
+    /// last sweep, whichever is later.
     pub(crate) fn counted_at(&self) -> Moment
         ensures { result.0 ≡ shown.counted_at self.now }
     {
@@ -81,7 +81,7 @@ impl Directory {
         self.at
     }
 
-    /// How many records are live at this moment, and what they weigh together. It goes through
+    /// Returns how many records are live at this moment, and what they weigh together. Goes through
     /// those that have lapsed.
     pub(crate) fn counts_at(&self, now: Moment) -> Counts
         requires after_at { self.now.at ≤ now.0 }
@@ -102,7 +102,7 @@ impl Directory {
         )
     }
 
-    /// The live record of this number.
+    /// Returns the live record with this number.
     pub(crate) fn live_numbered(&self, number: u64, now: Moment) -> Option<&Kept>
         ensures value { option_copied result ≡ numbered number (live_among now.0 self.now.records) }
         ensures there { IfSome result (λ kept. numbered number self.now.records ≡ Some kept.now) }
@@ -118,7 +118,7 @@ impl Directory {
         Some(kept)
     }
 
-    /// The live record of this name.
+    /// Returns the live record with this name.
     pub(crate) fn live_named(&self, name: &Name, now: Moment) -> Option<&Kept>
         ensures value { option_copied result
             ≡ find (is_live_named name.now now.0) self.now.records }
@@ -136,8 +136,11 @@ impl Directory {
         )
     }
 
-    /// The registration of this number; None exactly where none of this number is live at this
-    /// moment, which is not before the last entry and not before the last sweep.
+    /// Returns the live registration with this number, or `None` if there is none at this moment.
+    ///
+    /// # Requires
+    ///
+    /// `now` is no earlier than the last entry and the last sweep.
     pub fn record_of(&self, number: u64, now: Moment) -> Option<&Record>
         requires after_at { self.now.at ≤ now.0 }
         requires after_sweep { self.now.swept ≤ now.0 }
@@ -151,8 +154,12 @@ impl Directory {
         }
     }
 
-    /// The number of the registration of this name; None exactly where none of this name is live at
-    /// this moment, which is not before the last entry and not before the last sweep.
+    /// Returns the number of the live registration with this name, or `None` if there is none at
+    /// this moment.
+    ///
+    /// # Requires
+    ///
+    /// `now` is no earlier than the last entry and the last sweep.
     pub fn by_name(&self, name: &Name, now: Moment) -> Option<u64>
         requires after_at { self.now.at ≤ now.0 }
         requires after_sweep { self.now.swept ≤ now.0 }
@@ -166,8 +173,12 @@ impl Directory {
         }
     }
 
-    /// How many registrations are live at this moment, which is not before the last entry and not
-    /// before the last sweep. It goes through those that have lapsed and were not swept.
+    /// Returns how many registrations are live at this moment. Goes through those that have lapsed
+    /// and were not swept.
+    ///
+    /// # Requires
+    ///
+    /// `now` is no earlier than the last entry and the last sweep.
     pub fn live_count(&self, now: Moment) -> u64
         requires after_at { self.now.at ≤ now.0 }
         requires after_sweep { self.now.swept ≤ now.0 }
@@ -178,9 +189,13 @@ impl Directory {
         self.counts_at(now).live
     }
 
-    /// The entity tag of every lookup at this moment (RFC 7252 section 5.10.6), which is not before
-    /// the last entry and not before the last sweep: the count of the entries, and how many
-    /// registrations that were live after the last one have lapsed.
+    /// Returns the entity tag of every lookup at this moment (RFC 7252 section 5.10.6). It consists
+    /// of the count of the entries, and of how many registrations have lapsed that were live after
+    /// the last one.
+    ///
+    /// # Requires
+    ///
+    /// `now` is no earlier than the last entry and the last sweep.
     pub fn tag(&self, now: Moment) -> Tag
         requires after_at { self.now.at ≤ now.0 }
         requires after_sweep { self.now.swept ≤ now.0 }

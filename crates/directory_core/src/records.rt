@@ -1,4 +1,4 @@
-//! Records by their numbers, as versions that never change.
+//! Records by number, as immutable versions.
 ghost use Rattle.std.specs.Prelude.{◌≡◌, [], not, filter, IfOk, option_map, ℕ};
 ghost use Rattle.std.specs.Map.{lookup, values_of};
 ghost use Rattle.std.specs.BTreeMap.{is_at};
@@ -16,7 +16,7 @@ use rd_base::Starved;
 use std::alloc::Global;
 use std::marker::Model;
 
-/// Records in ascending number. Contracts see them as their list.
+/// Records in ascending number. Contracts see their list.
 #[derive(Drop)]
 pub struct Records {
     /// Each record under its number.
@@ -40,7 +40,7 @@ impl Model for Records {
 }
 
 impl Records {
-    /// No records. `Starved`: out of memory.
+    /// Returns an empty set of records.
     pub(crate) fn empty(alloc: Global) -> Result<Records, Starved>
         ensures { IfOk result (λ records. records ≡ []) }
     {
@@ -49,7 +49,7 @@ impl Records {
         })
     }
 
-    /// Equal records, all of which are shared. `Starved`: out of memory.
+    /// Returns equal records, all of which are shared.
     pub(crate) fn share(&self) -> Result<Records, Starved>
         ensures same { IfOk result (λ records. records ≡ self.now) }
         ensures rising { PairsByRecursion IsBelow self.now }
@@ -59,14 +59,14 @@ impl Records {
         })
     }
 
-    /// The record of this number, where there is one. Takes no memory.
+    /// Returns the record with this number, if there is one. Does not allocate.
     pub(crate) fn get(&self, number: u64) -> Option<&Kept>
         ensures { option_copied result ≡ numbered number self.now }
     {
         self.pairs.get(&number)
     }
 
-    /// A cursor over all of them that goes forward to numbers that ascend. Takes no memory.
+    /// Returns a cursor over all records, which can seek ascending numbers. Does not allocate.
     pub(crate) fn seeker(&self) -> RangeIter<'_, u64, Kept>
         ensures found { (n : ℕ) → lookup (is_at (nat_cmp n)) result ≡ numbered n self.now }
         ensures ascends { IsAscending nat_cmp result }
@@ -74,15 +74,14 @@ impl Records {
         self.pairs.all()
     }
 
-    /// A cursor over all of them, in ascending number. Takes no memory.
+    /// Returns a cursor over all records, in ascending number. Does not allocate.
     pub(crate) fn all(&self) -> RangeIter<'_, u64, Kept>
         ensures { values_of result ≡ self.now }
     {
         self.pairs.range(&0)
     }
 
-    /// The records with one more, in place of that of its number where there is one. `Starved`: out
-    /// of memory.
+    /// Returns the records with one more, which replaces any record with its number.
     pub(crate) fn put(&self, kept: Kept) -> Result<Records, Starved>
         ensures records { IfOk result (λ records. records ≡ with_record kept self.now) }
         ensures rising { IfOk result (λ records. PairsByRecursion IsBelow records) }
@@ -93,7 +92,7 @@ impl Records {
         })
     }
 
-    /// The records without that of this number. `Starved`: out of memory.
+    /// Returns the records without the one with this number.
     pub(crate) fn take(&self, number: u64) -> Result<Records, Starved>
         ensures records { IfOk result (λ records. records ≡ filter (λ r. not (is_numbered number r))
             self.now) }

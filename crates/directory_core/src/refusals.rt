@@ -1,21 +1,21 @@
-//! Why a version refuses a change.
+//! The reasons for which a version refuses a change.
 
 use rd_base::Starved;
 
-/// Why a change is refused. What comes first in this order is answered; running out of memory may
-/// come instead of each.
+/// The reason for which a change is refused: the first that applies, in this order. `Starved` can
+/// take the place of any of them.
 #[derive(Clone, Copy, Debug, PartialEq, Eq)]
 pub enum Refusal {
     /// No live registration has this number.
     Gone(u64),
-    /// A new name came while so many registrations were live, 4,096.
+    /// The name is new, and this many registrations are live: 4,096.
     FullCount(u64),
-    /// The live registrations would weigh so much, in octets, which is more than 1,048,576; the
-    /// greatest number of 64 bits where they would weigh more than that.
+    /// The live registrations would weigh this many octets, more than 1,048,576. If the weight is
+    /// 2^64 or more, the number is 2^64 - 1.
     FullText(u64),
-    /// As many entries as are counted, 2^48 - 1.
+    /// 2^48 - 1 entries are counted, the most there can be.
     FullEntries,
-    /// Out of memory.
+    /// Memory ran out.
     Starved,
 }
 
@@ -25,7 +25,7 @@ impl From<Starved> for Refusal {
 
     ghost from_gives = { λ _ e. e ≡ answer.Starved };
 
-    /// Out of memory.
+    /// Returns `Starved`.
     fn from(_: Starved) -> Refusal {
         Refusal::Starved
     }

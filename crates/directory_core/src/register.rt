@@ -20,7 +20,7 @@ use history_model::limits::MAX_REGISTRATIONS;
 use rd_base::Moment;
 use registration::Draft;
 
-/// A version with the number of what it registered.
+/// Returns a version with the number of the registration that it added or replaced.
 fn with_number(
     version: Result<Directory, Refusal>,
     number: u64,
@@ -34,7 +34,7 @@ fn with_number(
 }
 
 impl Directory {
-    /// The version with a registration of a name that is new.
+    /// Returns the version with a registration of a new name.
     fn register_new(&self, now: Moment, counts: Counts, draft: Draft) -> Result<Directory, Refusal>
         requires after_at { self.now.at ≤ now.0 }
         requires after_sweep { self.now.swept ≤ now.0 }
@@ -56,7 +56,7 @@ impl Directory {
         self.appended(now, counts, draft)
     }
 
-    /// The version with a registration of a name of which this record is live.
+    /// Returns the version with a registration of the name of this live record.
     fn register_again(
         &self,
         now: Moment,
@@ -84,17 +84,22 @@ impl Directory {
         self.renewed(now, counts, old, now, draft, LinksAfter::Replaced)
     }
 
-    /// The version with this registration, and its number: that of the live registration of the
-    /// name, whose all else is replaced, and else the next one (RFC 9176 section 5). The moment is
-    /// not before the last entry, and not before the last sweep, which is that of the new version
-    /// too. This version is as before.
+    /// Returns the version with this registration, and its number (RFC 9176 section 5).
+    ///
+    /// A live registration of the same name is replaced and keeps its number. Otherwise the
+    /// registration gets the next number. `self` does not change.
+    ///
+    /// # Requires
+    ///
+    /// `now` is at most 10^15 milliseconds, and no earlier than the last entry and the last sweep,
+    /// which the new version inherits. `draft` is a valid draft.
     ///
     /// # Errors
     ///
-    /// `FullCount` exactly where the name is new and 4,096 registrations are live; else `FullText`
-    /// exactly where the live ones would weigh more than 1,048,576 with this one as it is to be;
-    /// else `FullEntries` exactly where 2^48 - 1 entries are counted. `Starved` may come instead of
-    /// each.
+    /// The first that applies. `Starved` (out of memory) can take the place of any of them.
+    /// - `FullCount` if the name is new and 4,096 registrations are live.
+    /// - `FullText` if the live registrations would weigh more than 1,048,576 octets.
+    /// - `FullEntries` if 2^48 - 1 entries have been counted.
     pub fn register(&self, now: Moment, draft: Draft) -> Result<(Directory, u64), Refusal>
         requires after_at { self.now.at ≤ now.0 }
         requires after_sweep { self.now.swept ≤ now.0 }

@@ -10,14 +10,19 @@ use crate::{Directory, Refusal};
 use rd_base::Moment;
 
 impl Directory {
-    /// The version without the registration of this number (RFC 9176 section 5.3.2). The moment is
-    /// not before the last entry, and not before the last sweep, which is that of the new version
-    /// too. This version is as before.
+    /// Returns the version without the registration with this number (RFC 9176 section 5.3.2).
+    /// `self` does not change.
+    ///
+    /// # Requires
+    ///
+    /// `now` is at most 10^15 milliseconds, and no earlier than the last entry and the last sweep,
+    /// which the new version inherits.
     ///
     /// # Errors
     ///
-    /// `Gone` exactly where no registration of this number is live; else `FullEntries` exactly
-    /// where 2^48 - 1 entries are counted. `Starved` may come instead of each.
+    /// The first that applies. `Starved` (out of memory) can take the place of any of them.
+    /// - `Gone` if no live registration has this number.
+    /// - `FullEntries` if 2^48 - 1 entries have been counted.
     pub fn remove(&self, now: Moment, number: u64) -> Result<Directory, Refusal>
         requires after_at { self.now.at ≤ now.0 }
         requires after_sweep { self.now.swept ≤ now.0 }

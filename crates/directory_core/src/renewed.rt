@@ -1,4 +1,4 @@
-//! A version with one record made anew, one more, or one less.
+//! Versions with one record changed, added or removed.
 ghost use Rattle.std.specs.Prelude.{◌≡◌, ◌+◌, ◌*◌, ◌<◌, ◌≤◌, ◌^◌};
 ghost use Rattle.std.specs.Prelude.{◌++◌, ◌∷◌, [], true, Some};
 ghost use Rattle.std.specs.Prelude.{length};
@@ -21,9 +21,9 @@ use rd_base::Moment;
 use registration::{Draft, weight};
 
 impl Directory {
-    /// The version in which a live record is made anew by a draft, under its number and its name,
-    /// where there is room, with a lease that began at `granted` and has not lapsed. What became of
-    /// the links of the record is handed in too.
+    /// Returns the version in which a draft replaces a live record under the same number and name,
+    /// if there is room. The lease began at `granted` and has not lapsed. `links` says what the
+    /// change did to the links of the record.
     pub(crate) fn renewed(
         &self,
         now: Moment,
@@ -84,8 +84,8 @@ impl Directory {
         })
     }
 
-    /// The version with one record more, made by a draft under the next number, where there is room
-    /// for its text.
+    /// Returns the version with one more record, made from a draft under the next number, if there
+    /// is room for its text.
     pub(crate) fn appended(
         &self,
         now: Moment,
@@ -131,7 +131,7 @@ impl Directory {
         })
     }
 
-    /// The version without a live record, where one entry more is counted.
+    /// Returns the version without a live record, if one more entry can be counted.
     pub(crate) fn without(
         &self,
         now: Moment,

@@ -1,4 +1,4 @@
-//! Other links for a registration (RFC 9176 section 5.3).
+//! Replacement of the links of a registration (RFC 9176 section 5.3).
 ghost use Rattle.std.specs.Prelude.{◌≡◌, ◌≤◌, ◌<◌, ◌^◌, ◌++◌, ◌∷◌, []};
 ghost use Rattle.std.specs.Prelude.{ℕ, true, List, None, IfOk};
 ghost use Rattle.std.specs.Prelude.{IfErr, OnOk};
@@ -18,8 +18,8 @@ use rd_base::{Moment, Record, Starved};
 use registration::{Draft, Submitted};
 use std::alloc::Global;
 
-/// What other links make of a record, as a draft under its name: they are resolved against its
-/// base, and all else of it stays.
+/// Returns a record with other links, as a draft under its name. The links are resolved against its
+/// base; the rest stays.
 #[rattlefmt::skip]
 #[tactic(
     auto,
@@ -52,17 +52,23 @@ fn replaced_draft(alloc: Global, old: &Record, links: &Submitted) -> Result<Draf
 }
 
 impl Directory {
-    /// The version in which the registration of this number has these links, whoever gives them:
-    /// they are resolved against its base as it is now, and its lease and all else of it stay (RFC
-    /// 9176 section 5.3). The moment is not before the last entry, and not before the last sweep,
-    /// which is that of the new version too. This version is as before.
+    /// Returns the version in which the registration with this number has these links (RFC 9176
+    /// section 5.3).
+    ///
+    /// The links are resolved against the registration's current base. Its lease and the rest stay.
+    /// Any peer may give the links. `self` does not change.
+    ///
+    /// # Requires
+    ///
+    /// `now` is at most 10^15 milliseconds, and no earlier than the last entry and the last sweep,
+    /// which the new version inherits.
     ///
     /// # Errors
     ///
-    /// `Gone` exactly where no registration of this number is live; else `FullText` exactly where
-    /// the live ones would weigh more than 1,048,576 with this one as it is to be; else
-    /// `FullEntries` exactly where 2^48 - 1 entries are counted. `Starved` may come instead of
-    /// each.
+    /// The first that applies. `Starved` (out of memory) can take the place of any of them.
+    /// - `Gone` if no live registration has this number.
+    /// - `FullText` if the live registrations would weigh more than 1,048,576 octets.
+    /// - `FullEntries` if 2^48 - 1 entries have been counted.
     pub fn replace(&self, now: Moment, number: u64, links: Submitted) -> Result<Directory, Refusal>
         requires after_at { self.now.at ≤ now.0 }
         requires after_sweep { self.now.swept ≤ now.0 }

@@ -1,4 +1,4 @@
-//! How much a version may hold.
+//! Limits of a version.
 ghost use Rattle.std.specs.Prelude.{◌≡◌, ◌+◌, ◌≤◌, ℕ};
 ghost use Rattle.history_model.specs.Refusals.{max_text};
 ghost use Rattle.registration.specs.Drafts as drafts;
@@ -10,7 +10,7 @@ use history_model::limits::{MAX_ENTRIES, MAX_TEXT};
 use rd_base::{Moment, Record};
 use registration::Draft;
 
-/// Whether one entry more is counted.
+/// Returns `FullEntries` if one more entry cannot be counted.
 pub(crate) fn room_for_entry(entries: u64) -> Result<(), Refusal>
     ensures { HasEntryRoom entries result }
 {
@@ -20,7 +20,8 @@ pub(crate) fn room_for_entry(entries: u64) -> Result<(), Refusal>
     Ok(())
 }
 
-/// What there is with so many octets more, where that much may be and one entry more is counted.
+/// Returns the weight with `octets` more octets, or the refusal if that is too much or if one more
+/// entry cannot be counted.
 pub(crate) fn text_with(before: u64, octets: u64, entries: u64) -> Result<u64, Refusal>
     requires { before ≤ max_text }
     ensures { (w : ℕ) → octets ≡ capped w → HasRoom (before + w) entries result }
@@ -35,7 +36,7 @@ pub(crate) fn text_with(before: u64, octets: u64, entries: u64) -> Result<u64, R
     Ok(text)
 }
 
-/// The record that a draft becomes under a number, at a moment.
+/// Returns the record that a draft becomes under a number, at a moment.
 #[tactic(auto, unfolding(registration::specs::Drafts::recorded))]
 pub(crate) fn record_from(number: u64, now: Moment, draft: Draft) -> Record
     ensures { result ≡ drafts.recorded number now draft }

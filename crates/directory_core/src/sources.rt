@@ -8,10 +8,17 @@ use crate::Directory;
 use rd_base::{Bytes, Moment, Starved};
 
 impl Directory {
-    /// The links of the registration of this number as they were submitted, as a link document;
-    /// None exactly where none of this number is live at this moment, which is not before the last
-    /// entry and not before the last sweep. It is one copy of a text that the registration has.
-    /// `Starved`: out of memory.
+    /// Returns the links of the registration with this number as they were submitted, as a link
+    /// document. Returns `None` if no live registration has this number. The document is one copy
+    /// of a text that the registration stores.
+    ///
+    /// # Requires
+    ///
+    /// `now` is no earlier than the last entry and the last sweep.
+    ///
+    /// # Errors
+    ///
+    /// `Starved` if memory runs out.
     pub fn source(&self, number: u64, now: Moment) -> Result<Option<Bytes>, Starved>
         requires after_at { self.now.at ≤ now.0 }
         requires after_sweep { self.now.swept ≤ now.0 }

@@ -1,4 +1,4 @@
-//! Sweeps: what has lapsed is dropped.
+//! Sweeps, which drop lapsed records.
 ghost use Rattle.std.specs.Prelude.{◌≡◌, ◌+◌, ◌≤◌, ℕ, List, length, filter, nat_le, IfOk};
 ghost use Rattle.rd_base.proofs.lemmas.Pairs.{PairsByRecursion};
 ghost use Rattle.history_model.specs.declared.entries.Entry.{Entry};
@@ -20,7 +20,7 @@ use rd_base::{Moment, Starved, Steps};
 use std::alloc::Global;
 use std::sync::ledger::Ledger;
 
-/// The names of records without that of the record of this number.
+/// Returns the names of records without that of the record with this number.
 fn names_without(records: &Records, names: &Names, number: u64) -> Result<Names, Starved>
     requires rising { PairsByRecursion IsBelow records.now }
     requires named { names.now ≡ slots_of records.now }
@@ -32,7 +32,7 @@ fn names_without(records: &Records, names: &Names, number: u64) -> Result<Names,
     }
 }
 
-/// This index of records without that of this number.
+/// Returns the index of records without the record with this number.
 fn index_without_number(
     alloc: Global,
     records: &Records,
@@ -49,7 +49,7 @@ fn index_without_number(
     }
 }
 
-/// The records without those of these numbers, with their names and their index.
+/// Returns the records without those of these numbers, with their names and their index.
 fn without_numbers(
     alloc: Global,
     records: &Records,
@@ -79,11 +79,19 @@ fn without_numbers(
 }
 
 impl Directory {
-    /// The version without the records that have lapsed at this moment, which is not before the
-    /// last entry and not before the last sweep. From this moment on it has the same live
-    /// registrations, and the same entity tags: it stands for the same history. It counts a step
-    /// for each lease that has lapsed and was kept, and at most one more. This version is as
-    /// before. `Starved`: out of memory.
+    /// Returns the version without the records that have lapsed at this moment.
+    ///
+    /// From this moment on, it has the same live registrations and the same entity tags, and it
+    /// stands for the same history. Counts one step for each lapsed lease that was still stored,
+    /// and at most one more. `self` does not change.
+    ///
+    /// # Requires
+    ///
+    /// `now` is no earlier than the last entry and the last sweep.
+    ///
+    /// # Errors
+    ///
+    /// `Starved` if memory runs out.
     pub fn sweep<L: Ledger>(&self, now: Moment, steps: &mut Steps<L>) -> Result<Directory, Starved>
         requires after_at { self.now.at ≤ now.0 }
         requires after_sweep { self.now.swept ≤ now.0 }

@@ -12,18 +12,24 @@ use crate::{Directory, Refusal};
 use rd_base::{Moment, Peer, UpdateParams};
 
 impl Directory {
-    /// The version in which the registration of this number is updated, from this peer: its lease
-    /// starts anew, and what is given replaces what there was; without a base, one that was given
-    /// stays, and another becomes that of the peer; its links are resolved against the base as it
-    /// is then (RFC 9176 section 5.3.1). The moment is not before the last entry, and not before
-    /// the last sweep, which is that of the new version too. This version is as before.
+    /// Returns the version in which this peer updates the registration with this number (RFC 9176
+    /// section 5.3.1).
+    ///
+    /// The lease starts again, and the given parameters replace the old ones. If no base is given,
+    /// a base that a client gave earlier stays, and any other becomes that of the peer. The links
+    /// are resolved against the new base. `self` does not change.
+    ///
+    /// # Requires
+    ///
+    /// `now` is at most 10^15 milliseconds, and no earlier than the last entry and the last sweep,
+    /// which the new version inherits. `change` has allowed parameters.
     ///
     /// # Errors
     ///
-    /// `Gone` exactly where no registration of this number is live; else `FullText` exactly where
-    /// the live ones would weigh more than 1,048,576 with this one as it is to be; else
-    /// `FullEntries` exactly where 2^48 - 1 entries are counted. `Starved` may come instead of
-    /// each.
+    /// The first that applies. `Starved` (out of memory) can take the place of any of them.
+    /// - `Gone` if no live registration has this number.
+    /// - `FullText` if the live registrations would weigh more than 1,048,576 octets.
+    /// - `FullEntries` if 2^48 - 1 entries have been counted.
     pub fn update(
         &self,
         now: Moment,

@@ -1,4 +1,4 @@
-//! What an update makes of a registration (RFC 9176 section 5.3.1).
+//! The draft that an update makes of a registration (RFC 9176 section 5.3.1).
 ghost use Rattle.std.specs.Prelude.{◌≡◌, ◌<◌, ◌^◌, [], true, false, not, filter, map, None, IfOk};
 ghost use Rattle.std.specs.Prelude.{IfSome};
 ghost use Rattle.std.specs.List.{list_all};
@@ -18,7 +18,7 @@ use rd_base::{Items, Pair, Pairs, Peer, Record, Starved, Text, UpdateParams, bas
 use registration::{Draft, rebased};
 use std::alloc::Global;
 
-/// The base that a peer gives.
+/// Returns the base that a peer's address gives.
 #[tactic(auto, using(record_model::proofs::PeerBases::peer_base_is_base))]
 fn base_of_peer(alloc: Global, peer: Peer) -> Result<Text, Starved>
     ensures fits { IsHost peer.host }
@@ -28,8 +28,8 @@ fn base_of_peer(alloc: Global, peer: Peer) -> Result<Text, Starved>
     base_of(alloc, &peer)
 }
 
-/// The base after an update: the one that is given; else one that was given stays, and another
-/// becomes that of the peer.
+/// Returns the base after an update: the given one, or else an earlier given one, or else that of
+/// the peer.
 fn base_after(alloc: Global, given: Option<Text>, old: &Record, peer: Peer) -> Result<Text, Starved>
     requires given { IfSome given (λ base. is_base base ≡ true) }
     requires old { is_base old.now.base ≡ true }
@@ -48,7 +48,7 @@ fn base_after(alloc: Global, given: Option<Text>, old: &Record, peer: Peer) -> R
     }
 }
 
-/// Whether one of these attributes has the name of another.
+/// Returns whether one of these attributes has the same name as `pair`.
 fn is_replaced(given: &[Pair], pair: &Pair) -> bool
     ensures { result ≡ records.is_replaced given.now pair.now }
 {
@@ -57,7 +57,7 @@ fn is_replaced(given: &[Pair], pair: &Pair) -> bool
         .any(|other| pair.name.as_bytes() == other.name.as_bytes())
 }
 
-/// Copies of the attributes that are not replaced.
+/// Returns copies of the attributes that are not replaced.
 fn left_of(alloc: Global, given: &[Pair], old: &[Pair]) -> Result<Vec<Pair>, Starved>
     ensures { IfOk result (λ left. left.items ≡ filter
         (λ pair. not (records.is_replaced given.now pair)) old.now) }
@@ -71,8 +71,8 @@ fn left_of(alloc: Global, given: &[Pair], old: &[Pair]) -> Result<Vec<Pair>, Sta
     Ok(left)
 }
 
-/// The extra attributes after an update: those of a name that it gives are dropped, and its own are
-/// appended.
+/// Returns the extra attributes after an update: old ones with a name that it gives are dropped,
+/// and its own are appended.
 #[tactic(auto, unfolding(record_model::specs::Records::updated_attributes))]
 fn attributes_after(alloc: Global, given: Pairs, old: &Pairs) -> Result<Pairs, Starved>
     ensures { IfOk result (λ pairs. pairs ≡ records.updated_attributes given old.now) }
@@ -83,8 +83,9 @@ fn attributes_after(alloc: Global, given: Pairs, old: &Pairs) -> Result<Pairs, S
     Ok(Pairs::of(pairs))
 }
 
-/// The links of a record against a base, and what became of them: where it is the base of the
-/// record, they are shared as they are, and else each is resolved anew (RFC 9176 section 5.3.1).
+/// Returns the links of a record against a base, and what the change did to them. If it is the
+/// record's base, the links are shared unchanged. Otherwise each is resolved again (RFC 9176
+/// section 5.3.1).
 fn items_against(alloc: Global, old: &Record, base: &Text) -> Result<(Items, LinksAfter), Starved>
     requires references { list_all has_references old.now.items ≡ true }
     requires against { AreAgainst old.now.base old.now.items }
@@ -103,8 +104,9 @@ fn items_against(alloc: Global, old: &Record, base: &Text) -> Result<(Items, Lin
     Ok((items, LinksAfter::Replaced))
 }
 
-/// What an update from a peer makes of a record, as a draft under its name, and what became of its
-/// links: they are resolved against the base as it is then, and kept where that base is as it was.
+/// Returns what an update from a peer makes of a record, as a draft under its name, and what the
+/// change did to its links. They are resolved against the new base, and are kept if the base did
+/// not change.
 #[rattlefmt::skip]
 #[tactic(
     auto,

@@ -1,5 +1,5 @@
 -- How exchanges are found by peer and Message ID: each has a bucket, and each bucket knows its
--- latest.
+-- latest exchange.
 use Rattle.std.specs.Prelude.{
   ◌≡◌,
   ℕ,
@@ -28,11 +28,11 @@ use Rattle.rd_base.specs.declared.peers.Host.TheVariants as host
 use Rattle.rd_base.specs.declared.peers.Peer.{Peer}
 use Rattle.event_model.specs.Repeats.{Exchange}
 
--- how many buckets there are
+-- the number of buckets
 abbrev pub buckets : ℕ
 buckets = BUCKETS
 
--- a hash with one word more: a product, whose upper half goes into the lower
+-- a hash after one more number: a product whose upper half is mixed into the lower
 unfoldable pub mixed : ℕ → ℕ → ℕ
 mixed hash word =
     let product = (bit_xor hash word * 0x9e37_79b9_7f4a_7c15) % 2 ^ 64 in
@@ -51,14 +51,14 @@ bucket_of peer mid = mixed (mixed (host_hash peer.host) peer.port) mid % buckets
 abbrev pub bucket : Exchange → ℕ
 bucket x = bucket_of x.peer x.mid
 
--- exchanges are numbered in the order of their admission, the oldest with the first number: the
--- number of the latest in a bucket
+-- exchanges are numbered in the order of their admission, and the oldest has the number `first`:
+-- the number of the latest one in a bucket
 unfoldable pub latest_in : ℕ → ℕ → List Exchange → Option ℕ
 latest_in first b [] = None
 latest_in first b (x ∷ before) =
     if bucket x == b then Some (first + length before) else latest_in first b before
 
--- a number says which: that number, or one below the first where there is none
+-- a number refers to this one, or it is below the first if there is none
 abbrev pub Says : ℕ → ℕ → Option ℕ → Type 0
 Says first n None = n < first
 Says first n (Some m) = n ≡ m
@@ -70,8 +70,8 @@ AreLinked first (n ∷ ns) (x ∷ before) =
     Says first n (latest_in first (bucket x) before) × AreLinked first ns before
 AreLinked first _ _ = ⊥
 
--- the exchanges, the latest first, are found by these numbers: of each bucket that of its latest,
--- and of each exchange that of the next older one in its bucket
+-- the exchanges, the latest first, are found by these numbers: each bucket has that of its latest,
+-- and each exchange has that of the next older one in its bucket
 pub record AreFoundBy (first : ℕ) (latest older : List ℕ) (xs : List Exchange) : Type 0 where
   pub as_many : length latest ≡ buckets
   pub heads : (b : ℕ) → b < buckets → Says first (slice_index latest b) (latest_in first b xs)

@@ -1,4 +1,4 @@
--- Which events of a journal a table of exchanges stands for (RFC 7252 section 4.5).
+-- The events of a journal that a table of exchanges stands for (RFC 7252 section 4.5).
 use Rattle.std.specs.Prelude.{
   ◌≡◌,
   ◌≢◌,
@@ -30,73 +30,74 @@ use Rattle.exchange_core.specs.declared.writes.Keyed.{Keyed}
 use Rattle.exchange_core.specs.declared.writes.Keyed.TheVariants as keyed
 use Rattle.exchange_core.specs.Table.{Table, admitted_now, young, repeating}
 
--- a table stands for events at a moment: of its exchanges those that are young then are those that
--- are kept then, with their answers
+-- a table stands for events at a moment: those of its exchanges that are young then are the ones
+-- stored then by the events, with their answers
 pub record ExchangesStandFor (moment : ℕ) (events : List Event) (t : Table) : Type 0 where
   pub kept : young moment t.exchanges ≡ exchanges_at moment events
 
--- how a new write is answered, by whether the table is full
+-- the answer to a new write, by whether the table is full
 abbrev pub keyed_new : Bool → Keyed
 keyed_new true = keyed.FullExchanges
 keyed_new false = keyed.Fresh
 
--- how a write is answered, by the admission that it repeats
+-- the answer to a write, by the admission of which it is a duplicate
 abbrev pub keyed_as : Option Event → ℕ → List Event → Keyed
 keyed_as (Some first) moment events = repeating (settled first.place events)
 keyed_as None moment events = keyed_new (is_full_of_exchanges moment events)
 
--- how a write of a peer under a Message ID is answered after these events
+-- the answer to a write of a peer under a Message ID after these events
 unfoldable pub keyed_after : ℕ → Peer → ℕ → List Event → Keyed
 keyed_after moment peer mid events = keyed_as (repeated moment peer mid events) moment events
 
--- a write of a peer under a Message ID was looked for in a table at a moment: how it would be
--- answered, and that the table stands for what it stood for at that moment
+-- A write of a peer under a Message ID was looked up in a table at a moment: the answer that it
+-- would get. The table still stands for the same events.
 pub record IsFoundAt (now : ℕ) (peer : Peer) (mid : ℕ) (before after : Table) (answer : Keyed) :
     Type 0 where
-  -- it would be answered as it is after those events
+  -- it would get the answer that it gets after those events
   pub answered : (events : List Event)
       → IsOrderly events
       → NoneAfter now events
       → ExchangesStandFor now events before
       → answer ≡ keyed_after now peer mid events
-  -- the events stay as they are
+  -- the events do not change
   pub aside : (events : List Event)
       → ExchangesStandFor now events before
       → ExchangesStandFor now events after
-  -- a repeat changes nothing
+  -- a duplicate changes nothing
   pub repeated : answer ≢ keyed.Fresh → answer ≢ keyed.FullExchanges → after ≡ before
   -- the table was changed at no later moment
   pub moment : after.moment ≤ now
 
--- a write of a peer under a Message ID was handed to a table at a moment: how it is answered, and
--- what the table stands for afterwards, whatever events the table stood for at that moment
+-- A write of a peer under a Message ID was passed to a table at a moment: the answer that it gets,
+-- and what the table stands for afterwards. This holds for all events that the table stood for at
+-- that moment.
 pub record IsKeyedAt (now : ℕ) (peer : Peer) (mid : ℕ) (before after : Table) (answer : Keyed) :
     Type 0 where
-  -- it is answered as it is after those events
+  -- it gets the answer that it gets after those events
   pub answered : (events : List Event)
       → IsOrderly events
       → NoneAfter now events
       → ExchangesStandFor now events before
       → answer ≡ keyed_after now peer mid events
-  -- one that is admitted is an event more
+  -- an admitted write is one more event
   pub admitted : (events : List Event) (e : Event)
       → answer ≡ keyed.Fresh
       → e.note ≡ note.Admitted peer mid
       → e.moment ≡ now
       → IsNewPlace e.place events
       → ExchangesStandFor now events before → ExchangesStandFor now (e ∷ events) after
-  -- any other leaves the events as they are
+  -- any other write does not change the events
   pub aside : (events : List Event)
       → answer ≢ keyed.Fresh
       → ExchangesStandFor now events before
       → ExchangesStandFor now events after
-  -- a repeat changes nothing
+  -- a duplicate changes nothing
   pub repeated : answer ≢ keyed.Fresh → answer ≢ keyed.FullExchanges → after ≡ before
   -- the table was changed at no later moment
   pub moment : after.moment ≤ now
 
--- a write of a peer under a Message ID is new at a moment, and the table that is left has room for
--- it: it would be answered so, and so it is once it is the latest of the exchanges
+-- A write of a peer under a Message ID is new at a moment, and the remaining table has room for it.
+-- It would get this answer, and it gets it once it is the latest of the exchanges.
 pub record MayBeAdmitted (now : ℕ) (peer : Peer) (mid : ℕ) (before after : Table) : Type 0 where
   pub found : IsFoundAt now peer mid before after keyed.Fresh
   pub room : length after.exchanges < max_exchanges

@@ -1,9 +1,10 @@
--- buckets of exchanges, and that they are found by them
+-- buckets of exchanges, and how exchanges are found by them
 pub mod Buckets
--- what a table of exchanges stands for, what becomes of a write that is handed to it (RFC 7252
+-- what a table of exchanges stands for, and what happens to a write that is passed to it (RFC 7252
 -- section 4.5)
 pub mod ExchangeEvents
--- what is due of a message that waits, and what is kept of it (RFC 7252 section 4.2)
+-- what is due of a message that awaits an acknowledgement, and what is stored of it (RFC 7252
+-- section 4.2)
 pub mod Retransmissions
--- what these are made of
+-- their parts
 pub mod Table

@@ -1,5 +1,5 @@
--- When a message is sent again, from what events note and from what is kept of it (RFC 7252 section
--- 4.2).
+-- When a message is retransmitted, computed from the events and from what is stored of it (RFC 7252
+-- section 4.2).
 use Rattle.std.specs.Prelude.{◌≡◌, ℕ, ◌+◌, ◌*◌, ◌^◌, nat_lt, List, length, if◌then◌else◌}
 use Rattle.event_model.specs.Events.{Event}
 use Rattle.event_model.specs.Flights.{
@@ -12,14 +12,15 @@ use Rattle.event_model.specs.Flights.{
 use Rattle.exchange_core.specs.declared.resends.Again.{Again}
 use Rattle.exchange_core.specs.declared.resends.Again.TheVariants as again
 
--- this is kept of a message that an event sent first, and others sent again, the newest first
+-- the stored timing of a message that one event sent first and others retransmitted, the newest
+-- first
 pub record Resends (first : Event) (others : List Event) (r : Retransmission) : Type 0 where
   pub sent : r.sent ≡ moment_of_last others first.moment
   pub wait : r.wait ≡ first_wait first.word * 2 ^ length others
   pub again : r.again ≡ length others
 
--- what is due of such a message at a moment: nothing before the deadline, then a retransmission
--- while there were fewer than four, else its end
+-- what is due of such a message at a moment: nothing before the deadline, then a retransmission if
+-- there were fewer than four, otherwise its end
 unfoldable pub due_at : ℕ → Event → List Event → Again
 due_at now first others =
     if nat_lt now (deadline first others)
@@ -28,8 +29,8 @@ due_at now first others =
     then again.Send
     else again.GaveUp
 
--- the same from what is kept of a message: nothing before its wait ends, then a retransmission
--- while there were fewer than four, else its end
+-- the same computed from what is stored of a message: nothing before its timeout expires, then a
+-- retransmission if there were fewer than four, otherwise its end
 unfoldable pub kept_due : ℕ → Retransmission → Again
 kept_due now r =
     if nat_lt now (r.sent + r.wait)
@@ -38,8 +39,8 @@ kept_due now r =
     then again.Send
     else again.GaveUp
 
--- what is kept of a message after what was due of it at a moment: a retransmission is made then,
--- and waits twice as long
+-- what is stored of a message after what was due of it at a moment: a retransmission is made then,
+-- and doubles the timeout
 abbrev pub kept_after : Again → ℕ → Retransmission → Retransmission
 kept_after again.Send now r = record { sent = now; wait = r.wait * 2; again = r.again + 1 }
 kept_after _ now r = r

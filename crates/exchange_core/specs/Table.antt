@@ -1,4 +1,4 @@
--- The exchanges of the table, the latest first: which is found, and what changes.
+-- The exchanges of the table, the latest first: which one is found, and what changes.
 use Rattle.std.specs.Prelude.{
   ℕ,
   ◌≤◌,
@@ -24,13 +24,13 @@ use Rattle.event_model.specs.Repeats.{Exchange}
 use Rattle.exchange_core.specs.declared.writes.Keyed.{Keyed}
 use Rattle.exchange_core.specs.declared.writes.Keyed.TheVariants as keyed
 
--- what a table of exchanges shows: the greatest moment that was handed to a call that changed it,
--- and its exchanges, the latest first
+-- what a table of exchanges shows: the latest moment passed to a call that changed it, and its
+-- exchanges, the latest first
 pub record Table : Type 0 where
   pub moment : ℕ
   pub exchanges : List Exchange
 
--- a write of a peer under a Message ID that is admitted at a moment, in flight
+-- a write of a peer under a Message ID that is admitted at a moment, in progress
 abbrev pub admitted_now : Peer → ℕ → ℕ → Exchange
 admitted_now peer mid moment = record { peer = peer; mid = mid; moment = moment; reply = None }
 
@@ -42,7 +42,7 @@ is_with peer mid x = is_same_peer x.peer peer && x.mid == mid
 abbrev pub is_admitted_at : Peer → ℕ → ℕ → Exchange → Bool
 is_admitted_at peer mid moment x = is_with peer mid x && x.moment == moment
 
--- that write, admitted at a moment where one is given
+-- that write, admitted at a moment if one is given
 abbrev pub is_sought : Peer → ℕ → Option Moment → Exchange → Bool
 is_sought peer mid None x = is_with peer mid x
 is_sought peer mid (Some moment) x = is_admitted_at peer mid moment.0 x
@@ -51,17 +51,17 @@ is_sought peer mid (Some moment) x = is_admitted_at peer mid moment.0 x
 abbrev pub young : ℕ → List Exchange → List Exchange
 young now xs = filter (λ x. is_young now x.moment) xs
 
--- no exchange was admitted after this moment, and each no later than those before it
+-- no exchange was admitted after this moment, and each no later than those before it in the list
 abbrev pub InOrder : ℕ → List Exchange → Type 0
 InOrder last [] = Unit {0}
 InOrder last (x ∷ xs) = (x.moment ≤ last) × InOrder x.moment xs
 
--- how a write is answered that repeats one with this answer, or one in flight
+-- the answer to a duplicate of a write with this answer, or of one in progress
 abbrev pub repeating : Option (List ℕ) → Keyed
 repeating None = keyed.InFlight
 repeating (Some reply) = keyed.Kept reply
 
--- the same where it repeats a write that is young, and none else
+-- the same if it is a duplicate of a young write, and none otherwise
 abbrev pub repeating_young : ℕ → Exchange → Option Keyed
 repeating_young now x = if is_young now x.moment then Some (repeating x.reply) else None
 

@@ -1,16 +1,16 @@
-//! The buckets that exchanges are found by.
+//! The buckets by which exchanges are found.
 ghost use Rattle.std.specs.Prelude.{◌≡◌, ◌<◌, fold};
 ghost use Rattle.exchange_core.specs.Buckets.{buckets, mixed, host_hash, bucket_of};
 
 use rd_base::{Host, Peer};
 
-/// How many buckets there are: twice as many as exchanges are kept at most, so that few share one.
+/// The number of buckets: twice the most exchanges that are stored, so that few share one.
 pub(crate) const BUCKETS: usize = 8_192;
 
-/// What each word is multiplied by, an odd number whose bits are spread.
+/// The factor by which each number is multiplied: an odd number with evenly spread bits.
 const MULTIPLIER: u64 = 0x9e37_79b9_7f4a_7c15;
 
-/// A hash with one word more.
+/// Returns a hash after one more number.
 #[tactic(auto, unfolding(crate::specs::Buckets::mixed))]
 fn with_word(hash: u64, word: u64) -> u64
     ensures { result ≡ mixed hash word }
@@ -19,7 +19,8 @@ fn with_word(hash: u64, word: u64) -> u64
     product ^ (product >> 32)
 }
 
-/// The hash of an address. Its seed is fixed, so whoever picks addresses can make them collide.
+/// Returns the hash of an address. Its seed is fixed, so a sender that chooses addresses can make
+/// them collide.
 #[tactic(auto, unfolding(crate::specs::Buckets::host_hash))]
 fn hash_of(host: Host) -> u64
     ensures { result ≡ host_hash host }
@@ -34,7 +35,7 @@ fn hash_of(host: Host) -> u64
     }
 }
 
-/// The bucket of a peer and a Message ID.
+/// Returns the bucket of a peer and a Message ID.
 #[tactic(auto, unfolding(crate::specs::Buckets::bucket_of))]
 pub(crate) fn bucket_of(peer: Peer, mid: u16) -> usize
     ensures bucket { result ≡ bucket_of peer mid }

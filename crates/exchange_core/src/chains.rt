@@ -1,4 +1,4 @@
-//! By which exchanges are found: of each bucket its exchanges, from the latest on.
+//! Chains, by which exchanges are found: each bucket's exchanges, from the latest on.
 ghost use Rattle.std.specs.Prelude.{◌≡◌, ◌+◌, ◌-◌, ◌<◌, ◌≤◌, ◌^◌, ◌∷◌, [], ℕ, length, take};
 ghost use Rattle.std.specs.Prelude.{slice_index, slice_set, IfOk, EachIndex};
 ghost use Rattle.std.specs.VecDeque.{deque_len, deque_capacity};
@@ -9,20 +9,21 @@ use rd_base::Starved;
 use std::alloc::Global;
 use std::collections::VecDeque;
 
-/// Numbers of exchanges, which are numbered in the order of their admission.
+/// The numbers of exchanges, in the order of their admission.
 #[derive(Drop)]
 pub(crate) struct Chains {
     /// The number of the oldest exchange.
     pub(crate) first: u64,
-    /// Of each bucket the number of its latest exchange; one below the first where it has none.
+    /// For each bucket, the number of its latest exchange, or a number below `first` if it has
+    /// none.
     pub(crate) latest: Vec<u64>,
-    /// Of each exchange, the latest first, the number of the next older one in its bucket; one
-    /// below the first where there is none.
+    /// For each exchange, the latest first, the number of the next older one in its bucket, or a
+    /// number below `first` if there is none.
     pub(crate) older: VecDeque<u64>,
 }
 
 impl Chains {
-    /// No exchanges, with room for so many.
+    /// Creates chains without exchanges, with room for `room` of them.
     pub(crate) fn make(alloc: Global, room: usize) -> Result<Chains, Starved>
         ensures first { IfOk result (λ c. c.first ≡ 1) }
         ensures buckets { IfOk result (λ c. length c.latest.items ≡ buckets) }
@@ -40,7 +41,7 @@ impl Chains {
         })
     }
 
-    /// The number of the next exchange.
+    /// Returns the number of the next exchange.
     pub(crate) fn next(&self) -> u64
         requires { self.now.first + length self.now.older.items < 2 ^ 64 }
         ensures { result ≡ self.now.first + length self.now.older.items }
@@ -48,7 +49,7 @@ impl Chains {
         self.first + self.older.len() as u64
     }
 
-    /// One more exchange, in this bucket.
+    /// Adds an exchange to this bucket.
     pub(crate) fn push(&mut self, bucket: usize)
         requires within { bucket < length self.old.latest.items }
         requires counted { self.old.first + length self.old.older.items < 2 ^ 64 }
@@ -67,7 +68,7 @@ impl Chains {
         self.older.push_front_reserved(before);
     }
 
-    /// The oldest exchange is gone.
+    /// Removes the oldest exchange.
     pub(crate) fn pop(&mut self)
         requires { self.old.first + 1 < 2 ^ 64 }
         ensures first { self.new.first ≡ self.old.first + 1 }
@@ -80,7 +81,7 @@ impl Chains {
         self.first += 1;
     }
 
-    /// All exchanges are gone.
+    /// Removes all exchanges.
     pub(crate) fn clear(&mut self)
         ensures first { self.new.first ≡ 1 }
         ensures buckets { length self.new.latest.items ≡ length self.old.latest.items }
@@ -95,7 +96,7 @@ impl Chains {
     }
 }
 
-/// No bucket has an exchange.
+/// Removes the exchanges of all buckets.
 fn none_in(latest: &mut [u64])
     ensures { EachIndex latest.new (λ b. slice_index latest.new b ≡ 0) }
 {

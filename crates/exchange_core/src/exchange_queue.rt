@@ -1,5 +1,5 @@
-//! Exchanges in the order of their admission, which are found by peer and Message ID without a
-//! search from end to end.
+//! Exchanges in the order of their admission, which are found by peer and Message ID without going
+//! through all of them.
 ghost use Rattle.std.specs.Prelude.{◌≡◌, ◌+◌, ◌-◌, ◌<◌, ◌≤◌, ◌^◌, ◌↔◌, ◌∷◌, [], ℕ, List, length};
 ghost use Rattle.std.specs.Prelude.{take, slice_set, slice_index_or, IfOk, IfSome, IsSome};
 ghost use Rattle.std.specs.List.{position, remove};
@@ -22,7 +22,7 @@ use std::marker::Model;
 pub(crate) struct ExchangeQueue {
     /// The exchanges.
     rows: VecDeque<Exchange>,
-    /// By which they are found.
+    /// The chains by which they are found.
     chains: Chains,
 }
 
@@ -43,7 +43,7 @@ impl Model for ExchangeQueue {
 }
 
 impl ExchangeQueue {
-    /// No exchanges, with room for as many as are kept at most.
+    /// Creates an empty queue, with room for the most exchanges that are stored.
     pub(crate) fn make(alloc: Global) -> Result<ExchangeQueue, Starved>
         ensures { IfOk result (λ q. q ≡ []) }
     {
@@ -52,7 +52,7 @@ impl ExchangeQueue {
         Ok(ExchangeQueue { rows, chains })
     }
 
-    /// How many they are.
+    /// Returns the number of exchanges.
     pub(crate) fn len(&self) -> usize
         ensures many { result ≡ length self.now }
         ensures within { result ≤ max_exchanges }
@@ -60,7 +60,7 @@ impl ExchangeQueue {
         self.rows.len()
     }
 
-    /// The exchange at an index, from the latest on.
+    /// Returns the exchange at an index, counted from the latest.
     pub(crate) fn at(&self, index: usize) -> &Exchange
         requires { index < length self.now }
         ensures { result.now ≡ slice_index_or self.now index result.now }
@@ -68,7 +68,7 @@ impl ExchangeQueue {
         &self.rows[index]
     }
 
-    /// The oldest exchange.
+    /// Returns the oldest exchange.
     pub(crate) fn oldest(&self) -> Option<&Exchange>
         ensures variant { IsSome result ↔ (0 < length self.now) }
         ensures lookup { IfSome result
@@ -77,15 +77,15 @@ impl ExchangeQueue {
         self.rows.back()
     }
 
-    /// The index of the latest exchange of a peer and a Message ID, and of this moment where one is
-    /// given.
+    /// Returns the index of the latest exchange of a peer and a Message ID, admitted at this moment
+    /// if one is given.
     pub(crate) fn index_of(&self, peer: Peer, mid: u16, admitted: Option<Moment>) -> Option<usize>
         ensures { result ≡ position (is_sought peer mid admitted) self.now }
     {
         index_in(&self.rows, &self.chains, peer, mid, admitted)
     }
 
-    /// One more exchange, the latest from now on.
+    /// Adds an exchange as the latest.
     pub(crate) fn push(&mut self, exchange: Exchange)
         requires { length self.old < max_exchanges }
         ensures { self.new ≡ exchange ∷ self.old }
@@ -95,7 +95,7 @@ impl ExchangeQueue {
         self.rows.push_front_reserved(exchange);
     }
 
-    /// The oldest exchange is gone.
+    /// Removes the oldest exchange.
     pub(crate) fn drop_oldest(&mut self)
         requires { 0 < length self.old }
         ensures { self.new ≡ take (length self.old - 1) self.old }
@@ -104,7 +104,7 @@ impl ExchangeQueue {
         self.chains.pop();
     }
 
-    /// The exchange at an index gets this reply.
+    /// Stores the reply of the exchange at an index.
     pub(crate) fn answer(&mut self, index: usize, reply: Reply)
         requires { index < length self.old }
         ensures { (x : Admission)
@@ -114,8 +114,7 @@ impl ExchangeQueue {
         self.rows[index].answer(reply);
     }
 
-    /// The exchange at an index is gone. The others are numbered anew, which takes a step for each
-    /// of them.
+    /// Removes the exchange at an index. Renumbers the others, which takes one step for each.
     pub(crate) fn remove(&mut self, index: usize)
         requires { index < length self.old }
         ensures { self.new ≡ remove self.old index }
@@ -125,8 +124,8 @@ impl ExchangeQueue {
     }
 }
 
-/// The index of the latest exchange of a peer and a Message ID, and of this moment where one is
-/// given: from the latest of its bucket to the next older one.
+/// Returns the index of the latest exchange of a peer and a Message ID, admitted at this moment if
+/// one is given. Searches from the latest in its bucket to the oldest.
 fn index_in(
     rows: &VecDeque<Exchange>,
     chains: &Chains,
@@ -150,7 +149,7 @@ fn index_in(
     None
 }
 
-/// One exchange more can be numbered: where the numbers are used up, all are numbered anew.
+/// Makes room for one more number: if the numbers are used up, renumbers all exchanges.
 fn count_on(rows: &VecDeque<Exchange>, chains: &mut Chains)
     requires found { AreFoundBy chains.old.first chains.old.latest.items chains.old.older.items
         rows.now.items }
@@ -167,7 +166,7 @@ fn count_on(rows: &VecDeque<Exchange>, chains: &mut Chains)
     number_anew(rows, chains);
 }
 
-/// Numbers all exchanges anew.
+/// Renumbers all exchanges.
 fn number_anew(rows: &VecDeque<Exchange>, chains: &mut Chains)
     requires buckets { length chains.old.latest.items ≡ buckets }
     requires few { length rows.now.items ≤ max_exchanges }

@@ -1,5 +1,5 @@
-//! Exchanges: how a write that comes again is recognized and gets the same octets as its answer
-//! (RFC 7252 section 4.5), and when a message is sent again (section 4.2).
+//! Exchanges: how duplicates of a write are recognized and get the octets of its answer (RFC 7252
+//! section 4.5), and when a message is retransmitted (section 4.2).
 #![tactic(auto)]
 
 mod buckets;

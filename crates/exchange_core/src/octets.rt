@@ -1,4 +1,4 @@
-//! Octets that are kept in a room of their own and take no memory: tokens, and the answers to
+//! Short octet strings that are stored in place and do not allocate: tokens, and the answers to
 //! writes.
 ghost use Rattle.std.specs.Prelude.{◌≡◌, ◌≤◌, length, nat_eq};
 ghost use Rattle.std.proofs.Common.{rules};
@@ -11,15 +11,14 @@ use arrayvec::ArrayVec;
 use std::hash::{Hash, Hasher};
 use std::marker::Model;
 
-/// At most so many octets, seen by contracts as their list.
+/// At most `N` octets. Contracts see their list.
 #[derive(Debug, Drop)]
 pub struct Octets<const N: usize> {
     /// The octets.
     octets: ArrayVec<u8, N>,
 }
 
-/// A token, by which a response is matched with its request: at most 8 octets (RFC 7252 section
-/// 5.3.1).
+/// A token, which matches a response with its request: at most 8 octets (RFC 7252 section 5.3.1).
 pub type Token = Octets<8>;
 
 /// The octets of the answer to a write, at most 64.
@@ -34,7 +33,11 @@ impl<const N: usize> Model for Octets<N> {
 }
 
 impl<const N: usize> Octets<N> {
-    /// These octets. Takes no memory.
+    /// Stores these octets. Does not allocate.
+    ///
+    /// # Requires
+    ///
+    /// There are at most `N` octets.
     pub fn of(octets: &[u8]) -> Octets<N>
         requires { length octets.now ≤ N }
         ensures { result ≡ octets.now }
@@ -46,7 +49,7 @@ impl<const N: usize> Octets<N> {
         Octets { octets: kept }
     }
 
-    /// The octets.
+    /// Returns the octets.
     pub fn as_slice(&self) -> &[u8]
         ensures value { result.now ≡ self.now }
         ensures fits { length self.now ≤ N }
@@ -54,7 +57,7 @@ impl<const N: usize> Octets<N> {
         self.octets.as_slice()
     }
 
-    /// The same octets. Takes no memory.
+    /// Returns a copy. Does not allocate.
     pub fn copy(&self) -> Octets<N>
         ensures { result ≡ self.now }
     {

@@ -1,4 +1,4 @@
-//! Messages that wait for their acknowledgement, and when they are sent again.
+//! Messages that await an acknowledgement, and when they are retransmitted.
 ghost use Rattle.std.specs.Prelude.{◌≡◌, []};
 ghost use Rattle.event_model.specs.Flights.{first_wait};
 ghost use Rattle.event_model.specs.Events.{Event};
@@ -8,26 +8,26 @@ use event_model::transmission::{ACK_TIMEOUT, ACK_TIMEOUTS, MAX_RETRANSMIT};
 use rd_base::{Bytes, Moment};
 use std::marker::Model;
 
-/// What is due of a message that waits for its acknowledgement.
+/// What is due of a message that awaits an acknowledgement.
 #[derive(Clone, Copy, Debug, PartialEq, Eq)]
 pub enum Again {
-    /// Its wait has not ended.
+    /// Its timeout has not expired.
     Wait,
-    /// It is sent again now.
+    /// It is retransmitted now.
     Send,
-    /// It was sent again as often as it may be, and its last wait has ended.
+    /// It was retransmitted the most times allowed, and its last timeout has expired.
     GaveUp,
 }
 
-/// When a message is sent again: after a first wait, and then after waits that are each twice as
-/// long (RFC 7252 section 4.2).
+/// The times at which a message is retransmitted: after an initial timeout, and then after timeouts
+/// that are each twice as long (RFC 7252 section 4.2).
 #[derive(Debug, Drop)]
 pub struct Resend {
-    /// When it was last sent.
+    /// The moment at which it was last sent.
     sent: Moment,
-    /// How long it waits from then on, in milliseconds.
+    /// The timeout from then on, in milliseconds.
     wait: u32,
-    /// How often it was sent again.
+    /// How many times it was retransmitted.
     again: u8,
 }
 
@@ -43,7 +43,8 @@ impl Model for Resend {
 }
 
 impl Resend {
-    /// Of a message that is sent first now, with the word that its first wait is made from.
+    /// Starts the timing of a message that is sent now for the first time. `word` determines the
+    /// initial timeout.
     pub fn start(now: Moment, word: u32) -> Resend
         ensures first { (first : Event)
             → first.moment ≡ now.0
@@ -59,7 +60,7 @@ impl Resend {
         }
     }
 
-    /// What is due now (RFC 7252 section 4.2). A retransmission counts as made now.
+    /// Returns what is due now (RFC 7252 section 4.2). A retransmission counts as made now.
     pub fn at_tick(&mut self, now: Moment) -> Again
         ensures due { result ≡ kept_due now.0 self.old }
         ensures kept { self.new ≡ kept_after (kept_due now.0 self.old) now.0 self.old }
@@ -77,15 +78,14 @@ impl Resend {
     }
 }
 
-/// A message that waits for its acknowledgement: its Message ID, its octets, and when it is sent
-/// again.
+/// A message that awaits an acknowledgement: its Message ID, its octets, and its timing.
 #[derive(Debug, Drop)]
 pub struct Sent {
-    /// The Message ID, by which it is acknowledged.
+    /// The Message ID that an acknowledgement names.
     pub mid: u16,
-    /// The message, as it was sent and is sent again.
+    /// The message as it was sent and is retransmitted.
     pub bytes: Bytes,
-    /// When it is sent again, and when it is given up.
+    /// When it is retransmitted, and when it is given up.
     pub resend: Resend,
 }
 

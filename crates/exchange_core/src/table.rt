@@ -19,11 +19,11 @@ use rd_base::{Moment, Peer, Starved};
 use std::alloc::Global;
 use std::marker::Model;
 
-/// The writes that were admitted and how they were answered, by which a repeat is recognized (RFC
-/// 7252 section 4.5).
+/// The admitted writes and their answers, by which duplicates are recognized (RFC 7252 section
+/// 4.5).
 #[derive(Drop)]
 pub struct Exchanges {
-    /// The greatest moment that was handed to a call which changed it.
+    /// The latest moment passed to a call that changed it.
     moment: Moment,
     /// The exchanges, the latest first.
     queue: ExchangeQueue,
@@ -40,8 +40,11 @@ impl Model for Exchanges {
 }
 
 impl Exchanges {
-    /// No exchanges, with room for as many as are kept at most, 4,096. `Starved` where memory ran
-    /// out, and then nothing is kept.
+    /// Creates an empty table, with room for the most exchanges that are stored, 4,096.
+    ///
+    /// # Errors
+    ///
+    /// `Starved` if memory runs out.
     pub fn make(alloc: Global) -> Result<Exchanges, Starved>
         ensures moment { IfOk result (λ t. t.moment ≡ 0) }
         ensures stands { IfOk result (λ t. ExchangesStandFor 0 [] t) }
@@ -53,8 +56,8 @@ impl Exchanges {
         })
     }
 
-    /// How a write is answered that is not to be admitted: it repeats another, or there is no room
-    /// for it. None where it is new and there is room; what is older than an exchange lives is
+    /// Returns the answer to a write that cannot be admitted, because it is a duplicate or there is
+    /// no room. Returns `None` if it is new and there is room; the expired exchanges have been
     /// dropped then.
     fn unadmitted(&mut self, now: Moment, peer: Peer, mid: u16) -> Option<Keyed>
         requires { self.old.moment ≤ now.0 }
@@ -72,9 +75,14 @@ impl Exchanges {
         None
     }
 
-    /// How a write of a peer under a Message ID would be answered (RFC 7252 section 4.5): `Fresh`
-    /// says that it is new, and that there is room for it. It is not admitted. Now is not before
-    /// the moments that the table was changed at. Takes no memory.
+    /// Returns what [`Exchanges::admit_key`] would return for a write, without admitting it.
+    ///
+    /// `Fresh` means that the write is new and there is room for it (RFC 7252 section 4.5). Does
+    /// not allocate.
+    ///
+    /// # Requires
+    ///
+    /// `now` is no earlier than any moment at which the table was changed.
     pub fn find_key(&mut self, now: Moment, peer: Peer, mid: u16) -> Keyed
         requires { self.old.moment ≤ now.0 }
         ensures { IsFoundAt now.0 peer mid self.old self.new result }
@@ -85,9 +93,15 @@ impl Exchanges {
         }
     }
 
-    /// How a write of a peer under a Message ID is answered (RFC 7252 section 4.5). One that is new
-    /// is admitted now, in flight, if there is room. Now is not before the moments that the table
-    /// was changed at. Takes no memory.
+    /// Admits a write of a peer under a Message ID, if it is new and there is room (RFC 7252
+    /// section 4.5).
+    ///
+    /// Returns `Fresh` if the write was admitted; it is in progress then. Any other answer says how
+    /// to respond to a duplicate or to a write without room. Does not allocate.
+    ///
+    /// # Requires
+    ///
+    /// `now` is no earlier than any moment at which the table was changed.
     pub fn admit_key(&mut self, now: Moment, peer: Peer, mid: u16) -> Keyed
         requires { self.old.moment ≤ now.0 }
         ensures { IsKeyedAt now.0 peer mid self.old self.new result }
@@ -99,8 +113,8 @@ impl Exchanges {
         Keyed::Fresh
     }
 
-    /// Keeps the reply of the write that was admitted at a moment, where it is still there. Takes
-    /// no memory.
+    /// Stores the reply of the write that was admitted at a moment, if the write is still in the
+    /// table. Does not allocate.
     pub fn settle(&mut self, peer: Peer, mid: u16, admitted: Moment, reply: Reply)
         ensures stands { (at : ℕ) (events : List Event) (e : Event) (place : ℕ)
             → IsOpen place peer mid admitted.0 events
@@ -115,8 +129,8 @@ impl Exchanges {
         answer_first(&mut self.queue, peer, mid, admitted, reply);
     }
 
-    /// Forgets the write that was admitted at a moment, where it is still there: it comes again as
-    /// a new one.
+    /// Forgets the write that was admitted at a moment, if it is still in the table. It may then
+    /// come again as a new one.
     pub fn forget(&mut self, peer: Peer, mid: u16, admitted: Moment)
         ensures stands { (at : ℕ) (events : List Event) (e : Event) (place : ℕ)
             → IsOpen place peer mid admitted.0 events
@@ -130,8 +144,11 @@ impl Exchanges {
         drop_first(&mut self.queue, peer, mid, admitted);
     }
 
-    /// Drops the exchanges that are older than an exchange lives. Now is not before the moments
-    /// that the table was changed at.
+    /// Drops the exchanges that have expired.
+    ///
+    /// # Requires
+    ///
+    /// `now` is no earlier than any moment at which the table was changed.
     pub fn age(&mut self, now: Moment)
         requires { self.old.moment ≤ now.0 }
         ensures stands { (at : ℕ) (events : List Event)
@@ -146,7 +163,8 @@ impl Exchanges {
     }
 }
 
-/// How a write is answered that repeats one of the exchanges; none where it repeats none.
+/// Returns the answer to a write that is a duplicate of one of the exchanges, or `None` if it is
+/// not.
 #[tactic(auto, unfolding(crate::specs::Table::repeat_among))]
 fn repeat_in(queue: &ExchangeQueue, now: Moment, peer: Peer, mid: u16) -> Option<Keyed>
     ensures { result ≡ repeat_among now.0 peer mid queue.now }
@@ -161,7 +179,7 @@ fn repeat_in(queue: &ExchangeQueue, now: Moment, peer: Peer, mid: u16) -> Option
     Some(last.repeated())
 }
 
-/// Drops the exchanges that are older than an exchange lives, from the oldest on.
+/// Drops the exchanges that have expired, from the oldest on.
 fn drop_old(queue: &mut ExchangeQueue, now: Moment)
     requires { InOrder now.0 queue.old }
     ensures { queue.new ≡ young now.0 queue.old }
@@ -174,7 +192,7 @@ fn drop_old(queue: &mut ExchangeQueue, now: Moment)
     }
 }
 
-/// Keeps the reply of the write that was admitted at a moment.
+/// Stores the reply of the write that was admitted at a moment.
 fn answer_first(queue: &mut ExchangeQueue, peer: Peer, mid: u16, admitted: Moment, reply: Reply)
     ensures { queue.new
         ≡ changed_first (is_admitted_at peer mid admitted.0) (answered reply) queue.old }

@@ -1,4 +1,4 @@
-//! A write that was admitted, and how one that repeats it is answered.
+//! An admitted write, and the answers to its duplicates.
 ghost use Rattle.std.specs.Prelude.{◌≡◌, ◌<◌, Option};
 ghost use Rattle.event_model.specs.Events.{is_young};
 ghost use Rattle.exchange_core.specs.Table.{admitted_now, is_with, is_admitted_at, is_sought};
@@ -11,29 +11,29 @@ use event_model::transmission::EXCHANGE_LIFETIME;
 use rd_base::{Moment, Peer};
 use std::marker::Model;
 
-/// What a write is, by the exchanges that are kept (RFC 7252 section 4.5).
+/// What a write is, compared with the stored exchanges (RFC 7252 section 4.5).
 #[derive(Debug, Drop, PartialEq, Eq)]
 pub enum Keyed {
     /// It is new, and it was admitted.
     Fresh,
-    /// It repeats a write that is still in flight: there is no answer yet.
+    /// It is a duplicate of a write in progress, which has no answer yet.
     InFlight,
-    /// It repeats a write that was answered by these octets.
+    /// It is a duplicate of a write that was answered with these octets.
     Kept(Reply),
-    /// It is new, and as many exchanges are kept as there is room for.
+    /// It is new, but the table of exchanges is full.
     FullExchanges,
 }
 
-/// A write that was admitted, and its answer.
+/// An admitted write, and its answer.
 #[derive(Debug, Drop)]
 pub struct Exchange {
-    /// Who wrote.
+    /// The peer that sent it.
     peer: Peer,
     /// The Message ID of the write.
     mid: u16,
-    /// When it was admitted.
+    /// The moment at which it was admitted.
     admitted: Moment,
-    /// The octets that it was answered by; none while it is in flight.
+    /// The octets of its answer, or `None` while it is in progress.
     reply: Option<Reply>,
 }
 
@@ -47,7 +47,7 @@ impl Model for Exchange {
 }
 
 impl Exchange {
-    /// A write of a peer under a Message ID that is admitted now, in flight.
+    /// Returns a write of a peer under a Message ID that is admitted now, in progress.
     pub(crate) fn in_flight(peer: Peer, mid: u16, now: Moment) -> Exchange
         ensures { result ≡ admitted_now peer mid now.0 }
     {
@@ -59,22 +59,23 @@ impl Exchange {
         }
     }
 
-    /// Whether it is a write of this peer under this Message ID.
+    /// Returns whether it is a write of this peer under this Message ID.
     pub(crate) fn is_with(&self, peer: Peer, mid: u16) -> bool
         ensures { result ≡ is_with peer mid self.now }
     {
         self.peer == peer && self.mid == mid
     }
 
-    /// Whether it is the write of this peer under this Message ID that was admitted at this moment.
+    /// Returns whether it is the write of this peer under this Message ID that was admitted at this
+    /// moment.
     pub(crate) fn is_admitted_at(&self, peer: Peer, mid: u16, admitted: Moment) -> bool
         ensures { result ≡ is_admitted_at peer mid admitted.0 self.now }
     {
         self.is_with(peer, mid) && self.admitted == admitted
     }
 
-    /// Whether it is the latest that is sought: of this peer under this Message ID, and admitted at
-    /// this moment where one is given.
+    /// Returns whether it is a write of this peer under this Message ID, admitted at this moment if
+    /// one is given.
     pub(crate) fn is_sought(&self, peer: Peer, mid: u16, admitted: Option<Moment>) -> bool
         ensures { result ≡ is_sought peer mid admitted self.now }
     {
@@ -84,7 +85,7 @@ impl Exchange {
         }
     }
 
-    /// Its bucket.
+    /// Returns its bucket.
     pub(crate) fn bucket(&self) -> usize
         ensures bucket { result ≡ bucket self.now }
         ensures within { result < buckets }
@@ -92,14 +93,15 @@ impl Exchange {
         bucket_of(self.peer, self.mid)
     }
 
-    /// Whether it is not older than an exchange lives.
+    /// Returns whether it has not expired: it was admitted less than `EXCHANGE_LIFETIME`
+    /// milliseconds before `now`.
     pub(crate) fn is_young(&self, now: Moment) -> bool
         ensures { result ≡ is_young now.0 self.now.moment }
     {
         now.0.saturating_sub(self.admitted.0) < EXCHANGE_LIFETIME
     }
 
-    /// How a write that repeats it is answered.
+    /// Returns the answer to a duplicate of it.
     pub(crate) fn repeated(&self) -> Keyed
         ensures { result ≡ repeating self.now.reply }
     {
@@ -109,7 +111,7 @@ impl Exchange {
         }
     }
 
-    /// Keeps the octets that it was answered by.
+    /// Stores the octets of its answer.
     pub(crate) fn answer(&mut self, reply: Reply)
         ensures { self.new ≡ answered reply self.old }
     {

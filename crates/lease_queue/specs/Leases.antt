@@ -20,16 +20,16 @@ use Rattle.std.specs.Prelude.{
 use Rattle.std.specs.List.{AllByRecursion}
 use Rattle.lease_queue.specs.declared.leases.Lease.{Lease}
 
--- the first stands before the second: it lapses earlier, or at the same moment and has the smaller
--- number
+-- the first lease comes before the second: it lapses earlier, or at the same moment and has the
+-- smaller number
 abbrev pub is_before : Lease → Lease → Bool
 is_before x y = nat_lt x.lapse.0 y.lapse.0 || ((x.lapse.0 == y.lapse.0) && nat_lt x.number y.number)
 
--- they are one lease
+-- both are the same lease
 abbrev pub is_same : Lease → Lease → Bool
 is_same x y = (x.lapse.0 == y.lapse.0) && (x.number == y.number)
 
--- each lease stands before all that follow it: so the list is sorted, and no lease is there twice
+-- each lease comes before all that follow it, so the list is sorted and each lease appears once
 unfoldable pub IsAscending : List Lease → Type 0
 IsAscending [] = Unit {0}
 IsAscending (x ∷ xs) = AllByRecursion (λ y. is_before x y ≡ true) xs × IsAscending xs
@@ -41,7 +41,7 @@ earlier queue lease = filter (λ x. is_before x lease) queue
 abbrev pub later : List Lease → Lease → List Lease
 later queue lease = filter (λ x. is_before lease x) queue
 
--- the queue with this lease, which stands once where it is there already
+-- the queue with this lease, which appears once even if the queue has it already
 unfoldable pub with_lease : List Lease → Lease → List Lease
 with_lease queue lease = earlier queue lease ++ lease ∷ later queue lease
 

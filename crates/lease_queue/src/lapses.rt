@@ -1,4 +1,4 @@
-//! The leases that have lapsed, one after another.
+//! An iterator over leases that have lapsed.
 ghost use Rattle.std.specs.Prelude.{◌≡◌, ◌+◌, ◌<◌, ◌≤◌, ◌∷◌, [], length, IfSome, IfNone};
 ghost use Rattle.std.specs.Map.{keys_of};
 ghost use Rattle.lease_queue.specs.Leases.{IsAscending, lapsed_at};
@@ -10,12 +10,12 @@ use rd_base::{Moment, Steps};
 use std::marker::Model;
 use std::sync::ledger::{Blank, Ledger};
 
-/// A cursor over numbers of leases: contracts see it as the numbers that are left, in order.
+/// A cursor over numbers of leases. Contracts see the remaining numbers, in order.
 #[derive(Drop)]
 pub struct LapsedIter<'a> {
-    /// The leases that are left, those that have not lapsed too.
+    /// The remaining leases, including those that have not lapsed.
     left: RangeIter<'a, Lease, ()>,
-    /// The moment at which they have lapsed.
+    /// The moment at which to tell whether a lease has lapsed.
     now: Moment,
 }
 
@@ -32,7 +32,7 @@ impl<'a> Model for LapsedIter<'a> {
 }
 
 impl<'a> LapsedIter<'a> {
-    /// A cursor over the numbers of those of these leases that have lapsed at this moment.
+    /// Returns a cursor over the numbers of those leases that have lapsed at this moment.
     pub(crate) fn over(left: RangeIter<'a, Lease, ()>, now: Moment) -> LapsedIter<'a>
         requires { IsAscending (keys_of left) }
         ensures { result ≡ lapsed_at now.0 (keys_of left.entry) }
@@ -40,8 +40,8 @@ impl<'a> LapsedIter<'a> {
         LapsedIter { left, now }
     }
 
-    /// The next number; None exactly at the end. Each call counts one step, that at the end too.
-    /// Takes no memory.
+    /// Returns the next number, or `None` at the end. Each call counts one step, including the one
+    /// at the end. Does not allocate.
     pub fn step<L: Ledger>(&mut self, steps: &mut Steps<L>) -> Option<u64>
         ensures next { IfSome result (λ number. self.old ≡ number ∷ self.new) }
         ensures end { IfNone result ((self.old ≡ []) × (self.new ≡ [])) }
@@ -54,7 +54,7 @@ impl<'a> LapsedIter<'a> {
         Some(lease.number)
     }
 
-    /// How many numbers are left, which are not more than `most`.
+    /// Returns how many numbers are left, at most `most`.
     pub(crate) fn count<L: Ledger>(mut self, most: u64, blank: Blank) -> u64
         requires bound { length self ≤ most }
         requires name { blank.name ≡ L.name }

@@ -1,4 +1,4 @@
-//! The leases of the directory in the order in which they lapse, as versions that never change.
+//! The leases of the directory in the order in which they lapse, as immutable versions.
 #![tactic(auto)]
 
 mod lapses;

@@ -13,18 +13,18 @@ use std::alloc::Global;
 use std::marker::{Brand, Model};
 use std::sync::ledger::{Blank, Ledger};
 
-/// A set of leases in the order in which they lapse, those of one lapse by their number. A queue
-/// never changes: [`LeaseQueue::put`] and [`LeaseQueue::take`] make another one. Contracts see it
-/// as the list of its leases.
+/// A set of leases in the order in which they lapse. Those that lapse at the same moment are in the
+/// order of their numbers. A queue never changes: [`LeaseQueue::put`] and [`LeaseQueue::take`] make
+/// another one. Contracts see the list of its leases.
 #[derive(Drop)]
 pub struct LeaseQueue {
-    /// The leases as keys, so that versions share those that did not change.
+    /// The leases as keys, so that versions share those that do not change.
     leases: ChunkMap<Lease, ()>,
-    /// The allocator of what is made of it.
+    /// The allocator of the queues made from this one.
     alloc: Global,
 }
 
-/// A lease comes, and stays where it is there.
+/// The change that adds a lease, or keeps it if it exists.
 #[derive(Drop)]
 struct Comes;
 
@@ -40,8 +40,8 @@ impl Change<()> for Comes {
     }
 }
 
-/// These leases as keys, with one more; what no other map has is changed in place. `Starved`: out
-/// of memory.
+/// Consumes these leases as keys, and returns them with one more. Changes in place what no other
+/// map shares.
 fn with_key(leases: ChunkMap<Lease, ()>, lease: Lease) -> Result<ChunkMap<Lease, ()>, Starved>
     requires { IsAscending (keys_of leases) }
     ensures { IfOk result (λ map. keys_of map ≡ with_lease (keys_of leases) lease) }
@@ -49,12 +49,12 @@ fn with_key(leases: ChunkMap<Lease, ()>, lease: Lease) -> Result<ChunkMap<Lease,
     leases.changed(&lease, Comes)
 }
 
-/// What a sweep gives.
+/// The result of a sweep.
 #[derive(Drop)]
 pub struct Swept {
     /// The queue of the leases that have not lapsed.
     pub queue: LeaseQueue,
-    /// The numbers of those that have, in order.
+    /// The numbers of those that have lapsed, in order.
     pub numbers: Vec<u64>,
 }
 
@@ -72,7 +72,11 @@ impl Model for LeaseQueue {
 }
 
 impl LeaseQueue {
-    /// The queue without a lease. It keeps `alloc` for the queues that are made of it.
+    /// Returns the queue without leases. It stores `alloc` for the queues made from it.
+    ///
+    /// # Errors
+    ///
+    /// `Starved` if memory runs out.
     pub fn empty(alloc: Global) -> Result<LeaseQueue, Starved>
         ensures { IfOk result (λ queue. queue ≡ []) }
     {
@@ -82,7 +86,11 @@ impl LeaseQueue {
         })
     }
 
-    /// An equal queue.
+    /// Returns an equal queue, which shares all leases.
+    ///
+    /// # Errors
+    ///
+    /// `Starved` if memory runs out.
     pub fn share(&self) -> Result<LeaseQueue, Starved>
         ensures same { IfOk result (λ queue. queue ≡ self.now) }
         ensures ascends { IsAscending self.now }
@@ -93,7 +101,11 @@ impl LeaseQueue {
         })
     }
 
-    /// The queue with this lease more; an equal one where it is there already.
+    /// Returns the queue with this lease, or an equal one if it has the lease already.
+    ///
+    /// # Errors
+    ///
+    /// `Starved` if memory runs out.
     pub fn put(&self, lapse: Moment, number: u64) -> Result<LeaseQueue, Starved>
         ensures queue { IfOk result (λ queue. queue ≡ with_lease self.now
             (record { lapse = lapse; number = number })) }
@@ -114,9 +126,12 @@ impl LeaseQueue {
         })
     }
 
-    /// This queue with this lease more, as [`LeaseQueue::put`] makes one: what no other queue has
-    /// is changed in place. `Starved`: out of memory; this queue is gone then, and all others are
-    /// as before.
+    /// Consumes this queue and returns it with this lease, as [`LeaseQueue::put`] does. Changes in
+    /// place what no other queue shares.
+    ///
+    /// # Errors
+    ///
+    /// `Starved` if memory runs out. This queue is lost then; the others are unaffected.
     pub fn with(self, lapse: Moment, number: u64) -> Result<LeaseQueue, Starved>
         ensures queue { IfOk result (λ queue. queue
             ≡ with_lease self (record { lapse = lapse; number = number })) }
@@ -127,7 +142,11 @@ impl LeaseQueue {
         Ok(LeaseQueue { leases, alloc })
     }
 
-    /// The queue without this lease; an equal one where it is not there.
+    /// Returns the queue without this lease, or an equal one if it does not have the lease.
+    ///
+    /// # Errors
+    ///
+    /// `Starved` if memory runs out.
     pub fn take(&self, lapse: Moment, number: u64) -> Result<LeaseQueue, Starved>
         ensures queue { IfOk result (λ queue. queue ≡ without_lease self.now
             (record { lapse = lapse; number = number })) }
@@ -150,7 +169,7 @@ impl LeaseQueue {
         })
     }
 
-    /// A cursor over the leases, in order.
+    /// Returns a cursor over the leases, in order.
     fn all(&self) -> RangeIter<'_, Lease, ()>
         ensures leases { keys_of result ≡ self.now }
         ensures ascends { IsAscending (keys_of result) }
@@ -161,14 +180,14 @@ impl LeaseQueue {
         })
     }
 
-    /// A cursor over the numbers of the leases that have lapsed at this moment, in order.
+    /// Returns a cursor over the numbers of the leases that have lapsed at this moment, in order.
     pub fn lapsed(&self, now: Moment) -> LapsedIter<'_>
         ensures { result ≡ lapsed_at now.0 self.now }
     {
         LapsedIter::over(self.all(), now)
     }
 
-    /// How many leases have lapsed at this moment. It goes through those that have.
+    /// Returns how many leases have lapsed at this moment. Goes through those that have.
     pub fn count_lapsed(&self, now: Moment) -> u64
         ensures { result ≡ length (lapsed_at now.0 self.now) }
     {
@@ -176,8 +195,12 @@ impl LeaseQueue {
         self.lapsed(now).count::<Brand>(most, Blank::new(1))
     }
 
-    /// Takes all leases that have lapsed at this moment, in one pass. It counts a step for each of
-    /// them, and at most one more.
+    /// Removes all leases that have lapsed at this moment, in one pass. Counts one step for each of
+    /// them, and at most one more. `self` does not change.
+    ///
+    /// # Errors
+    ///
+    /// `Starved` if memory runs out.
     pub fn sweep<L: Ledger>(&self, now: Moment, steps: &mut Steps<L>) -> Result<Swept, Starved>
         ensures queue { IfOk result (λ swept. swept.queue ≡ unlapsed_at now.0 self.now) }
         ensures ascends { IfOk result (λ swept. IsAscending swept.queue) }

@@ -1,4 +1,4 @@
--- Which events of a journal a table of observers stands for (RFC 7641 section 4).
+-- The events of a journal that a table of observers stands for (RFC 7641 section 4).
 use Rattle.std.specs.Prelude.{
   ◌≡◌,
   ℕ,
@@ -41,7 +41,7 @@ use Rattle.exchange_core.specs.declared.resends.Again.TheVariants as again
 use Rattle.exchange_core.specs.Retransmissions.{due_at}
 use Rattle.observers.specs.Standing.{Standing}
 
--- an observer of the table as the notes speak of it, by the query that is watched in each slot
+-- an observer of the table as notes name it, by the query that is watched in each slot
 abbrev pub observer_of : (ℕ → Query) → Standing → Observer
 observer_of queries w = record {
   peer = w.peer;
@@ -51,7 +51,7 @@ observer_of queries w = record {
   szx = w.szx;
 }
 
--- the observer, whether it is due, its last body and its notice in flight
+-- the observer, whether it is due, its last body and its notification in flight
 abbrev pub shown : (ℕ → Query) → Standing → Watching
 shown queries w = record {
   observer = observer_of queries w;
@@ -60,7 +60,8 @@ shown queries w = record {
   waits = w.flight;
 }
 
--- of two observers of one peer at most one has a notice in flight (RFC 7252 section 4.7, NSTART)
+-- of two observers of one peer, at most one has a notification in flight (RFC 7252 section 4.7,
+-- NSTART)
 abbrev pub AwaitsOne : Standing → Standing → Type 0
 AwaitsOne w other =
     is_same_peer other.peer w.peer ≡ true
@@ -72,9 +73,8 @@ abbrev pub EachAwaitsOne : List Standing → Type 0
 EachAwaitsOne [] = Unit {0}
 EachAwaitsOne (w ∷ ws) = AllByRecursion (AwaitsOne w) ws × EachAwaitsOne ws
 
--- by the queries in their slots, and by the octets that rows sent, a table stands for events and
--- transitions: it shows the observers that stand, in their order, and for no peer are two notices
--- in flight
+-- By the queries in their slots and by the octets that rows sent, a table stands for events and
+-- transitions. It shows their observers, in order, and no peer has two notifications in flight.
 pub record ObserversStandFor (queries : ℕ → Query) (octets : OctetsSent) (events : List Event)
     (transitions : List Transition) (ws : List Standing) : Type 0 where
   pub standing : observers_standing octets events transitions ≡ map (shown queries) ws
@@ -100,8 +100,8 @@ was_looked_at_before place events o =
 abbrev pub NoneLater : ℕ → List Transition → Type 0
 NoneLater place transitions = AllByRecursion (λ t. t.place ≤ place) transitions
 
--- what is due of a notice in flight, by the events that formed it and sent it again; where there is
--- none, nothing
+-- what is due of a notification in flight, by the events that built and retransmitted it; nothing
+-- if there is none
 abbrev pub notice_due : ℕ → Option Flight → Again
 notice_due now None = again.Wait
 notice_due now (Some f) = due_at now f.formed f.again

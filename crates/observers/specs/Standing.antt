@@ -1,4 +1,4 @@
--- The observers of a table: which is found, and what changes (RFC 7641 section 4).
+-- The observers of a table: which one is found, and what changes (RFC 7641 section 4).
 use Rattle.std.specs.Prelude.{
   ℕ,
   ◌+◌,
@@ -28,8 +28,8 @@ use Rattle.exchange_core.specs.declared.resends.Again.{Again}
 use Rattle.exchange_core.specs.declared.resends.Again.TheVariants as again
 use Rattle.exchange_core.specs.Retransmissions.{kept_due, kept_after}
 
--- an observer as the table keeps it: who it is, where its query is watched, whether it is due, the
--- body that was last formed for it, and its notice in flight
+-- an observer as the table stores it: who it is, the slot of its query, whether it is due, the body
+-- last built for it, and its notification in flight
 pub record Standing : Type 0 where
   pub peer : Peer
   pub token : List ℕ
@@ -49,19 +49,19 @@ abbrev pub is_sent_as : ℕ → Option Sent → Bool
 is_sent_as mid None = false
 is_sent_as mid (Some s) = mid == s.mid
 
--- an observer of this peer, to which a notice with this Message ID is in flight
+-- an observer of this peer, to which a notification with this Message ID is in flight
 abbrev pub has_notice : Peer → ℕ → Standing → Bool
 has_notice peer mid w = is_same_peer peer w.peer && is_sent_as mid w.flight
 
--- a notice is in flight to one of the observers of a peer
+-- a notification is in flight to one of the observers of a peer
 abbrev pub is_awaited : Peer → List Standing → Bool
 is_awaited peer ws = list_any (λ w. is_same_peer w.peer peer && is_some w.flight) ws
 
--- the observer is due, and no notice is in flight to its peer (RFC 7252 section 4.7, NSTART)
+-- the observer is due, and no notification is in flight to its peer (RFC 7252 section 4.7, NSTART)
 abbrev pub is_ready : List Standing → Standing → Bool
 is_ready ws w = w.due && not (is_awaited w.peer ws)
 
--- the first of them that passes a test, as they are counted from a number on
+-- the first observer that passes a test, counted from a number on
 abbrev pub first_from : (Standing → Bool) → ℕ → List Standing → Option ℕ
 first_from test i [] = None
 first_from test i (w ∷ ws) = if test w then Some i else first_from test (i + 1) ws
@@ -70,11 +70,11 @@ first_from test i (w ∷ ws) = if test w then Some i else first_from test (i + 1
 unfoldable pub next_ready : ℕ → List Standing → Option ℕ
 next_ready from ws = first_from (is_ready ws) from (drop from ws)
 
--- an observer after a mark of a slot: it is due where its query is watched there
+-- an observer after its slot may have been marked: it is due if its query is watched there
 abbrev pub marked : ℕ → Standing → Standing
 marked slot w = record w { due = w.due || w.slot == slot }
 
--- an observer after a notice with a body was formed for it
+-- an observer after a notification with a body was built for it
 abbrev pub noticed : Sent → List ℕ → Standing → Standing
 noticed sent body w = record w { due = false; last = body; flight = Some sent }
 
@@ -82,21 +82,21 @@ noticed sent body w = record w { due = false; last = body; flight = Some sent }
 abbrev pub seen : Standing → Standing
 seen w = record w { due = false }
 
--- an observer after its notice was acknowledged
+-- an observer after its notification was acknowledged
 abbrev pub landed : Standing → Standing
 landed w = record w { flight = None }
 
--- what is due of a notice in flight; where there is none, nothing
+-- what is due of a notification in flight; nothing if there is none
 abbrev pub due_of : ℕ → Option Sent → Again
 due_of now None = again.Wait
 due_of now (Some s) = kept_due now s.resend
 
--- the notice after what was due of it
+-- the notification after what was due of it
 abbrev pub kept_of : ℕ → Option Sent → Option Sent
 kept_of now None = None
 kept_of now (Some s) = Some (record s { resend = kept_after (kept_due now s.resend) now s.resend })
 
--- an observer after what was due of its notice
+-- an observer after what was due of its notification
 abbrev pub timed : ℕ → Standing → Standing
 timed now w = record w { flight = kept_of now w.flight }
 

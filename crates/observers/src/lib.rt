@@ -1,4 +1,4 @@
-//! Observers: who observes, who is due, and which notice waits for its acknowledgement (RFC 7641
+//! Observers: who observes, who is due, and which notifications are unacknowledged (RFC 7641
 //! section 4).
 #![tactic(auto)]
 

@@ -9,24 +9,24 @@ use rd_base::{Bytes, Key, Moment, Peer};
 use std::marker::Model;
 use std::sync::Arc;
 
-/// An observer of a lookup (RFC 7641 section 1.2), and the notice in flight to it.
+/// An observer of a lookup (RFC 7641 section 1.2), with the notification in flight to it.
 #[derive(Drop)]
 pub struct Observer {
-    /// Where its notices go.
+    /// The peer that receives its notifications.
     pub peer: Peer,
-    /// The token of its request, which each notice has.
+    /// The token of its request, which each notification carries.
     pub token: Token,
-    /// The slot of the watch table in which its query is watched; contracts call it `slot`.
+    /// The slot of the watch table in which its query is watched. Contracts call it `slot`.
     pub place: u32,
     /// The key of its request.
     pub key: Key,
-    /// The exponent of the block size that it asked for (RFC 7959 section 2.2).
+    /// The exponent of the block size that it requested (RFC 7959 section 2.2).
     pub szx: u8,
-    /// Whether the lines of its query changed since its listing was last looked at.
+    /// Whether the lines of its query changed since its listing was last built or found unchanged.
     pub due: bool,
-    /// The body that was last formed for it.
+    /// The body that was last built for it.
     pub last: Arc<Bytes>,
-    /// The notice in flight to it: the one that was last formed, where it was not acknowledged.
+    /// The notification in flight to it: the one last built, if it is unacknowledged.
     pub flight: Option<Sent>,
 }
 
@@ -54,28 +54,29 @@ impl Model for Observer {
 }
 
 impl Observer {
-    /// Whether it is the observer of this peer and token.
+    /// Returns whether it is the observer of this peer and token.
     pub(crate) fn is_named(&self, peer: &Peer, token: &Token) -> bool
         ensures { result ≡ is_named peer.now token.now self.now }
     {
         *token == self.token && *peer == self.peer
     }
 
-    /// Whether it is due.
+    /// Returns whether it is due.
     pub(crate) fn is_due(&self) -> bool
         ensures { result ≡ self.now.due }
     {
         self.due
     }
 
-    /// Where its notices go.
+    /// Returns the peer that receives its notifications.
     pub(crate) fn peer(&self) -> &Peer
         ensures { result.now ≡ self.now.peer }
     {
         &self.peer
     }
 
-    /// Whether it is an observer of this peer, to which a notice with this Message ID is in flight.
+    /// Returns whether it is an observer of this peer, to which a notification with this Message ID
+    /// is in flight.
     pub(crate) fn has_notice(&self, peer: &Peer, mid: u16) -> bool
         ensures { result ≡ has_notice peer.now mid self.now }
     {
@@ -85,14 +86,14 @@ impl Observer {
         }
     }
 
-    /// Is due where its query is watched in this slot.
+    /// Marks it as due, if its query is watched in this slot.
     pub(crate) fn mark(&mut self, slot: u32)
         ensures { self.new ≡ marked slot self.old }
     {
         self.due = self.due || self.place == slot;
     }
 
-    /// A notice with this body was formed for it.
+    /// Records that a notification with this body was built for it.
     pub(crate) fn notice(&mut self, flight: Sent, body: Arc<Bytes>)
         ensures { self.new ≡ noticed flight (arc_value body) self.old }
     {
@@ -101,21 +102,22 @@ impl Observer {
         self.flight = Some(flight);
     }
 
-    /// Its listing was found unchanged.
+    /// Records that its listing was found unchanged.
     pub(crate) fn see(&mut self)
         ensures { self.new ≡ seen self.old }
     {
         self.due = false;
     }
 
-    /// Its notice was acknowledged.
+    /// Records that its notification was acknowledged.
     pub(crate) fn land(&mut self)
         ensures { self.new ≡ landed self.old }
     {
         self.flight = None;
     }
 
-    /// What is due of its notice now (RFC 7252 section 4.2); where there is none, nothing.
+    /// Returns what is due of its notification now (RFC 7252 section 4.2), or `Wait` if none is in
+    /// flight.
     pub(crate) fn time(&mut self, now: Moment) -> Again
         ensures due { result ≡ due_of now.0 self.old.flight }
         ensures kept { self.new ≡ timed now.0 self.old }

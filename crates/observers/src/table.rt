@@ -31,7 +31,7 @@ use std::alloc::Global;
 use std::marker::Model;
 use std::sync::Arc;
 
-/// As many observers stand as there is room for, 1,024.
+/// The table is full: it has 1,024 observers.
 #[derive(Clone, Copy, Debug, PartialEq, Eq)]
 pub struct FullObservers;
 
@@ -40,7 +40,8 @@ pub struct FullObservers;
 pub struct Observers {
     /// The observers.
     items: Vec<Observer>,
-    /// The peers that notices are in flight to, by which the next that is due is found in one walk.
+    /// The peers to which notifications are in flight. With them, the next observer that is due is
+    /// found in one pass.
     awaited: Vec<Peer>,
 }
 
@@ -62,8 +63,11 @@ impl Model for Observers {
 }
 
 impl Observers {
-    /// No observers, with room for as many as there are at most, 1,024. `Starved` where memory ran
-    /// out, and then nothing is kept.
+    /// Creates an empty table, with room for the most observers allowed, 1,024.
+    ///
+    /// # Errors
+    ///
+    /// `Starved` if memory runs out.
     pub fn make(alloc: Global) -> Result<Observers, Starved>
         ensures empty { IfOk result (λ t. t ≡ []) }
         ensures stands { (queries : ℕ → Query) (octets : OctetsSent)
@@ -74,9 +78,16 @@ impl Observers {
         Ok(Observers { items, awaited })
     }
 
-    /// Adds an observer at the end, for which a body was formed. No observer of its peer and token
-    /// stands, and no notice is in flight to it.
-    /// `FullObservers` exactly where 1,024 stand, and then nothing changed. Takes no memory.
+    /// Adds an observer at the end, for which a body was built. Does not allocate.
+    ///
+    /// # Requires
+    ///
+    /// The table has no observer of the same peer and token, and no notification is in flight to
+    /// the new one.
+    ///
+    /// # Errors
+    ///
+    /// `FullObservers` if there are 1,024 observers. The table does not change then.
     pub fn add(&mut self, observer: Observer) -> Result<(), FullObservers>
         requires new { list_any (is_named observer.peer observer.token) self.old ≡ false }
         requires landed { observer.flight ≡ None }
@@ -105,7 +116,7 @@ impl Observers {
         Ok(())
     }
 
-    /// Takes out the observer of a peer and a token, where there is one.
+    /// Removes the observer of a peer and a token, and returns it, if there is one.
     pub fn drop_one(&mut self, peer: &Peer, token: &Token) -> Option<Observer>
         ensures found { result ≡ find (is_named peer.now token.now) self.old }
         ensures left { self.new ≡ without_first (is_named peer.now token.now) self.old }
@@ -122,7 +133,7 @@ impl Observers {
         taken
     }
 
-    /// Marks the observers whose query is watched in a slot: they are due.
+    /// Marks as due the observers whose query is watched in a slot.
     pub fn mark(&mut self, slot: u32)
         ensures marked { self.new ≡ map (marked slot) self.old }
         ensures stands { (queries : ℕ → Query) (octets : OctetsSent) (events : List Event)
@@ -135,8 +146,8 @@ impl Observers {
         mark_all(&mut self.items, slot);
     }
 
-    /// The first index from a number on of an observer that is due and to whose peer no notice is
-    /// in flight.
+    /// Returns the first index, from `from` on, of an observer that is due and to whose peer no
+    /// notification is in flight.
     pub fn next_due(&self, from: usize) -> Option<usize>
         ensures next { result ≡ next_ready from self.now }
         ensures within { IfSome result (λ i. (from ≤ i) × (i < length self.now)) }
@@ -147,8 +158,12 @@ impl Observers {
         next_in(self.items.as_slice(), self.awaited.as_slice(), from)
     }
 
-    /// A notice with a body was formed for the observer with an index, to whose peer none is in
-    /// flight: it is due no longer, and the notice is in flight to it.
+    /// Records that a notification with a body was built for the observer with an index. The
+    /// observer is no longer due, and the notification is in flight.
+    ///
+    /// # Requires
+    ///
+    /// The index is that of an observer, and no notification is in flight to its peer.
     pub fn formed(&mut self, index: usize, flight: Sent, body: Arc<Bytes>)
         requires within { index < length self.old }
         requires free { (w : Standing)
@@ -170,7 +185,12 @@ impl Observers {
         await_peer(&mut self.awaited, peer);
     }
 
-    /// The listing of the observer with an index was found unchanged: it is due no longer.
+    /// Records that the listing of the observer with an index was found unchanged. The observer is
+    /// no longer due.
+    ///
+    /// # Requires
+    ///
+    /// The index is that of an observer.
     pub fn unchanged(&mut self, index: usize)
         requires { index < length self.old }
         ensures seen { self.new ≡ changed_at seen index self.old }
@@ -185,8 +205,8 @@ impl Observers {
         see_at(&mut self.items, index);
     }
 
-    /// An acknowledgement of a peer with a Message ID came: it ends the flight of the notice that
-    /// it is of, and the answer is whether there is one.
+    /// Records that a peer acknowledged the notification with this Message ID. Returns whether that
+    /// notification was in flight.
     pub fn acked(&mut self, peer: &Peer, mid: u16) -> bool
         ensures found { result ≡ list_any (has_notice peer.now mid) self.old }
         ensures landed { self.new ≡ changed_first (has_notice peer.now mid) landed self.old }
@@ -201,8 +221,8 @@ impl Observers {
         found
     }
 
-    /// A Reset of a peer with a Message ID came: it takes out the observer whose notice it is of,
-    /// where there is one (RFC 7641 section 4.2).
+    /// Handles a Reset of the notification with this Message ID from a peer (RFC 7641 section 4.2).
+    /// Removes the observer to which it is in flight, and returns it, if there is one.
     pub fn reset(&mut self, peer: &Peer, mid: u16) -> Option<Observer>
         ensures found { result ≡ find (has_notice peer.now mid) self.old }
         ensures left { self.new ≡ without_first (has_notice peer.now mid) self.old }
@@ -219,8 +239,12 @@ impl Observers {
         taken
     }
 
-    /// What is due now of the notice in flight to the observer with an index, as it is by
-    /// `Resend::at_tick`; `Wait` where none is in flight.
+    /// Returns what is due now of the notification in flight to the observer with an index, as
+    /// [`exchange_core::Resend::at_tick`] does, or `Wait` if none is in flight.
+    ///
+    /// # Requires
+    ///
+    /// The index is that of an observer.
     pub fn timeout(&mut self, now: Moment, index: usize) -> Again
         requires { index < length self.old }
         ensures due { (w : Standing)
@@ -246,7 +270,11 @@ impl Observers {
         time_at(&mut self.items, index, now)
     }
 
-    /// Takes out the observer with an index, whose notice is given up.
+    /// Removes the observer with an index, whose notification is given up, and returns it.
+    ///
+    /// # Requires
+    ///
+    /// The index is that of an observer.
     pub fn timed_out(&mut self, index: usize) -> Observer
         requires { index < length self.old }
         ensures value { slice_get self.old index ≡ Some result }
@@ -262,21 +290,21 @@ impl Observers {
         taken
     }
 
-    /// The observer with an index; none from their number on.
+    /// Returns the observer with an index, or `None` if the index is not below their number.
     pub fn at(&self, index: usize) -> Option<&Observer>
         ensures { option_map (λ w. w.now) result ≡ slice_get self.now index }
     {
         self.items.get(index)
     }
 
-    /// How many observers there are.
+    /// Returns the number of observers.
     pub fn len(&self) -> usize
         ensures { result ≡ length self.now }
     {
         self.items.len()
     }
 
-    /// Whether there are none.
+    /// Returns whether there are no observers.
     pub fn is_empty(&self) -> bool
         ensures { IsTrue result ↔ (self.now ≡ []) }
     {

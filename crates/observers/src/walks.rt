@@ -1,4 +1,4 @@
-//! Walks over observers: which is found, and how one of them changes.
+//! Passes over observers: which one is found, and how one of them changes.
 ghost use Rattle.std.specs.Prelude.{◌≡◌, ◌<◌, ◌≤◌, ℕ, ◌++◌, ◌∷◌, [], Some, Bool, List, map, find};
 ghost use Rattle.std.specs.Prelude.{slice_get, length, option_map, IfSome, vec_len, vec_capacity};
 ghost use Rattle.std.specs.List.{list_any, position};
@@ -16,7 +16,7 @@ use exchange_core::{Again, Sent, Token};
 use rd_base::{Bytes, Moment, Peer};
 use std::sync::Arc;
 
-/// The index of the observer of a peer and a token.
+/// Returns the index of the observer of a peer and a token.
 pub(crate) fn index_of(observers: &[Observer], peer: &Peer, token: &Token) -> Option<usize>
     ensures { result ≡ position (is_named peer.now token.now) observers.now }
 {
@@ -25,7 +25,8 @@ pub(crate) fn index_of(observers: &[Observer], peer: &Peer, token: &Token) -> Op
         .position(|observer| observer.is_named(peer, token))
 }
 
-/// The index of the first observer of a peer to which a notice with a Message ID is in flight.
+/// Returns the index of the first observer of a peer to which a notification with a Message ID is
+/// in flight.
 pub(crate) fn index_of_notice(observers: &[Observer], peer: &Peer, mid: u16) -> Option<usize>
     ensures { result ≡ position (has_notice peer.now mid) observers.now }
 {
@@ -34,8 +35,8 @@ pub(crate) fn index_of_notice(observers: &[Observer], peer: &Peer, mid: u16) -> 
         .position(|observer| observer.has_notice(peer, mid))
 }
 
-/// Takes out the observer with an index, where there is one: it is the first that passes a test
-/// where its index is that of the first.
+/// Removes the observer with an index, if there is one, and returns it. If the index is that of the
+/// first observer that passes a test, the returned one is that observer.
 pub(crate) fn take(observers: &mut Vec<Observer>, index: Option<usize>) -> Option<Observer>
     requires { (test : Standing → Bool) × (index ≡ position test observers.old.items) }
     ensures found { (test : Standing → Bool)
@@ -53,7 +54,7 @@ pub(crate) fn take(observers: &mut Vec<Observer>, index: Option<usize>) -> Optio
     }
 }
 
-/// Marks the observers whose query is watched in a slot.
+/// Marks as due the observers whose query is watched in a slot.
 pub(crate) fn mark_all(observers: &mut Vec<Observer>, slot: u32)
     ensures marked { observers.new.items ≡ map (marked slot) observers.old.items }
     ensures len { vec_len observers.new ≡ vec_len observers.old }
@@ -64,7 +65,7 @@ pub(crate) fn mark_all(observers: &mut Vec<Observer>, slot: u32)
     }
 }
 
-/// The peers that notices are in flight to, gathered anew.
+/// Collects again the peers to which notifications are in flight.
 pub(crate) fn gather(awaited: &mut Vec<Peer>, observers: &[Observer])
     requires few { length observers.now ≤ max_observers }
     requires room { max_observers ≤ vec_capacity awaited.old }
@@ -79,7 +80,7 @@ pub(crate) fn gather(awaited: &mut Vec<Peer>, observers: &[Observer])
     }
 }
 
-/// The peer is one of those that notices are in flight to.
+/// Adds the peer to those to which notifications are in flight.
 pub(crate) fn await_peer(awaited: &mut Vec<Peer>, peer: Peer)
     requires { length awaited.old.items < vec_capacity awaited.old }
     ensures awaited { awaited.new.items ≡ awaited.old.items ++ peer ∷ [] }
@@ -88,14 +89,14 @@ pub(crate) fn await_peer(awaited: &mut Vec<Peer>, peer: Peer)
     awaited.push_reserved(peer);
 }
 
-/// Whether the peer is one of these.
+/// Returns whether the peer is one of these.
 fn is_among(peers: &[Peer], peer: &Peer) -> bool
     ensures { result ≡ list_any (λ q. is_same_peer q peer.now) peers.now }
 {
     peers.iter().any(|other| *other == *peer)
 }
 
-/// Whether an observer is due, and its peer is none of those that notices are in flight to.
+/// Returns whether an observer is due, and no notification is in flight to its peer.
 fn is_free(awaited: &[Peer], observer: &Observer) -> bool
     ensures { (ws : List Standing)
         → Tells ws awaited.now
@@ -107,8 +108,8 @@ fn is_free(awaited: &[Peer], observer: &Observer) -> bool
     !is_among(awaited, observer.peer())
 }
 
-/// The first index from a number on of an observer that is due and to whose peer no notice is in
-/// flight.
+/// Returns the first index, from `from` on, of an observer that is due and to whose peer no
+/// notification is in flight.
 pub(crate) fn next_in(observers: &[Observer], awaited: &[Peer], from: usize) -> Option<usize>
     requires { Tells observers.now awaited.now }
     ensures { result ≡ next_ready from observers.now }
@@ -123,7 +124,7 @@ pub(crate) fn next_in(observers: &[Observer], awaited: &[Peer], from: usize) -> 
     None
 }
 
-/// The peer of the observer with an index.
+/// Returns the peer of the observer with an index.
 pub(crate) fn peer_at(observers: &[Observer], index: usize) -> Peer
     requires { index < length observers.now }
     ensures { (w : Standing) → slice_get observers.now index ≡ Some w → result ≡ w.peer }
@@ -131,7 +132,7 @@ pub(crate) fn peer_at(observers: &[Observer], index: usize) -> Peer
     *observers[index].peer()
 }
 
-/// A notice with a body was formed for the observer with an index.
+/// Records that a notification with a body was built for the observer with an index.
 pub(crate) fn notice_at(observers: &mut Vec<Observer>, index: usize, flight: Sent, body: Arc<Bytes>)
     requires { index < length observers.old.items }
     ensures noticed { observers.new.items
@@ -142,7 +143,7 @@ pub(crate) fn notice_at(observers: &mut Vec<Observer>, index: usize, flight: Sen
     observers[index].notice(flight, body);
 }
 
-/// The listing of the observer with an index was found unchanged.
+/// Records that the listing of the observer with an index was found unchanged.
 pub(crate) fn see_at(observers: &mut Vec<Observer>, index: usize)
     requires { index < length observers.old.items }
     ensures seen { observers.new.items ≡ changed_at seen index observers.old.items }
@@ -152,7 +153,7 @@ pub(crate) fn see_at(observers: &mut Vec<Observer>, index: usize)
     observers[index].see();
 }
 
-/// What is due of the notice of the observer with an index.
+/// Returns what is due of the notification of the observer with an index.
 pub(crate) fn time_at(observers: &mut Vec<Observer>, index: usize, now: Moment) -> Again
     requires { index < length observers.old.items }
     ensures due { (w : Standing)
@@ -165,7 +166,8 @@ pub(crate) fn time_at(observers: &mut Vec<Observer>, index: usize, now: Moment) 
     observers[index].time(now)
 }
 
-/// The notice with a Message ID that is in flight to a peer was acknowledged; whether there is one.
+/// Records that the notification with a Message ID in flight to a peer was acknowledged. Returns
+/// whether there was one.
 pub(crate) fn land_first(observers: &mut Vec<Observer>, peer: &Peer, mid: u16) -> bool
     ensures found { result ≡ list_any (has_notice peer.now mid) observers.old.items }
     ensures landed { observers.new.items

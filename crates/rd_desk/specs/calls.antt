@@ -1,7 +1,11 @@
--- What contracts of the calls of a desk say: what a desk shows and the journal that it stands for
--- (Desks, Shown), a call as a step (Steps), how a step ends (Stepping), what comes of a datagram
--- and what a tick needs (Admitting, Ticking), the job of a write (WriteJobs), what is left on the
--- board (Staging), and an observer as it is shown (ShownObservers).
+-- The contracts of a desk's calls.
+--
+-- - what a desk shows and the journal that it stands for: Desks, Shown
+-- - a call as a step, and how a step ends: Steps, Stepping
+-- - the result of a datagram, and what a tick needs: Admitting, Ticking
+-- - the job of a write: WriteJobs
+-- - what a step leaves staged on the board: Staging
+-- - an observer as it is shown: ShownObservers
 
 -- what a desk shows and the journal that it stands for, a call as a step, how a step ends
 pub mod Desks
@@ -14,7 +18,7 @@ pub mod Staging
 pub mod ShownObservers
 -- what the job of a write shows (RFC 7252 section 4.5)
 pub mod WriteJobs
--- what an admission leaves and when it takes memory (RFC 7252 section 4)
+-- what an admission leaves, and when it allocates (RFC 7252 section 4)
 pub mod Admitting
--- when a tick takes memory (RFC 7641 section 4.2, RFC 7252 section 4.7)
+-- when a tick allocates (RFC 7641 section 4.2, RFC 7252 section 4.7)
 pub mod Ticking

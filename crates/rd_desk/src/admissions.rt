@@ -1,13 +1,13 @@
-//! What comes of a datagram that is heard.
+//! The result of handling a datagram.
 use crate::WriteJob;
 
-/// What comes of a datagram that is heard.
+/// The result of handling a datagram.
 #[derive(Drop)]
 pub enum Admitted {
-    /// It is done with.
+    /// The datagram is done with.
     Done,
-    /// It is a write that was admitted: the worker has this job.
+    /// It is a write that was admitted, and the worker has this job.
     Held(WriteJob),
-    /// Out of memory. A request is answered 5.00.
+    /// Memory ran out. A request has been answered 5.00.
     Starved,
 }

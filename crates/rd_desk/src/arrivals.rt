@@ -1,15 +1,15 @@
-//! Datagrams that come in (RFC 7252 section 4).
+//! Datagrams that arrive (RFC 7252 section 4).
 use rd_base::{Moment, Peer};
 use rd_request::Incoming;
 
-/// A datagram that came.
+/// A datagram that arrived.
 #[derive(Clone, Copy, Debug)]
 pub struct Arrival<'a> {
-    /// When it is heard, in milliseconds.
+    /// The moment at which it is handled, in milliseconds.
     pub moment: Moment,
-    /// What the waits of messages that go out are made from.
+    /// The random word of the step, which determines initial timeouts and the values of challenges.
     pub word: u32,
-    /// Whom it came from.
+    /// The peer that sent it.
     pub peer: Peer,
     /// Its octets.
     pub datagram: &'a [u8],

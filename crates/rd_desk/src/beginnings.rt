@@ -1,4 +1,4 @@
-//! The beginning of a run: its numbers and its count of entries go on above a number (this
+//! The beginning of a run, above whose number all later numbers and the count of entries lie (this
 //! project's profile).
 ghost use Rattle.std.specs.Prelude.{◌≡◌, ◌≤◌, ◌^◌, ℕ, [], false, List, None, IfOk, IfSome};
 ghost use Rattle.std.specs.Arc.{arc_value};
@@ -28,7 +28,7 @@ use rd_base::{Moment, Starved};
 use std::alloc::Global;
 use std::sync::Arc;
 
-/// What is ready of a beginning that is refused: nothing. `Starved` where memory ran out.
+/// Returns `None` for a beginning that is refused.
 fn unbegun(refusal: Refusal) -> Result<Option<Entering>, Starved>
     ensures none { IfOk result (λ ready. ready ≡ None) }
     ensures begun { (history : List Entry) (swept : ℕ) (entry : Entry)
@@ -44,8 +44,7 @@ fn unbegun(refusal: Refusal) -> Result<Option<Entering>, Starved>
     }
 }
 
-/// What is ready of a beginning: the version with its entry, or nothing where that is refused.
-/// `Starved`: out of memory.
+/// Returns the version with the entry of a beginning, or `None` if the beginning is refused.
 fn begun(
     alloc: Global,
     version: &Directory,
@@ -77,9 +76,8 @@ fn begun(
 }
 
 impl Tables {
-    /// The step in which a run begins above `first`, at a moment that is at most 10^15; one below
-    /// that of the tables is lifted to it. Nothing is sent and no Message ID drawn. `Starved`: out
-    /// of memory, and nothing is begun.
+    /// Begins a run above `first`. `now` is at most 10^15; one earlier than the tables' moment is
+    /// raised to it. Sends nothing and draws no Message ID. After `Starved`, the run has not begun.
     pub(crate) fn begin<B: Board>(
         &mut self,
         board: &mut B,

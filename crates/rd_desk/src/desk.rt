@@ -1,5 +1,5 @@
-//! The core of the directory: one call is one step, and does what the journal says of its row (RFC
-//! 9176, RFC 7252, RFC 7641, RFC 7959).
+//! The directory as a state machine: each call makes one step, and does what the journal says of
+//! its row (RFC 9176, RFC 7252, RFC 7641, RFC 7959).
 ghost use Rattle.std.specs.Prelude.{◌≡◌, ◌≤◌, ◌^◌, ℕ, true, false, [], ◌∷◌, List, Some, Ok, IfOk};
 ghost use Rattle.std.specs.Prelude.{IfErr, IfSome, length, slice_get};
 ghost use Rattle.std.specs.Arc.{arc_value};
@@ -34,13 +34,14 @@ use std::alloc::Global;
 use std::marker::Model;
 use std::sync::Arc;
 
-/// A directory. Contracts see what it keeps, which says the journal that it stands for, and the
-/// board that its versions are laid on.
+/// A directory. Contracts see its tables, which determine the journals that it stands for, and the
+/// board on which it stages versions.
 #[derive(Drop)]
 pub struct Desk<B: Board> {
-    /// What it keeps.
+    /// The tables, which hold all state between steps.
     tables: Tables,
-    /// Where a version with an entry is laid, to be published after the step that made it.
+    /// The board, on which a step stages the version with its entry. The caller publishes it after
+    /// the step.
     board: B,
 }
 
@@ -52,15 +53,24 @@ impl<B: Board> Model for Desk<B> {
     ghost view = { λ d. record { tables = d.tables; board = d.board } };
 }
 
-/// A board for whose desk there was no memory.
+/// A board that came back because there was no memory for its desk.
 #[derive(Drop)]
 pub struct Unmade<B> {
-    /// The board that was handed in.
+    /// The board that was passed in.
     pub board: B,
 }
 
 impl<B: Board + Drop> Desk<B> {
-    /// As [`Desk::make_or_return`], for a board that can be let go. `Starved`: out of memory.
+    /// Creates an empty directory, as [`Desk::make_or_return`] does, for a board that may be
+    /// dropped.
+    ///
+    /// # Requires
+    ///
+    /// Nothing is staged on the board. If the board exposes its entries, it has none.
+    ///
+    /// # Errors
+    ///
+    /// `Starved` if memory runs out. The board is dropped then.
     pub fn make(alloc: Global, board: B) -> Result<Desk<B>, Starved>
         requires free { B.has_staged board ≡ false }
         requires told { IfSome (B.told board) (λ history. history ≡ []) }
@@ -77,9 +87,15 @@ impl<B: Board + Drop> Desk<B> {
 impl<B: Board> Desk<B> {
     ghost use Rattle.rd_desk.specs.contracts.desk.Desk.{the_row};
 
-    /// A directory in which nothing was done, with all the room that its tables take. Nothing is
-    /// staged on the board, and its entries, where it tells them, are none. Out of memory the board
-    /// comes back.
+    /// Creates an empty directory with tables at their full capacity.
+    ///
+    /// # Requires
+    ///
+    /// Nothing is staged on the board. If the board exposes its entries, it has none.
+    ///
+    /// # Errors
+    ///
+    /// `Unmade` with the board if memory runs out.
     pub fn make_or_return(alloc: Global, board: B) -> Result<Desk<B>, Unmade<B>>
         requires free { B.has_staged board ≡ false }
         requires told { IfSome (B.told board) (λ history. history ≡ []) }
@@ -93,15 +109,21 @@ impl<B: Board> Desk<B> {
         Ok(Desk { tables, board })
     }
 
-    /// The step that hears a datagram of a peer, which is not one that only looks
-    /// ([`crate::is_look`]), at a moment in milliseconds that is at most 10^15; one below that of
-    /// the directory is lifted to it. Waits of messages that go out, and the values of challenges,
-    /// are made from the word. `out` is empty, and gets what is sent. `Held`: it is a write that is
-    /// admitted, and the worker has its job. `Starved`: out of memory; a request is answered 5.00,
-    /// a response is as if it had not come (RFC 7252 section 4).
+    /// Handles a datagram that is not a look ([`crate::is_look`]), and puts the responses into
+    /// `out`.
     ///
-    /// Nothing is staged on the board, and its entries, where it tells them, are those of the
-    /// directory. Where the step makes an entry, its version is staged afterwards.
+    /// Returns `Held` with a job if the datagram is a write that was admitted. Pass the job to
+    /// [`Desk::commit`]. If the step makes an entry, the new version is staged on the board. `word`
+    /// determines initial timeouts and the values of challenges. A `now` (in milliseconds) earlier
+    /// than the desk's own moment is raised to it.
+    ///
+    /// After `Starved` (out of memory), a request has been answered 5.00; a response counts as not
+    /// received (RFC 7252 section 4).
+    ///
+    /// # Requires
+    ///
+    /// `now` is at most 10^15 milliseconds and `out` is empty. Nothing is staged on the board, and
+    /// any entries that it exposes are those of the directory.
     pub fn admit(
         &mut self,
         now: Moment,
@@ -116,8 +138,8 @@ impl<B: Board> Desk<B> {
         requires empty { out.old ≡ [] }
         requires free { B.has_staged self.old.board ≡ false }
         requires told { AreToldOf self.old.tables.version (B.told self.old.board) }
-        // The desk stands for the journal with the row of the step, which is what was sent and
-        // drawn.
+        // The desk stands for the journal with the row of the step, and the call sent and drew what
+        // the row says.
         ensures made { (rows : List Row) (s : Step)
             → s.kind ≡ step.Admit
             → s.peer ≡ peer
@@ -126,7 +148,7 @@ impl<B: Board> Desk<B> {
             → IsCalled rows s now mids.old self.old.tables
             → Made rows (row rows s (is_starved_admission result)) self.new.tables out.new mids.old
             mids.new }
-        // The worker has the job of the write that the row admits, where it admits one.
+        // The worker has the job of the write that the row admits, if it admits one.
         ensures held { (rows : List Row) (s : Step)
             → s.kind ≡ step.Admit
             → s.peer ≡ peer
@@ -134,14 +156,15 @@ impl<B: Board> Desk<B> {
             → IsCalled rows s now mids.old self.old.tables
             → IsHeldFor result (row rows s (is_starved_admission result)).notes s
             (row_moment rows s) }
-        // Refusals, repeats, empty messages, and responses that belong to no fetch take no memory.
+        // Refusals, duplicates, empty messages, and responses that belong to no fetch do not
+        // allocate.
         ensures unstarved { (rows : List Row) (s : Step)
             → s.peer ≡ peer
             → s.datagram ≡ datagram.now
             → IsCalled rows s now mids.old self.old.tables
             → takes_memory rows (row_moment rows s) s (reading datagram.now) ≡ false
             → is_starved_admission result ≡ false }
-        // Its version is staged where it makes an entry, and else nothing is.
+        // If the step makes an entry, its version is staged. Otherwise nothing is.
         ensures staged { (rows : List Row) (s : Step)
             → s.kind ≡ step.Admit
             → s.peer ≡ peer
@@ -163,8 +186,14 @@ impl<B: Board> Desk<B> {
         self.admit_arrival(mids, arrival, out)
     }
 
-    /// The same step for a datagram that was read already: each clause says of it what that of
-    /// [`Desk::admit`] says.
+    /// Handles a datagram that was already read. Each clause says the same as that of
+    /// [`Desk::admit`].
+    ///
+    /// # Requires
+    ///
+    /// The moment of the arrival is at most 10^15 milliseconds, and `out` is empty.
+    /// `arrival.incoming` is what [`read_datagram`] returns for the datagram, which is not a look.
+    /// Nothing is staged on the board, and any entries that it exposes are those of the directory.
     pub fn admit_arrival(
         &mut self,
         mids: &mut Mids,
@@ -215,14 +244,20 @@ impl<B: Board> Desk<B> {
         self.tables.admit(&mut self.board, mids, arrival, out)
     }
 
-    /// The step that does a write that was admitted, at a moment in milliseconds that is at most
-    /// 10^15; one below that of the directory is lifted to it. The job is of an admission of this
-    /// directory that nothing has ended since. `out` is empty, and gets what is sent. `Starved`:
-    /// out of memory; nothing is changed, the request is answered 5.00, and the write may come
-    /// again as a new one (RFC 9176 section 5, RFC 7252 section 4.5).
+    /// Does an admitted write, and puts the response into `out` (RFC 9176 section 5, RFC 7252
+    /// section 4.5).
     ///
-    /// Nothing is staged on the board, and its entries, where it tells them, are those of the
-    /// directory. Where the step makes an entry, its version is staged afterwards.
+    /// The job comes from an admission of this directory that nothing has ended since. If the step
+    /// makes an entry, the new version is staged on the board. A `now` (in milliseconds) earlier
+    /// than the desk's own moment is raised to it.
+    ///
+    /// After `Starved` (out of memory), the request has been answered 5.00 and the registrations
+    /// have not changed. The write may come again as a new one.
+    ///
+    /// # Requires
+    ///
+    /// `now` is at most 10^15 milliseconds and `out` is empty. Nothing is staged on the board, and
+    /// any entries that it exposes are those of the directory.
     pub fn commit(
         &mut self,
         now: Moment,
@@ -234,8 +269,8 @@ impl<B: Board> Desk<B> {
         requires empty { out.old ≡ [] }
         requires free { B.has_staged self.old.board ≡ false }
         requires told { AreToldOf self.old.tables.version (B.told self.old.board) }
-        // The desk stands for the journal with the row of the step, which is what was sent and
-        // drawn.
+        // The desk stands for the journal with the row of the step, and the call sent and drew what
+        // the row says.
         ensures made { (rows : List Row) (s : Step) (place : ℕ) (m : Message)
             → s.kind ≡ step.Commit place
             → s.peer ≡ job.peer
@@ -246,7 +281,7 @@ impl<B: Board> Desk<B> {
             → IsCalled rows s now mids.old self.old.tables
             → Made rows (row rows s (is_starved_step result)) self.new.tables out.new mids.old
             mids.new }
-        // Its version is staged where it makes an entry, and else nothing is.
+        // If the step makes an entry, its version is staged. Otherwise nothing is.
         ensures staged { (rows : List Row) (s : Step) (place : ℕ) (m : Message)
             → s.kind ≡ step.Commit place
             → s.peer ≡ job.peer
@@ -263,15 +298,20 @@ impl<B: Board> Desk<B> {
         self.tables.commit(&mut self.board, now, mids, job, out)
     }
 
-    /// The step that does the job to keep a listing or a source, at a moment in milliseconds that
-    /// is at most 10^15; one below that of the directory is lifted to it. `out` is empty, and gets
-    /// what is sent: the block of it that was asked for (RFC 7959 section 2.4). `Starved`: out of
-    /// memory; nothing is kept, and the request is answered 5.00.
+    /// Keeps a listing or a source that a look built, and puts the requested block of it into `out`
+    /// (RFC 7959 section 2.4).
+    ///
+    /// A `now` (in milliseconds) earlier than the desk's own moment is raised to it. After
+    /// `Starved` (out of memory), nothing is kept and the request has been answered 5.00.
+    ///
+    /// # Requires
+    ///
+    /// `now` is at most 10^15 milliseconds and `out` is empty.
     pub fn keep(&mut self, now: Moment, mids: &mut Mids, job: KeepJob, out: &mut Outbox) -> Stepped
         requires moment { now.0 ≤ 10 ^ 15 }
         requires empty { out.old ≡ [] }
-        // The desk stands for the journal with the row of the step, which is what was sent and
-        // drawn.
+        // The desk stands for the journal with the row of the step, and the call sent and drew what
+        // the row says.
         ensures made { (rows : List Row) (s : Step)
             → s.kind ≡ step.Keep job.answer.body job.answer.tag
             → s.peer ≡ job.peer
@@ -284,25 +324,34 @@ impl<B: Board> Desk<B> {
         self.tables.keep(now, mids, job, out)
     }
 
-    /// The step in which time passes, at a moment in milliseconds that is at most 10^15; one below
-    /// that of the directory is lifted to it. Notices and requests whose wait has ended are sent
-    /// again, and observers that are due are told, 64 at most; the first waits of what goes out are
-    /// made from the word. Then what is old or has lapsed is dropped. `out` is empty, and gets what
-    /// is sent. `Starved`: out of memory; then nobody is told anew, and the rest is done (RFC 7252
-    /// section 4.2, RFC 7641 sections 4.2 and 4.5). Only notices that are formed need memory: what
-    /// has lapsed stays stored where there is none to drop it, and is listed no more all the same.
+    /// Lets time pass, and puts what becomes due into `out` (RFC 7252 section 4.2, RFC 7641
+    /// sections 4.2 and 4.5).
+    ///
+    /// Retransmits notifications and requests of fetches whose timeouts have expired. Sends
+    /// notifications to observers that are due, at most 64. Then drops exchanges that have expired
+    /// and registrations that have lapsed. `word` determines the initial timeouts. A `now` (in
+    /// milliseconds) earlier than the desk's own moment is raised to it.
+    ///
+    /// After `Starved` (out of memory), no new notification was sent, but the rest is done. Only
+    /// new notifications need memory. If memory for the sweep is missing, lapsed registrations
+    /// remain stored, but they are not listed.
+    ///
+    /// # Requires
+    ///
+    /// `now` is at most 10^15 milliseconds and `out` is empty.
     pub fn tick(&mut self, now: Moment, word: u32, mids: &mut Mids, out: &mut Outbox) -> Stepped
         requires moment { now.0 ≤ 10 ^ 15 }
         requires empty { out.old ≡ [] }
-        // The desk stands for the journal with the row of the step, which is what was sent and
-        // drawn.
+        // The desk stands for the journal with the row of the step, and the call sent and drew what
+        // the row says.
         ensures made { (rows : List Row) (s : Step)
             → s.kind ≡ step.Tick
             → s.word ≡ word
             → IsCalled rows s now mids.old self.old.tables
             → Made rows (row rows s (is_starved_step result)) self.new.tables out.new mids.old
             mids.new }
-        // Where no observer is due whose peer waits for no notice, it takes no memory.
+        // The tick does not allocate unless an observer is due to whose peer no notification is in
+        // flight.
         ensures unstarved { (rows : List Row) (s : Step)
             → s.kind ≡ step.Tick
             → IsCalled rows s now mids.old self.old.tables
@@ -313,17 +362,23 @@ impl<B: Board> Desk<B> {
         self.tables.tick(now, word, mids, out)
     }
 
-    /// The step in which a run begins above `first`: each registration of a new name that comes
-    /// gets a number above it, and the entries are counted above it too, so that no location and no
-    /// entity tag that comes is one of a run that gave and counted none above `first`. Numbers and
-    /// the count never fall: what is above `first` already stays. Nothing is begun where 2^48 - 1
-    /// entries are counted, or `first` is at least that. The moment, in milliseconds, is at most
-    /// 10^15; one below that of the directory is lifted to it. Nothing is sent, and no Message ID
-    /// is drawn. `Starved`: out of memory, and nothing is begun (this project's profile; RFC 9176
-    /// section 5, RFC 7252 section 5.10.6).
+    /// Begins a run above `first` (this project's profile; RFC 9176 section 5, RFC 7252 section
+    /// 5.10.6).
     ///
-    /// Nothing is staged on the board, and its entries, where it tells them, are those of the
-    /// directory. Where the step makes its entry, its version is staged afterwards.
+    /// From then on, each registration of a new name gets a number above `first`, and entries are
+    /// counted above it too. So no later location or entity tag is one of an earlier run, if that
+    /// run gave and counted none above `first`. Numbers and the count never fall: those above
+    /// `first` already stay.
+    ///
+    /// The run does not begin if 2^48 - 1 entries are counted, or if `first` is at least that. If
+    /// the step makes its entry, the new version is staged on the board. The step sends nothing and
+    /// draws no Message ID. A `now` (in milliseconds) earlier than the desk's own moment is raised
+    /// to it. After `Starved` (out of memory), the run has not begun.
+    ///
+    /// # Requires
+    ///
+    /// `now` is at most 10^15 milliseconds. Nothing is staged on the board, and any entries that it
+    /// exposes are those of the directory.
     pub fn begin(&mut self, now: Moment, first: u64, mids: &Mids) -> Stepped
         requires moment { now.0 ≤ 10 ^ 15 }
         requires free { B.has_staged self.old.board ≡ false }
@@ -334,7 +389,7 @@ impl<B: Board> Desk<B> {
             → IsCalled rows s now mids.now self.old.tables
             → Made rows (row rows s (is_starved_step result)) self.new.tables [] mids.now
             mids.now }
-        // Its version is staged where it makes its entry, and else nothing is.
+        // If the step makes its entry, its version is staged. Otherwise nothing is.
         ensures staged { (rows : List Row) (s : Step)
             → s.kind ≡ step.Begin first
             → IsCalled rows s now mids.now self.old.tables
@@ -346,8 +401,8 @@ impl<B: Board> Desk<B> {
         self.tables.begin(&mut self.board, now, first, mids)
     }
 
-    /// The version of the registrations now, from which a look is answered ([`crate::look`]). A
-    /// desk that stands for a journal stands for it with a look more.
+    /// Returns the current version of the registrations, from which looks are answered
+    /// ([`crate::look`]). A desk that stands for a journal also stands for it with one more look.
     pub fn version(&self) -> &Arc<Directory>
         ensures value { arc_value result.now ≡ self.now.tables.version }
         ensures looked { (rows : List Row) (r : Row) → is_look r.step.kind ≡ true → r.notes ≡ []
@@ -356,9 +411,9 @@ impl<B: Board> Desk<B> {
         &self.tables.version
     }
 
-    /// The greatest moment that was handed in, in milliseconds, at most 10^15. It is not before the
-    /// last entry of the version of the registrations, and not before its last sweep, so that the
-    /// version can be asked at it.
+    /// Returns the latest moment passed in so far, in milliseconds, at most 10^15. It is no earlier
+    /// than the last entry and the last sweep of the version, so that the version can be queried at
+    /// it.
     pub fn moment(&self) -> Moment
         ensures value { result.0 ≡ self.now.tables.moment }
         ensures most { result.0 ≤ 10 ^ 15 }
@@ -368,7 +423,8 @@ impl<B: Board> Desk<B> {
         self.tables.moment
     }
 
-    /// The observer with an index, in the order in which they joined; none from their number on.
+    /// Returns the observer with an index, in the order in which they joined, or `None` if the
+    /// index is not below their number.
     pub fn observer(&self, index: usize) -> Option<Watcher>
         ensures shown { IsShown (slice_get self.now.tables.watching.observers index) result }
         ensures observer { (rows : List Row) (o : Observed)
@@ -379,14 +435,14 @@ impl<B: Board> Desk<B> {
         self.tables.observer(index)
     }
 
-    /// How many observers there are.
+    /// Returns the number of observers.
     pub fn watchers(&self) -> usize
         ensures { result ≡ length self.now.tables.watching.observers }
     {
         self.tables.watching.len()
     }
 
-    /// The board. What the desk keeps stays as it is, and the board is what the reference leaves.
+    /// Lends the board. The rest of the desk does not change.
     pub fn board(&mut self) -> &mut B
         ensures value { result.now ≡ self.old.board }
         ensures* writes_back { sem 𝓛 (Lends (the_row B.row B.Board) B.row self.entry result
@@ -395,7 +451,7 @@ impl<B: Board> Desk<B> {
         &mut self.board
     }
 
-    /// Ends the desk. The board comes back.
+    /// Ends the desk, and returns its board.
     pub fn into_board(self) -> B
         ensures { result ≡ self.board }
     {

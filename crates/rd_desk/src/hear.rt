@@ -1,4 +1,4 @@
-//! Datagrams as they are heard (RFC 7252 section 4).
+//! Datagrams that are received (RFC 7252 section 4).
 pub(crate) mod datagrams;
 pub(crate) mod empties;
 pub(crate) mod refusals;

@@ -1,12 +1,11 @@
-//! What a worker is left with after a datagram.
+//! The job that a datagram leaves to its worker.
 use crate::{KeepJob, WriteJob};
 
-/// A job that a datagram leaves its worker with, to be done by the next step of that worker but
-/// ticks.
+/// A job that a datagram leaves to its worker. The worker's next step other than a tick does it.
 #[derive(Drop)]
 pub enum Job {
     /// A write that was admitted.
     Write(WriteJob),
-    /// A listing or a source that a look formed.
+    /// A listing or a source that a look built.
     Keep(KeepJob),
 }

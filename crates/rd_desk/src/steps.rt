@@ -1,10 +1,10 @@
-//! What comes of a step that does a job, and of a tick.
+//! The result of a step that does a job, or of a tick.
 
-/// What comes of a step that does a job, or of a tick.
+/// The result of a step that does a job, of a tick, or of the beginning of a run.
 #[derive(Clone, Copy, Debug, PartialEq, Eq)]
 pub enum Stepped {
-    /// It is done.
+    /// The step is done.
     Done,
-    /// Out of memory. A request is answered 5.00.
+    /// Memory ran out. A request has been answered 5.00.
     Starved,
 }

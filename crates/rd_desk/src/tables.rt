@@ -1,5 +1,5 @@
-//! The tables of a desk, and what stands in them together (RFC 9176, RFC 7252, RFC 7641, RFC 7959,
-//! RFC 9175).
+//! The tables of a desk, and what holds between them (RFC 9176, RFC 7252, RFC 7641, RFC 7959, RFC
+//! 9175).
 ghost use Rattle.std.specs.Prelude.{◌≡◌, ◌≤◌, ◌^◌, ℕ, Bool, [], List, IfOk, max};
 ghost use Rattle.rd_base.specs.declared.peers.Peer.{Peer};
 ghost use Rattle.journal_model.specs.declared.steps.Step.{Step};
@@ -20,17 +20,17 @@ use std::marker::Model;
 use std::sync::Arc;
 use transfers::Transfers;
 
-/// What a desk keeps between its steps. Contracts say which journal it stands for; and while a step
-/// is under way, what was done of its row so far.
+/// The state of a desk between its steps. Contracts say which journal it stands for. During a step,
+/// they say how much of its row is done.
 #[derive(Drop)]
 pub(crate) struct Tables {
-    /// Where memory comes from.
+    /// The allocator.
     pub(crate) alloc: Global,
-    /// The greatest moment that was handed in, at most 10^15.
+    /// The latest moment passed in so far, at most 10^15.
     pub(crate) moment: Moment,
     /// The registrations.
     pub(crate) version: Arc<Directory>,
-    /// The writes that were admitted.
+    /// The exchanges of admitted writes.
     pub(crate) exchanges: Exchanges,
     /// The uploads and the kept answers.
     pub(crate) transfers: Transfers,
@@ -40,7 +40,7 @@ pub(crate) struct Tables {
     pub(crate) fetches: Fetches,
     /// The challenges of simple registrations.
     pub(crate) echoes: Echoes,
-    /// How many Observe values were given, modulo 2^64.
+    /// The number of Observe values given so far, modulo 2^64.
     pub(crate) observed: u64,
 }
 
@@ -69,8 +69,7 @@ impl Model for Tables {
 }
 
 impl Tables {
-    /// Tables of a directory in which nothing was done, at the moment 0, with all the room that
-    /// they take. `Starved`: out of memory.
+    /// Creates the tables of an empty directory, at moment 0 and with their full capacity.
     pub(crate) fn make(alloc: Global) -> Result<Tables, Starved>
         ensures { IfOk result (StandsFor []) }
     {
@@ -93,9 +92,9 @@ impl Tables {
         })
     }
 
-    /// Time passes to a moment, at most 10^15, or stands where it is not later than that of the
-    /// tables; the observers are due whose listing a lapse meanwhile changes. A step begins with
-    /// it. Takes no memory.
+    /// Lets time pass to a moment, at most 10^15; an earlier one than the tables' own changes
+    /// nothing. An observer whose listing a lapse changed meanwhile becomes due. Each step begins
+    /// with this call. Does not allocate.
     pub(crate) fn pass(&mut self, now: Moment)
         requires { now.0 ≤ 10 ^ 15 }
         ensures way { (rows : List Row) (s : Step) (starved : Bool) (out : List (Peer

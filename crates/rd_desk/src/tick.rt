@@ -1,4 +1,5 @@
-//! What time makes due (RFC 7252 section 4.2, RFC 7641 section 4.5, RFC 9176 section 5).
+//! What becomes due as time passes (RFC 7252 section 4.2, RFC 7641 section 4.5, RFC 9176 section
+//! 5).
 pub(crate) mod notices;
 pub(crate) mod notices_again;
 pub(crate) mod planning;

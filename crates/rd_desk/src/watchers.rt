@@ -12,20 +12,20 @@ use exchange_core::Token;
 use observers::Observer;
 use rd_base::Peer;
 
-/// An observer.
+/// A copy of an observer.
 #[derive(Debug, Drop)]
 pub struct Watcher {
-    /// Where its notices go.
+    /// The peer that receives its notifications.
     pub peer: Peer,
-    /// The token of its request, which each notice has.
+    /// The token of its request, which each notification carries.
     pub token: Token,
-    /// Whether its listing is to be looked at again.
+    /// Whether it is due: its listing has to be built again or found unchanged.
     pub due: bool,
-    /// Whether a notice to it waits for an acknowledgement.
+    /// Whether a notification to it is in flight, that is, unacknowledged.
     pub waiting: bool,
 }
 
-/// An observer as it is shown.
+/// Returns a copy of an observer.
 fn shown(observer: &Observer) -> Watcher
     ensures { IsShownAs observer.now result }
 {
@@ -38,7 +38,8 @@ fn shown(observer: &Observer) -> Watcher
 }
 
 impl Tables {
-    /// The observer with an index, in the order in which they joined; none from their number on.
+    /// Returns the observer with an index, in the order in which they joined, or `None` if the
+    /// index is not below their number.
     pub(crate) fn observer(&self, index: usize) -> Option<Watcher>
         ensures shown { IsShown (slice_get self.now.watching.observers index) result }
         ensures observer { (rows : List Row) (o : Observed)

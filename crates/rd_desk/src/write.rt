@@ -1,4 +1,4 @@
-//! Writes that were admitted are done (RFC 9176 section 5, RFC 7252 section 4.5).
+//! Writes that were admitted, as they are done (RFC 9176 section 5, RFC 7252 section 4.5).
 pub(crate) mod asked;
 pub(crate) mod commits;
 pub(crate) mod entries;

@@ -3,7 +3,7 @@ use Rattle.std.specs.Prelude.{ℕ, List}
 use Rattle.rd_base.specs.declared.peers.Peer.{Peer}
 use Rattle.event_model.specs.KeptAnswers.{Answer}
 
--- a body that is to be kept under its tag, with who asked for it, and by which datagram
+-- a body to be kept under its tag, with the peer that asked for it, and its datagram
 pub record Keep : Type 0 where
   pub peer : Peer
   pub datagram : List ℕ

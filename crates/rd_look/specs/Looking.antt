@@ -1,4 +1,4 @@
--- What is found by a look, and how the look ends.
+-- What a look finds, and how the look ends.
 use Rattle.std.specs.Prelude.{◌≡◌, ℕ, Bool, true, false, List, Option, Some, None}
 use Rattle.rd_base.specs.declared.peers.Peer.{Peer}
 use Rattle.message_model.specs.Message.{Message}
@@ -21,8 +21,8 @@ use Rattle.rd_look.specs.declared.looks.Found.TheVariants as found
 use Rattle.rd_look.specs.declared.looks.Looked.{Looked}
 use Rattle.rd_look.specs.declared.looks.Looked.TheVariants as ended
 
--- what a look gives that found this: 2.03 where the client has it, 4.04 where a registration is not
--- live, and else the body, which is held where it is a listing or a source longer than a block
+-- The result of a look that found this: 2.03 if the client has it, 4.04 if a registration is not
+-- live, and otherwise the body. A listing or source longer than a block is held.
 abbrev pub look_found : Message → Found → Look
 look_found m (found.Valid current) = answered (still_valid current.0)
 look_found m (found.Links links) =
@@ -31,23 +31,23 @@ look_found m (found.Links links) =
 look_found m (found.OwnLinks octets) = answered (body_reply None None (asked_block m) octets)
 look_found m found.NotLive = answered not_live
 
--- it ran out of memory
+-- memory ran out
 abbrev pub is_starved_look : Looked → Bool
 is_starved_look ended.Done = false
 is_starved_look (ended.Held job) = false
 is_starved_look ended.Starved = true
 
--- what a look does that gives this, or ran out of memory
+-- what a look does with this result, or if memory ran out
 abbrev pub look_done : Bool → Step → Message → Look → Effects
 look_done true s m given = without_memory s m
 look_done false s m given = look_sent s m (Some given)
 
--- the body that it leaves to be kept
+-- the body that the look leaves to be kept
 abbrev pub look_left : Bool → Look → Option Answer
 look_left true given = None
 look_left false given = body_held (Some given)
 
--- the worker is left with this body to keep, which a peer asked for by a datagram, or with nothing
+-- the look leaves to the worker this body to keep, which a peer asked for by a datagram, or nothing
 abbrev pub IsHeld : Peer → List ℕ → Option Answer → Looked → Type 0
 IsHeld peer datagram None ended.Done = Unit {0}
 IsHeld peer datagram None ended.Starved = Unit {0}

@@ -1,4 +1,4 @@
-//! The job that a look leaves its worker with.
+//! The job that a look leaves to its worker.
 ghost use Rattle.std.specs.Prelude.{◌≡◌, true, Ok, IfOk};
 ghost use Rattle.message_model.specs.Reading.{reading};
 ghost use Rattle.message_model.specs.Spelling.{spelling};
@@ -11,11 +11,11 @@ use std::alloc::Global;
 use std::marker::Model;
 use std::sync::Arc;
 
-/// A listing or a source that a look formed, to be kept for its further blocks and sent from its
-/// first block on (RFC 7959 section 2.4).
+/// A listing or a source that a look built. It is to be kept for its later blocks, and sent from
+/// its first block on (RFC 7959 section 2.4).
 #[derive(Drop)]
 pub struct KeepJob {
-    /// Who asked.
+    /// The peer that sent the look.
     pub peer: Peer,
     /// The request of the look.
     pub request: KeptRequest,
@@ -47,8 +47,15 @@ impl Model for KeepJob {
 }
 
 impl KeepJob {
-    /// The job to keep a listing or a source that the look by this request formed. `Starved`: out
-    /// of memory.
+    /// Creates the job to keep a listing or a source that the look with this request built.
+    ///
+    /// # Requires
+    ///
+    /// The request is a look, and its encoding reads as the same message.
+    ///
+    /// # Errors
+    ///
+    /// `Starved` if memory runs out.
     pub fn of(
         alloc: Global,
         peer: Peer,
@@ -76,7 +83,7 @@ impl KeepJob {
         })
     }
 
-    /// The request of the look.
+    /// Returns the request of the look.
     pub fn request(&self) -> Request<'_>
         ensures { reading self.now.datagram ≡ Ok (message_of result) }
     {

@@ -1,5 +1,5 @@
-//! Lookups, reads of a registration, and discovery that are answered from one version of the
-//! directory (RFC 9176 sections 4.1, 5.3.3 and 6, RFC 7252 section 5.10.6.2).
+//! Answers to lookups, reads of a registration, and discovery, from one version of the directory
+//! (RFC 9176 sections 4.1, 5.3.3 and 6, RFC 7252 section 5.10.6.2).
 ghost use Rattle.std.specs.Prelude.{◌≡◌, ◌≤◌, ◌<◌, ◌^◌, ℕ, true, false, List, length, Ok, Some};
 ghost use Rattle.std.specs.Prelude.{IfOk, option_and_then};
 ghost use Rattle.std.specs.Option.{ForSome};
@@ -37,15 +37,15 @@ use std::alloc::Global;
 use std::marker::Brand;
 use std::sync::ledger::{Blank, Ledger};
 
-/// How a look ends.
+/// The result of a look.
 #[derive(Drop)]
 pub enum Looked {
-    /// It is answered.
+    /// The look has been answered.
     Done,
-    /// Its listing or source is longer than one block: nothing is sent yet, and the worker has this
-    /// job.
+    /// The listing or source is longer than one block. Nothing has been sent yet, and the worker
+    /// has this job.
     Held(KeepJob),
-    /// Out of memory: it is answered 5.00.
+    /// Memory ran out, and the look has been answered 5.00.
     Starved,
 }
 
@@ -58,10 +58,10 @@ struct TaggedLinks {
     tag: Tag,
 }
 
-/// What a look finds.
+/// What a look finds in a version.
 #[derive(Drop)]
 enum Found {
-    /// The client has the listing or the source already, under this tag.
+    /// The client already has the listing or the source, under this tag.
     Valid(Tag),
     /// The listing or the source.
     Links(TaggedLinks),
@@ -71,7 +71,7 @@ enum Found {
     NotLive,
 }
 
-/// Whether a tag is among those that the request names (RFC 7252 section 5.10.6.2).
+/// Returns whether a tag is among those that the request names (RFC 7252 section 5.10.6.2).
 fn names_tag(meaning: &Meaning<'_>, tag: Tag) -> bool
     ensures { result ≡ looks_of.names_tag tag.0 (message_in meaning.now.view) }
 {
@@ -83,7 +83,16 @@ fn names_tag(meaning: &Meaning<'_>, tag: Tag) -> bool
     false
 }
 
-/// The listing of a query at a moment. `Starved`: out of memory.
+/// Returns the listing of a query at a moment. Contracts count the steps of the lookup on `blank`.
+///
+/// # Requires
+///
+/// `now` is no earlier than the version's last entry and last sweep. `blank` is of the ledger `L`,
+/// and has its number of parts, at least 1. For `Brand`, pass `Blank::new(1)`.
+///
+/// # Errors
+///
+/// `Starved` if memory runs out.
 pub fn listing_at<L: Ledger>(
     blank: Blank,
     version: &Directory,
@@ -103,8 +112,7 @@ pub fn listing_at<L: Ledger>(
     version.lookup(query, now, &mut steps)
 }
 
-/// What a lookup finds in a version at a moment: its listing, unless the client has it. `Starved`:
-/// out of memory.
+/// Returns what a lookup finds in a version at a moment: its listing, unless the client has it.
 fn find_listing(
     version: &Directory,
     now: Moment,
@@ -127,8 +135,8 @@ fn find_listing(
     Ok(Found::Links(TaggedLinks { octets, tag }))
 }
 
-/// What a read of the registration of a number finds in a version at a moment: its source, unless
-/// the client has it, where it is live. `Starved`: out of memory.
+/// Returns what a read of the registration with a number finds in a version at a moment: its
+/// source, unless the client has it, or that it is not live.
 fn find_source(
     version: &Directory,
     now: Moment,
@@ -156,8 +164,17 @@ fn find_source(
     }))
 }
 
-/// The listing of a lookup, or the source of a read, in a version at a moment; none where the
-/// registration that is read is not live. `Starved`: out of memory.
+/// Returns the listing of a lookup, or the source of a read, in a version at a moment. Returns
+/// `None` if the registration to read is not live.
+///
+/// # Requires
+///
+/// The request is a lookup or a read of a registration. `now` is no earlier than the version's last
+/// entry and last sweep.
+///
+/// # Errors
+///
+/// `Starved` if memory runs out.
 pub fn links_at(
     alloc: Global,
     version: &Directory,
@@ -184,7 +201,7 @@ pub fn links_at(
     }
 }
 
-/// What a look finds in a version at a moment. `Starved`: out of memory.
+/// Returns what a look finds in a version at a moment.
 fn find(
     alloc: Global,
     version: &Directory,
@@ -214,8 +231,8 @@ fn find(
     }
 }
 
-/// What is answered to a request that names the tag of what is found: 2.03 with this tag alone (RFC
-/// 7252 section 5.10.6.2).
+/// Returns 2.03 with this tag alone, the answer to a request that names the tag of what is found
+/// (RFC 7252 section 5.10.6.2).
 fn still_valid(tag: Tag) -> Reply<'static>
     ensures said { reply_said result ≡ looks_of.still_valid tag.0 }
     ensures reply { IsReply result }
@@ -232,7 +249,11 @@ fn still_valid(tag: Tag) -> Reply<'static>
     }
 }
 
-/// A read of a registration that is not live is answered 4.04 (RFC 9176 section 5.3.3).
+/// Answers 4.04 to a read of a registration that is not live (RFC 9176 section 5.3.3).
+///
+/// # Requires
+///
+/// `out` has room for one more datagram.
 pub fn answer_not_live(mids: &mut Mids, peer: Peer, request: &Request<'_>, out: &mut Outbox)
     requires room { length out.old < most_datagrams }
     ensures { (s : Step) (notes : List Note)
@@ -244,8 +265,12 @@ pub fn answer_not_live(mids: &mut Mids, peer: Peer, request: &Request<'_>, out: 
     answer(mids, peer, &request.meaning.view, &reply, out);
 }
 
-/// The block of a body that is asked for is sent, the first where none is, under a tag and an
-/// Observe value; 4.00 where it lies past the end of the body.
+/// Sends the requested block of a body, or the first if none is requested, with a tag and an
+/// Observe value. Sends 4.00 if the block lies past the end of the body.
+///
+/// # Requires
+///
+/// An Observe value is below 2^24, and `out` has room for one more datagram.
 pub fn send_block(
     mids: &mut Mids,
     peer: Peer,
@@ -268,8 +293,8 @@ pub fn send_block(
     answer(mids, peer, &request.meaning.view, &reply, out);
 }
 
-/// What is found is sent, or held where it is a listing or a source longer than the block that is
-/// asked for.
+/// Sends what was found. If it is a listing or a source longer than the requested block, holds it
+/// instead.
 fn give(
     alloc: Global,
     mids: &mut Mids,
@@ -308,7 +333,7 @@ fn give(
     }
 }
 
-/// A listing or a source is sent, or held where it is longer than the block that is asked for.
+/// Sends a listing or a source. If it is longer than the requested block, holds it instead.
 fn give_links(
     alloc: Global,
     mids: &mut Mids,
@@ -341,7 +366,11 @@ fn give_links(
     Looked::Held(job)
 }
 
-/// The request of a datagram that only looks ([`is_look`](rd_request::is_look)).
+/// Returns the request of a datagram that is a look ([`is_look`](rd_request::is_look)).
+///
+/// # Requires
+///
+/// The datagram is a look.
 pub fn look_request(datagram: &[u8]) -> Request<'_>
     requires { is_look_datagram datagram.now ≡ true }
     ensures read { reading datagram.now ≡ Ok (message_of result) }
@@ -354,7 +383,12 @@ pub fn look_request(datagram: &[u8]) -> Request<'_>
     request
 }
 
-/// A request that only looks, read already, is answered as [`look`] answers its datagram.
+/// Answers a look that was already read, as [`look`] answers its datagram.
+///
+/// # Requires
+///
+/// The request is a look, and its encoding reads as the same message. `now` is no earlier than the
+/// version's last entry and last sweep. `out` has room for one more datagram.
 pub fn answer_look(
     alloc: Global,
     version: &Directory,
@@ -388,12 +422,18 @@ pub fn answer_look(
     give(alloc, mids, peer, request, found, out)
 }
 
-/// A request that only looks ([`is_look`](rd_request::is_look)) is answered from a version of the
-/// directory at a moment, which is not before its last entry and its last sweep: 2.05 with what is
-/// found; 2.03 where the request names the tag of the listing or of the source (RFC 7252 section
-/// 5.10.6.2); 4.04 where it reads a registration that is not live. A listing or a source that is
-/// longer than the block that is asked for is not sent: it is held, to be kept first. `out` has
-/// room for one datagram more.
+/// Answers a look ([`is_look`](rd_request::is_look)) from a version of the directory at a moment.
+///
+/// The answer is 2.05 with what is found, or 2.03 if the request names the tag of the listing or
+/// source (RFC 7252 section 5.10.6.2). It is 4.04 if the request reads a registration that is not
+/// live. If a listing or source is longer than the requested block, nothing is sent, and `Held`
+/// returns the job to keep it first. After `Starved` (out of memory), the request has been answered
+/// 5.00.
+///
+/// # Requires
+///
+/// The datagram is a look. `now` is no earlier than the version's last entry and last sweep. `out`
+/// has room for one more datagram.
 pub fn look(
     alloc: Global,
     version: &Directory,
@@ -421,8 +461,12 @@ pub fn look(
     answer_look(alloc, version, now, mids, peer, &request, out)
 }
 
-/// A request that only looks, for which no version is at hand, is answered 5.00 (RFC 7252 section
-/// 5.9.3.1). `out` has room for one datagram more.
+/// Answers 5.00 to a look for which no version is available (RFC 7252 section 5.9.3.1).
+///
+/// # Requires
+///
+/// The request is a look, and its encoding reads as the same message. `out` has room for one more
+/// datagram.
 pub fn look_starved(mids: &mut Mids, peer: Peer, request: &Request<'_>, out: &mut Outbox)
     requires read { reading (spelling (message_of request.now)) ≡ Ok (message_of request.now) }
     requires looks { is_look_datagram (spelling (message_of request.now)) ≡ true }

@@ -1,4 +1,4 @@
--- What a request asks, and the refusals that it alone decides, as the code says them.
+-- What a request asks, and the refusals that it alone decides, as the code names them.
 use Rattle.std.specs.Prelude.{
   ◌≡◌,
   ℕ,
@@ -33,21 +33,21 @@ abbrev pub begins_observation : Option ℕ → Bool
 begins_observation None = false
 begins_observation (Some value) = value == register
 
--- the answer to a refusal (RFC 7252 section 5.5.2)
+-- the answer of a refusal (RFC 7252 section 5.5.2)
 abbrev pub refused_with : Refused → Reply
 refused_with (refused.Request refusal) = diagnostic (refusal_code refusal) (diagnostic_of refusal)
 refused_with refused.Query = diagnostic codes_of.bad_request (codes "query")
 refused_with refused.Payload = diagnostic codes_of.bad_request (codes "payload")
 
--- a refusal of the request for itself: its options first, and only where none of them is refused,
--- anything else (RFC 7252 section 5.4.1)
+-- the message is refused so by its content alone: for its options first, and for anything else only
+-- if none of them is refused (RFC 7252 section 5.4.1)
 abbrev pub IsRefusedBy : Refused → Message → Type 0
 IsRefusedBy (refused.Request refusal) m = refusal_of m ≡ Some refusal
 IsRefusedBy refused.Query m = refusal_of m ≡ None
 IsRefusedBy refused.Payload m = refusal_of m ≡ None
 
--- nothing is answered to an unrecognized critical option in a message that is not confirmable (RFC
--- 7252 section 5.4.1)
+-- a non-confirmable message with an unrecognized critical option gets no answer (RFC 7252 section
+-- 5.4.1)
 abbrev pub is_passed_over : Kind4 → Refused → Bool
 is_passed_over Non (refused.Request (refusal.BadOption number)) = true
 is_passed_over _ _ = false

@@ -1,5 +1,5 @@
--- what requests are about, the message of a request that nothing refuses (RFC 9176 sections 4 to
--- 6)
+-- the resources that requests are about, the message of a request that is not refused (RFC 9176
+-- sections 4 to 6)
 pub mod Resources
 pub mod Accepted
 -- what a request asks, and the refusals that it alone decides (RFC 7252 sections 5.4.1 and 5.5.2)
@@ -8,5 +8,5 @@ pub mod Asking
 pub mod WriteRequests
 -- what a datagram is to the directory (RFC 7252 section 4)
 pub mod Incoming
--- what these are made of
+-- the request that a job stores
 pub mod KeptRequests

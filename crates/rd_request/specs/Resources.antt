@@ -1,4 +1,4 @@
--- What requests are about.
+-- The resources that requests are about.
 use Rattle.std.specs.Prelude.{Bool, true, false, ◌==◌, Option, Some, None}
 use Rattle.rd_base.specs.declared.queries.Kind.{Kind}
 use Rattle.rd_base.specs.declared.queries.Kind.TheVariants as kind
@@ -7,7 +7,7 @@ use Rattle.message_model.specs.declared.requests.Path.TheVariants as path
 use Rattle.rd_request.specs.declared.resources.Resource.{Resource}
 use Rattle.rd_request.specs.declared.resources.Resource.TheVariants as resource
 
--- what a path names, where it names anything (RFC 9176 sections 4.3, 5 and 6)
+-- the resource that a path names, if it names one (RFC 9176 sections 4.3, 5 and 6)
 abbrev pub resource_at : Path → Option Resource
 resource_at path.Core = Some resource.Core
 resource_at path.SimpleRd = Some resource.SimpleRegistration
@@ -27,7 +27,7 @@ is_at (resource.Lookup kind.Resource) path.Res = true
 is_at (resource.Lookup kind.Endpoint) path.Ep = true
 is_at _ _ = false
 
--- the kind of what is looked up there
+-- the kind of what a lookup at a resource seeks
 abbrev pub kind_at : Resource → Kind
 kind_at resource.Core = kind.Discovery
 kind_at resource.SimpleRegistration = kind.Discovery

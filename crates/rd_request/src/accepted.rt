@@ -1,4 +1,5 @@
-//! Requests that nothing refuses for themselves (RFC 7252 section 5, RFC 9176 sections 4 to 6).
+//! Requests that are not refused by their content alone (RFC 7252 section 5, RFC 9176 sections 4 to
+//! 6).
 ghost use Rattle.std.proofs.Props.{props};
 ghost use Rattle.std.specs.Coded.{Coded-set};
 ghost use Rattle.std.specs.Option.{ForSome};
@@ -12,18 +13,18 @@ use crate::resources::Resource;
 use coap_options::Meaning;
 use message_model::Block;
 
-/// A request that nothing refuses for itself: what its options mean, what it is about, and the
-/// blocks that it names.
+/// A request that is not refused by its content alone: the meaning of its options, its resource,
+/// and the blocks that it names.
 #[rattlefmt::skip]
 #[derive(Clone, Copy, Debug)]
 pub struct Request<'a> {
-    /// The message, with what its options mean.
+    /// The message with the meaning of its options.
     pub meaning: Meaning<'a>,
-    /// What it is about.
+    /// The resource that it is about.
     pub resource: Resource,
-    /// The block of the answer that is asked for (RFC 7959 section 2.1).
+    /// The requested block of the answer (RFC 7959 section 2.1).
     pub asked: Option<Block>,
-    /// The block that the payload is (RFC 7959 section 2.1).
+    /// The block that the payload contains (RFC 7959 section 2.1).
     pub sent: Option<Block>,
     pub ghost accepted: { is_none (requests_of.refusal_of_request (message_in meaning.view))
         ≡ true },

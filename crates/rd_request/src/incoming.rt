@@ -1,4 +1,5 @@
-//! What a datagram is to the directory. It is read here, and nowhere else (RFC 7252 section 4).
+//! What a datagram is to the directory. Datagrams are read here and nowhere else (RFC 7252 section
+//! 4).
 ghost use Rattle.std.specs.Prelude.{◌≡◌, ◌&&◌, ℕ, not, true, List, Ok};
 ghost use Rattle.message_model.specs.Reading.{reading};
 ghost use Rattle.message_model.specs.Spelling.{spelling};
@@ -21,9 +22,9 @@ use message_model::codes::GET;
 /// What a datagram is to the directory.
 #[derive(Clone, Copy, Debug)]
 pub enum Incoming<'a> {
-    /// No message (RFC 7252 section 3).
+    /// A datagram that is not a message (RFC 7252 section 3).
     Unread(Unread),
-    /// A message of which nothing comes.
+    /// A message that has no effect.
     Nothing,
     /// A ping (RFC 7252 section 4.3).
     Ping(View<'a>),
@@ -33,21 +34,21 @@ pub enum Incoming<'a> {
     Reset(View<'a>),
     /// A response.
     Response(View<'a>),
-    /// A request that is refused for itself.
+    /// A request that is refused by its content alone.
     Refused(View<'a>, Refused),
-    /// A request that only looks: a discovery, or of a first block a lookup that neither begins nor
-    /// ends an observation, or a read of a registration. It is answered from the registrations
-    /// alone.
+    /// A look: a discovery, or a first block of a read of a registration, or a first block of a
+    /// lookup that neither begins nor ends an observation. The registrations alone determine its
+    /// answer.
     Look(Request<'a>),
     /// Any other lookup.
     Lookup(Request<'a>),
-    /// A read of a registration, of a further block.
+    /// A read of a registration, of a later block.
     Read(Request<'a>),
-    /// A request that writes to the registrations, or to one of them.
+    /// A write to the registrations, or to one of them.
     Write(Request<'a>),
 }
 
-/// Whether a lookup is of a first block, and neither begins nor ends an observation.
+/// Returns whether a lookup is of a first block, and neither begins nor ends an observation.
 fn is_plain(request: &Request<'_>) -> bool
     ensures { result ≡ (not (requests_of.is_later_block (message_of request.now))
         && not (requests_of.is_heeded (observe_in (message_of request.now)))) }
@@ -58,7 +59,7 @@ fn is_plain(request: &Request<'_>) -> bool
     !is_heeded(request.meaning.observe)
 }
 
-/// A read of a registration, which only looks where it is of a first block.
+/// Returns what a read of a registration is: a look if it is of a first block.
 fn read(request: Request<'_>) -> Incoming<'_>
     requires { reads_registration (message_of request) ≡ true }
     ensures { (datagram : List ℕ)
@@ -71,8 +72,8 @@ fn read(request: Request<'_>) -> Incoming<'_>
     Incoming::Look(request)
 }
 
-/// A request on a registration, by its method: GET reads the links (RFC 9176 section 5.3.3), and
-/// whatever else it may ask is a write.
+/// Returns what a request to a registration is, by its method: GET reads the links (RFC 9176
+/// section 5.3.3), and any other accepted method writes.
 fn on_location(request: Request<'_>) -> Incoming<'_>
     requires { is_location (path_in (message_of request)) ≡ true }
     ensures { (datagram : List ℕ)
@@ -85,7 +86,7 @@ fn on_location(request: Request<'_>) -> Incoming<'_>
     Incoming::Write(request)
 }
 
-/// A request that nothing refuses for itself, by what it is about.
+/// Returns what a request that is not refused by its content alone is, by its resource.
 fn served(request: Request<'_>) -> Incoming<'_>
     ensures { (datagram : List ℕ)
         → IsFor role.Request datagram (message_of request.entry)
@@ -104,7 +105,7 @@ fn served(request: Request<'_>) -> Incoming<'_>
     }
 }
 
-/// A request.
+/// Returns what a request is.
 fn requested<'a>(view: &View<'a>) -> Incoming<'a>
     ensures { (datagram : List ℕ)
         → IsFor role.Request datagram (message_in view.now)
@@ -116,7 +117,7 @@ fn requested<'a>(view: &View<'a>) -> Incoming<'a>
     }
 }
 
-/// A message, by what it is for (RFC 7252 section 4).
+/// Returns what a message is, by its role (RFC 7252 section 4).
 fn told<'a>(view: &View<'a>) -> Incoming<'a>
     ensures { (datagram : List ℕ)
         → reading datagram ≡ Ok (message_in view.now)
@@ -133,7 +134,7 @@ fn told<'a>(view: &View<'a>) -> Incoming<'a>
     }
 }
 
-/// What a datagram is to the directory.
+/// Returns what a datagram is to the directory.
 pub fn read_datagram(datagram: &[u8]) -> Incoming<'_>
     ensures { IsIncoming datagram.now result }
 {
@@ -143,7 +144,7 @@ pub fn read_datagram(datagram: &[u8]) -> Incoming<'_>
     }
 }
 
-/// Whether it is a request that only looks.
+/// Returns whether it is a look.
 fn looks(incoming: &Incoming<'_>) -> bool
     ensures { result ≡ looks incoming.now }
 {
@@ -162,9 +163,9 @@ fn looks(incoming: &Incoming<'_>) -> bool
     }
 }
 
-/// Whether a datagram is a request that only looks: a discovery, or of a first block a lookup that
-/// neither begins nor ends an observation, or a read of a registration, which nothing refuses. It
-/// is answered from the registrations alone.
+/// Returns whether a datagram is a look, a request whose answer the registrations alone determine.
+/// That is a discovery, or a first block of a read of a registration, or a first block of a lookup
+/// that neither begins nor ends an observation. A request that is refused is not a look.
 pub fn is_look(datagram: &[u8]) -> bool
     ensures { result ≡ is_look_datagram datagram.now }
 {

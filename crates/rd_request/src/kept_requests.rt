@@ -1,4 +1,4 @@
-//! Requests that jobs keep (RFC 7252 sections 3 and 5.10).
+//! Requests that jobs store (RFC 7252 sections 3 and 5.10).
 ghost use Rattle.std.specs.Prelude.{◌≡◌, ◌≤◌, ◌++◌, length, IfOk};
 ghost use Rattle.std.specs.Option.{ForSome, option_map};
 ghost use Rattle.coap_message.specs.Views.{message_in};
@@ -14,28 +14,29 @@ use rd_base::{Bytes, Starved};
 use std::alloc::Global;
 use std::marker::Model;
 
-/// A request that nothing refuses for itself, with what was read of it. Contracts see its message.
+/// A stored request that is not refused by its content alone, with what was read of it. Contracts
+/// see its message.
 #[derive(Drop)]
 pub struct KeptRequest {
     /// The type.
     kind: Kind4,
-    /// The code, class.detail in one octet.
+    /// The code, with class and detail in one octet.
     code: u8,
     /// The Message ID.
     mid: u16,
     /// The token.
     token: Token,
-    /// The options as they are spelled, and the payload behind them.
+    /// The options as they were encoded, followed by the payload.
     octets: Bytes,
-    /// How many of the octets are options.
+    /// How many of the octets belong to options.
     options: usize,
     /// The resource that its path names.
     path: Path,
-    /// The number in Observe.
+    /// The value of Observe.
     observe: Option<u32>,
-    /// The format that is accepted.
+    /// The content format in Accept.
     accept: Option<u16>,
-    /// The format of the payload, by Content-Format.
+    /// The content format of the payload, in Content-Format.
     format: Option<u16>,
     /// The value of Block1.
     block1: Option<Octets<3>>,
@@ -45,11 +46,11 @@ pub struct KeptRequest {
     proxy: bool,
     /// The value of Echo.
     echo: Option<Octets<40>>,
-    /// What it is about.
+    /// The resource that it is about.
     resource: Resource,
-    /// The block of the answer that is asked for (RFC 7959 section 2.1).
+    /// The requested block of the answer (RFC 7959 section 2.1).
     asked: Option<Block>,
-    /// The block that the payload is (RFC 7959 section 2.1).
+    /// The block that the payload contains (RFC 7959 section 2.1).
     sent: Option<Block>,
 }
 
@@ -67,8 +68,7 @@ impl Model for KeptRequest {
         r.accept r.format r.block1 r.block2 r.proxy r.echo r.resource r.asked r.sent };
 }
 
-/// The options of a message as they are spelled and its payload behind them, in one piece of
-/// memory. `Starved`: out of memory.
+/// Returns the encoded options of a message, followed by its payload, in one piece of memory.
 fn joined(alloc: Global, view: &View<'_>) -> Result<Bytes, Starved>
     ensures { IfOk result (λ octets. octets ≡ view.now.options.now ++ view.now.payload.now) }
 {
@@ -78,7 +78,7 @@ fn joined(alloc: Global, view: &View<'_>) -> Result<Bytes, Starved>
     Ok(Bytes::of(octets))
 }
 
-/// The value of an option, kept.
+/// Copies the value of an option.
 fn kept_value<const N: usize>(value: Option<&[u8]>) -> Option<Octets<N>>
     requires { ForSome value (λ v. length v.now ≤ N) }
     ensures { result ≡ option_map (λ v. v.now) value.entry }
@@ -89,7 +89,7 @@ fn kept_value<const N: usize>(value: Option<&[u8]>) -> Option<Octets<N>>
     }
 }
 
-/// The value of an option, lent again.
+/// Lends the value of an option.
 fn lent_value<const N: usize>(value: &Option<Octets<N>>) -> Option<&[u8]>
     ensures { option_map (λ v. v.now) result ≡ value.now }
 {
@@ -100,7 +100,11 @@ fn lent_value<const N: usize>(value: &Option<Octets<N>>) -> Option<&[u8]>
 }
 
 impl KeptRequest {
-    /// The request, kept. `Starved`: out of memory.
+    /// Copies a request.
+    ///
+    /// # Errors
+    ///
+    /// `Starved` if memory runs out.
     pub fn of(alloc: Global, request: &Request<'_>) -> Result<KeptRequest, Starved>
         ensures { IfOk result (λ kept. kept ≡ message_of request.now) }
     {
@@ -128,7 +132,7 @@ impl KeptRequest {
         })
     }
 
-    /// Its message.
+    /// Returns its message.
     fn view(&self) -> View<'_>
         ensures { message_in result ≡ self.now }
     {
@@ -145,7 +149,7 @@ impl KeptRequest {
         }
     }
 
-    /// The request, lent again.
+    /// Lends the request, as it was read.
     pub fn request(&self) -> Request<'_>
         ensures { message_of result ≡ self.now }
     {

@@ -1,5 +1,5 @@
-//! What lookups and discoveries ask for, by the query options of their requests (RFC 9176 sections
-//! 4.1 and 6).
+//! The queries of lookups and discoveries, from the query options of their requests (RFC 9176
+//! sections 4.1 and 6).
 ghost use Rattle.std.specs.Prelude.{◌≡◌, true, IfOk};
 ghost use Rattle.message_model.specs.Request.{path_in};
 ghost use Rattle.journal_model.specs.Requests as requests_of;
@@ -13,8 +13,15 @@ use query_text::{QueryBad, lookup_query};
 use rd_base::{Query, Starved};
 use std::alloc::Global;
 
-/// What a lookup or a discovery asks for, whose query options are not refused. `Starved`: out of
-/// memory.
+/// Returns the query of a lookup or a discovery.
+///
+/// # Requires
+///
+/// The request is a lookup or a discovery.
+///
+/// # Errors
+///
+/// `Starved` if memory runs out.
 pub fn query_of(alloc: Global, request: &Request<'_>) -> Result<Query, Starved>
     requires seeks { seeks_links (path_in (message_of request.now)) ≡ true }
     ensures { IfOk result (λ query. query ≡ requests_of.query_of (message_of request.now)) }

@@ -1,4 +1,4 @@
-//! The parameters of a registration, by the query options of its request (RFC 9176 sections 5 and
+//! The parameters of a registration, from the query options of its request (RFC 9176 sections 5 and
 //! 5.1).
 ghost use Rattle.std.specs.Prelude.{◌≡◌, None, IfOk};
 ghost use Rattle.message_model.specs.Request.{queries_in};
@@ -13,8 +13,15 @@ use query_text::{QueryBad, reg_params};
 use rd_base::{RegParams, Starved};
 use std::alloc::Global;
 
-/// The parameters of a registration, or of a simple one, whose query options are not refused.
-/// `Starved`: out of memory.
+/// Returns the parameters of a registration, or of a simple registration if `simple`.
+///
+/// # Requires
+///
+/// The query options are not refused.
+///
+/// # Errors
+///
+/// `Starved` if memory runs out.
 pub fn given_params(
     alloc: Global,
     meaning: &Meaning<'_>,

@@ -18,7 +18,8 @@ use message_model::Block;
 use message_model::codes::POST;
 use query_text::{Reading, fault};
 
-/// As what the query options of a request are read: those of a lookup, a registration or an update.
+/// Returns how to read the query options of a request: as those of a lookup, a registration or an
+/// update.
 fn reading_of(path: &Path, code: u8) -> Option<Reading>
     ensures { result ≡ requests_of.reading_of path.now code }
 {
@@ -33,8 +34,8 @@ fn reading_of(path: &Path, code: u8) -> Option<Reading>
     }
 }
 
-/// As what those of a request on a registration are read: an update alone has any that are read;
-/// those of a read, a replacement and a removal are passed over.
+/// Returns how to read the query options of a request to a registration. Only an update has any;
+/// those of a read, a replacement and a removal are ignored.
 fn reading_on_location(code: u8) -> Option<Reading>
     ensures { result ≡ requests_of.reading_on_location (requests_of.method_of code) }
 {
@@ -44,7 +45,7 @@ fn reading_on_location(code: u8) -> Option<Reading>
     None
 }
 
-/// Whether the query options are refused (RFC 9176 sections 5, 5.1, 5.3.1 and 6.2).
+/// Returns whether the query options are refused (RFC 9176 sections 5, 5.1, 5.3.1 and 6.2).
 fn has_bad_query(meaning: &Meaning<'_>) -> bool
     ensures { result ≡ requests_of.has_bad_query (message_in meaning.now.view) }
 {
@@ -54,7 +55,7 @@ fn has_bad_query(meaning: &Meaning<'_>) -> bool
     }
 }
 
-/// The block of the answer that is asked for (RFC 7959 section 2.1).
+/// Returns the requested block of the answer (RFC 7959 section 2.1).
 fn asked_block(meaning: &Meaning<'_>) -> Option<Block>
     ensures asked { result ≡ requests_of.asked_block (message_in meaning.now.view) }
     ensures block { ForSome result IsBlock }
@@ -65,7 +66,7 @@ fn asked_block(meaning: &Meaning<'_>) -> Option<Block>
     }
 }
 
-/// The block that the payload is (RFC 7959 section 2.1).
+/// Returns the block that the payload contains (RFC 7959 section 2.1).
 fn sent_block(meaning: &Meaning<'_>) -> Option<Block>
     ensures sent { result ≡ requests_of.sent_block (message_in meaning.now.view) }
     ensures block { ForSome result IsBlock }
@@ -76,7 +77,7 @@ fn sent_block(meaning: &Meaning<'_>) -> Option<Block>
     }
 }
 
-/// Whether the block that is asked for comes after the first.
+/// Returns whether the requested block comes after the first.
 pub fn is_later_block(request: &Request<'_>) -> bool
     ensures { result ≡ requests_of.is_later_block (message_of request.now) }
 {
@@ -86,7 +87,7 @@ pub fn is_later_block(request: &Request<'_>) -> bool
     }
 }
 
-/// Whether the value of Observe begins or ends an observation (RFC 7641 section 2).
+/// Returns whether the value of Observe begins or ends an observation (RFC 7641 section 2).
 pub fn is_heeded(observe: Option<u32>) -> bool
     ensures { result ≡ requests_of.is_heeded observe }
 {
@@ -96,7 +97,7 @@ pub fn is_heeded(observe: Option<u32>) -> bool
     }
 }
 
-/// Whether the value of Observe begins an observation (RFC 7641 section 2).
+/// Returns whether the value of Observe begins an observation (RFC 7641 section 2).
 pub fn begins_observation(observe: Option<u32>) -> bool
     ensures { result ≡ begins_observation observe }
 {
@@ -106,8 +107,8 @@ pub fn begins_observation(observe: Option<u32>) -> bool
     }
 }
 
-/// Whether a payload comes where the path takes none: with an update or a simple registration (RFC
-/// 9176 sections 5.1 and 5.3.1).
+/// Returns whether the request has a payload where none is allowed: with an update or a simple
+/// registration (RFC 9176 sections 5.1 and 5.3.1).
 fn has_bad_payload(meaning: &Meaning<'_>) -> bool
     ensures { result ≡ requests_of.has_bad_payload (message_in meaning.now.view) }
 {
@@ -117,7 +118,7 @@ fn has_bad_payload(meaning: &Meaning<'_>) -> bool
     !meaning.view.payload.is_empty()
 }
 
-/// Whether the path takes no payload.
+/// Returns whether a request with this path and code must have no payload.
 fn takes_no_payload(path: &Path, code: u8) -> bool
     ensures { result ≡ requests_of.takes_no_payload path.now code }
 {
@@ -128,18 +129,18 @@ fn takes_no_payload(path: &Path, code: u8) -> bool
     }
 }
 
-/// A refusal that a request alone decides.
+/// A refusal that depends on the request alone.
 #[derive(Clone, Copy, Debug)]
 pub enum Refused {
-    /// For its options, its path, its method, a block or a format.
+    /// Refused for its options, its path, its method, a block or a format.
     Request(Refusal),
-    /// For its query options.
+    /// Refused for its query options.
     Query,
-    /// For its payload.
+    /// Refused for its payload.
     Payload,
 }
 
-/// A request that is not refused, of which this is the meaning.
+/// Returns the request with this meaning, which is not refused.
 fn accepted(meaning: Meaning<'_>) -> Request<'_>
     requires { requests_of.refusal_of_request (message_in meaning.view) ≡ None }
     ensures { message_of result ≡ message_in meaning.entry.view }
@@ -157,7 +158,7 @@ fn accepted(meaning: Meaning<'_>) -> Request<'_>
     }
 }
 
-/// What a request asks, or the first of the refusals that it alone decides.
+/// Returns what a request asks, or the first of the refusals that it alone decides.
 #[tactic(auto, unfolding(journal_model::specs::Requests::refusal_of_request))]
 pub(crate) fn asked<'a>(view: &View<'a>) -> Result<Request<'a>, Refused>
     ensures message { IfOk result (λ request. message_of request ≡ message_in view.now) }

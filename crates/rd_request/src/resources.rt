@@ -1,4 +1,4 @@
-//! What requests are about (RFC 9176 sections 4.3, 5 and 6).
+//! The resources that requests are about (RFC 9176 sections 4.3, 5 and 6).
 ghost use Rattle.std.specs.Prelude.{◌≡◌};
 ghost use Rattle.rd_request.specs.Resources as resources;
 
@@ -14,13 +14,13 @@ pub enum Resource {
     SimpleRegistration,
     /// `/rd`: registration (RFC 9176 section 5).
     Registration,
-    /// `/rd/N`: the registration of this number (RFC 9176 section 5.3).
+    /// `/rd/N`: the registration with this number (RFC 9176 section 5.3).
     Location(u64),
-    /// `/rd-lookup/res` and `/rd-lookup/ep`: a lookup of this (RFC 9176 section 6).
+    /// `/rd-lookup/res` and `/rd-lookup/ep`: a lookup of this kind (RFC 9176 section 6).
     Lookup(Kind),
 }
 
-/// What a path names, where it names anything.
+/// Returns the resource that a path names, or `None` if it names none.
 pub(crate) fn resource_at(path: &Path) -> Option<Resource>
     ensures { result ≡ resources.resource_at path.now }
 {
@@ -35,7 +35,7 @@ pub(crate) fn resource_at(path: &Path) -> Option<Resource>
     }
 }
 
-/// The kind of what is looked up there.
+/// Returns the kind of what a lookup at a resource seeks. It is a discovery at any other resource.
 pub(crate) fn kind_at(resource: &Resource) -> Kind
     ensures { result ≡ resources.kind_at resource.now }
 {

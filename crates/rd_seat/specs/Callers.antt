@@ -1,4 +1,4 @@
--- What a caller of a seat has, what its calls do with it, and which calls follow one another.
+-- A caller's seat and clock, what its calls do with them, and which calls follow one another.
 use Rattle.std.specs.Prelude.{◌≡◌, ℕ, Bool, true, false, Option, Some, None}
 use Rattle.std.specs.Prelude.{List, [], ◌∷◌, ◌++◌}
 use Rattle.rd_base.specs.declared.moments.Moment.{Moment}
@@ -12,7 +12,7 @@ use Rattle.rd_seat.specs.Seats.{SeatSeen}
 use Rattle.rd_seat.specs.Chains.{Chain}
 use Rattle.rd_seat.specs.Calls.{Call, Does, GivesMoment, GivesWord, IsHearing, IsOfJob}
 
--- ---- what is seen of it
+-- ---- what contracts see of a caller
 
 -- what a clock shows
 pub record ClockSeen : Type 0 where
@@ -30,7 +30,7 @@ pub record CallerSeen : Type 0 where
 abbrev pub caller_seen : {C : Type 0} → clocks.Ghosts C → SeatSeen → C → CallerSeen
 caller_seen g seat clock = record { seat = seat; clock = clock_seen g clock }
 
--- what calls did to the seat, with what the clock gave
+-- what calls did to the seat, with the moments and words that the clock gave
 pub record CallsMade {S : Type 0} (told : S → List Datagram) (calls : List (Call S))
     (before after : CallerSeen) : Type 0 where
   pub seat : Chain (λ old c new. Does told old c new) before.seat calls after.seat
@@ -47,12 +47,12 @@ pub record Ticks {S : Type 0} (calls : List (Call S)) : Type 0 where
   pub alone : calls ≡ tick ∷ []
   pub kind : tick.step.kind ≡ step.Tick
 
--- the job that was left is done, where one was left
+-- the job that was left is done, if there was one
 abbrev pub DoesJob : {S : Type 0} → Option Job → List (Call S) → Type 0
 DoesJob None calls = calls ≡ []
 DoesJob (Some j) calls = (c : Call _) × (calls ≡ c ∷ []) × IsOfJob j c.step
 
--- the datagram is heard, and its job is done at once
+-- the caller handles a datagram, and does its job at once
 pub record Hears {S : Type 0} (peer : Peer) (datagram : List ℕ) (calls : List (Call S))
     : Type 0 where
   pub hear : Call S
@@ -61,7 +61,7 @@ pub record Hears {S : Type 0} (peer : Peer) (datagram : List ℕ) (calls : List 
   pub hearing : IsHearing peer datagram hear
   pub done : DoesJob hear.left job
 
--- time passes, where it is its turn
+-- time passes, if the flag says so
 abbrev pub TicksWhere : {S : Type 0} → Bool → List (Call S) → Type 0
 TicksWhere true calls = Ticks calls
 TicksWhere false calls = calls ≡ []

@@ -1,4 +1,4 @@
--- The calls that a caller makes on its seat, and what came out of each. The last stands first.
+-- The calls that a caller makes on its seat, and the result of each. The last comes first.
 use Rattle.std.specs.Prelude.{◌≡◌, ◌⊎◌, ℕ, Bool, List, [], ◌∷◌}
 use Rattle.std.specs.Prelude.{Option, Some, None}
 use Rattle.rd_base.specs.declared.moments.Moment.{Moment}
@@ -22,27 +22,27 @@ use Rattle.rd_seat.specs.Seats.{SeatSeen, IsOfHall, MakesStep, LooksAtMet}
 
 -- ---- one call
 
--- A call of the seat: its step, whether it ran out of memory, what came out of it, as its caller
--- keeps it, and the job that it left the caller with.
+-- A call of the seat: its step, whether it ran out of memory, its output in the caller's own form,
+-- and the job that it left to the caller.
 pub record Call (S : Type 0) : Type 0 where
   pub step : Step
   pub starved : Bool
   pub sent : S
   pub left : Option machine.Job
 
--- the last row of a journal leaves its caller with this
+-- the last row of a journal leaves this to its caller
 abbrev pub IsLeftBy : List Row → Option machine.Job → Type 0
 IsLeftBy [] left = ⊥
 IsLeftBy (r ∷ before) left = left ≡ job_left r before
 
--- the body that a look leaves is to be kept
+-- the job to keep the body that a look leaves
 abbrev pub job_kept : Option Answer → Step → Option machine.Job
 job_kept None s = None
 job_kept (Some found) s =
     Some (record { kind = step.Keep found.body found.tag; peer = s.peer; datagram = s.datagram })
 
--- The call made a row at a turn of the seat, which is of its hall still, and what the row sends
--- came out: `told` says which datagrams those are.
+-- The call made a row at a turn of the seat, which still belongs to its hall, and the caller's
+-- output is what the row sent: `told` says which datagrams that is.
 pub record Rowed {S : Type 0} (told : S → List Datagram) (before : SeatSeen) (c : Call S)
     (after : SeatSeen) : Type 0 where
   pub of_hall : IsOfHall before.hall after
@@ -50,7 +50,7 @@ pub record Rowed {S : Type 0} (told : S → List Datagram) (before : SeatSeen) (
   pub made : MakesStep before c.step c.starved (told c.sent) after
   pub left : IsLeftBy after.seen c.left
 
--- the call looked, and what the look sends came out
+-- the call was a look, and the caller's output is what the look sent
 pub record Viewed {S : Type 0} (told : S → List Datagram) (before : SeatSeen) (c : Call S)
     (after : SeatSeen) : Type 0 where
   pub of_hall : IsOfHall before.hall after
@@ -64,7 +64,7 @@ abbrev pub Does : {S : Type 0} → (S → List Datagram) → SeatSeen → Call S
     → Type 0
 Does told before c after = Rowed told before c after ⊎ Viewed told before c after
 
--- the call hears this datagram
+-- the call handles this datagram
 pub record IsHearing {S : Type 0} (peer : Peer) (datagram : List ℕ) (c : Call S)
     : Type 0 where
   pub kind : c.step.kind ≡ hearing datagram
@@ -85,7 +85,7 @@ job_held heard.Done = None
 job_held (heard.Held j) = Some j
 job_held heard.Starved = None
 
--- what is to be done, where an admission stands at this place
+-- the step that the job is for, if its admission has this place
 abbrev pub job_at : ℕ → Job → machine.Job
 job_at place (job.Write j) =
     record { kind = step.Commit place; peer = j.peer; datagram = j.datagram }
@@ -97,12 +97,11 @@ job_at place (job.Keep j) = record {
 
 -- ---- what the clock gave
 
--- the moment that a call hands in is the one that the clock gave before it
+-- the call's moment is the one that the clock gave before it
 abbrev pub GivesMoment : {S : Type 0} → List Moment → Call S → List Moment → Type 0
 GivesMoment before c now = GivesFirst (record { 0 = 0 }) c.step.handed before now
 
--- a datagram that is heard and a tick hand in a word, which a look does not use; a job hands in
--- none
+-- a datagram and a tick take a word, which a look does not use; a job takes none
 abbrev pub GivesWordTo : StepKind → ℕ → List ℕ → List ℕ → Type 0
 GivesWordTo step.Admit word before now = GivesFirst 0 word before now
 GivesWordTo step.Look word before now = now ≡ but_first before

@@ -1,4 +1,4 @@
--- What comes of a datagram that a seat hears, and the step that does a job.
+-- The result of a datagram that a seat handles, and the step that does a job.
 use Rattle.std.specs.Prelude.{◌≡◌, ℕ, Bool, true, false, List, Option, Some, None}
 use Rattle.rd_base.specs.declared.moments.Moment.{Moment}
 use Rattle.rd_base.specs.declared.peers.Peer.{Peer}
@@ -30,7 +30,7 @@ answer_left heard.Done = None
 answer_left (heard.Held j) = answer_in j
 answer_left heard.Starved = None
 
--- the job to keep it is of this peer and this datagram; there is no other
+-- the job to keep it belongs to this peer and this datagram; no other job is left
 abbrev pub IsKeep : Peer → List ℕ → Job → Type 0
 IsKeep peer datagram (job.Write j) = ⊥
 IsKeep peer datagram (job.Keep j) = (j.peer ≡ peer) × (j.datagram ≡ datagram)
@@ -39,7 +39,7 @@ abbrev pub IsKeepOf : Peer → List ℕ → SeatHeard → Type 0
 IsKeepOf peer datagram (heard.Held j) = IsKeep peer datagram j
 IsKeepOf peer datagram _ = Unit {0}
 
--- the last row leaves the worker with this write, or with no job
+-- the last row leaves this write to the worker, or no job
 abbrev pub LeavesAs : Job → List Row → Type 0
 LeavesAs (job.Write j) rows = LeavesJob (admitted.Held j) rows
 LeavesAs (job.Keep j) rows = ⊥
@@ -49,13 +49,13 @@ LeavesWrite heard.Done rows = LeavesJob admitted.Done rows
 LeavesWrite (heard.Held j) rows = LeavesAs j rows
 LeavesWrite heard.Starved rows = LeavesJob admitted.Starved rows
 
--- a write stands open at this place of what the seat has seen
+-- the admission of a write has this place in what the seat has seen, and is open
 abbrev pub IsOpenWrite : ℕ → SeatSeen → Job → Type 0
 IsOpenWrite place seat (job.Write j) = IsOpenJob place seat j
 IsOpenWrite place seat (job.Keep j) = Unit {0}
 
--- the job that is left, where any is, may be done next: a write stands open at the place of the
--- last row that the seat has seen
+-- the job that is left, if any, may be done next: the admission of a write is open, at the place of
+-- the last row that the seat has seen
 abbrev pub MayBeDone : SeatHeard → SeatSeen → Type 0
 MayBeDone (heard.Held j) seat = IsOpenWrite (last_place seat.seen) seat j
 MayBeDone _ seat = Unit {0}

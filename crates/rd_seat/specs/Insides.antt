@@ -19,11 +19,11 @@ use Rattle.rd_seat.specs.Seats.{HallSeen, SeatSeen}
 abbrev pub hall_at : {T R L : Type 0} → TurnLock T R L → HallSeen
 hall_at lock = record { id = id_of lock; workers = count_of lock }
 
--- the hall that a pass is of
+-- the hall of a pass
 abbrev pub hall_of : {T : Type 0} {g : Ghosts T Row (List ℕ)} → Pass T Row (List ℕ) g → HallSeen
 hall_of pass = record { id = lock_of pass; workers = passes_of pass }
 
--- what a seat of these parts shows
+-- what a seat with these parts shows
 abbrev pub seat_shown : {T : Type 0} {g : Ghosts T Row (List ℕ)} → Pass T Row (List ℕ) g
     → LookerSeen
     → Mids → Moment → SeatSeen
@@ -37,9 +37,10 @@ seat_shown pass looker mids last = record {
   drawn = mids.drawn;
 }
 
--- Its pass does not hold the turn and has its number, its rows are those of the journal that it
--- has seen, each row there is of one of the hall's workers, its looker is of the hall's board, and
--- has met all entries that it has seen; what it met is not later than its last row or look.
+-- The pass does not hold the turn and has the worker's number. Its rows are those of the worker in
+-- the journal that it has seen, and each row there is of one of the hall's workers. The looker is
+-- of the hall's board and has met all entries that the pass has seen. What it met is no later than
+-- the seat's last row or look.
 pub record IsAtRest {T : Type 0} {g : Ghosts T Row (List ℕ)} (pass : Pass T Row (List ℕ) g)
     (looker : LookerSeen) (mids : Mids) (last : Moment) : Type 0 where
   pub idle : is_holding pass ≡ false
@@ -51,15 +52,15 @@ pub record IsAtRest {T : Type 0} {g : Ghosts T Row (List ℕ)} (pass : Pass T Ro
   pub in_time : last_moment looker.seen ≤ last.0
   pub drawn : mids.drawn < 2 ^ 64
 
--- what a new seat is made of: a pass that has seen nothing, and a looker of its lock's board that
--- has seen nothing
+-- the parts of a new seat: a pass that has seen nothing, and a looker of its lock's board that has
+-- seen nothing
 pub record IsNewSeat {T : Type 0} {g : Ghosts T Row (List ℕ)} (hall : HallSeen) (worker : ℕ)
     (pass : Pass T Row (List ℕ) g) (looker : LookerSeen) : Type 0 where
   pub fresh : IsNew (label_of pass) (passes_of pass) worker pass
   pub of_hall : hall_of pass ≡ hall
   pub unseen : looker ≡ new_looker (label_of pass)
 
--- passes and lookers, of which each pair makes a new seat, numbered from n
+-- passes and lookers, each pair of which makes a new seat, numbered from n
 abbrev pub AreNewFrom : {T : Type 0} {g : Ghosts T Row (List ℕ)} → HallSeen → ℕ
     → List (Pass T Row (List ℕ) g) → List LookerSeen → Type 0
 AreNewFrom hall n [] [] = Unit {0}

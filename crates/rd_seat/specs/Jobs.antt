@@ -10,14 +10,14 @@ use Rattle.rd_desk.specs.declared.admissions.Admitted.TheVariants as admitted
 use Rattle.rd_seat.specs.Seats.{SeatSeen}
 use Rattle.rd_seat.specs.Steps.{commit_step}
 
--- the write of a job was admitted at a place of the journal that the seat has seen, by the seat
--- itself, and nothing there ended that
+-- the seat itself admitted the write of a job, at a place of the journal that it has seen, and
+-- nothing there has ended that
 pub record IsOpenJob (place : ℕ) (seat : SeatSeen) (j : Write) : Type 0 where
   pub opened : IsOpenFor (commit_step seat.worker place (record { 0 = 0 }) j.peer j.datagram 0)
       place seat.seen
   pub admitted_at : opened.admission.moment.0 ≡ j.admitted
 
--- a row leaves its worker with the job of the write that it admitted
+-- a row leaves to its worker the job of the write that it admitted
 pub record IsLeft (j : Write) (r : Row) (before : List Row) : Type 0 where
   pub left : job_left r before ≡ Some (record {
     kind = step.Commit (length before);
@@ -30,7 +30,7 @@ pub record IsLeft (j : Write) (r : Row) (before : List Row) : Type 0 where
     admitted = r.moment.0;
   }
 
--- the last row of a journal leaves its worker with this, or with no job
+-- the last row of a journal leaves this to its worker, or no job
 abbrev pub LeavesJob : Admitted → List Row → Type 0
 LeavesJob _ [] = ⊥
 LeavesJob (admitted.Held j) (r ∷ before) = IsLeft j r before
@@ -41,7 +41,7 @@ abbrev pub last_place : List Row → ℕ
 last_place [] = 0
 last_place (r ∷ before) = length before
 
--- and the write, where one is admitted, stands open at the place of that row
+-- the admission of the write, if there is one, is open at the place of that row
 abbrev pub OpensJob : Admitted → SeatSeen → Type 0
 OpensJob (admitted.Held j) seat = IsOpenJob (last_place seat.seen) seat j
 OpensJob _ seat = Unit {0}

@@ -15,14 +15,14 @@ use Rattle.version_board.specs.Ends.{PublisherSeen, LookerSeen}
 use Rattle.rd_seat.specs.Insides.{hall_of}
 use Rattle.rd_seat.specs.Turns.{StandsAtTurn}
 
--- what was met is what had been met, or these entries
+-- the looker has met what it had met before, or these entries
 abbrev pub HasMetOnly : List Entry → LookerSeen → LookerSeen → Type 0
 HasMetOnly history before after = (after.seen ≡ before.seen) ⊎ (after.seen ≡ history)
 
 module _ {T : Type 0} {g : Ghosts T Row (List ℕ)} where
-  -- The beginning of a turn: the pass holds it, and has seen the journal as it is, which goes on
-  -- from what it had seen by rows of others; the looker has met what is published, of which each
-  -- front that it had met is a front, or the other way round.
+  -- The beginning of a turn. The pass holds the turn and has seen the current journal, which
+  -- continues what it had seen with rows of others. The looker has met what is published. Any
+  -- prefix that it had met is a prefix of that, or the other way round.
   pub record HasBegun (before after : Pass T Row (List ℕ) g) (was looker : LookerSeen)
       (desk : Shown PublisherSeen) : Type 0 where
     pub lock : lock_of after ≡ lock_of before
@@ -42,8 +42,8 @@ module _ {T : Type 0} {g : Ghosts T Row (List ℕ)} where
     pub order : (front : List Entry) → IsFront front was.seen
         → Agree front (entries (seen_of after))
 
-  -- The end of a turn: the pass has given it back with one row more, and the looker has met the
-  -- entries with that row.
+  -- The end of a turn. The pass has given the turn back with one more row, and the looker has met
+  -- the entries with that row.
   pub record HasEnded (r : Row) (before after : Pass T Row (List ℕ) g) (was looker : LookerSeen)
       : Type 0 where
     pub lock : lock_of after ≡ lock_of before

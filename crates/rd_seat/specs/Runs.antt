@@ -12,15 +12,15 @@ use Rattle.journal_model.specs.Seats.{IsSeat}
 use Rattle.rd_seat.specs.Seats.{HallSeen, SeatSeen, seat_of, new_seat}
 use Rattle.rd_seat.specs.Seats.{MakesStep, LooksAtMet}
 
--- what one call of a seat did: a step at its turn, which made a row; or a look, by a seat that
--- had seen a journal, from a front
+-- the result of one call of a seat: a step at its turn, which made a row; or a look, by a seat that
+-- had seen a journal, from a prefix
 pub data Call : Type 0 where
   turn : Row → Call
   look : List Row → List Entry → Call
 
--- A seat after calls, the latest first, of each of which its contract holds: it began as a new
--- seat, a step left its row as the last one that is seen, and a look was from what is met after
--- it.
+-- A seat after calls, the latest first, for each of which its contract holds. It began as a new
+-- seat. A step left its row as the last one that is seen. A look was answered from what is met
+-- after it.
 pub data HasCalled (hall : HallSeen) (worker : ℕ) : List Call → SeatSeen → Type 0 where
   begun : HasCalled hall worker [] (new_seat hall worker)
   turned : {calls : List Call} {before : SeatSeen} → (r : Row) (found : List Row) (s : Step)
@@ -40,23 +40,23 @@ rows_made [] = []
 rows_made (turn r ∷ calls) = r ∷ rows_made calls
 rows_made (look seen front ∷ calls) = rows_made calls
 
--- the fronts from which looks were answered, the latest first
+-- the prefixes from which looks were answered, the latest first
 abbrev pub fronts_shown : List Call → List (List Entry)
 fronts_shown [] = []
 fronts_shown (turn r ∷ calls) = fronts_shown calls
 fronts_shown (look seen front ∷ calls) = front ∷ fronts_shown calls
 
--- each look's front begins with the entries that the seat had seen, and with the front of each
--- look before it
+-- each look's prefix begins with the entries that the seat had seen, and with the prefix of each
+-- earlier look
 abbrev pub FrontsGoOn : List Call → Type 0
 FrontsGoOn [] = Unit {0}
 FrontsGoOn (turn r ∷ calls) = FrontsGoOn calls
 FrontsGoOn (look seen front ∷ calls) = IsFront (entries seen) front
     × AllByRecursion (λ earlier. IsFront earlier front) (fronts_shown calls) × FrontsGoOn calls
 
--- After any calls a seat is a seat of the journal: its own rows are those of its worker in what it
--- has seen, each once and in their order, and they are exactly the rows that its calls made; and
--- the fronts of its looks go on from what it had seen, and from each other.
+-- After any calls, a seat is a seat of the journal. Its own rows are those of its worker in what it
+-- has seen, each once and in order, and exactly the rows that its calls made. The prefixes of its
+-- looks continue what it had seen, and each other.
 pub record IsSeatAfter (calls : List Call) (seat : SeatSeen) : Type 0 where
   pub shown : List (List Entry)
   pub front : List Entry
@@ -64,7 +64,7 @@ pub record IsSeatAfter (calls : List Call) (seat : SeatSeen) : Type 0 where
   pub rows : seat.mine ≡ rows_made calls
   pub fronts : FrontsGoOn calls
 
--- of each seat, whatever its calls
+-- this holds of each seat, whatever its calls
 abbrev pub SeatsAreSeats : Type 0
 SeatsAreSeats = (hall : HallSeen) (worker : ℕ) (calls : List Call) (seat : SeatSeen)
     → HasCalled hall worker calls seat → IsSeatAfter calls seat

@@ -11,7 +11,7 @@ use Rattle.journal_model.specs.declared.steps.Step.{Step}
 use Rattle.journal_model.specs.Seats.{Seat, MakesRow, LooksFrom}
 use Rattle.turn_lock.specs.Histories.{AllBelow}
 
--- which hall, and how many workers it has
+-- a hall: which one it is, and how many workers it has
 pub record HallSeen : Type 0 where
   pub id : TableId
   pub workers : ℕ
@@ -24,17 +24,17 @@ pub record SeatSeen : Type 0 where
   pub worker : ℕ
   -- the journal that it has seen, up to its own last row
   pub seen : List Row
-  -- the rows of it that the seat made
+  -- the rows that the seat made
   pub mine : List Row
-  -- the history that it has met: each front that it showed is a front of it
+  -- the history that it has met: each prefix that it showed is a prefix of it
   pub met : List Entry
-  -- the greatest moment of its rows and looks, 0 where there is none
+  -- the latest moment of its rows and looks, or 0 if there is none
   pub last : ℕ
-  -- how many Message IDs its rows and looks drew, as 64 bits count
+  -- how many Message IDs its rows and looks drew, modulo 2^64
   pub drawn : ℕ
 
--- the seat with the fronts that it showed since its last turn, and the front of its last look,
--- which no code keeps
+-- the seat with the prefixes that it showed since its last turn, and the prefix of its last look,
+-- which no code stores
 abbrev pub seat_of : SeatSeen → List (List Entry) → List Entry → Seat
 seat_of s shown front = record {
   worker = s.worker;
@@ -46,21 +46,21 @@ seat_of s shown front = record {
   drawn = s.drawn;
 }
 
--- it may have shown them: it has met all of them
+-- the seat may have shown these prefixes: it has met all of them
 pub record MayHaveShown (s : SeatSeen) (shown : List (List Entry)) (front : List Entry)
     : Type 0 where
   pub all_met : All (λ f. IsFront f s.met) shown
   pub front_met : IsFront front s.met
 
--- Whatever fronts a seat showed since its last turn, it made the row of a step at its turn; since
--- then it showed none.
+-- Whatever prefixes a seat showed since its last turn, it made the row of a step at its turn. It
+-- has shown none since then.
 abbrev pub MakesStep : SeatSeen → Step → Bool → List (Peer × List ℕ) → SeatSeen → Type 0
 MakesStep before s starved sent after = (shown : List (List Entry)) (front : List Entry)
     → MayHaveShown before shown front
     → MakesRow (seat_of before shown front) s starved sent (seat_of after [] front)
 
--- Whatever fronts a seat showed since its last turn, it looked from the history that it has met
--- now, and showed that.
+-- Whatever prefixes a seat showed since its last turn, it looked from the history that it has met
+-- now, and showed that history.
 abbrev pub LooksAtMet : SeatSeen → Step → Bool → List (Peer × List ℕ) → Option Answer → SeatSeen
     → Type 0
 LooksAtMet before s starved sent held after = (shown : List (List Entry)) (front : List Entry)
@@ -68,13 +68,13 @@ LooksAtMet before s starved sent held after = (shown : List (List Entry)) (front
     → LooksFrom (seat_of before shown front) s starved sent held
     (seat_of after (after.met ∷ shown) after.met)
 
--- The seat is of this hall, and each row that it has seen is of one of the hall's workers, whose
--- numbers are below how many there are.
+-- The seat is of this hall. Each row that it has seen is of one of the hall's workers, whose
+-- numbers are below their count.
 pub record IsOfHall (hall : HallSeen) (seat : SeatSeen) : Type 0 where
   pub is : seat.hall ≡ hall
   pub below : AllBelow (λ (r : Row). r.step.worker) hall.workers seat.seen
 
--- a seat that made no step
+-- a seat that has made no step
 abbrev pub new_seat : HallSeen → ℕ → SeatSeen
 new_seat hall worker = record {
   hall = hall;
@@ -86,7 +86,7 @@ new_seat hall worker = record {
   drawn = 0;
 }
 
--- so many such seats, numbered from 0
+-- `n` new seats, numbered from 0
 abbrev pub new_seats : HallSeen → ℕ → List SeatSeen
 new_seats hall zero = []
 new_seats hall (suc n) = new_seats hall n ++ new_seat hall n ∷ []

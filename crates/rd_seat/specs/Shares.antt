@@ -1,4 +1,4 @@
--- What the steps and looks of a worker leave of its share in a hall.
+-- What the steps and looks of a worker leave of its share of a hall.
 use Rattle.std.specs.Prelude.{◌≡◌, ℕ, Bool, List, Option}
 use Rattle.rd_base.specs.declared.peers.Peer.{Peer}
 use Rattle.event_model.specs.KeptAnswers.{Answer}
@@ -15,31 +15,30 @@ use Rattle.rd_seat.specs.Seats.{SeatSeen, MakesStep, LooksAtMet}
 abbrev pub share_shown : Share → SeatSeen
 share_shown share = seat_shown share.pass share.looker share.mids share.last
 
--- it is as it is between two calls
+-- the share is as it is between two calls
 abbrev pub Rests : Share → Type 0
 Rests share = IsAtRest share.pass share.looker share.mids share.last
 
--- it is of the same hall, is at rest again, and has met all that it had met
+-- the share is of the same hall, is at rest again, and has met all that it had met before
 pub record GoesOnAs (before after : Share) : Type 0 where
   pub hall : hall_of after.pass ≡ hall_of before.pass
   pub rest : Rests after
   pub met : IsFront before.looker.seen after.looker.seen
 
--- it had a turn, at which it made the row of a step
+-- the share had a turn, at which it made the row of a step
 pub record HasTurned (before : Share) (s : Step) (starved : Bool) (sent : List (Peer × List ℕ))
     (after : Share) : Type 0 where
   pub goes_on : GoesOnAs before after
   pub made : MakesStep (share_shown before) s starved sent (share_shown after)
 
--- the row is that of a datagram that was heard, and leaves its worker with the job of the write
--- that it admits
+-- the row is that of a datagram, and leaves to its worker the job of the write that it admits
 pub record HasAdmitted (before : Share) (s : Step) (starved : Bool) (sent : List (Peer × List ℕ))
     (result : Admitted) (after : Share) : Type 0 where
   pub turned : HasTurned before s starved sent after
   pub left : LeavesJob result (seen_of after.pass)
   pub opens : OpensJob result (share_shown after)
 
--- it looked, from what it has met then
+-- the share looked, from what it has met then
 pub record HasLooked (before : Share) (s : Step) (starved : Bool) (sent : List (Peer × List ℕ))
     (held : Option Answer) (after : Share) : Type 0 where
   pub goes_on : GoesOnAs before after

@@ -9,7 +9,7 @@ use Rattle.journal_model.specs.declared.steps.Step.{Step}
 use Rattle.journal_model.specs.declared.steps.StepKind.TheVariants as step
 use Rattle.rd_look.specs.KeepJobs.{Keep}
 
--- the peer of a tick and of a beginning, which have none
+-- the peer in the step of a tick or a beginning, which have none
 abbrev pub nobody : Peer
 nobody = record { host = host.V4 (0 ∷ 0 ∷ 0 ∷ 0 ∷ []); port = 0 }
 
@@ -37,7 +37,7 @@ begin_step worker moment first drawn = record {
   drawn = drawn;
 }
 
--- a datagram that is no look is heard
+-- a datagram that is not a look is handled
 abbrev pub admit_step : ℕ → Moment → ℕ → Peer → List ℕ → ℕ → Step
 admit_step worker moment word peer datagram drawn = record {
   kind = step.Admit;
@@ -61,7 +61,7 @@ look_step worker moment word peer datagram drawn = record {
   drawn = drawn;
 }
 
--- the write that was admitted at a place is done
+-- the write admitted at a place is done
 abbrev pub commit_step : ℕ → ℕ → Moment → Peer → List ℕ → ℕ → Step
 commit_step worker place moment peer datagram drawn = record {
   kind = step.Commit place;
@@ -85,7 +85,7 @@ keep_step worker moment job drawn = record {
   drawn = drawn;
 }
 
--- an entry that nobody made
+-- an entry that no step made
 abbrev pub no_entry : Entry
 no_entry = record {
   moment = record { 0 = 0 };
@@ -94,7 +94,7 @@ no_entry = record {
   change = change.Remove 0;
 }
 
--- the first of some entries
+-- the first of a list of entries
 abbrev pub first_entry : List Entry → Entry
 first_entry [] = no_entry
 first_entry (entry ∷ more) = entry

@@ -1,5 +1,4 @@
--- What the desk behind the turn stands for, and what a step leaves of it before the turn is given
--- back.
+-- What the shared desk stands for, and what a step leaves of it before the turn is given back.
 use Rattle.std.specs.Prelude.{◌≡◌, ◌⊎◌, ℕ, ◌≤◌, false, List, [], ◌∷◌, ◌++◌, Option, Some, None}
 use Rattle.std.specs.List.{AllByRecursion}
 use Rattle.history_model.specs.declared.entries.Entry.{Entry}
@@ -12,7 +11,7 @@ use Rattle.rd_desk.specs.calls.Shown.{Shown}
 use Rattle.rd_desk.specs.calls.Staging.{staged_after}
 use Rattle.version_board.specs.Ends.{PublisherSeen}
 
--- a row is none of a look
+-- the row is not of a look
 abbrev pub IsDeskRow : Row → Type 0
 IsDeskRow r = is_look r.step.kind ≡ false
 
@@ -23,14 +22,14 @@ pub record AreTurns (rows : List Row) : Type 0 where
   pub no_look : AllByRecursion IsDeskRow rows
   pub in_time : latest rows ≤ now rows
 
--- the version that is published stands for a history
+-- the published version stands for a history
 pub record IsPublished (history : List Entry) (board : PublisherSeen) : Type 0 where
   pub version : Version
   pub is : board.published ≡ Some version
   pub stands : VersionStandsFor 0 history version
 
--- Between two turns the desk stands for the journal of desk rows, its board tells the entries,
--- the version that is published stands for them, and nothing is staged.
+-- Between two turns, the desk stands for the journal of desk rows, and its board exposes the
+-- entries. The published version stands for them, and nothing is staged.
 pub record StandsAtTurn (rows : List Row) (desk : Shown PublisherSeen) : Type 0 where
   pub turns : AreTurns rows
   pub tables : StandsFor rows desk.tables
@@ -42,8 +41,8 @@ pub record StandsAtTurn (rows : List Row) (desk : Shown PublisherSeen) : Type 0 
 abbrev pub MakesAtMost : Entry → Row → Type 0
 MakesAtMost entry r = (entries_of r ≡ []) ⊎ (entries_of r ≡ entry ∷ [])
 
--- After the step of a row, and before what it staged is published, the desk stands for the journal
--- with the row, and the board still tells the entries before it.
+-- After the step of a row, and before its staged version is published, the desk stands for the
+-- journal with the row. The board still exposes the entries before it.
 pub record HasStepped (entry : Entry) (r : Row) (worker : ℕ) (rows : List Row)
     (desk : Shown PublisherSeen) : Type 0 where
   pub own : r.step.worker ≡ worker
@@ -53,7 +52,7 @@ pub record HasStepped (entry : Entry) (r : Row) (worker : ℕ) (rows : List Row)
   pub staged : desk.board.staged ≡ staged_after (entries_of r) desk.tables.version None
   pub most : MakesAtMost entry r
 
--- a board after what is staged was published, where anything is
+-- a board after the staged version was published, if there was one
 abbrev pub published_with : Option Version → Entry → PublisherSeen → PublisherSeen
 published_with None entry p = p
 published_with (Some version) entry p = record {

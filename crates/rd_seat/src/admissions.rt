@@ -1,4 +1,4 @@
-//! The turn in which a datagram is heard that is no look.
+//! The turn in which a datagram that is not a look is handled.
 ghost use Rattle.std.specs.Prelude.{◌≡◌, ◌≤◌, ◌^◌, [], false};
 ghost use Rattle.journal_model.specs.Machine.{is_look_datagram};
 ghost use Rattle.rd_request.specs.Incoming.{IsIncoming};
@@ -17,7 +17,7 @@ use std::snapshot::Snapshot;
 use std::sync::Wait;
 use turn_lock::{TurnLock, Wake};
 
-/// All that the row is made of.
+/// All parts of the row.
 #[derive(Drop)]
 struct Parts<'a> {
     mids: Snapshot<Mids>,
@@ -25,7 +25,7 @@ struct Parts<'a> {
     is_starved: bool,
 }
 
-/// Whether memory ran out.
+/// Returns whether memory ran out.
 fn is_starved(admitted: &Admitted) -> bool
     ensures { result ≡ is_starved_admission admitted.now }
 {
@@ -46,7 +46,7 @@ fn wake_after(admitted: &Admitted) -> Wake {
 }
 
 impl Share {
-    /// The step that hears a datagram which is no look, at a turn.
+    /// Does the step that handles a datagram that is not a look, at a turn.
     pub(crate) fn admit<R: Wait, G: Gate>(
         &mut self,
         rt: &R,

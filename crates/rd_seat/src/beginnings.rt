@@ -16,7 +16,7 @@ use std::snapshot::Snapshot;
 use std::sync::Wait;
 use turn_lock::{TurnLock, Wake};
 
-/// All that the row is made of.
+/// All parts of the row.
 #[derive(Drop)]
 struct Parts {
     mids: Snapshot<Mids>,
@@ -26,7 +26,7 @@ struct Parts {
 }
 
 impl Share {
-    /// The step in which a run begins above `first`, at a turn.
+    /// Does the step in which a run begins above `first`, at a turn.
     pub(crate) fn begin<R: Wait, G: Gate>(
         &mut self,
         rt: &R,

@@ -1,4 +1,4 @@
-//! The turn in which a write is done that was admitted.
+//! The turn in which an admitted write is done.
 ghost use Rattle.std.specs.Prelude.{◌≡◌, ◌≤◌, ◌^◌, ℕ, []};
 ghost use Rattle.rd_desk.specs.calls.Stepping.{is_starved_step};
 ghost use Rattle.turn_lock.specs.Shown.{id_of, lock_of};
@@ -17,7 +17,7 @@ use std::snapshot::Snapshot;
 use std::sync::Wait;
 use turn_lock::{TurnLock, Wake};
 
-/// All that the row is made of, but for the place of the admission, which contracts alone see.
+/// All parts of the row except the place of the admission, which only contracts see.
 #[derive(Drop)]
 struct Parts {
     mids: Snapshot<Mids>,
@@ -27,8 +27,8 @@ struct Parts {
 }
 
 impl Share {
-    /// The step that does a write, at a turn. Its admission stands at a place of what the seat
-    /// has seen.
+    /// Does the step of an admitted write, at a turn. Its admission has a place in the journal that
+    /// the seat has seen.
     pub(crate) fn commit<R: Wait, G: Gate>(
         &mut self,
         rt: &R,

@@ -1,4 +1,4 @@
-//! A hall: a desk and a board that many workers share.
+//! A hall: a desk and its board, which up to 16 workers share.
 ghost use Rattle.std.specs.Prelude.{◌≡◌, ◌≤◌, [], length, IfOk, All, replicate};
 ghost use Rattle.std.specs.Vec.{vec_capacity};
 ghost use Rattle.turn_lock.specs.Shown.{list_of};
@@ -19,8 +19,8 @@ use std::sync::{Arc, Wait};
 use turn_lock::{Ended, Passes, TurnLock};
 use version_board::{Lookers, Publisher, board};
 
-/// A directory that workers share, each by a seat of its own. Contracts see which hall it is, and
-/// how many workers it has. It cannot be dropped: `end` ends it.
+/// A directory that workers share, each with a seat of its own. Contracts see which hall it is, and
+/// how many workers it has. It cannot be dropped: [`Hall::end`] ends it.
 pub struct Hall {
     lock: TurnLock<SharedDesk>,
 }
@@ -34,13 +34,13 @@ impl Model for Hall {
     ghost view = { λ h. hall_at h.lock };
 }
 
-/// A desk that nobody shares any more ends with its board.
+/// Ends a desk that is no longer shared, and its board.
 fn end_shared<R: Wait>(rt: &R, shared: SharedDesk) {
     let SharedDesk { desk } = shared;
     Box::into_inner(desk).into_board().end(rt);
 }
 
-/// A desk that is to be shared. Where no memory is found its board ends.
+/// Prepares a desk to be shared. If memory runs out, its board ends.
 fn shared<R: Wait>(alloc: Global, rt: &R, desk: Desk<Publisher>) -> Result<SharedDesk, Starved>
     ensures { IfOk result (λ shared. shared.desk.value ≡ desk) }
 {
@@ -53,7 +53,7 @@ fn shared<R: Wait>(alloc: Global, rt: &R, desk: Desk<Publisher>) -> Result<Share
     }
 }
 
-/// The desk of a new hall, and a looker for each worker.
+/// Returns the desk of a new hall, and a looker for each worker.
 fn shared_desk<R: Wait>(
     alloc: Global,
     rt: &R,
@@ -76,7 +76,7 @@ fn shared_desk<R: Wait>(
     }
 }
 
-/// A seat for each pass, with a looker.
+/// Returns a seat for each pass, with a looker.
 fn seats_of(
     alloc: Global,
     lock: &TurnLock<SharedDesk>,
@@ -108,8 +108,16 @@ fn seats_of(
 }
 
 impl Hall {
-    /// A hall for so many workers, 1 to 16, with a seat for each, numbered from 0. Nothing is
-    /// registered. It waits while the first version is shown. `Starved`: out of memory.
+    /// Creates an empty hall for `workers` workers, and a seat for each, numbered from 0. Waits
+    /// while the first version is published.
+    ///
+    /// # Requires
+    ///
+    /// `workers` is 1 to 16.
+    ///
+    /// # Errors
+    ///
+    /// `Starved` if memory runs out.
     pub fn make<R: Wait>(alloc: Global, rt: &R, workers: u32) -> Result<(Hall, Seats), Starved>
         requires workers { (1 ≤ workers) × (workers ≤ 16) }
         ensures workers { IfOk result (λ made. made.0.workers ≡ workers) }
@@ -130,15 +138,16 @@ impl Hall {
         }
     }
 
-    /// Its lock.
+    /// Returns its lock.
     pub(crate) fn lock(&self) -> &TurnLock<SharedDesk>
         ensures { hall_at result.now ≡ self.now }
     {
         &self.lock
     }
 
-    /// Ends the hall, and its board with it. The seats stay with their owners. It waits for looks
-    /// that are under way; a look that comes later finds nothing, and answers Starved.
+    /// Ends the hall and its board, after waiting for looks in progress.
+    ///
+    /// The seats stay with their owners, but any later look returns `Starved`.
     pub fn end<R: Wait>(self, rt: &R) {
         let Hall { lock } = self;
         let found = match lock.into_inner() {

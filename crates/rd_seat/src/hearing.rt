@@ -1,4 +1,4 @@
-//! A datagram that a seat hears, and the job that it leaves.
+//! A datagram that a seat handles, and the job that it leaves.
 ghost use Rattle.std.specs.Prelude.{◌≡◌, ◌≤◌, ◌^◌, ℕ, [], true, false, List};
 ghost use Rattle.history_model.specs.Live.{IsFront};
 ghost use Rattle.journal_model.specs.Machine.{is_look_datagram};
@@ -20,18 +20,18 @@ use rd_base::{Moment, Peer};
 use rd_desk::{Admitted, Arrival, Incoming, Job, Looked, Outbox, Stepped, read_datagram};
 use std::sync::Wait;
 
-/// What comes of a datagram that a seat hears.
+/// The result of a datagram that a seat handled.
 #[derive(Drop)]
 pub enum SeatHeard {
-    /// It is done with.
+    /// The datagram is done with.
     Done,
-    /// The worker has this job, to be done by the next step of its seat but ticks.
+    /// The worker has this job. The seat's next step other than a tick does it.
     Held(Job),
-    /// Out of memory. A request is answered 5.00.
+    /// Memory ran out. A request has been answered 5.00.
     Starved,
 }
 
-/// What comes of an admission.
+/// Returns the result of an admission.
 fn of_admission(admitted: Admitted) -> SeatHeard
     ensures starved { is_starved_hearing result ≡ is_starved_admission admitted }
     ensures left { (rows : List Row) → LeavesJob admitted rows → LeavesWrite result rows }
@@ -44,7 +44,7 @@ fn of_admission(admitted: Admitted) -> SeatHeard
     }
 }
 
-/// What comes of a look.
+/// Returns the result of a look.
 fn of_look(looked: Looked) -> SeatHeard
     ensures starved { is_starved_hearing result ≡ is_starved_look looked }
     ensures answer { answer_left result ≡ answer_held looked }
@@ -60,12 +60,17 @@ fn of_look(looked: Looked) -> SeatHeard
 }
 
 impl Seat {
-    /// The step that hears a datagram of a peer, at a moment in milliseconds that is at most
-    /// 10^15: a look where it is one ([`rd_desk::is_look`]), for which it waits for nobody, and
-    /// else a step at a turn of the seat, for which it waits. Waits of messages that go out are
-    /// made from the word. `out` is empty, and gets what is sent. `Held`: the worker has a job, a
-    /// write that is admitted, or a listing or a source to be kept. `Starved`: out of memory; a
-    /// request is answered 5.00.
+    /// Handles a datagram from a peer, and puts the responses into `out`.
+    ///
+    /// A look ([`rd_desk::is_look`]) does not wait. Any other datagram takes a step at a turn of
+    /// the seat, and waits for the turn. `word` determines initial timeouts and the values of
+    /// challenges. Returns `Held` with a job if the datagram is a write that was admitted, or if a
+    /// listing or source is to be kept. After `Starved` (out of memory), a request has been
+    /// answered 5.00.
+    ///
+    /// # Requires
+    ///
+    /// The seat is of this hall, `now` is at most 10^15 milliseconds, and `out` is empty.
     pub fn hear<R: Wait, G: Gate>(
         &mut self,
         rt: &R,
@@ -108,11 +113,15 @@ impl Seat {
         of_look(self.answer_look(now, peer, &request, out))
     }
 
-    /// The step that does a job, at a turn of the seat, for which it waits. The admission of a
-    /// write stands at a place of what the seat has seen, and nothing there has ended it. The
-    /// moment, in milliseconds, is at most 10^15. `out` is empty, and gets what is sent.
-    /// `Starved`: out of memory; nothing is changed, and the request is answered 5.00 (RFC 7252
-    /// section 5.9.3.1).
+    /// Does a job at a turn of the seat, after waiting for the turn, and puts the response into
+    /// `out`. After `Starved` (out of memory), the request has been answered 5.00 and the
+    /// registrations have not changed (RFC 7252 section 5.9.3.1).
+    ///
+    /// # Requires
+    ///
+    /// The seat is of this hall, `now` is at most 10^15 milliseconds, and `out` is empty. The
+    /// admission of a write has a place in the journal that the seat has seen, and nothing there
+    /// has ended it.
     pub fn go<R: Wait, G: Gate>(
         &mut self,
         rt: &R,

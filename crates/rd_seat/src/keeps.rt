@@ -1,4 +1,4 @@
-//! The turn in which a listing or a source is kept that a look formed.
+//! The turn in which a listing or a source that a look built is kept.
 ghost use Rattle.std.specs.Prelude.{◌≡◌, ◌≤◌, ◌^◌, []};
 ghost use Rattle.rd_desk.specs.calls.Stepping.{is_starved_step};
 ghost use Rattle.turn_lock.specs.Shown.{id_of, lock_of};
@@ -16,7 +16,7 @@ use std::snapshot::Snapshot;
 use std::sync::Wait;
 use turn_lock::{TurnLock, Wake};
 
-/// All that the row is made of.
+/// All parts of the row.
 #[derive(Drop)]
 struct Parts {
     mids: Snapshot<Mids>,
@@ -26,7 +26,7 @@ struct Parts {
 }
 
 impl Share {
-    /// The step that keeps a listing or a source, at a turn.
+    /// Does the step that keeps a listing or a source, at a turn.
     pub(crate) fn keep<R: Wait, G: Gate>(
         &mut self,
         rt: &R,

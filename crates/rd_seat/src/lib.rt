@@ -1,6 +1,5 @@
-//! Seats of workers at one directory: each step of a worker is one row of one journal, made at a
-//! turn of its seat; looks take no turn, and are answered from the version that was published
-//! last.
+//! One directory shared by up to 16 workers, each with a seat. Each step of a seat takes a turn and
+//! is one row of one journal. Looks take no turn: the latest published version answers them.
 #![tactic(auto)]
 
 mod admissions;

@@ -1,4 +1,4 @@
-//! Looks: they take no turn, and wait for nobody.
+//! Looks, which take no turn and do not wait.
 ghost use Rattle.std.specs.Prelude.{◌≡◌, ◌≤◌, ◌^◌, [], true, Ok};
 ghost use Rattle.message_model.specs.Reading.{reading};
 ghost use Rattle.message_model.specs.Spelling.{spelling};
@@ -14,8 +14,8 @@ use rd_base::{Moment, Peer};
 use rd_desk::{Looked, Outbox, Request, answer_look, look_starved};
 
 impl Share {
-    /// A request that only looks is answered from the version that was published last. Where no
-    /// version could be had, memory has run out.
+    /// Answers a look from the latest published version. If no version is available, answers 5.00
+    /// and returns `Starved`.
     pub(crate) fn look(
         &mut self,
         now: Moment,

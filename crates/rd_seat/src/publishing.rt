@@ -1,4 +1,4 @@
-//! What a step staged is published, and is met.
+//! Publishing what a step staged, and meeting it.
 ghost use Rattle.std.specs.Prelude.{◌≡◌, ◌⊎◌, ◌∷◌, ◌++◌, [], List, IfSome};
 ghost use Rattle.history_model.specs.declared.entries.Entry.{Entry};
 ghost use Rattle.history_model.specs.Live.{IsFront};
@@ -10,7 +10,8 @@ use rd_desk::Desk;
 use std::sync::Wait;
 use version_board::{Entering, Looker, Publisher};
 
-/// Publishes what is staged, where anything is. What is published then stands for what is told.
+/// Publishes the staged version, if there is one. The published version then stands for the exposed
+/// entries.
 fn publish_staged<E: Entering, R: Wait>(rt: &R, publisher: &mut Publisher)
     requires { IfSome publisher.old.staged
         (VersionStandsFor 0 (publisher.old.told ++ E.entered ∷ [])) }
@@ -20,11 +21,11 @@ fn publish_staged<E: Entering, R: Wait>(rt: &R, publisher: &mut Publisher)
     if publisher.is_staged() {
         publisher.publish::<E, R>(rt);
     }
-    // No clause of a step of a desk keeps what is published.
+    // No clause of a desk's step preserves what is published.
     let _published = publisher.published();
 }
 
-/// Publishes what a step staged on the board of the desk, where it staged anything.
+/// Publishes the version that a step staged on the desk's board, if there is one.
 pub(crate) fn publish_made<E: Entering, R: Wait>(rt: &R, desk: &mut Desk<Publisher>)
     requires { IfSome desk.old.board.staged
         (VersionStandsFor 0 (desk.old.board.told ++ E.entered ∷ [])) }
@@ -34,7 +35,7 @@ pub(crate) fn publish_made<E: Entering, R: Wait>(rt: &R, desk: &mut Desk<Publish
     publish_staged::<E, R>(rt, desk.board());
 }
 
-/// The looker meets what is published.
+/// Lets the looker meet what is published.
 pub(crate) fn meet(looker: &mut Looker, desk: &mut Desk<Publisher>)
     requires { looker.old.name ≡ desk.old.board.name }
     ensures desk { desk.new ≡ desk.old }

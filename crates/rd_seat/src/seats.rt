@@ -1,4 +1,4 @@
-//! A seat: what one worker has of a hall, as it is between two calls.
+//! A seat: one worker's handle to a hall, as it is between two calls.
 ghost use Rattle.std.specs.Prelude.{◌≡◌, ◌<◌, ◌≤◌, ◌^◌, ℕ};
 ghost use Rattle.std.specs.Prelude.{[], false, true, Ok};
 ghost use Rattle.message_model.specs.Reading.{reading};
@@ -34,11 +34,11 @@ use std::sync::Wait;
 use turn_lock::Pass;
 use version_board::Looker;
 
-/// The seat of one worker in a hall. Contracts see the journal that it has seen, its own rows of
-/// it, and the history that it has met.
+/// One worker's seat in a hall. Contracts see the journal that it has seen, its own rows in it, and
+/// the history that it has met.
 #[derive(Drop)]
 pub struct Seat {
-    /// What it has of the hall.
+    /// The worker's share of the hall.
     pub(crate) share: Share,
 }
 
@@ -54,7 +54,7 @@ impl Model for Seat {
 }
 
 impl Seat {
-    /// A seat that made no step.
+    /// Creates a seat that has made no step.
     pub(crate) fn new(alloc: Global, pass: Pass<SharedDesk>, looker: Looker, worker: u8) -> Seat
         requires worker { worker < max_workers }
         requires number { number_of pass ≡ worker }
@@ -74,12 +74,17 @@ impl Seat {
         Seat { share }
     }
 
-    /// The step in which time passes, at a turn of the seat: what has waited long enough is sent
-    /// again, observers that are due are told, and what is old or has lapsed is dropped (RFC 7252
-    /// section 4.2, RFC 7641 sections 4.2 and 4.5). The moment, in milliseconds, is at most
-    /// 10^15; one below that of the directory is lifted to it. Waits of messages that go out are
-    /// made from the word. `out` is empty, and gets what is sent. `Starved`: out of memory; then
-    /// nobody is told anew, and the rest is done. It waits for the turn.
+    /// Lets time pass at a turn of the seat, after waiting for the turn, and puts what becomes due
+    /// into `out` (RFC 7252 section 4.2, RFC 7641 sections 4.2 and 4.5).
+    ///
+    /// Retransmits messages whose timeouts have expired, sends notifications to observers that are
+    /// due, and drops what has expired or lapsed. `word` determines the initial timeouts. A `now`
+    /// (in milliseconds) earlier than the directory's moment is raised to it. After `Starved` (out
+    /// of memory), no new notification was sent, but the rest is done.
+    ///
+    /// # Requires
+    ///
+    /// The seat is of this hall, `now` is at most 10^15 milliseconds, and `out` is empty.
     pub fn tick<R: Wait, G: Gate>(
         &mut self,
         rt: &R,
@@ -101,15 +106,21 @@ impl Seat {
         self.share.tick(rt, hall.lock(), gate, now, word, out)
     }
 
-    /// The step in which a run begins above `first`, at a turn of the seat, whatever job its worker
-    /// holds: each registration of a new name that comes gets a number above `first`, and the
-    /// entries are counted above it too, so that no location and no entity tag that comes is one of
-    /// a run that gave and counted none above `first`. Numbers and the count never fall: what is
-    /// above `first` already stays. Nothing is begun where 2^48 - 1 entries are counted, or `first`
-    /// is at least that. The moment, in milliseconds, is at most 10^15; one below that of the
-    /// directory is lifted to it. Nothing is sent. `Starved`: out of memory, and nothing is begun.
-    /// It waits for the turn (this project's profile; RFC 9176 section 5, RFC 7252 section
-    /// 5.10.6).
+    /// Begins a run above `first` at a turn of the seat, after waiting for the turn (this project's
+    /// profile; RFC 9176 section 5, RFC 7252 section 5.10.6). The seat's worker may hold a job.
+    ///
+    /// From then on, each registration of a new name gets a number above `first`, and entries are
+    /// counted above it too. So no later location or entity tag is one of an earlier run, if that
+    /// run gave and counted none above `first`. Numbers and the count never fall: those above
+    /// `first` already stay.
+    ///
+    /// The run does not begin if 2^48 - 1 entries are counted, or if `first` is at least that. The
+    /// step sends nothing. A `now` (in milliseconds) earlier than the directory's moment is raised
+    /// to it. After `Starved` (out of memory), the run has not begun.
+    ///
+    /// # Requires
+    ///
+    /// The seat is of this hall, and `now` is at most 10^15 milliseconds.
     pub fn begin<R: Wait, G: Gate>(
         &mut self,
         rt: &R,
@@ -129,7 +140,7 @@ impl Seat {
         self.share.begin(rt, hall.lock(), gate, now, first)
     }
 
-    /// The step that hears a datagram which is no look, at a turn of the seat.
+    /// Does the step that handles a datagram that is not a look, at a turn of the seat.
     pub(crate) fn admit<R: Wait, G: Gate>(
         &mut self,
         rt: &R,
@@ -157,7 +168,7 @@ impl Seat {
         self.share.admit(rt, lock, gate, arrival, out)
     }
 
-    /// The step that does a write, at a turn of the seat.
+    /// Does the step of an admitted write, at a turn of the seat.
     pub(crate) fn commit<R: Wait, G: Gate>(
         &mut self,
         rt: &R,
@@ -182,7 +193,7 @@ impl Seat {
         self.share.commit(rt, hall.lock(), gate, now, job, out)
     }
 
-    /// The step that keeps a listing or a source, at a turn of the seat.
+    /// Does the step that keeps a listing or a source, at a turn of the seat.
     pub(crate) fn keep<R: Wait, G: Gate>(
         &mut self,
         rt: &R,
@@ -204,15 +215,17 @@ impl Seat {
         self.share.keep(rt, hall.lock(), gate, now, job, out)
     }
 
-    /// A request that only looks ([`rd_desk::is_look`]) is answered from the version that was
-    /// published last, at a moment in milliseconds that is at most 10^15; one below that of the
-    /// seat's last row or look, or of the version's last entry, is lifted. `out` is empty, and
-    /// gets the answer (RFC 9176 sections 4.1, 5.3.3 and 6). `Held`: the listing or the source is
-    /// longer than the block that was asked for, and the worker has the job to keep it. `Starved`:
-    /// out of memory; it is answered 5.00. It waits for nobody.
+    /// Answers a look ([`rd_desk::is_look`]) from the latest published version, without waiting.
     ///
-    /// The version has all entries that the seat has seen, and all of those that its looks before
-    /// were answered from.
+    /// The version has every entry that this seat has seen or has answered an earlier look from
+    /// (RFC 9176 sections 4.1, 5.3.3 and 6). Returns `Held` if the listing or source is longer than
+    /// the requested block; the worker then has the job to keep it. After `Starved` (out of
+    /// memory), the request has been answered 5.00. A `now` earlier than the seat's last row or
+    /// look, or than the version's last entry, is raised to that moment.
+    ///
+    /// # Requires
+    ///
+    /// `datagram` is a look, `now` is at most 10^15 milliseconds, and `out` is empty.
     pub fn lookup(&mut self, now: Moment, peer: Peer, datagram: &[u8], out: &mut Outbox) -> Looked
         requires look { is_look_datagram datagram.now ≡ true }
         requires moment { now.0 ≤ 10 ^ 15 }
@@ -229,8 +242,7 @@ impl Seat {
         self.answer_look(now, peer, &request, out)
     }
 
-    /// A request that only looks, read already, is answered as [`Seat::lookup`] answers its
-    /// datagram.
+    /// Answers a look that was already read, as [`Seat::lookup`] answers its datagram.
     pub(crate) fn answer_look(
         &mut self,
         now: Moment,

@@ -5,10 +5,10 @@ use std::collections::LinkedList;
 use turn_lock::Replays;
 use version_board::Publisher;
 
-/// A desk over the board of its hall. It lies behind the turn, and cannot be dropped: a hall ends
-/// it.
+/// A desk with the board of its hall. Only the holder of the turn has it. It cannot be dropped: its
+/// hall ends it.
 pub struct SharedDesk {
-    /// The desk. It is moved at each turn, so it lies behind a pointer.
+    /// The desk, behind a pointer because each turn moves it.
     pub(crate) desk: Box<Desk<Publisher>>,
 }
 

@@ -1,4 +1,4 @@
-//! What one worker has of a hall.
+//! One worker's share of a hall.
 
 use crate::shared_desk::SharedDesk;
 use rd_base::Moment;
@@ -7,17 +7,17 @@ use std::alloc::Global;
 use turn_lock::Pass;
 use version_board::Looker;
 
-/// What one worker has of a hall.
+/// One worker's share of a hall.
 #[derive(Drop)]
 pub(crate) struct Share {
-    /// Where its memory comes from.
+    /// The allocator.
     pub(crate) alloc: Global,
-    /// Its right to the turn.
+    /// The worker's right to the turn.
     pub(crate) pass: Pass<SharedDesk>,
-    /// It reads what is published.
+    /// The reader of published versions.
     pub(crate) looker: Looker,
     /// The Message IDs of the worker.
     pub(crate) mids: Mids,
-    /// The greatest moment of its rows and looks.
+    /// The latest moment of its rows and looks.
     pub(crate) last: Moment,
 }

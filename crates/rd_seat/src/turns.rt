@@ -1,4 +1,4 @@
-//! A turn: its beginning and its end, whatever the step is.
+//! The beginning and the end of a turn, for any step.
 ghost use Rattle.std.specs.Prelude.{◌≡◌, false, true, IsSome, IfSome};
 ghost use Rattle.journal_model.specs.declared.rows.Row.{Row};
 ghost use Rattle.journal_model.specs.Seats.{rows_of};
@@ -32,8 +32,8 @@ pub(crate) fn begin<R: Wait>(
     shared
 }
 
-/// Publishes what the step made, meets it, and gives the turn back with the row. It is handed all
-/// that the row is made of, from which its caller names the row.
+/// Publishes what the step made, meets it, and gives the turn back with the row. `_parts` has all
+/// parts of the row, from which the caller's contract names the row.
 pub(crate) fn end<S: Added<Row>, E: Entering, R: Wait, P>(
     rt: &R,
     lock: &TurnLock<SharedDesk>,

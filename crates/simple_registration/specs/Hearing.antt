@@ -1,4 +1,4 @@
--- What a call on a fetch answers, and what it leaves of it.
+-- The result of a call on a fetch, and the fetch after it.
 use Rattle.std.specs.Prelude.{◌≡◌, ℕ, false, List, [], Some, None}
 use Rattle.rd_base.specs.declared.peers.Peer.{Peer}
 use Rattle.rd_base.specs.declared.parameters.RegParams.{RegParams}
@@ -17,7 +17,7 @@ use Rattle.simple_registration.specs.Running.{sent_first, with_next}
 abbrev pub first_octets : ℕ → List ℕ → List ℕ
 first_octets mid token = spelling (fetch_request mid token None)
 
--- a fetch that starts at a moment, in a row with a word: nothing is collected
+-- a fetch that starts at a moment, in a row with a word: nothing is stored yet
 abbrev pub fetch_started : ℕ → ℕ → ℕ → Peer → List ℕ → RegParams → Fetch
 fetch_started now word mid peer token params = record {
   peer = peer;
@@ -35,8 +35,8 @@ fetch_started now word mid peer token params = record {
 abbrev pub first_ask : ℕ → Peer → List ℕ → Ask
 first_ask mid peer token = record { peer = peer; bytes = first_octets mid token }
 
--- what a response leaves of a fetch: where the next block is asked for, the block of the response
--- is collected; else all is as before
+-- the fetch after a response: if the next block is requested, the block of the response is stored;
+-- otherwise nothing changes
 abbrev pub IsLeftBy : Heard → ℕ → ℕ → ℕ → Message → Fetch → Fetch → Type 0
 IsLeftBy (heard.Next ask) now word mid m before after =
     (b : Block) → block_in m ≡ Some b → after ≡ with_next now word mid m b before

@@ -1,4 +1,5 @@
--- A fetch that runs: what a response says of it, what is due of its request, and how it changes.
+-- A fetch in progress: what a response means for it, what is due of its request, and how it
+-- changes.
 use Rattle.std.specs.Prelude.{
   ℕ,
   ◌+◌,
@@ -29,13 +30,13 @@ use Rattle.simple_registration.specs.Responses.{has_names_of, request_after, hea
 abbrev pub is_answered_by : Message → Fetch → Bool
 is_answered_by m f = has_names_of m f.token f.waits.mid
 
--- what comes of a response to it, where a further request has this Message ID
+-- the result of a response to it, if a further request has this Message ID
 abbrev pub heard_of : ℕ → Message → Fetch → Heard
 heard_of mid m f =
     heard_by (is_elsewhere (block_in m) (length f.body)) (ends_by m f.tag (length f.body))
     (heard_block (block_in m) mid f.peer f.token f.params (f.body ++ m.payload))
 
--- the tag of the first block, with that of one more
+-- the tag of the first block: the stored one, or this one if no block has come
 abbrev pub first_tag : Option (Option (List ℕ)) → Option (List ℕ) → Option (Option (List ℕ))
 first_tag None tag = Some tag
 first_tag (Some first) tag = Some first
@@ -48,11 +49,11 @@ sent_first now word mid octets = record {
   resend = record { sent = now; wait = first_wait word; again = 0 };
 }
 
--- with a block more
+-- the fetch after one more block
 abbrev pub with_block : List ℕ → Option (List ℕ) → Fetch → Fetch
 with_block octets tag f = record f { body = f.body ++ octets; tag = first_tag f.tag tag }
 
--- with another request
+-- the fetch after another request
 abbrev pub with_request : ℕ → ℕ → ℕ → ℕ → List ℕ → Fetch → Fetch
 with_request number now word mid octets f = record f {
   number = number;
@@ -61,18 +62,18 @@ with_request number now word mid octets f = record f {
   acknowledged = false;
 }
 
--- with the block of a response, and the request for the next
+-- the fetch after the block of a response and the request for the next
 abbrev pub with_next : ℕ → ℕ → ℕ → Message → Block → Fetch → Fetch
 with_next now word mid m b f =
     with_request (b.num + 1) now word mid (request_after mid f.token b)
     (with_block m.payload (tag_in m) f)
 
--- with its request acknowledged
+-- the fetch after its request was acknowledged
 abbrev pub awaiting : Fetch → Fetch
 awaiting f = record f { acknowledged = true }
 
--- what is due at a moment of a fetch whose response comes apart: nothing until it has waited as
--- long as it may
+-- what is due at a moment of a fetch that awaits a separate response: nothing until it has waited
+-- as long as it may
 abbrev pub due_apart : ℕ → Fetch → Again
 due_apart now f = if nat_lt now (f.asked + response_wait) then again.Wait else again.GaveUp
 
@@ -80,7 +81,7 @@ due_apart now f = if nat_lt now (f.asked + response_wait) then again.Wait else a
 abbrev pub due_of : ℕ → Fetch → Again
 due_of now f = if f.acknowledged then due_apart now f else kept_due now f.waits.resend
 
--- what is left of it after that
+-- the fetch after what was due of it
 abbrev pub after_due : Again → ℕ → Fetch → Fetch
 after_due due now f = record f {
   waits =

@@ -1,4 +1,4 @@
--- What of a fetch may be sent and registered (RFC 9176 section 5.1).
+-- The parts of a fetch that may be sent and registered (RFC 9176 section 5.1).
 use Rattle.std.specs.Prelude.{◌≡◌, ℕ, ◌≤◌, List, length, Option}
 use Rattle.message_model.specs.declared.blocks.Block.{Block}
 use Rattle.message_model.specs.FetchRequests.{fetch_request}
@@ -9,8 +9,8 @@ use Rattle.record_model.specs.AllowedParameters.{AreAllowed}
 use Rattle.simple_registration.specs.declared.hearing.Heard.{Heard}
 use Rattle.simple_registration.specs.declared.hearing.Heard.TheVariants as heard
 
--- a request that can be sent: it is the request of a fetch under its Message ID, with a token as
--- long as one may be, and no longer than a datagram may be
+-- A request that can be sent: the request of a fetch under its Message ID. Its token is no longer
+-- than a token may be, and it is no longer than a datagram may be.
 pub record IsSendable (mid : ℕ) (octets : List ℕ) : Type 0 where
   pub token : List ℕ
   pub block : Option Block
@@ -18,7 +18,7 @@ pub record IsSendable (mid : ℕ) (octets : List ℕ) : Type 0 where
   pub spelled : octets ≡ spelling (fetch_request mid token block)
   pub fits : length octets ≤ longest_datagram
 
--- what comes of a response: the next request can be sent, and the parameters of a whole body are
+-- the result of a response: the next request can be sent, and the parameters of a whole body are
 -- allowed
 abbrev pub IsSoundHeard : ℕ → Heard → Type 0
 IsSoundHeard mid (heard.Next ask) = IsSendable mid ask.bytes

@@ -1,4 +1,5 @@
--- The fetches of the table, in the order in which they started: which is found, and what changes.
+-- The fetches of the table, in the order in which they started: which one is found, and what
+-- changes.
 use Rattle.std.specs.Prelude.{◌≡◌, ℕ, Bool, false, List, find, Option, Some, None}
 use Rattle.rd_base.specs.declared.peers.Peer.{Peer}
 use Rattle.message_model.specs.Message.{Message}
@@ -8,8 +9,8 @@ use Rattle.simple_registration.specs.declared.hearing.Heard.{Heard}
 use Rattle.simple_registration.specs.declared.hearing.Heard.TheVariants as heard
 use Rattle.simple_registration.specs.Running.{is_answered_by}
 
--- what a table of fetches shows: the fetches that run, in the order in which they started, and how
--- many were started, as 64 bits count
+-- what a table of fetches shows: the fetches in progress, in the order in which they started, and
+-- how many were started, modulo 2^64
 pub record Table : Type 0 where
   pub fetches : List Fetch
   pub started : ℕ
@@ -18,7 +19,7 @@ pub record Table : Type 0 where
 abbrev pub is_of : Peer → Fetch → Bool
 is_of peer f = is_same_peer f.peer peer
 
--- a test of a fetch that may be missing
+-- a test of a fetch, which fails if there is none
 abbrev pub some_passes : (Fetch → Bool) → Option Fetch → Bool
 some_passes test None = false
 some_passes test (Some f) = test f
@@ -27,7 +28,7 @@ some_passes test (Some f) = test f
 abbrev pub belongs_among : Peer → Message → List Fetch → Bool
 belongs_among peer m fs = some_passes (is_answered_by m) (find (is_of peer) fs)
 
--- after a response the table is as before, unless the next block is asked for or the fetch ends
+-- a response leaves the table unchanged, unless the next block is requested or the fetch ends
 abbrev pub IsKeptAfter : Heard → Table → Table → Type 0
 IsKeptAfter (heard.Next ask) before after = Unit {0}
 IsKeptAfter heard.Ended before after = Unit {0}

@@ -1,4 +1,4 @@
-//! The parameters that a registration may have (RFC 9176 section 5).
+//! Parameters that a registration may have (RFC 9176 section 5).
 ghost use Rattle.std.specs.Prelude.{◌≡◌, IfOk};
 ghost use Rattle.record_model.specs.AllowedParameters.{AreAllowed};
 
@@ -24,7 +24,11 @@ impl Model for AllowedParams {
 }
 
 impl AllowedParams {
-    /// Parameters that are allowed, as such.
+    /// Wraps allowed parameters.
+    ///
+    /// # Requires
+    ///
+    /// The parameters are allowed.
     pub fn of(params: RegParams) -> AllowedParams
         requires { AreAllowed params }
         ensures { result ≡ params }
@@ -32,7 +36,7 @@ impl AllowedParams {
         AllowedParams { params }
     }
 
-    /// An equal copy. `Starved`: out of memory.
+    /// Returns a copy of the parameters.
     pub(crate) fn copy(&self) -> Result<RegParams, Starved>
         ensures value { IfOk result (λ params. params ≡ self.now) }
         ensures allowed { IfOk result AreAllowed }

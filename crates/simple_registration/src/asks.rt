@@ -14,16 +14,16 @@ use message_model::options::{BLOCK2, URI_PATH};
 use rd_base::{Bytes, Peer, Starved};
 use std::alloc::Global;
 
-/// A request of a fetch that is to be sent.
+/// A request of a fetch to be sent.
 #[derive(Debug, Drop, PartialEq, Eq)]
 pub struct Ask {
-    /// Who is asked.
+    /// The peer to which it goes.
     pub peer: Peer,
     /// The datagram of the GET.
     pub bytes: Bytes,
 }
 
-/// Adds an option to a request that has room for it.
+/// Appends an option to a request that has room for it.
 fn put_option(request: &mut Writer, number: u32, value: &[u8])
     requires filled { codes_of.empty < request.old.code }
     requires open { request.old.payload ≡ [] }
@@ -40,7 +40,7 @@ fn put_option(request: &mut Writer, number: u32, value: &[u8])
     }
 }
 
-/// The GET of /.well-known/core under a Message ID and a token.
+/// Begins the GET of /.well-known/core under a Message ID and a token.
 fn core_request(mid: u16, token: TokenRef<'_>) -> Writer
     ensures { result ≡ fetch_request mid token.entry.octets.now None }
 {
@@ -50,7 +50,7 @@ fn core_request(mid: u16, token: TokenRef<'_>) -> Writer
     request
 }
 
-/// The datagram of a request that has all its options and no payload. `Starved`: out of memory.
+/// Returns the datagram of a request that has all its options and no payload.
 #[tactic(auto, using(crate::proofs::AskLaws::spelled_some))]
 fn datagram_of(alloc: Global, mut request: Writer) -> Result<Bytes, Starved>
     requires open { request.payload ≡ [] }
@@ -68,9 +68,8 @@ fn datagram_of(alloc: Global, mut request: Writer) -> Result<Bytes, Starved>
     }
 }
 
-/// The datagram of the first request of a fetch, which has no other option than its path (RFC 9176
+/// Returns the datagram of the first request of a fetch, whose only option is its path (RFC 9176
 /// section 5.1).
-/// `Starved`: out of memory.
 pub(crate) fn first_request(alloc: Global, mid: u16, token: TokenRef<'_>) -> Result<Bytes, Starved>
     ensures spelled { IfOk result (λ bytes. bytes
         ≡ spelling (fetch_request mid token.entry.octets.now None)) }
@@ -80,7 +79,7 @@ pub(crate) fn first_request(alloc: Global, mid: u16, token: TokenRef<'_>) -> Res
     datagram_of(alloc, core_request(mid, token))
 }
 
-/// The datagram of the request for a block (RFC 7959 section 2.4). `Starved`: out of memory.
+/// Returns the datagram of the request for a block (RFC 7959 section 2.4).
 pub(crate) fn request_for(
     alloc: Global,
     mid: u16,

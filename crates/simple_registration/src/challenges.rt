@@ -8,14 +8,14 @@ use event_model::transmission::EXCHANGE_LIFETIME;
 use rd_base::{Moment, Peer};
 use std::marker::Model;
 
-/// A challenge that was made.
+/// A challenge, as it was issued.
 #[derive(Debug, Drop)]
 pub(crate) struct Challenge {
-    /// Whom it went to.
+    /// The peer to which it went.
     peer: Peer,
-    /// The value that is to come back.
+    /// The value that the peer is to return.
     value: [u8; 8],
-    /// When it was made.
+    /// The moment at which it was issued.
     made: Moment,
 }
 
@@ -28,7 +28,7 @@ impl Model for Challenge {
 }
 
 impl Challenge {
-    /// One that is made now.
+    /// Issues a challenge now.
     pub(crate) fn new(now: Moment, peer: Peer, value: [u8; 8]) -> Challenge
         ensures { result ≡ challenge_made now.0 peer value }
     {
@@ -39,14 +39,14 @@ impl Challenge {
         }
     }
 
-    /// Whether it went to this peer.
+    /// Returns whether it went to this peer.
     pub(crate) fn is_of(&self, peer: &Peer) -> bool
         ensures { result ≡ is_same_peer self.now.peer peer.now }
     {
         self.peer == *peer
     }
 
-    /// Whether a value answers it: it is young enough, and it is its value.
+    /// Returns whether a value answers it: the challenge has not expired, and this is its value.
     pub(crate) fn is_answered_by(&self, now: Moment, value: &[u8]) -> bool
         ensures { result
             ≡ (is_young now.0 self.now.moment && bytes_eq self.now.value value.now) }

@@ -13,13 +13,13 @@ use std::alloc::Global;
 use std::collections::VecDeque;
 use std::marker::Model;
 
-/// The latest challenges, 1,024 at most, and how many were made: by sending the value of its last
-/// one back a peer shows that it receives at its address (RFC 9175 section 2.3).
+/// The latest challenges, at most 1,024, and how many were issued. A peer that returns the value of
+/// its latest challenge proves that it receives at its address (RFC 9175 section 2.3).
 #[derive(Drop)]
 pub struct Echoes {
     /// The challenges, the latest first.
     rows: VecDeque<Challenge>,
-    /// How many were made, as 32 bits count.
+    /// The number of issued challenges, modulo 2^32.
     made: u32,
 }
 
@@ -37,7 +37,8 @@ impl Model for Echoes {
         × (deque_len t.rows ≤ max_challenges) };
 }
 
-/// The value of a challenge: the word, and how many were made before, each in four octets.
+/// Returns the value of a challenge: the random word, and the number of challenges issued before,
+/// each in four octets.
 fn value_of(word: u32, made: u32) -> [u8; 8]
     ensures { result ≡ value_of word made }
 {
@@ -46,7 +47,7 @@ fn value_of(word: u32, made: u32) -> [u8; 8]
     [a, b, c, d, e, f, g, h]
 }
 
-/// One challenge more, the latest from now on; of as many as there may be the oldest goes.
+/// Adds a challenge as the latest. If the table is full, the oldest is dropped.
 fn push_latest(rows: &mut VecDeque<Challenge>, challenge: Challenge)
     requires room { max_challenges ≤ deque_capacity rows.old }
     requires few { deque_len rows.old ≤ max_challenges }
@@ -60,7 +61,11 @@ fn push_latest(rows: &mut VecDeque<Challenge>, challenge: Challenge)
 }
 
 impl Echoes {
-    /// No challenge, with room for as many as can be answered, 1,024. `Starved`: out of memory.
+    /// Creates an empty table, with room for the most challenges that can be answered, 1,024.
+    ///
+    /// # Errors
+    ///
+    /// `Starved` if memory runs out.
     pub fn make(alloc: Global) -> Result<Echoes, Starved>
         ensures { IfOk result (λ t. ChallengesStandFor [] t) }
     {
@@ -68,8 +73,8 @@ impl Echoes {
         Ok(Echoes { rows, made: 0 })
     }
 
-    /// Challenges a peer: gives the value that it is to send back, which begins with the word.
-    /// Where 1,024 challenges are kept the oldest is dropped. Takes no memory.
+    /// Challenges a peer, and returns the value that it is to return. The value begins with the
+    /// random word. If 1,024 challenges are stored, the oldest is dropped. Does not allocate.
     pub fn challenge(&mut self, now: Moment, word: u32, peer: Peer) -> [u8; 8]
         ensures value { (events : List Event)
             → ChallengesStandFor events self.old
@@ -86,8 +91,10 @@ impl Echoes {
         value
     }
 
-    /// Whether a value shows now that a peer receives at its address: it is that of the last
-    /// challenge of the peer, which is kept and less than 247 seconds old (RFC 9175 section 2.3).
+    /// Returns whether a value proves that the peer receives at its address (RFC 9175 section 2.3).
+    ///
+    /// It does if it belongs to the peer's latest challenge, and that challenge is still stored and
+    /// less than 247 seconds old.
     pub fn good(&self, now: Moment, peer: &Peer, value: &[u8]) -> bool
         ensures { (events : List Event)
             → ChallengesStandFor events self.now
@@ -100,7 +107,7 @@ impl Echoes {
     }
 }
 
-/// The last challenge of a peer, where it is kept.
+/// Returns the latest challenge of a peer, if it is still stored.
 fn last_of<'a>(rows: &'a VecDeque<Challenge>, peer: &Peer) -> Option<&'a Challenge>
     ensures { option_map (λ c. c.now) result ≡ find (is_to peer.now) rows.now.items }
 {

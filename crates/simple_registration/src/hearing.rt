@@ -1,19 +1,19 @@
-//! What comes of a response to a fetch.
+//! The result of a response to a fetch.
 use crate::Ask;
 use rd_base::{Bytes, RegParams};
 
-/// What comes of a response to a fetch (RFC 9176 section 5.1, RFC 7959 section 2.4).
+/// The result of a response to a fetch (RFC 9176 section 5.1, RFC 7959 section 2.4).
 #[derive(Debug, Drop, PartialEq, Eq)]
 pub enum Heard {
-    /// It is passed over: its block does not begin where what is collected ends.
+    /// The response is ignored: its block does not begin where the stored octets end.
     Passed,
-    /// Its block is collected, and the next one is asked for.
+    /// The block is stored, and the next one is requested.
     Next(Ask),
-    /// It completes the body, which is to be registered with these parameters. The fetch is still
-    /// there.
+    /// The response completes the body, which is to be registered with these parameters. The fetch
+    /// is still in the table.
     Whole(RegParams, Bytes),
-    /// It ends the fetch without a registration.
+    /// The response ends the fetch without a registration.
     Ended,
-    /// Out of memory: all is as before.
+    /// Memory ran out, and nothing has changed.
     Starved,
 }

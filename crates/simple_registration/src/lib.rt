@@ -1,5 +1,5 @@
 //! Simple registration: the directory fetches the links of a device itself, block by block (RFC
-//! 9176 section 5.1), once the device showed that it receives at its address (RFC 9175 section
+//! 9176 section 5.1), after the device has proved that it receives at its address (RFC 9175 section
 //! 2.3).
 #![tactic(auto)]
 

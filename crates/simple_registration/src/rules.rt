@@ -1,4 +1,4 @@
-//! What the parts of a response say of the fetch that it belongs to (RFC 7959 section 2.4).
+//! What the parts of a response mean for its fetch (RFC 7959 section 2.4).
 ghost use Rattle.std.specs.Prelude.{◌≡◌, ◌≤◌, length, option_map, IfSome};
 ghost use Rattle.std.specs.Option.{ForSome};
 ghost use Rattle.message_model.specs.Blocks.{IsBlock};
@@ -14,7 +14,7 @@ use coap_message::{Kind4, View};
 use coap_options::{Meaning, etags};
 use message_model::formats::LINK_FORMAT;
 
-/// Whether a message has a token and, where it is an acknowledgement, a Message ID (RFC 7252
+/// Returns whether a message has a token and, if it is an acknowledgement, a Message ID (RFC 7252
 /// section 5.3.2).
 pub(crate) fn has_names_of(view: &View<'_>, token: &[u8], mid: u16) -> bool
     ensures { result ≡ has_names_of (message_in view.now) token.now mid }
@@ -28,8 +28,8 @@ pub(crate) fn has_names_of(view: &View<'_>, token: &[u8], mid: u16) -> bool
     }
 }
 
-/// The block that a Block2 option says; none where there is no such option, or it has the reserved
-/// exponent.
+/// Returns the block in the value of a Block2 option, or `None` if there is no such option or it
+/// has the reserved exponent.
 fn block_of(value: Option<&[u8]>) -> Option<Block>
     requires { ForSome value (λ v. length v.now ≤ 3) }
     ensures value { result ≡ block_said (option_map (λ v. v.now) value.entry) }
@@ -41,7 +41,7 @@ fn block_of(value: Option<&[u8]>) -> Option<Block>
     }
 }
 
-/// The block that a response is, where it is one.
+/// Returns the block that a response contains, if it contains one.
 pub(crate) fn block_in(meaning: &Meaning<'_>) -> Option<Block>
     ensures value { result ≡ responses.block_in (message_in meaning.now.view) }
     ensures sound { IfSome result (λ b. IsBlock b) }
@@ -49,7 +49,7 @@ pub(crate) fn block_in(meaning: &Meaning<'_>) -> Option<Block>
     block_of(meaning.block2)
 }
 
-/// Whether a block does not begin where what is collected ends.
+/// Returns whether a block does not begin where the stored octets end.
 pub(crate) fn is_elsewhere(block: &Option<Block>, size: usize) -> bool
     requires { ForSome block.now (λ b. IsBlock b) }
     ensures { result ≡ responses.is_elsewhere block.now size }
@@ -60,7 +60,7 @@ pub(crate) fn is_elsewhere(block: &Option<Block>, size: usize) -> bool
     }
 }
 
-/// Whether more blocks follow one that has not the block size.
+/// Returns whether more blocks follow one that does not have the block size.
 pub(crate) fn is_cut_short(block: &Option<Block>, size: usize) -> bool
     requires { ForSome block.now (λ b. IsBlock b) }
     ensures { result ≡ responses.is_cut_short block.now size }
@@ -71,7 +71,7 @@ pub(crate) fn is_cut_short(block: &Option<Block>, size: usize) -> bool
     }
 }
 
-/// Whether a format is named that is not that of link documents.
+/// Returns whether a format is named that is not that of link documents.
 pub(crate) fn is_other_format(format: Option<u16>) -> bool
     ensures { result ≡ refusals.is_other_format format }
 {
@@ -81,15 +81,15 @@ pub(crate) fn is_other_format(format: Option<u16>) -> bool
     }
 }
 
-/// The first entity tag of a response that is recognized.
+/// Returns the first recognized entity tag of a response.
 fn first_etag<'a>(meaning: &Meaning<'a>) -> Option<&'a [u8]>
     ensures { option_map (λ tag. tag.now) result ≡ responses.tag_in (message_in meaning.now.view) }
 {
     etags(meaning).next()
 }
 
-/// The entity tag of a response: the first that is recognized, of at most eight octets (RFC 7252
-/// section 5.10.6).
+/// Returns the entity tag of a response: the first recognized one, of at most eight octets (RFC
+/// 7252 section 5.10.6).
 pub(crate) fn tag_in<'a>(meaning: &Meaning<'a>) -> Option<&'a [u8]>
     ensures value { option_map (λ tag. tag.now) result
         ≡ responses.tag_in (message_in meaning.now.view) }
@@ -98,7 +98,7 @@ pub(crate) fn tag_in<'a>(meaning: &Meaning<'a>) -> Option<&'a [u8]>
     first_etag(meaning)
 }
 
-/// Whether two tags are the same; to have none counts as a value.
+/// Returns whether two tags are the same. The absence of a tag counts as a value.
 fn is_same_tag(first: &Option<EntityTag>, tag: Option<&[u8]>) -> bool
     ensures { result ≡ responses.is_same_tag first.now (option_map (λ t. t.now) tag.entry) }
 {
@@ -111,7 +111,7 @@ fn is_same_tag(first: &Option<EntityTag>, tag: Option<&[u8]>) -> bool
     }
 }
 
-/// Whether a tag differs from that of the first block, where one came.
+/// Returns whether a tag differs from that of the first block, if one came.
 pub(crate) fn is_other_tag(first: &Option<Option<EntityTag>>, tag: Option<&[u8]>) -> bool
     ensures { result ≡ responses.is_other_tag first.now (option_map (λ t. t.now) tag.entry) }
 {

@@ -1,4 +1,4 @@
-//! A fetch that runs.
+//! A fetch in progress.
 ghost use Rattle.std.specs.Prelude.{◌≡◌, ◌≢◌, ◌≤◌, ◌<◌, ◌+◌, ◌++◌, ◌==◌, length, IfOk, OnOk, OnErr};
 ghost use Rattle.std.specs.Prelude.{option_map, Some, false};
 ghost use Rattle.std.specs.Option.{ForSome};
@@ -38,26 +38,27 @@ use std::marker::Model;
 /// An entity tag, of at most eight octets (RFC 7252 section 5.10.6).
 pub(crate) type EntityTag = Octets<8>;
 
-/// A fetch that runs: what it asked last, and what it collected.
+/// A fetch in progress: its last request, and what it has received.
 #[derive(Debug, Drop)]
 pub(crate) struct Fetch {
     /// The device whose links are fetched.
     peer: Peer,
     /// The token of its requests.
     token: Token,
-    /// The parameters of the registration that it is for.
+    /// The parameters of its registration.
     params: AllowedParams,
-    /// The number of the block that was asked for last.
+    /// The number of the block that was requested last.
     number: u32,
-    /// When that was first asked for.
+    /// The moment at which that block was first requested.
     asked: Moment,
-    /// That request, as it waits for its acknowledgement.
+    /// That request, while it awaits an acknowledgement.
     waits: Sent,
-    /// Whether that was acknowledged: the response comes apart.
+    /// Whether that request was acknowledged, so that a separate response follows.
     acknowledged: bool,
-    /// What is collected of the body, at most 8,192 octets.
+    /// The octets of the body so far, at most 8,192.
     body: Bytes,
-    /// The entity tag of the first block, where one came; the block may have had none.
+    /// The entity tag of the first block, or `None` if no block has come. The first block may have
+    /// had no tag.
     tag: Option<Option<EntityTag>>,
 }
 
@@ -86,7 +87,7 @@ impl Model for Fetch {
         × (length f.waits.octets ≤ longest_datagram) };
 }
 
-/// A request that is sent now and waits for its acknowledgement.
+/// Returns a request that is sent now and awaits an acknowledgement.
 fn sent_now(now: Moment, word: u32, mid: u16, bytes: Bytes) -> Sent
     ensures { result ≡ running.sent_first now.0 word mid bytes }
 {
@@ -97,7 +98,7 @@ fn sent_now(now: Moment, word: u32, mid: u16, bytes: Bytes) -> Sent
     }
 }
 
-/// The tag of the first block, with that of one more.
+/// Returns the tag of the first block: the stored one, or this one if no block has come.
 fn first_tag(first: &Option<Option<EntityTag>>, tag: Option<&[u8]>) -> Option<Option<EntityTag>>
     requires { ForSome tag (λ t. length t.now ≤ 8) }
     ensures { result ≡ running.first_tag first.now (option_map (λ t. t.now) tag.entry) }
@@ -108,7 +109,7 @@ fn first_tag(first: &Option<Option<EntityTag>>, tag: Option<&[u8]>) -> Option<Op
     Some(tag.map(Octets::of))
 }
 
-/// An equal tag.
+/// Returns a copy of a tag.
 fn copy_of(tag: &Option<EntityTag>) -> Option<EntityTag>
     ensures { result ≡ tag.now }
 {
@@ -119,7 +120,7 @@ fn copy_of(tag: &Option<EntityTag>) -> Option<EntityTag>
 }
 
 impl Fetch {
-    /// A fetch that starts now, with its first request. `Starved`: out of memory.
+    /// Starts a fetch now, and returns it with its first request.
     pub(crate) fn start(
         alloc: Global,
         now: Moment,
@@ -152,28 +153,28 @@ impl Fetch {
         Ok((fetch, Ask { peer, bytes }))
     }
 
-    /// Whose fetch it is.
+    /// Returns the peer of the fetch.
     pub(crate) fn peer(&self) -> Peer
         ensures { result ≡ self.now.peer }
     {
         self.peer
     }
 
-    /// Whether it is a fetch of this peer.
+    /// Returns whether it is a fetch of this peer.
     pub(crate) fn is_of(&self, peer: &Peer) -> bool
         ensures { result ≡ is_same_peer self.now.peer peer.now }
     {
         self.peer == *peer
     }
 
-    /// Whether its last request has this Message ID.
+    /// Returns whether its last request has this Message ID.
     pub(crate) fn has_mid(&self, mid: u16) -> bool
         ensures { result ≡ (self.now.waits.mid == mid) }
     {
         self.waits.mid == mid
     }
 
-    /// Its last request, as it was sent.
+    /// Returns its last request, as it was sent.
     pub(crate) fn request(&self) -> &[u8]
         ensures octets { result.now ≡ self.now.waits.octets }
         ensures some { 0 < length result.now }
@@ -182,7 +183,7 @@ impl Fetch {
         self.waits.bytes.as_slice()
     }
 
-    /// Whether a message is a response to its last request, by its token and, where it is an
+    /// Returns whether a message is a response to its last request, by its token and, if it is an
     /// acknowledgement, its Message ID.
     pub(crate) fn is_answered_by(&self, view: &View<'_>) -> bool
         ensures { result ≡ running.is_answered_by (message_in view.now) self.now }
@@ -190,14 +191,14 @@ impl Fetch {
         has_names_of(view, self.token.as_slice(), self.waits.mid)
     }
 
-    /// Its last request was acknowledged: the response comes apart.
+    /// Records that its last request was acknowledged: a separate response follows.
     pub(crate) fn await_response(&mut self)
         ensures { self.new ≡ running.awaiting self.old }
     {
         self.acknowledged = true;
     }
 
-    /// What is due of it now. A retransmission counts as made now.
+    /// Returns what is due of it now. A retransmission counts as made now.
     pub(crate) fn timeout(&mut self, now: Moment) -> Again
         ensures due { result ≡ running.due_of now.0 self.old }
         ensures after { self.new
@@ -212,7 +213,7 @@ impl Fetch {
         Again::GaveUp
     }
 
-    /// Whether a response ends it without a registration.
+    /// Returns whether a response ends it without a registration.
     fn is_ended_by(&self, meaning: &Meaning<'_>, block: &Option<Block>) -> bool
         requires block { block.now ≡ responses.block_in (message_in meaning.now.view) }
         requires sound { ForSome block.now (λ b. IsBlock b) }
@@ -241,8 +242,7 @@ impl Fetch {
         MAX_BODY - self.body.len() < size
     }
 
-    /// Collects the block of a response and asks for the next. `Starved`: out of memory, and all is
-    /// as before.
+    /// Stores the block of a response and requests the next. `Starved` leaves everything unchanged.
     fn ask_next(
         &mut self,
         alloc: Global,
@@ -290,8 +290,7 @@ impl Fetch {
         })
     }
 
-    /// The whole body, which a response completes, and the parameters of the registration.
-    /// `Starved`: out of memory.
+    /// Returns the whole body, which a response completes, and the parameters of the registration.
     fn whole(&self, alloc: Global, payload: &[u8]) -> Result<(RegParams, Bytes), Starved>
         ensures params { IfOk result (λ x. x.0 ≡ self.now.params) }
         ensures allowed { IfOk result (λ x. AreAllowed x.0) }
@@ -303,8 +302,8 @@ impl Fetch {
         Ok((params, body))
     }
 
-    /// What comes of a response to its last request, with the Message ID of a further request.
-    /// Where that is not asked for, all is as before.
+    /// Handles a response to its last request. A further request gets this Message ID. If there is
+    /// none, the fetch does not change.
     pub(crate) fn hear(
         &mut self,
         alloc: Global,

@@ -1,14 +1,14 @@
-//! Why a fetch does not start.
+//! The reasons for which a fetch does not start.
 use rd_base::{Peer, Starved};
 
-/// Why a fetch does not start (RFC 9176 section 5.1).
+/// The reason for which a fetch does not start (RFC 9176 section 5.1).
 #[derive(Debug, Drop, PartialEq, Eq)]
 pub enum StartFault {
-    /// A fetch of this peer runs.
+    /// A fetch of this peer is in progress.
     Fetching(Peer),
-    /// As many fetches run as may, 64.
+    /// The most fetches allowed, 64, are in progress.
     FullFetches,
-    /// Out of memory.
+    /// Memory ran out.
     Starved,
 }
 

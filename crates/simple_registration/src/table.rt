@@ -33,13 +33,13 @@ use rd_base::{Moment, Peer, Starved};
 use std::alloc::Global;
 use std::marker::Model;
 
-/// The fetches that run, at most one of a peer and 64 in all, and how many were started (RFC 9176
-/// section 5.1).
+/// The fetches in progress, at most one for each peer and 64 in all, and how many were started (RFC
+/// 9176 section 5.1).
 #[derive(Debug, Drop)]
 pub struct Fetches {
     /// The fetches, in the order in which they started.
     rows: Vec<Fetch>,
-    /// How many were started, as 64 bits count.
+    /// The number of started fetches, modulo 2^64.
     started: u64,
 }
 
@@ -56,7 +56,11 @@ impl Model for Fetches {
 }
 
 impl Fetches {
-    /// No fetch, with room for as many as run at most, 64. `Starved`: out of memory.
+    /// Creates an empty table, with room for the most fetches allowed, 64.
+    ///
+    /// # Errors
+    ///
+    /// `Starved` if memory runs out.
     pub fn make(alloc: Global) -> Result<Fetches, Starved>
         ensures { (octets : OctetsSent) → IfOk result (λ t. FetchesStandFor octets [] t) }
     {
@@ -64,11 +68,15 @@ impl Fetches {
         Ok(Fetches { rows, started: 0 })
     }
 
-    /// Starts a fetch of a peer's links, and gives its first GET, under this Message ID. The first
-    /// wait is made from the word.
+    /// Starts a fetch of a peer's links, and returns its first GET, which has this Message ID.
+    /// `word` determines the initial timeout.
     ///
-    /// `Fetching`: a fetch of this peer runs. `FullFetches`: none does, and 64 others run.
-    /// `Starved`: out of memory.
+    /// # Errors
+    ///
+    /// The table does not change.
+    /// - `Fetching` if a fetch of this peer is in progress.
+    /// - `FullFetches` if none is, and 64 others are in progress.
+    /// - `Starved` if memory runs out.
     pub fn start(
         &mut self,
         alloc: Global,
@@ -115,8 +123,8 @@ impl Fetches {
         Ok(ask)
     }
 
-    /// Whether a response belongs to the fetch of a peer: it has the token and, where it is an
-    /// acknowledgement, the Message ID of the last GET (RFC 7252 section 5.3.2).
+    /// Returns whether a response belongs to the fetch of a peer: it has the token of the last GET
+    /// and, if it is an acknowledgement, its Message ID (RFC 7252 section 5.3.2).
     pub fn belongs(&self, peer: &Peer, view: &View<'_>) -> bool
         ensures table { result ≡ belongs_among peer.now (message_in view.now) self.now.fetches }
         ensures events { (octets : OctetsSent) (events : List Event)
@@ -129,9 +137,14 @@ impl Fetches {
         }
     }
 
-    /// What comes of a response that belongs to the fetch of a peer (RFC 9176 section 5.1, RFC 7959
-    /// section 2.4). A further GET has this Message ID, and its first wait is made from the word.
-    /// `Ended` takes the fetch out. After `Passed`, `Whole` and `Starved` all is as before.
+    /// Handles a response that belongs to the fetch of a peer (RFC 9176 section 5.1, RFC 7959
+    /// section 2.4). A further GET gets this Message ID, and `word` determines its initial timeout.
+    ///
+    /// `Ended` removes the fetch. `Passed`, `Whole` and `Starved` leave the table unchanged.
+    ///
+    /// # Requires
+    ///
+    /// The response belongs to the fetch (see [`Fetches::belongs`]).
     pub fn response(
         &mut self,
         alloc: Global,
@@ -181,7 +194,7 @@ impl Fetches {
         heard
     }
 
-    /// Ends the fetch of a peer, where one runs.
+    /// Ends the fetch of a peer, if there is one.
     pub fn end(&mut self, peer: &Peer)
         ensures { (octets : OctetsSent) (events : List Event) (e : Event)
             → FetchesStandFor octets events self.old
@@ -191,9 +204,9 @@ impl Fetches {
         drop_first(&mut self.rows, peer);
     }
 
-    /// An empty acknowledgement with this Message ID came from a peer. Where it is of the last GET
-    /// of a fetch of that peer, the fetch waits for a response that comes apart (RFC 7252 section
-    /// 5.2.2). Whether it is.
+    /// Records that a peer acknowledged the message with this Message ID, without a response. If it
+    /// is the last GET of the peer's fetch, the fetch waits for a separate response (RFC 7252
+    /// section 5.2.2). Returns whether it is.
     pub fn acked(&mut self, peer: &Peer, mid: u16) -> bool
         ensures answer { (octets : OctetsSent) (events : List Event)
             → FetchesStandFor octets events self.old
@@ -212,8 +225,8 @@ impl Fetches {
         true
     }
 
-    /// A Reset with this Message ID came from a peer. Where it is of the last GET of a fetch of
-    /// that peer, the fetch ends (RFC 7252 section 4.2). Whether it is.
+    /// Handles a Reset of the message with this Message ID from a peer. If it is the last GET of
+    /// the peer's fetch, the fetch ends (RFC 7252 section 4.2). Returns whether it is.
     pub fn reset(&mut self, peer: &Peer, mid: u16) -> bool
         ensures answer { (octets : OctetsSent) (events : List Event)
             → FetchesStandFor octets events self.old
@@ -232,8 +245,12 @@ impl Fetches {
         true
     }
 
-    /// What is due now of the fetch at an index, which is in range (RFC 7252 section 4.2). A
-    /// retransmission counts as made now. `GaveUp` leaves the fetch.
+    /// Returns what is due now of the fetch at an index (RFC 7252 section 4.2). A retransmission
+    /// counts as made now. `GaveUp` leaves the fetch in the table.
+    ///
+    /// # Requires
+    ///
+    /// The index is that of a fetch.
     pub fn timeout(&mut self, now: Moment, index: usize) -> Again
         requires { index < length self.old.fetches }
         ensures answer { (octets : OctetsSent) (events : List Event) (peer : Peer) (e : Event)
@@ -252,7 +269,7 @@ impl Fetches {
         self.rows[index].timeout(now)
     }
 
-    /// Whose fetch stands at an index; none past the last.
+    /// Returns the peer of the fetch at an index, or `None` past the last.
     pub fn at(&self, index: usize) -> Option<Peer>
         ensures { result ≡ option_map (λ f. f.peer) (slice_get self.now.fetches index) }
     {
@@ -262,7 +279,11 @@ impl Fetches {
         }
     }
 
-    /// The last GET of the fetch at an index, which is in range, as it was sent.
+    /// Returns the last GET of the fetch at an index, as it was sent.
+    ///
+    /// # Requires
+    ///
+    /// The index is that of a fetch.
     pub fn sent(&self, index: usize) -> &[u8]
         requires { index < length self.now.fetches }
         ensures octets { option_map (λ f. f.waits.octets) (slice_get self.now.fetches index)
@@ -273,7 +294,7 @@ impl Fetches {
         self.rows[index].request()
     }
 
-    /// How many fetches run.
+    /// Returns the number of fetches in progress.
     pub fn len(&self) -> usize
         ensures { result ≡ length self.now.fetches }
     {
@@ -281,14 +302,14 @@ impl Fetches {
     }
 }
 
-/// The index of the fetch of a peer.
+/// Returns the index of the fetch of a peer.
 fn index_of(rows: &Vec<Fetch>, peer: &Peer) -> Option<usize>
     ensures { result ≡ position (is_of peer.now) rows.now.items }
 {
     rows.iter().position(|fetch| fetch.is_of(peer))
 }
 
-/// The index of the fetch of a peer, where its last request has this Message ID.
+/// Returns the index of the fetch of a peer, if its last request has this Message ID.
 fn index_of_request(rows: &Vec<Fetch>, peer: &Peer, mid: u16) -> Option<usize>
     ensures index { IfSome result (λ i. position (is_of peer.now) rows.now.items ≡ Some i) }
     ensures answer { is_some result
@@ -303,14 +324,14 @@ fn index_of_request(rows: &Vec<Fetch>, peer: &Peer, mid: u16) -> Option<usize>
     Some(index)
 }
 
-/// The fetch of a peer.
+/// Returns the fetch of a peer.
 fn fetch_of<'a>(rows: &'a Vec<Fetch>, peer: &Peer) -> Option<&'a Fetch>
     ensures { option_map (λ f. f.now) result ≡ find (is_of peer.now) rows.now.items }
 {
     rows.iter().find(|fetch| fetch.is_of(peer))
 }
 
-/// Drops the fetch of a peer, where there is one.
+/// Removes the fetch of a peer, if there is one.
 fn drop_first(rows: &mut Vec<Fetch>, peer: &Peer)
     ensures items { rows.new.items ≡ without_first (is_of peer.now) rows.old.items }
     ensures capacity { vec_capacity rows.new ≡ vec_capacity rows.old }

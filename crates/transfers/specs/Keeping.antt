@@ -1,4 +1,4 @@
--- The kept answers of a table, that of the latest use first: which is found, and what keeping and
+-- The kept answers of a table, the latest used first: which one is found, and what keeping and
 -- reading change (RFC 7959 section 2.4).
 use Rattle.std.specs.Prelude.{
   ℕ,
@@ -24,7 +24,7 @@ use Rattle.event_model.specs.Same.{RequestName, is_same_request}
 use Rattle.event_model.specs.Events.{is_young}
 use Rattle.event_model.specs.KeptAnswers.{max_answers, Answer, KeptAnswer}
 
--- an answer that is to be kept under a name
+-- an answer to be kept under a name
 pub record NamedAnswer : Type 0 where
   pub name : RequestName
   pub answer : Answer
@@ -33,14 +33,14 @@ pub record NamedAnswer : Type 0 where
 abbrev pub is_kept_as : RequestName → KeptAnswer → Bool
 is_kept_as name x = is_same_request name x.name
 
--- the kept answer of a name, where its last use is young enough
+-- the kept answer of a name, if its last use is young
 unfoldable pub live_kept : ℕ → RequestName → List KeptAnswer → Option KeptAnswer
 live_kept now name xs =
     option_and_then (λ x. if is_young now x.moment then Some x else None)
     (find (is_kept_as name) xs)
 
--- an answer is used: it stands first, in place of what was kept under its name, and the 64 that
--- were used last are left
+-- an answer is used: it comes first, in place of what was kept under its name, and the 64 that were
+-- used last remain
 unfoldable pub used : KeptAnswer → List KeptAnswer → List KeptAnswer
 used x xs = take max_answers (x ∷ without_first (is_kept_as x.name) xs)
 
@@ -52,8 +52,8 @@ kept_at now a = record { name = a.name; answer = a.answer; moment = now }
 abbrev pub used_at : ℕ → KeptAnswer → KeptAnswer
 used_at now x = record { name = x.name; answer = x.answer; moment = now }
 
--- the kept answers after that of a name is read: it is used where it lives, and else all is as
--- before
+-- the kept answers after reading that of a name: it is used if it is live; otherwise nothing
+-- changes
 abbrev pub after_reading : ℕ → Option KeptAnswer → List KeptAnswer → List KeptAnswer
 after_reading now None xs = xs
 after_reading now (Some x) xs = used (used_at now x) xs
@@ -71,7 +71,7 @@ values pairs = map (λ p. p.1) pairs
 abbrev pub AreBelow : {V : Type 0} → ℕ → List (ℕ × V) → Type 0
 AreBelow number pairs = AllByRecursion (λ p. p.0 < number) pairs
 
--- the number of the answer that is kept under a name, and else another
+-- the number of the answer that is kept under a name, or else another
 abbrev pub number_for : RequestName → ℕ → List (ℕ × KeptAnswer) → ℕ
 number_for name number pairs =
     unwrap_or (option_map (λ p. p.0) (find (λ p. is_kept_as name p.1) pairs)) number

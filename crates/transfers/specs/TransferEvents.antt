@@ -1,4 +1,4 @@
--- Which events of a journal a table of transfers stands for (RFC 7959 sections 2.4 and 2.5).
+-- The events of a journal that a table of transfers stands for (RFC 7959 sections 2.4 and 2.5).
 use Rattle.std.specs.Prelude.{◌≡◌, ℕ, List, ◌∷◌, map, take, Option, Some, None, option_map}
 use Rattle.std.specs.Borrow.{Bor}
 use Rattle.rd_base.specs.declared.tags.Tag.{Tag}
@@ -23,12 +23,12 @@ use Rattle.transfers.specs.BlockAnswers.{answer_to}
 use Rattle.transfers.specs.Keeping.{NamedAnswer}
 
 -- what a table of transfers shows: its uploads, in the order in which they began, and its kept
--- answers, that of the latest use first
+-- answers, the latest used first
 pub record Table : Type 0 where
   pub uploads : List Upload
   pub answers : List KeptAnswer
 
--- uploads stand for events at a moment: those that are young then are those that live then
+-- uploads stand for events at a moment: those that are young then are the live ones by the events
 pub record UploadsStandFor (moment : ℕ) (events : List Event) (us : List Upload) : Type 0 where
   pub live : young_uploads moment us ≡ uploads_at moment events
 
@@ -54,12 +54,12 @@ pub record TransfersStandFor (moment : ℕ) (events : List Event) (t : Table) : 
   pub uploads : UploadsStandFor moment events t.uploads
   pub answers : AnswersStandFor events t.answers
 
--- how a block of the upload of a name is answered after these events
+-- the answer to a block of the upload of a name after these events
 unfoldable pub block_answer : ℕ → RequestName → Block → List ℕ → List Event → BlockAnswer
 block_answer now name b piece events =
     answer_to b piece (live_upload now name events) (live_uploads now events)
 
--- the note that an answer is kept
+-- the note of keeping an answer
 abbrev pub kept_note : NamedAnswer → Note
 kept_note a = note.Kept a.name.0 a.name.1 a.answer.body a.answer.tag
 
@@ -67,8 +67,8 @@ kept_note a = note.Kept a.name.0 a.name.1 a.answer.body a.answer.tag
 abbrev pub answer_read : Bor (List ℕ) × Tag → Answer
 answer_read r = record { body = r.0.now; tag = r.1.0 }
 
--- after a kept answer is read: where one is found, the table stands for its use too, and else it is
--- as before
+-- after reading a kept answer: if one is found, the table stands for its use too; otherwise it does
+-- not change
 abbrev pub AfterReading : Option Answer → ℕ → Peer → List ℕ → Table → Table → Type 0
 AfterReading None now peer key old new = new ≡ old
 AfterReading (Some answer) now peer key old new =

@@ -1,4 +1,4 @@
--- The uploads of a table, in the order in which they began: which is found, and what a block
+-- The uploads of a table, in the order in which they began: which one is found, and what a block
 -- changes (RFC 7959 section 2.5).
 use Rattle.std.specs.Prelude.{
   ℕ,
@@ -26,23 +26,23 @@ use Rattle.event_model.specs.Uploads.{Upload}
 abbrev pub is_of : RequestName → Upload → Bool
 is_of name u = is_same_request name u.name
 
--- the upload of a name, and it lives
+-- the live upload of a name
 abbrev pub is_live_as : ℕ → RequestName → Upload → Bool
 is_live_as now name u = is_of name u && is_young now u.moment
 
--- what is collected under a name, where its upload lives
+-- what is stored under a name, if its upload is live
 unfoldable pub live_body : ℕ → RequestName → List Upload → Option (List ℕ)
 live_body now name us = option_map (λ u. u.body) (find (is_live_as now name) us)
 
--- the uploads that live
+-- the live uploads
 abbrev pub young_uploads : ℕ → List Upload → List Upload
 young_uploads now us = filter (λ u. is_young now u.moment) us
 
--- those of other names that live
+-- the live uploads of other names
 abbrev pub other_uploads : ℕ → RequestName → List Upload → List Upload
 other_uploads now name us = filter (λ u. is_young now u.moment && not (is_of name u)) us
 
--- those of other names
+-- the uploads of other names
 abbrev pub without_upload : RequestName → List Upload → List Upload
 without_upload name us = filter (λ u. not (is_of name u)) us
 
@@ -54,15 +54,15 @@ first_block name octets now = record { name = name; body = octets; moment = now 
 abbrev pub with_block : List ℕ → ℕ → Upload → Upload
 with_block octets now u = record { name = u.name; body = u.body ++ octets; moment = now }
 
--- the uploads after that of a name begins anew: of the others those that live
+-- the uploads after that of a name begins again: the others remain if they are live
 unfoldable pub begun : ℕ → RequestName → List ℕ → List Upload → List Upload
 begun now name octets us = other_uploads now name us ++ first_block name octets now ∷ []
 
--- the uploads after that of a name goes on
+-- the uploads after that of a name continues
 unfoldable pub gone_on : ℕ → RequestName → List ℕ → List Upload → List Upload
 gone_on now name octets us = changed_first (is_live_as now name) (with_block octets now) us
 
--- the uploads after a block was collected
+-- the uploads after a block was stored
 abbrev pub taken : Block → ℕ → RequestName → List ℕ → List Upload → List Upload
 taken b now name octets us =
     if b.num == 0 then begun now name octets us else gone_on now name octets us

@@ -1,5 +1,5 @@
-//! The cache of kept answers, that of the latest use first. Its keys are numbers, so that an answer
-//! is found by its name without memory.
+//! The cache of kept answers, the latest used first. Its keys are numbers, so that an answer is
+//! found by its name without allocating.
 ghost use Rattle.std.specs.Prelude.{◌≡◌, ℕ, ◌+◌, ◌<◌, ◌≤◌, [], ◌∷◌, List, find, length, option_map};
 ghost use Rattle.std.specs.Prelude.{option_and_then, is_some, nat_eq, Some, None, IfOk, OnOk};
 ghost use Rattle.std.specs.Prelude.{OnErr};
@@ -17,10 +17,10 @@ use rd_base::{Key, Moment, Peer, Starved};
 use std::alloc::Global;
 use std::num::NonZeroUsize;
 
-/// Kept answers by their numbers.
+/// Kept answers by number.
 pub(crate) type Cache = LruCache<u64, Kept>;
 
-/// No answers. `Starved`: out of memory.
+/// Creates an empty cache.
 pub(crate) fn empty(alloc: Global) -> Result<Cache, Starved>
     ensures entries { IfOk result (λ c. c.entries ≡ []) }
     ensures room { IfOk result (λ c. c.cap ≡ max_answers) }
@@ -32,7 +32,7 @@ pub(crate) fn empty(alloc: Global) -> Result<Cache, Starved>
     Ok(cache)
 }
 
-/// The answer that is kept under this peer and request key, and its number.
+/// Returns the answer that is kept under this peer and request key, with its number.
 fn entry_of<'a>(cache: &'a Cache, peer: Peer, key: &Key) -> Option<(u64, &'a Kept)>
     ensures { option_map (λ p. (p.0, p.1.now)) result
         ≡ find (λ p. is_kept_as (peer, key.now) p.1) cache.now.entries }
@@ -46,8 +46,8 @@ fn entry_of<'a>(cache: &'a Cache, peer: Peer, key: &Key) -> Option<(u64, &'a Kep
     None
 }
 
-/// No number stands twice, and no more answers are kept than have room: this is known of each
-/// cache.
+/// Exposes to contracts what holds of each cache: its numbers are distinct, and it has no more
+/// answers than there is room for.
 fn known(cache: &Cache)
     ensures distinct { IsDistinct nat_eq (keys_of cache.now.entries) }
     ensures few { length cache.now.entries ≤ cache.now.cap }
@@ -55,8 +55,8 @@ fn known(cache: &Cache)
     let _ = cache.len();
 }
 
-/// The number under which an answer is put: that of the answer that is kept under its name, and
-/// else a new one.
+/// Returns the number under which to put an answer: that of the answer kept under its name, or else
+/// a new one.
 fn number_for(cache: &Cache, kept: &Kept, number: u64) -> u64
     ensures { result ≡ number_for kept.now.name number cache.now.entries }
 {
@@ -66,7 +66,7 @@ fn number_for(cache: &Cache, kept: &Kept, number: u64) -> u64
     }
 }
 
-/// Puts the answer with a number first, as used now.
+/// Moves the answer with a number to the front, as used now.
 fn use_again(cache: &mut Cache, number: u64, now: Moment)
     ensures used { (p : ℕ × KeptAnswer)
         → lookup_entry (nat_eq number) cache.old.entries ≡ Some p
@@ -81,8 +81,8 @@ fn use_again(cache: &mut Cache, number: u64, now: Moment)
     }
 }
 
-/// The number of the answer of this peer and request key, where it is kept and lives. It is used
-/// then; where there is none all is as before.
+/// Returns the number of the answer of this peer and request key, if it is kept and has not
+/// expired. This counts as a use of it. If there is none, nothing changes.
 pub(crate) fn read(cache: &mut Cache, now: Moment, peer: Peer, key: &Key) -> Option<u64>
     requires { cache.old.cap ≡ max_answers }
     ensures found { is_some result
@@ -106,8 +106,8 @@ pub(crate) fn read(cache: &mut Cache, now: Moment, peer: Peer, key: &Key) -> Opt
     Some(number)
 }
 
-/// Puts an answer first, in place of what was kept under its name. The number is above those of the
-/// cache. `Starved`: out of memory.
+/// Puts an answer at the front, in place of the one kept under its name. `number` is above those of
+/// the cache.
 fn keep(cache: &mut Cache, number: u64, kept: Kept) -> Result<(), Starved>
     requires room { cache.old.cap ≡ max_answers }
     requires fresh { AreBelow number cache.old.entries }
@@ -122,8 +122,7 @@ fn keep(cache: &mut Cache, number: u64, kept: Kept) -> Result<(), Starved>
     Ok(())
 }
 
-/// Keeps answers, one after the other. The numbers of the cache are below 64. `Starved`: out of
-/// memory.
+/// Keeps answers, one after the other. The numbers of the cache are below 64.
 fn keep_each(cache: &mut Cache, alloc: Global, now: Moment, more: Answers) -> Result<(), Starved>
     requires room { cache.old.cap ≡ max_answers }
     requires fresh { AreBelow max_answers cache.old.entries }
@@ -140,7 +139,7 @@ fn keep_each(cache: &mut Cache, alloc: Global, now: Moment, more: Answers) -> Re
     Ok(())
 }
 
-/// The same answers, which are shared, under numbers below 64. `Starved`: out of memory.
+/// Returns the same answers, which are shared, under numbers below 64.
 fn copied(alloc: Global, cache: &Cache) -> Result<Cache, Starved>
     requires { cache.now.cap ≡ max_answers }
     ensures answers { IfOk result (λ c. values c.entries ≡ values cache.now.entries) }
@@ -158,7 +157,7 @@ fn copied(alloc: Global, cache: &Cache) -> Result<Cache, Starved>
     Ok(copy)
 }
 
-/// The same answers, and then each of these, kept one after the other. `Starved`: out of memory.
+/// Returns the same answers, and keeps each of these after them, one after the other.
 pub(crate) fn with_more(
     alloc: Global,
     cache: &Cache,

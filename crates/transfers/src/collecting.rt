@@ -1,4 +1,4 @@
-//! An upload: what is collected of a body that comes in blocks, and how a block of it is answered.
+//! Uploads: what is stored of a body that comes in blocks, and the answers to its blocks.
 ghost use Rattle.std.specs.Prelude.{◌≡◌, ◌==◌, ◌*◌, OnOk, OnErr, IfOk, length};
 ghost use Rattle.message_model.specs.Blocks.{block_size};
 ghost use Rattle.event_model.specs.Events.{is_young};
@@ -10,34 +10,34 @@ use rd_base::{Bytes, Key, Moment, Peer, Starved};
 use std::alloc::Global;
 use std::marker::Model;
 
-/// How a block of an upload is answered (RFC 7959 section 2.9).
+/// The answer to a block of an upload (RFC 7959 section 2.9).
 #[derive(Debug, Drop, PartialEq, Eq)]
 pub enum Upload {
-    /// The block was collected, and more follow.
+    /// The block was stored, and more follow.
     More,
-    /// It is the last block of this body. What was collected before it stays, until the upload is
+    /// It is the last block of this body. The blocks before it remain stored until the upload is
     /// ended.
     Whole(Bytes),
-    /// The block does not begin where what is collected ends.
+    /// The block does not begin where the stored octets end.
     OutOfOrder,
-    /// More octets would be collected than a body may have.
+    /// The body would have more octets than allowed.
     TooLarge,
-    /// It begins an upload that more blocks follow, and as many others live as may.
+    /// It begins an upload that more blocks follow, but the most uploads allowed are in progress.
     FullUploads,
-    /// Out of memory.
+    /// Memory ran out.
     Starved,
 }
 
-/// What is collected of a body that comes in blocks.
+/// An upload: what is stored of a body that comes in blocks.
 #[derive(Debug, Drop)]
 pub struct Collected {
-    /// Where the blocks come from.
+    /// The peer that sends the blocks.
     peer: Peer,
     /// The key of their requests.
     key: Key,
-    /// The octets of the blocks so far, joined.
+    /// The octets of the blocks so far.
     body: Bytes,
-    /// When the last block came.
+    /// The moment at which the last block came.
     last: Moment,
 }
 
@@ -50,7 +50,7 @@ impl Model for Collected {
 }
 
 impl Collected {
-    /// The upload that a first block begins now. `Starved`: out of memory.
+    /// Begins an upload with a first block, now.
     pub(crate) fn begin(
         alloc: Global,
         now: Moment,
@@ -70,36 +70,36 @@ impl Collected {
         })
     }
 
-    /// Whether it is the upload of this peer and request key.
+    /// Returns whether it is the upload of this peer and request key.
     pub(crate) fn is_of(&self, peer: Peer, key: &Key) -> bool
         ensures { result ≡ is_of (peer, key.now) self.now }
     {
         peer == self.peer && key.as_slice() == self.key.as_slice()
     }
 
-    /// Whether its last block is young enough for it to live.
+    /// Returns whether it has not expired: its last block came less than `EXCHANGE_LIFETIME`
+    /// milliseconds before `now`.
     pub(crate) fn is_young(&self, now: Moment) -> bool
         ensures { result ≡ is_young now.0 self.now.moment }
     {
         now.0.saturating_sub(self.last.0) < EXCHANGE_LIFETIME
     }
 
-    /// Whether it is the upload of this peer and request key, and lives.
+    /// Returns whether it is the upload of this peer and request key, and has not expired.
     pub(crate) fn is_live_as(&self, now: Moment, peer: Peer, key: &Key) -> bool
         ensures { result ≡ is_live_as now.0 (peer, key.now) self.now }
     {
         self.is_of(peer, key) && self.is_young(now)
     }
 
-    /// The octets so far.
+    /// Returns the octets so far.
     pub(crate) fn body(&self) -> &[u8]
         ensures { result.now ≡ self.now.body }
     {
         self.body.as_slice()
     }
 
-    /// Goes on with a further block, which comes now. `Starved`: out of memory, and it is as
-    /// before.
+    /// Appends a further block, which comes now. `Starved` leaves the upload unchanged.
     pub(crate) fn go_on(&mut self, now: Moment, piece: &[u8]) -> Result<(), Starved>
         ensures ok { OnOk result (self.new ≡ with_block piece.now now.0 self.old) }
         ensures err { OnErr result (self.new ≡ self.old) }
@@ -110,7 +110,7 @@ impl Collected {
     }
 }
 
-/// Whether a block begins where octets of this number end (RFC 7959 section 2.2).
+/// Returns whether a block begins after `length` octets (RFC 7959 section 2.2).
 pub(crate) fn begins_at(block: &Block, length: u64) -> bool
     ensures { result ≡ (length == block.now.num * block_size block.now.szx) }
 {

@@ -1,5 +1,5 @@
-//! Block-wise transfers: uploads that are collected block by block, and answers that are kept so
-//! that their further blocks come from one state (RFC 7959).
+//! Block-wise transfers: uploads that are stored block by block, and answers that are kept so that
+//! all their blocks come from one state (RFC 7959).
 #![tactic(auto)]
 
 mod caching;

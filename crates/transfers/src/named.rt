@@ -1,18 +1,18 @@
-//! Answers that are to be kept, each under the peer and the key of its request.
+//! Answers to be kept, each under the peer and the key of its request.
 ghost use Rattle.std.specs.Prelude.{◌≡◌};
 
 use rd_base::{Bytes, Key, Peer, Tag};
 use std::marker::Model;
 use std::sync::Arc;
 
-/// An answer that is to be kept for its further blocks (RFC 7959 section 2.4).
+/// An answer to be kept for its later blocks (RFC 7959 section 2.4).
 #[derive(Drop)]
 pub struct Answer {
-    /// Who asked.
+    /// The peer that asked.
     pub peer: Peer,
     /// The key of the request.
     pub key: Key,
-    /// The whole body, which is shared and never copied.
+    /// The whole body, shared and never copied.
     pub body: Arc<Bytes>,
     /// Its entity tag.
     pub tag: Tag,
@@ -28,7 +28,7 @@ impl Model for Answer {
         { name = (a.peer, a.key); answer = record { body = arc_value a.body; tag = a.tag.0 } } };
 }
 
-/// Answers that are to be kept, one after the other.
+/// Answers to be kept, one after the other.
 #[derive(Drop)]
 pub struct Answers {
     /// The answers.
@@ -45,14 +45,14 @@ impl Model for Answers {
 }
 
 impl Answers {
-    /// These answers, in this order. Takes no memory.
+    /// Returns a list of these answers, in this order. Does not allocate.
     pub fn of(items: Vec<Answer>) -> Answers
         ensures { result ≡ items.items }
     {
         Answers { items }
     }
 
-    /// Gives the vector back. Takes no memory.
+    /// Returns the answers as a vector. Does not allocate.
     pub fn into_vec(self) -> Vec<Answer>
         ensures { result.items ≡ self }
     {

@@ -1,9 +1,9 @@
-//! Kept answers that are ready to become those of a table.
+//! Kept answers that are ready to replace those of a table.
 use crate::caching::Cache;
 use std::marker::Model;
 
-/// The kept answers of a table with more that were kept after them. All the memory that they need
-/// is taken.
+/// The kept answers of a table, with further ones after them. All memory that they need is
+/// allocated.
 #[derive(Drop)]
 pub struct Ready {
     /// The kept answers.

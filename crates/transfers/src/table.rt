@@ -16,8 +16,8 @@ use rd_base::{Bytes, Key, Moment, Peer, Starved, Tag};
 use std::alloc::Global;
 use std::marker::Model;
 
-/// The bodies that are collected block by block, and the answers that are kept for further blocks
-/// (RFC 7959 sections 2.4 and 2.5).
+/// The uploads in progress, and the answers that are kept for their later blocks (RFC 7959 sections
+/// 2.4 and 2.5).
 #[derive(Drop)]
 pub struct Transfers {
     /// The uploads, in the order in which they began.
@@ -44,8 +44,11 @@ impl Model for Transfers {
 }
 
 impl Transfers {
-    /// No uploads and no kept answers, with room for as many uploads as live at most, 64.
-    /// `Starved`: out of memory.
+    /// Creates an empty table, with room for the most uploads that can be in progress, 64.
+    ///
+    /// # Errors
+    ///
+    /// `Starved` if memory runs out.
     pub fn make(alloc: Global) -> Result<Transfers, Starved>
         ensures { IfOk result (λ t. (at : ℕ) → TransfersStandFor at [] t) }
     {
@@ -54,10 +57,11 @@ impl Transfers {
         Ok(Transfers { uploads, answers })
     }
 
-    /// How a block of a body is answered that comes now from a peer, under the key of its request
-    /// (RFC 7959 sections 2.5 and 2.9). One that more follow is collected where it is answered by
-    /// `More`. After any other answer all is as before: the last block, answered by `Whole` with
-    /// the whole body, can come again until the upload is ended.
+    /// Adds a block to the upload of this peer and request key (RFC 7959 sections 2.5 and 2.9).
+    ///
+    /// Returns `More` if the block was stored and more follow. Any other answer leaves the table
+    /// unchanged. So the last block, answered by `Whole` with the complete body, can come again
+    /// until [`Transfers::end_upload`].
     pub fn upload(
         &mut self,
         alloc: Global,
@@ -85,7 +89,7 @@ impl Transfers {
         uploading::upload(&mut self.uploads, alloc, now, peer, key, block, piece)
     }
 
-    /// Ends the upload of this peer and request key, where there is one. Takes no memory.
+    /// Ends the upload of this peer and request key, if there is one. Does not allocate.
     pub fn end_upload(&mut self, peer: Peer, key: &Key)
         ensures stands { (at : ℕ) (events : List Event) (e : Event)
             → e.note ≡ note.Finished peer key.now
@@ -96,8 +100,12 @@ impl Transfers {
         uploading::drop_upload(&mut self.uploads, peer, key);
     }
 
-    /// The kept answers with each of these kept after them now, one after the other. `Starved`: out
-    /// of memory.
+    /// Prepares the kept answers with each of these kept after them, one after the other, as used
+    /// now. The table does not change until [`Transfers::adopt`].
+    ///
+    /// # Errors
+    ///
+    /// `Starved` if memory runs out.
     pub fn ready(&self, alloc: Global, now: Moment, more: Answers) -> Result<Ready, Starved>
         ensures { IfOk result (λ r.
             (events : List Event) (place word : ℕ)
@@ -108,7 +116,7 @@ impl Transfers {
         Ok(Ready { answers })
     }
 
-    /// Makes the kept answers those that are ready. Takes no memory.
+    /// Replaces the kept answers by those that are ready. Does not allocate.
     pub fn adopt(&mut self, ready: Ready)
         ensures uploads { self.new.uploads ≡ self.old.uploads }
         ensures answers { self.new.answers ≡ ready }
@@ -121,9 +129,9 @@ impl Transfers {
         self.answers = answers;
     }
 
-    /// The body and the entity tag that are kept for this peer and request key; none where no such
-    /// answer lives now (RFC 7959 section 2.4). Reading is a use of the answer, also where the
-    /// block that is wanted lies past its end. Takes no memory.
+    /// Returns the body and the entity tag that are kept for this peer and request key, or `None`
+    /// if there is no such answer or it has expired (RFC 7959 section 2.4). Reading counts as a use
+    /// of the answer, even if the requested block lies past its end. Does not allocate.
     pub fn kept_block(&mut self, now: Moment, peer: Peer, key: &Key) -> Option<(&Bytes, Tag)>
         ensures* ends { sem 𝓛 (ends_so self.entry
             (λ n. AfterReading (option_map answer_read result) now.0 peer key.now self.old

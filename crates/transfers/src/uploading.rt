@@ -17,7 +17,7 @@ use message_model::{Block, MAX_BODY, MAX_UPLOADS};
 use rd_base::{Bytes, Key, Moment, Peer, Starved};
 use std::alloc::Global;
 
-/// The index of the upload of this peer and request key, where it lives.
+/// Returns the index of the upload of this peer and request key, if it has not expired.
 fn live_index(uploads: &Vec<Collected>, now: Moment, peer: Peer, key: &Key) -> Option<usize>
     ensures { result ≡ position (is_live_as now.0 (peer, key.now)) uploads.now.items }
 {
@@ -26,7 +26,7 @@ fn live_index(uploads: &Vec<Collected>, now: Moment, peer: Peer, key: &Key) -> O
         .position(|upload| upload.is_live_as(now, peer, key))
 }
 
-/// The octets of the upload with an index, where there is one. The index is that of the first
+/// Returns the octets of the upload with an index, if there is one. The index is that of the first
 /// upload that passes a test.
 fn body_at<'a>(uploads: &'a Vec<Collected>, index: Option<usize>) -> Option<&'a [u8]>
     requires { (test : LiveUpload → Bool) × (index ≡ position test uploads.now.items) }
@@ -41,15 +41,15 @@ fn body_at<'a>(uploads: &'a Vec<Collected>, index: Option<usize>) -> Option<&'a 
     }
 }
 
-/// How many uploads live.
+/// Returns the number of uploads that have not expired.
 fn count_live(uploads: &Vec<Collected>, now: Moment) -> usize
     ensures { result ≡ length (young_uploads now.0 uploads.now.items) }
 {
     uploads.iter().filter(|upload| upload.is_young(now)).count()
 }
 
-/// What is collected before a block: nothing before the first, and else what the live upload has,
-/// where the block begins there. None where the block is out of order.
+/// Returns what is stored before a block: nothing before the first, otherwise the octets of the
+/// upload, if the block begins after them. Returns `None` if the block is out of order.
 fn collected<'a>(body: Option<&'a [u8]>, block: &Block) -> Option<&'a [u8]>
     ensures { option_map (λ s. s.now) result
         ≡ collected_before block.now (option_map (λ s. s.now) body.entry) }
@@ -66,7 +66,8 @@ fn collected<'a>(body: Option<&'a [u8]>, block: &Block) -> Option<&'a [u8]>
     None
 }
 
-/// Whether a block begins an upload that more blocks follow, and as many others live as may.
+/// Returns whether a block begins an upload that more blocks follow, while the most uploads allowed
+/// are in progress.
 fn is_one_too_many(
     uploads: &Vec<Collected>,
     now: Moment,
@@ -80,7 +81,7 @@ fn is_one_too_many(
     block.num == 0 && block.more && body.is_none() && MAX_UPLOADS <= count_live(uploads, now)
 }
 
-/// What is collected with the last block. `Starved`: out of memory.
+/// Returns the stored octets followed by those of the last block.
 fn joined(alloc: Global, collected: &[u8], piece: &[u8]) -> Result<Bytes, Starved>
     ensures { IfOk result (λ b. b ≡ collected.now ++ piece.now) }
 {
@@ -90,7 +91,7 @@ fn joined(alloc: Global, collected: &[u8], piece: &[u8]) -> Result<Bytes, Starve
     Ok(Bytes::of(whole))
 }
 
-/// Keeps of the uploads those that live, without that of this peer and request key.
+/// Drops the uploads that have expired, and that of this peer and request key.
 fn keep_others(uploads: &mut Vec<Collected>, now: Moment, peer: Peer, key: &Key)
     ensures items { uploads.new.items ≡ other_uploads now.0 (peer, key.now) uploads.old.items }
     ensures capacity { vec_capacity uploads.new ≡ vec_capacity uploads.old }
@@ -106,8 +107,8 @@ pub(crate) fn drop_upload(uploads: &mut Vec<Collected>, peer: Peer, key: &Key)
     uploads.retain(|upload| !upload.is_of(peer, key));
 }
 
-/// Begins the upload of this peer and request key anew, with a first block. `Starved`: out of
-/// memory, and all is as before.
+/// Begins the upload of this peer and request key again, with a first block. `Starved` leaves
+/// everything unchanged.
 #[tactic(auto, unfolding(crate::specs::Uploading::begun))]
 fn begin(
     uploads: &mut Vec<Collected>,
@@ -129,8 +130,8 @@ fn begin(
     Ok(())
 }
 
-/// Goes on with the upload with an index, where there is one. The index is that of the first upload
-/// that passes a test. `Starved`: out of memory, and all is as before.
+/// Appends a block to the upload with an index, if there is one. The index is that of the first
+/// upload that passes a test. `Starved` leaves everything unchanged.
 fn go_on(
     uploads: &mut Vec<Collected>,
     now: Moment,
@@ -152,8 +153,8 @@ fn go_on(
     Ok(())
 }
 
-/// Collects a block that more follow, by the index of the upload of its peer and request key, where
-/// that lives. `Starved`: out of memory, and all is as before.
+/// Stores a block that more follow, given the index of the upload of its peer and request key, if
+/// that has not expired. `Starved` leaves everything unchanged.
 #[tactic(auto, unfolding(crate::specs::Uploading::gone_on))]
 fn take(
     uploads: &mut Vec<Collected>,
@@ -178,8 +179,8 @@ fn take(
     go_on(uploads, now, index, piece)
 }
 
-/// How a block is answered, by what is collected of its upload and by how many uploads live; a last
-/// block is joined to what is collected.
+/// Returns the answer to a block, given the stored octets of its upload. The last block is joined
+/// to them.
 #[tactic(auto, unfolding(crate::specs::BlockAnswers::answer_to))]
 fn judge(
     uploads: &Vec<Collected>,
@@ -212,8 +213,8 @@ fn judge(
     }
 }
 
-/// How a block is answered. One that more follow is collected where it is answered by `More`; after
-/// any other answer all is as before.
+/// Adds a block to an upload. `More` means that it was stored and more follow. Any other answer
+/// leaves everything unchanged.
 #[tactic(auto, unfolding(crate::specs::Uploading::live_body))]
 pub(crate) fn upload(
     uploads: &mut Vec<Collected>,

@@ -73,7 +73,8 @@ module _ {T R L A : Type 0} (stands : List R → T → Type 0) (number : R → �
       has_label : label value ≡ lab
       has_label = ap label (sym is_value) ∙ (home found.0).label_is
 
-  module _ (id : ℕ) (v : View R L) (left : LastOf (Seen (Kept stands number label lab passes) id v)) where
+  module _ (id : ℕ) (v : View R L)
+      (left : LastOf (Seen (Kept stands number label lab passes) id v)) where
     -- the same, with no word of the pass
     abbrev unseen : LastOf (Kept stands number label lab passes)
     unseen = (left.0, left.1.0, left.2, left.3, left.4)

@@ -132,7 +132,8 @@ module _ {T R L : Type 0} (stands : List R → T → Type 0) (number : R → ℕ
       fits_each j w e = ⊎_elim
           (λ (t : (j ≡ id) × (given m.0 added ≡ w)). subst
           (Fits stands number label lab passes (added ∷ m.0.seen) j) t.1
-          (subst (λ (i : ℕ). Fits stands number label lab passes (added ∷ m.0.seen) i (given m.0 added))
+          (subst
+          (λ (i : ℕ). Fits stands number label lab passes (added ∷ m.0.seen) i (given m.0 added))
           (sym t.0) fits_given))
           (λ (t : (j ≢ id) × (get_elem? s.views j ≡ some w)). fits_other j w t.0 t.1)
           (at_set s.views id j (given m.0 added) w e)
@@ -197,7 +198,8 @@ module _ {T R L : Type 0} (stands : List R → T → Type 0) (number : R → ℕ
             (at_set s.views id j (given m.0 added) w e);
       }
 
-  pub gives_allowed : (lab : L) (passes : ℕ) (id : ℕ) (m : Me (Option T) (View R L)) (added : R) (new : ℕ)
+  pub gives_allowed : (lab : L) (passes : ℕ) (id : ℕ) (m : Me (Option T) (View R L)) (added : R)
+      (new : ℕ)
       → IsReady stands number label added m
       → new ≡ word_of (length m.0.seen + 1) false
       → (picked : Option R) → picked ≡ Some added

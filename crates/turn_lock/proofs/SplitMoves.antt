@@ -216,7 +216,8 @@ module _ {T R L : Type 0} (stands : List R → T → Type 0) (number : R → ℕ
         label_is = f.label_is;
       };
       whole = λ j w e. (fits_each j w e).whole;
-      rows = below_more stands number label (length s.views) (length views') k.history (omega (arith, long)) k.rows;
+      rows = below_more stands number label (length s.views) (length views') k.history
+          (omega (arith, long)) k.rows;
       number_is = λ j w e. (fits_each j w e).number_is;
       mine = λ j w e. (fits_each j w e).mine;
       only = λ j w e. (fits_each j w e).only;
@@ -281,7 +282,8 @@ module _ {T R L : Type 0} (stands : List R → T → Type 0) (number : R → ℕ
         one =
             λ i j a b p q x y.
             absurd
-            (true≢false (sym x ∙ only_one (label value) passes (λ j w. w.holding ≡ false) refl i a p));
+            (true≢false
+            (sym x ∙ only_one (label value) passes (λ j w. w.holding ≡ false) refl i a p));
         home = λ h. record { value = value; home = refl; stands_for = st; label_is = refl };
         whole = λ j w e. (fits_first (label value) passes j w e).whole;
         rows = tt;

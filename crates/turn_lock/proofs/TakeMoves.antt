@@ -205,7 +205,9 @@ module _ {T R L : Type 0} (stands : List R → T → Type 0) (number : R → ℕ
       subst (λ (x : State (Option T) (View R L)). Kept stands number label lab passes x)
       (state_same s id m at k.words) k
 
-  allowed_by : (lab : L) (passes : ℕ) (id : ℕ) (m : Me (Option T) (View R L)) (old : ℕ) → old % 2 ≡ 0 → m.1 ≡ []
+  allowed_by : (lab : L) (passes : ℕ) (id : ℕ) (m : Me (Option T) (View R L)) (old : ℕ)
+      → old % 2 ≡ 0
+      → m.1 ≡ []
       → (s : State (Option T) (View R L))
       → Kept stands number label lab passes s
       → get_elem? s.views id ≡ some m.0

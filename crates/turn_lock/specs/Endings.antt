@@ -1,4 +1,4 @@
--- What a lock leaves when it ends.
+-- The result of taking a lock apart.
 use Rattle.std.specs.Prelude.{◌≡◌, ℕ, ◌%◌, Option, Some}
 use Rattle.std.specs.Mem.Slots.{slots_items}
 use mathlib.Core.Option.{some}
@@ -7,7 +7,7 @@ use Rattle.atomic_table.specs.declared.owned.Closed.{Closed}
 use Rattle.turn_lock.specs.declared.lock.Ended.{Ended}
 use Rattle.turn_lock.specs.declared.lock.Ended.TheVariants as ended
 
--- where the turn was free, this holds of the value
+-- if the turn was free, this holds of the value
 abbrev pub IfFree : {T : Type 0} → Ended T → (T → Type 0) → Type 0
 IfFree (ended.Free value) P = P value
 IfFree (ended.Held found) P = Unit {0}
@@ -17,14 +17,14 @@ module _ {T A : Type 0} (closed : Closed (Option T) A) where
   abbrev pub IsFree : Type 0
   IsFree = (word : ℕ) × (get_elem? (slots_items closed.words) 0 ≡ some word) × (word % 2 ≡ 0)
 
-  -- this value lies in the slot
+  -- this value is in the slot
   abbrev pub HasValue : T → Type 0
   HasValue value = get_elem? (slots_items closed.slots) 0 ≡ some (Some value)
 
-  -- the turn is free, and this value lies in the slot
+  -- the turn is free, and this value is in the slot
   abbrev pub IsFreeWith : T → Type 0
   IsFreeWith value = IsFree × HasValue value
 
-  -- where the turn is free, some value lies in the slot
+  -- if the turn is free, some value is in the slot
   abbrev pub HasValueWhereFree : Type 0
   HasValueWhereFree = IsFree → (value : T) × HasValue value

@@ -4,6 +4,6 @@ pub mod Rule
 pub mod Steps
 -- what contracts read of a pass and of a lock
 pub mod Shown
--- what these are made of
+-- their parts
 pub mod Passes
 pub mod Endings

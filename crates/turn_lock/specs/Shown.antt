@@ -14,16 +14,16 @@ use Rattle.turn_lock.specs.Passes.{IsFresh}
 abbrev pub id_of : {T R L : Type 0} → TurnLock T R L → TableId
 id_of lock = lock.table.shared.table_id
 
--- how many passes it has
+-- the number of its passes
 abbrev pub count_of : {T R L : Type 0} → TurnLock T R L → ℕ
 count_of lock = lock.table.shared.key.passes
 
 module _ {T R L : Type 0} {g : Ghosts T R L} where
-  -- its seat at the lock's table
+  -- its seat in the lock's table
   abbrev pub seat_of : Pass T R L g → Seat (Option T) (View R L)
   seat_of pass = manually_drop_value pass.seat
 
-  -- the lock that the pass is of
+  -- the lock of the pass
   abbrev pub lock_of : Pass T R L g → TableId
   lock_of pass = (seat_of pass).table_id
 
@@ -35,7 +35,7 @@ module _ {T R L : Type 0} {g : Ghosts T R L} where
   abbrev pub label_of : Pass T R L g → L
   label_of pass = (seat_of pass).me.0.label
 
-  -- how many passes its lock has
+  -- the number of passes of its lock
   abbrev pub passes_of : Pass T R L g → ℕ
   passes_of pass = (seat_of pass).me.0.passes
 
@@ -43,15 +43,15 @@ module _ {T R L : Type 0} {g : Ghosts T R L} where
   abbrev pub is_holding : Pass T R L g → Bool
   is_holding pass = (seat_of pass).me.0.holding
 
-  -- the history as far as it has seen it, the newest row first
+  -- the history as far as the pass has seen it, the newest row first
   abbrev pub seen_of : Pass T R L g → List R
   seen_of pass = (seat_of pass).me.0.seen
 
-  -- the rows of it that the pass has made
+  -- the rows that the pass has made
   abbrev pub mine_of : Pass T R L g → List R
   mine_of pass = (seat_of pass).me.0.mine
 
-  -- the pass has seen nothing, and its lock has the label and so many passes
+  -- the pass has seen nothing, and its lock has this label and this number of passes
   abbrev pub IsNew : L → ℕ → ℕ → Pass T R L g → Type 0
   IsNew label passes number pass = IsFresh label passes number (seat_of pass).me
 

@@ -1,7 +1,7 @@
-//! One value that many workers change, each at its turn, in one history.
+//! One value that many workers change in turn, with one history.
 //!
-//! A worker takes the value out with its pass, changes it, and gives it back with one row more for
-//! the history. The history is kept by no code: it stands in the contracts alone.
+//! A worker takes the value out with its pass, changes it, and gives it back with one more row for
+//! the history. No code stores the history: it exists in contracts only.
 #![tactic(auto)]
 
 mod lock;

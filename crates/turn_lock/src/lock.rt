@@ -1,4 +1,4 @@
-//! The lock: a value behind one word and one slot.
+//! The lock: a value protected by one word and one slot.
 ghost use Rattle.std.specs.Prelude.{◌≡◌, ℕ, ◌+◌, false, [], ◌∷◌, Some};
 ghost use Rattle.std.specs.Mem.{manually_drop_value};
 ghost use Rattle.turn_lock.specs.Rule.{word_of, SeenInOrder, HistoryOfPasses};
@@ -18,45 +18,46 @@ use std::time::Duration;
 /// For how long a worker sleeps at most before it looks for the turn again, in milliseconds.
 const LONGEST_SLEEP: u64 = 5;
 
-/// A value that many workers change, each at its turn. A lock may be let go where its value may.
-/// Any other is taken apart, by `end` or `into_inner`.
+/// A value that many workers change in turn. A lock may be dropped if its value may be. Any other
+/// lock is taken apart by [`TurnLock::end`] or [`TurnLock::into_inner`].
 #[derive(Drop)]
 pub struct TurnLock<T: Replays> {
     table: Table<Option<T>, View<T::Row, T::Label>, About<T>, Turn<T>, Global>,
-    /// How many workers sleep until the turn is given back, or are about to. Where it is 0, a give
-    /// wakes nobody.
+    /// How many workers sleep until the turn is given back, or are about to. If it is 0, giving the
+    /// turn back wakes no worker.
     sleepers: AtomicU64,
     ghost words: { table.shared.table_id.words ≡ 1 },
     ghost slots: { table.shared.table_id.slots ≡ 1 },
 }
 
-/// Whom a give wakes, of the workers that sleep until the turn is free.
+/// Which worker is woken when the turn is given back.
 #[derive(Clone, Copy, Debug, PartialEq, Eq)]
 pub enum Wake {
-    /// One of them.
+    /// One of those that sleep until the turn is free.
     One,
-    /// Nobody: the giver takes the turn again at once, so a worker that is woken would find it
-    /// taken and sleep again.
+    /// None of them: the giver takes the turn again at once. A worker that was woken would find
+    /// the turn taken, and sleep again.
     Nobody,
 }
 
-/// No memory was found for a lock. The value comes back.
+/// A value that came back because there was no memory for its lock.
 #[derive(Drop)]
 pub struct Unmade<T> {
-    /// The value that was handed in.
+    /// The value that was passed in.
     pub value: T,
 }
 
-/// What a lock leaves when it ends.
+/// The result of taking a lock apart.
 #[derive(Drop)]
 pub enum Ended<T> {
-    /// The turn was free: the value.
+    /// The turn was free, and this is the value.
     Free(T),
-    /// A pass held the turn, and has the value. What lay in the slot, of which no contract speaks.
+    /// A pass held the turn, and has the value. This is what was in the slot, of which no contract
+    /// speaks.
     Held(Option<T>),
 }
 
-/// The word of a history that has one row more.
+/// Returns the word of a history that has one more row.
 fn next_word(word: u64) -> u64
     ensures { (n : ℕ) → word ≡ word_of n false → result ≡ word_of (n + 1) false }
 {
@@ -67,7 +68,7 @@ fn next_word(word: u64) -> u64
     }
 }
 
-/// The value of the one slot.
+/// Returns the value of the only slot.
 fn only<T>(mut slots: Vec<Option<T>>) -> T
     requires { (value : T) × (slots.items ≡ Some value ∷ []) }
     ensures { slots.items ≡ Some result ∷ [] }
@@ -79,7 +80,7 @@ fn only<T>(mut slots: Vec<Option<T>>) -> T
     value
 }
 
-/// A pass that has seen nothing.
+/// Returns a pass that has seen nothing.
 fn new_pass<T: Replays>(seat: Seat<Option<T>, View<T::Row, T::Label>>) -> Pass<T>
     requires idle { seat.me.0.holding ≡ false }
     requires seen { seat.me.0.seen ≡ [] }
@@ -104,7 +105,12 @@ impl<T: Replays> TurnLock<T> {
     ghost use Rattle.turn_lock.specs.Shown.{id_of, lock_of, number_of, label_of, is_holding};
     ghost use Rattle.turn_lock.specs.Shown.{count_of, passes_of, seen_of, mine_of, list_of, IsNew};
 
-    /// Waits for the turn and takes the value out. It stands for all that the pass has seen then.
+    /// Waits for the turn and takes the value out. The value stands for all rows that the pass has
+    /// seen then.
+    ///
+    /// # Requires
+    ///
+    /// The pass is of this lock, and does not hold the turn.
     pub fn take<R: Wait>(&self, rt: &R, pass: &mut Pass<T>) -> T
         requires lock { lock_of pass.old ≡ id_of self.now }
         requires idle { is_holding pass.old ≡ false }
@@ -125,7 +131,7 @@ impl<T: Replays> TurnLock<T> {
         self.slot_out(&mut pass.seat)
     }
 
-    /// Waits until the turn is taken. The word as it was found.
+    /// Waits until the turn is taken. Returns the word as it was found.
     fn win<R: Wait>(&self, rt: &R, seat: &mut Seat<Option<T>, View<T::Row, T::Label>>) -> u64
         requires lock { seat.old.table_id ≡ self.now.table.shared.table_id }
         requires bare { seat.old.me.1 ≡ [] }
@@ -148,10 +154,10 @@ impl<T: Replays> TurnLock<T> {
 
     /// Sleeps while the word is this one, for at most 5 ms.
     ///
-    /// A sleeper is counted before the word is compared, and a give changes the word before it
-    /// reads the count: so a give that finds no sleeper changed the word before it was compared,
-    /// and nobody sleeps through it. After a give that wakes nobody, its worker takes the turn again
-    /// and wakes one then. Where that worker is held up, a sleeper looks again by itself.
+    /// The sleeper is counted before the word is compared. A give changes the word before it reads
+    /// the count. So if it finds no sleeper, it changed the word before the comparison, and no
+    /// worker sleeps through it. A give that wakes nobody is followed by another of the same
+    /// worker. If that worker is held up, a sleeper looks again by itself.
     fn sleep<R: Wait>(&self, rt: &R, word: u64) {
         self.sleepers.fetch_add(1, Ordering::SeqCst);
         let expected = (word & 0xffff_ffff) as u32;
@@ -160,7 +166,7 @@ impl<T: Replays> TurnLock<T> {
         self.sleepers.fetch_sub(1, Ordering::SeqCst);
     }
 
-    /// Takes the turn if the word is this one.
+    /// Takes the turn if the word is this one, and returns whether it did.
     fn try_take(&self, seat: &mut Seat<Option<T>, View<T::Row, T::Label>>, word: u64) -> bool
         requires lock { seat.old.table_id ≡ self.now.table.shared.table_id }
         requires bare { seat.old.me.1 ≡ [] }
@@ -174,7 +180,7 @@ impl<T: Replays> TurnLock<T> {
         shared.compare_exchange::<Take<T>>(seat, 0, word, word + 1) == word
     }
 
-    /// Moves the value out of the slot.
+    /// Moves the value out of the slot, and returns it.
     fn slot_out(&self, seat: &mut Seat<Option<T>, View<T::Row, T::Label>>) -> T
         requires lock { seat.old.table_id ≡ self.now.table.shared.table_id }
         requires full { (value : T) × (seat.old.me.1 ≡ (0, Some value) ∷ []) }
@@ -195,8 +201,13 @@ impl<T: Replays> TurnLock<T> {
         let None = out else { unreachable!() };
     }
 
-    /// Gives the turn back with the value, which stands for what the pass has seen with one row
-    /// more, and wakes a worker that sleeps.
+    /// Gives the turn back with the value and one more row, which the caller's contract names
+    /// (`S`), and wakes a worker that sleeps.
+    ///
+    /// # Requires
+    ///
+    /// The pass is of this lock, and holds the turn. The row has the number of the pass. The value
+    /// has the lock's label, and stands for what the pass has seen with this row added.
     pub fn give<S: Added<T::Row>>(&self, pass: &mut Pass<T>, value: T)
         requires lock { lock_of pass.old ≡ id_of self.now }
         requires holding { is_holding pass.old ≡ true }
@@ -217,7 +228,11 @@ impl<T: Replays> TurnLock<T> {
         self.give_back::<S>(pass, value, Wake::One);
     }
 
-    /// Gives the turn back as [`TurnLock::give`] does, and wakes a worker or nobody.
+    /// Gives the turn back as [`TurnLock::give`] does, and wakes one worker or nobody.
+    ///
+    /// # Requires
+    ///
+    /// What [`TurnLock::give`] requires.
     pub fn give_back<S: Added<T::Row>>(&self, pass: &mut Pass<T>, value: T, wake: Wake)
         requires lock { lock_of pass.old ≡ id_of self.now }
         requires holding { is_holding pass.old ≡ true }
@@ -242,7 +257,7 @@ impl<T: Replays> TurnLock<T> {
         self.wake(wake);
     }
 
-    /// Wakes a worker that sleeps, if one is to be woken and one sleeps.
+    /// Wakes a worker that sleeps, if one sleeps and one is to be woken.
     fn wake(&self, wake: Wake) {
         if wake == Wake::One && self.sleepers.load(Ordering::SeqCst) != 0 {
             self.table.shared.wake_one(0);
@@ -269,7 +284,7 @@ impl<T: Replays> TurnLock<T> {
         shared.swap::<Give<T, S>>(seat, 0, word);
     }
 
-    /// Cuts a pass with the next number off the one that was made last.
+    /// Splits a pass with the next number off the pass that was made last.
     fn next(
         &self,
         last: &mut Seat<Option<T>, View<T::Row, T::Label>>,
@@ -285,7 +300,7 @@ impl<T: Replays> TurnLock<T> {
         self.table.shared.split_seat::<Next>(last)
     }
 
-    /// As many passes as are wanted, cut off one after another.
+    /// Returns the passes, each split off the one before it.
     fn cut(
         &self,
         mut passes: Vec<Pass<T>>,
@@ -314,8 +329,15 @@ impl<T: Replays> TurnLock<T> {
         passes
     }
 
-    /// The lock round the value, and its passes, numbered from 0. Where no memory is found, the
-    /// value comes back.
+    /// Creates a lock for the value, and its passes, numbered from 0.
+    ///
+    /// # Requires
+    ///
+    /// `seats` is 1 to 16, and the value stands for the empty history.
+    ///
+    /// # Errors
+    ///
+    /// `Unmade` with the value if memory runs out.
     pub fn make_or_return(
         alloc: Global,
         seats: u32,
@@ -359,7 +381,7 @@ impl<T: Replays> TurnLock<T> {
         Ok((lock, Passes::of(passes)))
     }
 
-    /// What a closed table leaves.
+    /// Returns what is left of a closed table.
     fn left(mut closed: Closed<Option<T>, Global>) -> Ended<T>
         requires counts { (slots_len closed.words ≡ 1) × (slots_len closed.slots ≡ 1) }
         requires full { IsFull closed.words × IsFull closed.slots }
@@ -376,8 +398,12 @@ impl<T: Replays> TurnLock<T> {
         Ended::Free(value)
     }
 
-    /// Takes the lock apart, with one of its passes. The value comes back where the turn is free,
-    /// and stands for a history that goes on from what this pass has seen.
+    /// Takes the lock apart, with one of its passes. If the turn is free, returns the value, which
+    /// stands for a history that continues what this pass has seen.
+    ///
+    /// # Requires
+    ///
+    /// The pass is of this lock.
     pub fn end(self, pass: Pass<T>) -> Ended<T>
         requires lock { lock_of pass ≡ id_of self }
         ensures value { IfFree result (λ value. (history : List T.Row) ×
@@ -393,8 +419,8 @@ impl<T: Replays> TurnLock<T> {
         TurnLock::left(table.close_with(seat))
     }
 
-    /// Takes the lock apart, with none of its passes. The value comes back where the turn is free,
-    /// and stands for some history.
+    /// Takes the lock apart, without a pass. If the turn is free, returns the value, which stands
+    /// for some history.
     pub fn into_inner(self) -> Ended<T>
         ensures value { IfFree result (λ value. (history : List T.Row) × T.stands history value) }
     {
@@ -403,13 +429,14 @@ impl<T: Replays> TurnLock<T> {
     }
 }
 
-/// Of what two passes of one lock have seen, one is the other as it once was.
+/// States a law: of what two passes of one lock have seen, one is an earlier state of the other.
 pub fn seen_in_order<T: Replays>()
     ensures { SeenInOrder T.stands T.number T.label }
 {}
 
-/// The history of a lock is that of its passes: each row is of one of them, and those of each are
-/// its own, in its order. While none of them has a row of its own, it is empty.
+/// States a law: the history of a lock is that of its passes. Each row is of one of them. The rows
+/// of a pass are exactly its own, in order. Until a pass has a row of its own, the history is
+/// empty.
 pub fn history_is_of_passes<T: Replays>()
     ensures { HistoryOfPasses T.stands T.number T.label }
 {}
@@ -418,7 +445,15 @@ impl<T: Replays + Drop> TurnLock<T> {
     ghost use Rattle.std.specs.Prelude.{◌≤◌, ◌<◌, length, IfOk, slice_index_or, All};
     ghost use Rattle.turn_lock.specs.Shown.{id_of, lock_of, count_of, list_of, IsNew};
 
-    /// The lock round the value, and its passes, numbered from 0.
+    /// Creates a lock for the value, and its passes, numbered from 0.
+    ///
+    /// # Requires
+    ///
+    /// `seats` is 1 to 16, and the value stands for the empty history.
+    ///
+    /// # Errors
+    ///
+    /// `Starved` if memory runs out. The value is dropped then.
     pub fn make(alloc: Global, seats: u32, value: T) -> Result<(TurnLock<T>, Passes<T>), Starved>
         requires seats { (1 ≤ seats) × (seats ≤ 16) }
         requires value { T.stands [] value }

@@ -1,4 +1,4 @@
-//! What a value behind a lock stands for, and the row that a step adds.
+//! What a locked value stands for, and the row that a step adds.
 
 use std::marker::Brand;
 
@@ -7,22 +7,23 @@ pub trait Replays {
     /// One step of one worker.
     type Row;
 
-    /// Plain data that every value of one lock shows alike.
+    /// Plain data that is the same for all values of one lock.
     type Label;
 
     ghost use Rattle.std.specs.Prelude.{ℕ, List};
 
-    // That the value stands for these rows.
+    // Whether the value stands for these rows.
     ghost stands: { List Self.Row → Self → Type 0 };
 
-    // The number of the pass whose step the row is.
+    // The number of the pass whose step made the row.
     ghost number: { Self.Row → ℕ };
 
-    // The label that the value shows.
+    // The label of the value.
     ghost label: { Self → Self.Label };
 }
 
-/// The row that a call of `give` adds, which contracts alone see. The call names it.
+/// The row that a call of [`crate::TurnLock::give`] adds, which only contracts see. The caller
+/// names it.
 pub trait Added<R> {
     ghost use Rattle.std.specs.Prelude.{Option};
 

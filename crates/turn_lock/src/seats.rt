@@ -10,14 +10,14 @@ use crate::views::View;
 use atomic_table::Seat;
 use std::mem::ManuallyDrop;
 
-/// The right of one worker to take the turn of one lock. It may be let go, whatever is behind the
-/// lock.
+/// The right of one worker to take the turn of one lock. It may be dropped, whatever value the lock
+/// has.
 #[derive(Drop)]
 pub struct Pass<T: Replays> {
-    /// What the pass knows. It has no bytes, so nothing is lost although it is never let go. That
-    /// would ask for a destructor of the value behind the lock, which may have none.
+    /// What the pass knows. It has no bytes, so nothing is lost although it is never dropped.
+    /// Dropping it would need a destructor of the locked value, which may have none.
     pub(crate) seat: ManuallyDrop<Seat<Option<T>, View<T::Row, T::Label>>>,
-    /// The lock's word as it is while the turn is free and the history is what the pass has seen.
+    /// The lock's word while the turn is free and the history is what the pass has seen.
     pub(crate) word: u64,
     ghost slot_fits: { (manually_drop_value seat).me.1
         ≡ slots_of (manually_drop_value seat).me.0.holding },
@@ -34,14 +34,14 @@ impl<T: Replays> Passes<T> {
     ghost use Rattle.std.specs.Prelude.{◌∷◌, [], IfSome, IfNone};
     ghost use Rattle.turn_lock.specs.Shown.{list_of};
 
-    /// The list of these passes.
+    /// Returns the list of these passes.
     pub fn of(passes: Vec<Pass<T>>) -> Passes<T>
         ensures { list_of result ≡ passes.items }
     {
         Passes { passes }
     }
 
-    /// The passes as a vector, in the same order.
+    /// Returns the passes as a vector, in the same order.
     pub fn into_vec(self) -> Vec<Pass<T>>
         ensures { result.items ≡ list_of self }
     {
@@ -49,14 +49,14 @@ impl<T: Replays> Passes<T> {
         passes
     }
 
-    /// How many passes are left.
+    /// Returns how many passes are left.
     pub fn len(&self) -> usize
         ensures { result ≡ length (list_of self.now) }
     {
         self.passes.len()
     }
 
-    /// Moves out the pass with the smallest number, if one is left.
+    /// Removes and returns the pass with the smallest number, or returns `None` if none is left.
     pub fn take_first(&mut self) -> Option<Pass<T>>
         ensures some { IfSome result (λ pass. list_of self.old ≡ pass ∷ list_of self.new) }
         ensures none { IfNone result ((list_of self.old ≡ []) × (list_of self.new ≡ [])) }

@@ -1,4 +1,4 @@
-//! What a pass knows, and the rule that ties it to the word and the slot.
+//! What a pass knows, and the rule that connects it with the word and the slot.
 
 use crate::rows::{Added, Replays};
 use atomic_table::{Play, Split, TableRule};
@@ -6,17 +6,17 @@ use std::collections::LinkedList;
 use std::marker::PhantomData;
 use std::snapshot::Snapshot;
 
-/// What a pass knows. No value of it is made.
+/// What a pass knows. It exists in contracts only.
 pub struct View<R, L> {
     /// The number of the pass, from 0.
     pub number: u64,
-    /// The history as far as the pass knows it, the newest row first.
+    /// The history as far as the pass has seen it, the newest row first.
     pub seen: LinkedList<R>,
     /// The rows of `seen` that the pass has made.
     pub mine: LinkedList<R>,
     /// The label of the lock.
     pub label: L,
-    /// How many passes the lock has.
+    /// The number of passes of the lock.
     pub passes: u64,
     /// Whether the pass holds the turn.
     pub holding: bool,
@@ -24,16 +24,16 @@ pub struct View<R, L> {
     pub last: bool,
 }
 
-/// What a lock is about.
+/// The value and the number of passes with which a lock was made.
 #[derive(Drop)]
 pub(crate) struct About<T> {
     /// Its first value.
     pub(crate) value: Snapshot<T>,
-    /// How many passes it has.
+    /// The number of passes.
     pub(crate) passes: u32,
 }
 
-/// The rule of the turn. No value of it is made.
+/// The rule of the turn. It exists in contracts only.
 pub struct Turn<T> {
     marker: PhantomData<T>,
 }
@@ -68,7 +68,7 @@ impl<T: Replays, S: Added<T::Row>> Play<Option<T>, View<T::Row, T::Label>> for G
     ghost then = { Gives T.stands T.number T.label S.added };
 }
 
-/// The step that cuts a new pass off the one that was made last.
+/// The step that splits a new pass off the one that was made last.
 pub struct Next;
 
 impl<R, L> Split<View<R, L>> for Next {

@@ -1,11 +1,11 @@
--- what a clock gives of its lists, what is told of a list around a call, the peer at a socket's
--- address (RFC 768, RFC 4291, this project's profile)
+-- what a clock returns of its lists, what a list exposes before and after a call, the peer at a
+-- socket's address (RFC 768, RFC 4291, this project's profile)
 pub mod Clocks
 pub mod Told
 pub mod Addresses
--- what a receive and a send answer, and what is then known of a link (RFC 768, this project's
+-- the results of a receive and a send, and what then holds of a link (RFC 768, this project's
 -- profile)
 pub mod Links
--- what these are made of
+-- their parts
 pub mod Plans
 pub mod Orders

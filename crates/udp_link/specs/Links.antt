@@ -1,4 +1,4 @@
--- What a call on a link may answer, and what is then known of the link.
+-- The possible results of a call on a link, and what then holds of the link.
 use Rattle.std.specs.Prelude.{◌≡◌, ℕ, ◌<◌, ◌≤◌, List, [], ◌∷◌, ◌++◌, length, take, Option, ⊤}
 use Rattle.rd_base.specs.Outside.{Rose}
 use Rattle.rd_base.specs.declared.peers.Peer.{Peer}
@@ -14,15 +14,16 @@ use Rattle.udp_link.specs.Told.{WhereTold}
 abbrev pub Datagram : Type 0
 Datagram = Peer × List ℕ
 
--- no datagram that is handed over is longer than the limit
+-- no datagram that is delivered is longer than the limit
 abbrev pub IsWithinLimit : Came → Type 0
 IsWithinLimit (came.Datagram peer n) = n ≤ MAX_DATAGRAM
 IsWithinLimit came.TooLong = ⊤
 IsWithinLimit came.Nothing = ⊤
 IsWithinLimit came.Failed = ⊤
 
--- A receive takes the first datagram off those that are coming: it hands it over whole, or it is
--- longer than the limit and lost. Nothing comes only where none is left. A failure takes none.
+-- A receive takes the first datagram off those that are to come. It delivers it whole, or the
+-- datagram is longer than the limit and lost. It returns `Nothing` only if none is left. A failure
+-- takes none.
 abbrev pub TakesFirst : Came → List ℕ → List Datagram → List Datagram → Type 0
 TakesFirst (came.Datagram peer n) into before now = before ≡ (peer, take n into) ∷ now
 TakesFirst came.TooLong into before now =
@@ -30,28 +31,28 @@ TakesFirst came.TooLong into before now =
 TakesFirst came.Nothing into before now = (before ≡ []) × (now ≡ [])
 TakesFirst came.Failed into before now = now ≡ before
 
--- What was sent stands at the end of what is gone. A failure adds nothing.
+-- A send appends the datagram to those that are gone. A failure appends nothing.
 abbrev pub AddsLast : Went → Datagram → List Datagram → List Datagram → Type 0
 AddsLast went.Sent datagram before now = now ≡ before ++ datagram ∷ []
 AddsLast went.Failed datagram before now = now ≡ before
 
--- a receive failed only where the count rose, and otherwise the count stands
+-- a receive failed only if the count rose; otherwise the count is the same
 abbrev pub CountsReceived : ℕ → ℕ → Came → Type 0
 CountsReceived before now (came.Datagram peer n) = now ≡ before
 CountsReceived before now came.TooLong = now ≡ before
 CountsReceived before now came.Nothing = now ≡ before
 CountsReceived before now came.Failed = (before ≤ now) × Rose before now
 
--- a send failed only where the count rose, and otherwise the count stands
+-- a send failed only if the count rose; otherwise the count is the same
 abbrev pub CountsSent : ℕ → ℕ → Went → Type 0
 CountsSent before now went.Sent = now ≡ before
 CountsSent before now went.Failed = (before ≤ now) × Rose before now
 
--- where the calls of a link are known, this one was made of it, and no other
+-- if the link exposes its calls, this one was made, and no other
 abbrev pub Calls : LinkCall → Option (List LinkCall) → Option (List LinkCall) → Type 0
 Calls call before now = WhereTold (λ old new. new ≡ call ∷ old) before now
 
--- this datagram was handed over whole, or it is longer than the limit
+-- this datagram was delivered whole, or it is longer than the limit
 abbrev pub IsDelivered : Came → Datagram → List ℕ → Type 0
 IsDelivered (came.Datagram peer n) datagram into =
     (n ≤ MAX_DATAGRAM) × ((peer, take n into) ≡ datagram)

@@ -1,8 +1,8 @@
--- What the calls of a link show that were made one after the other.
+-- The calls of a link, one after the other, as contracts see them.
 use Rattle.std.specs.Prelude.{List, [], ◌∷◌, Option, Some, None}
 use Rattle.udp_link.specs.declared.links.LinkCall.{LinkCall}
 
--- the last call, and before it what is shown of those before; or none
+-- the last call, followed by those before it, or none
 abbrev pub order_shown : {S : Type 0} → (S → List LinkCall) → Option (LinkCall × S)
     → List LinkCall
 order_shown shown None = []

@@ -1,12 +1,12 @@
--- Which calls of a link in memory fail: those whose numbers are listed, counted from 0.
+-- The calls of a link in memory that fail: those whose numbers are listed, counted from 0.
 use Rattle.std.specs.Prelude.{◌≡◌, ◌+◌, ◌-◌, ◌^◌, ◌==◌, Bool, min}
 use Rattle.std.specs.List.{list_any}
 use Rattle.udp_link.specs.declared.failures.Plan.{Plan}
 
--- the call that comes is one of those that fail
+-- the next call is one of those that fail
 abbrev pub is_planned : Plan → Bool
 is_planned plan = list_any (λ n. n == plan.calls) plan.fail
 
--- the same plan after one call more; the count of calls stands at the last value of 64 bits
+-- the same plan after one more call; the count of calls stays at 2^64 - 1 once it has reached that
 abbrev pub Advanced : Plan → Plan → Type 0
 Advanced before now = (now.fail ≡ before.fail) × (now.calls ≡ min (before.calls + 1) (2 ^ 64 - 1))

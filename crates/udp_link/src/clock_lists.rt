@@ -10,8 +10,8 @@ pub type Moments = List<Moment>;
 /// Words in order.
 pub type Words = List<u32>;
 
-/// What stands in `list` behind the first `passed`, or `absent`; then that one is passed too,
-/// unless it is the last.
+/// Returns the element of `list` after the first `passed`, or `absent` if there is none. Counts it
+/// as passed, unless it is the last.
 pub(crate) fn next_of<T: Copy>(list: &[T], passed: &mut usize, absent: T) -> T
     requires { passed.old ≤ length list.now }
     ensures value { result ≡ first_or absent (drop passed.old list.now) }

@@ -1,4 +1,4 @@
-//! Clocks: where moments and words come from.
+//! Clocks, which return moments and words.
 ghost use Rattle.std.specs.Prelude.{ℕ, List, Option};
 ghost use Rattle.rd_base.specs.declared.moments.Moment.{Moment};
 ghost use Rattle.udp_link.specs.Told.{WhereTold, Stays};
@@ -6,25 +6,27 @@ ghost use Rattle.udp_link.specs.Clocks.{IsHandedIn, GivesFirst};
 
 use rd_base::Moment;
 
-/// The last moment that a clock gives, in milliseconds.
+/// The latest moment that a clock returns, in milliseconds.
 pub const LAST_MOMENT: u64 = 1_000_000_000_000_000;
 
-/// What gives moments, and words that look random. It cannot fail.
+/// A source of moments, and of words that look random. It cannot fail.
 pub trait Clock {
-    /// The moments that are still to be given, where they are known. The last of them stays.
+    /// The moments that are still to be returned, if the clock exposes them. The last of them is
+    /// returned again and again.
     ghost times: { Self → Option (List Moment) };
 
-    /// The words that are still to be given, where they are known. The last of them stays.
+    /// The words that are still to be returned, if the clock exposes them. The last of them is
+    /// returned again and again.
     ghost words: { Self → Option (List ℕ) };
 
-    /// The moment now, at most 10^15 milliseconds.
+    /// Returns the current moment, at most 10^15 milliseconds.
     fn now(&mut self) -> Moment
         ensures early { IsHandedIn result }
         ensures gives { WhereTold (GivesFirst (record { 0 = 0 }) result) (times self.old)
             (times self.new) }
         ensures words_stay { Stays (words self.old) (words self.new) };
 
-    /// A word.
+    /// Returns a word.
     fn word(&mut self) -> u32
         ensures gives { WhereTold (GivesFirst 0 result) (words self.old) (words self.new) }
         ensures times_stay { Stays (times self.old) (times self.new) };

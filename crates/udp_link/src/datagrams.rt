@@ -1,4 +1,4 @@
-//! Datagrams in a list, and how one is handed over.
+//! Lists of datagrams, and how one is delivered.
 ghost use Rattle.std.specs.Prelude.{◌≡◌, ◌≤◌, ◌∷◌, ◌++◌, [], length, OnOk, OnErr};
 ghost use Rattle.udp_link.specs.Links.{IsDelivered};
 
@@ -23,7 +23,7 @@ impl Model for Arrivals {
 }
 
 impl Arrivals {
-    /// No datagrams. Takes no memory.
+    /// Returns an empty list. Does not allocate.
     pub fn new(alloc: Global) -> Arrivals
         ensures { result ≡ [] }
     {
@@ -32,21 +32,21 @@ impl Arrivals {
         }
     }
 
-    /// These, in order. Takes no memory.
+    /// Returns the list of these datagrams, in order. Does not allocate.
     pub fn of(items: Vec<(Peer, Bytes)>) -> Arrivals
         ensures { result ≡ items.items }
     {
         Arrivals { items }
     }
 
-    /// The datagrams, in order.
+    /// Returns the datagrams, in order.
     pub fn as_slice(&self) -> &[(Peer, Bytes)]
         ensures { result.now ≡ self.now }
     {
         self.items.as_slice()
     }
 
-    /// Gives the vector back. Takes no memory.
+    /// Returns the datagrams as a vector. Does not allocate.
     pub fn into_vec(self) -> Vec<(Peer, Bytes)>
         ensures { result.items ≡ self }
     {
@@ -54,7 +54,11 @@ impl Arrivals {
         items
     }
 
-    /// Adds a datagram as the last. `Starved`: out of memory, and the list is as before.
+    /// Appends a datagram.
+    ///
+    /// # Errors
+    ///
+    /// `Starved` if memory runs out. The list does not change then.
     pub fn push(&mut self, peer: Peer, octets: Bytes) -> Result<(), Starved>
         ensures ok { OnOk result (self.new ≡ self.old ++ (peer, octets) ∷ []) }
         ensures err { OnErr result (self.new ≡ self.old) }
@@ -63,7 +67,7 @@ impl Arrivals {
         Ok(())
     }
 
-    /// Adds a copy of a datagram as the last. `Starved`: out of memory, and the list is as before.
+    /// Appends a copy of a datagram. `Starved` leaves the list unchanged.
     pub(crate) fn push_copy(
         &mut self,
         alloc: Global,
@@ -78,7 +82,7 @@ impl Arrivals {
     }
 }
 
-/// Puts the octets of a datagram at the beginning of `into`, unless they are more than 4,096.
+/// Puts the octets of a datagram at the beginning of `into`, unless there are more than 4,096.
 pub(crate) fn deliver(peer: Peer, octets: &[u8], into: &mut [u8]) -> Came
     requires { MAX_DATAGRAM ≤ length into.old }
     ensures { IsDelivered result (peer, octets.now) into.new }

@@ -1,11 +1,12 @@
-//! Failures: which calls are to fail, and how they are counted.
+//! Planned failures of calls, and the count of faults.
 ghost use Rattle.std.specs.Prelude.{◌≡◌, ◌≤◌};
 ghost use Rattle.rd_base.specs.Outside.{Rose};
 ghost use Rattle.udp_link.specs.Plans.{is_planned, Advanced};
 
 use rd_base::Bytes;
 
-/// Which calls fail: a counter of calls, and the numbers, from 0, of those that do.
+/// The calls that are planned to fail: a counter of calls, and the numbers, from 0, of those that
+/// do.
 #[derive(Debug, Drop)]
 pub(crate) struct Plan {
     calls: u64,
@@ -13,14 +14,14 @@ pub(crate) struct Plan {
 }
 
 impl Plan {
-    /// A plan before the first call.
+    /// Returns a plan before the first call.
     pub(crate) fn of(fail: Bytes) -> Plan
         ensures { result ≡ record { calls = 0; fail = fail } }
     {
         Plan { calls: 0, fail }
     }
 
-    /// Counts a call: true where it is one of those that fail.
+    /// Counts a call, and returns whether it is one of those that fail.
     pub(crate) fn fails_now(&mut self) -> bool
         ensures value { result ≡ is_planned self.old }
         ensures advanced { Advanced self.old self.new }
@@ -31,7 +32,7 @@ impl Plan {
     }
 }
 
-/// The count of faults with one more. It stands at the last value of 64 bits.
+/// Returns a count of faults after one more. It stays at 2^64 - 1 once it has reached that.
 pub(crate) fn raised(faults: u64) -> u64
     ensures kept { faults ≤ result }
     ensures rose { Rose faults result }

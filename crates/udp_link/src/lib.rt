@@ -1,5 +1,5 @@
-//! The outside of a server: links, over which datagrams come and go, and clocks; in memory, and
-//! over a socket and the machine's time.
+//! Links, which receive and send datagrams, and clocks: in memory, and over a socket and the host's
+//! time.
 #![tactic(auto)]
 
 mod clock_lists;

@@ -1,4 +1,4 @@
-//! The calls of a link in memory, in their order. Contracts alone see them.
+//! The calls of a link in memory, in order. Only contracts see them.
 ghost use Rattle.std.specs.Prelude.{◌≡◌, ◌∷◌, []};
 
 use crate::LinkCall;
@@ -6,8 +6,8 @@ use std::fmt;
 use std::marker::Model;
 use std::snapshot::Snapshot;
 
-/// The calls that were made so far. Contracts see them as a list, the last first. All but the last
-/// have no octets.
+/// The calls made so far. Contracts see them as a list, the last first. All but the last take no
+/// bytes.
 #[derive(Drop)]
 pub(crate) struct LinkOrder {
     last: Option<(LinkCall, Snapshot<LinkOrder>)>,
@@ -26,14 +26,14 @@ impl Model for LinkOrder {
 }
 
 impl LinkOrder {
-    /// No call was made.
+    /// Returns an order without calls.
     pub(crate) fn new() -> LinkOrder
         ensures { result ≡ [] }
     {
         LinkOrder { last: None }
     }
 
-    /// One more was made.
+    /// Adds a call.
     pub(crate) fn add(&mut self, call: LinkCall)
         ensures { self.new ≡ call ∷ self.old }
     {

@@ -1,4 +1,4 @@
-//! Links: where datagrams come from and go to.
+//! Links, which receive and send datagrams.
 ghost use Rattle.std.specs.Prelude.{◌≡◌, ◌≤◌, ℕ, List, Option, length};
 ghost use Rattle.udp_link.specs.declared.links.LinkCall.{LinkCall};
 ghost use Rattle.udp_link.specs.Told.{WhereTold, Stays};
@@ -8,58 +8,63 @@ ghost use Rattle.udp_link.specs.Links.{CountsReceived, CountsSent, Calls};
 
 use rd_base::Peer;
 
-/// The longest datagram that is read, in octets.
+/// The longest datagram that is received, in octets.
 pub const MAX_DATAGRAM: usize = 4096;
 
-/// What a call of `Link::recv` gave.
+/// The result of [`Link::recv`].
 #[derive(Clone, Copy, Debug, PartialEq, Eq)]
 pub enum Came {
-    /// A datagram of this peer with so many octets, at most 4,096.
+    /// A datagram of this peer, with this number of octets, at most 4,096.
     Datagram(Peer, usize),
-    /// A datagram of more than 4,096 octets, which is lost.
+    /// A datagram of more than 4,096 octets, which was lost.
     TooLong,
-    /// No datagram, for as long as the link waits for one.
+    /// No datagram came while the link waited.
     Nothing,
-    /// The receive failed, and the link has counted it.
+    /// The receive failed, and the link counted the fault.
     Failed,
 }
 
-/// What a call of `Link::send` did.
+/// The result of [`Link::send`].
 #[derive(Clone, Copy, Debug, PartialEq, Eq)]
 pub enum Went {
     /// The datagram was sent.
     Sent,
-    /// The send failed, and the link has counted it. The datagram is lost.
+    /// The send failed, and the link counted the fault. The datagram was lost.
     Failed,
 }
 
 /// A call of a link.
 #[derive(Clone, Copy, Debug, PartialEq, Eq)]
 pub enum LinkCall {
-    /// A call of `Link::recv`.
+    /// A call of [`Link::recv`].
     Receive,
-    /// A call of `Link::send`.
+    /// A call of [`Link::send`].
     Send,
 }
 
-/// Where datagrams come from and go to.
+/// A link, which receives and sends datagrams.
 pub trait Link {
-    /// The datagrams that are still to come, where they are known.
+    /// The datagrams that are still to come, if the link exposes them.
     ghost coming: { Self → Option (List Datagram) };
 
-    /// The datagrams that were sent so far, where they are known.
+    /// The datagrams that were sent so far, if the link exposes them.
     ghost gone: { Self → Option (List Datagram) };
 
-    /// The calls that were made so far, the last first, where they are known.
+    /// The calls made so far, the last first, if the link exposes them.
     ghost order: { Self → Option (List LinkCall) };
 
-    /// How many receives failed so far. It never falls, and stands at the last value of 64 bits.
+    /// How many receives have failed. It never falls, and stays at 2^64 - 1 once it has reached
+    /// that.
     ghost recv_faults: { Self → ℕ };
 
-    /// How many sends failed so far. It never falls, and stands at the last value of 64 bits.
+    /// How many sends have failed. It never falls, and stays at 2^64 - 1 once it has reached that.
     ghost send_faults: { Self → ℕ };
 
     /// Receives a datagram, and puts its octets at the beginning of `into`.
+    ///
+    /// # Requires
+    ///
+    /// `into` has room for at least 4,096 octets.
     fn recv(&mut self, into: &mut [u8]) -> Came
         requires { MAX_DATAGRAM ≤ length into.old }
         ensures within { IsWithinLimit result }

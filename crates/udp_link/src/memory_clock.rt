@@ -6,8 +6,8 @@ use crate::clock_lists::next_of;
 use crate::{Clock, Moments, Words};
 use rd_base::Moment;
 
-/// A clock that gives the moments and the words of two lists in order, and then the last ones
-/// again.
+/// A clock that returns the moments and the words of two lists in order, and then the last ones
+/// again and again.
 #[derive(Debug, Drop)]
 pub struct MemClock {
     moments: Moments,
@@ -20,8 +20,12 @@ pub struct MemClock {
 }
 
 impl MemClock {
-    /// A clock that gives `moments`, each at most 10^15 milliseconds, and `words`. It gives 0 where
-    /// a list is empty.
+    /// Creates a clock that returns `moments`, in milliseconds, and `words`. It returns 0 if a list
+    /// is empty.
+    ///
+    /// # Requires
+    ///
+    /// Each moment is at most 10^15 milliseconds.
     pub fn of(moments: Moments, words: Words) -> MemClock
         requires { All IsHandedIn moments }
         ensures times { ⟦<MemClock as Clock>⟧.times result ≡ Some moments }

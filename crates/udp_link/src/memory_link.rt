@@ -1,4 +1,4 @@
-//! A link in memory, of which chosen calls fail.
+//! A link in memory, with calls that are planned to fail.
 ghost use Rattle.std.specs.Prelude.{◌≡◌, ◌↔◌, ◌≤◌, ◌∷◌, true, Some, [], length, drop};
 ghost use Rattle.udp_link.specs.Links.{IsWithinLimit, TakesFirst, AddsLast, CountsReceived};
 ghost use Rattle.udp_link.specs.Links.{CountsSent};
@@ -12,7 +12,7 @@ use crate::{Arrivals, Came, Link, LinkCall, Went};
 use rd_base::{Bytes, Peer};
 use std::alloc::Global;
 
-/// A link that gives the datagrams of a list and keeps those that are sent.
+/// A link that delivers the datagrams of a list and stores those that are sent.
 #[derive(Debug, Drop)]
 pub struct MemLink {
     alloc: Global,
@@ -28,8 +28,8 @@ pub struct MemLink {
 }
 
 impl MemLink {
-    /// A link to which the datagrams of `coming` come. `fail_recv` and `fail_send` list the
-    /// numbers, from 0 and up to 255, of the calls that fail.
+    /// Creates a link that receives the datagrams of `coming`. `fail_recv` and `fail_send` list the
+    /// numbers, from 0 to 255, of the calls that fail.
     pub fn of(alloc: Global, coming: Arrivals, fail_recv: Bytes, fail_send: Bytes) -> MemLink
         ensures coming { ⟦<MemLink as Link>⟧.coming result ≡ Some coming }
         ensures gone { ⟦<MemLink as Link>⟧.gone result ≡ Some [] }
@@ -52,7 +52,7 @@ impl MemLink {
         }
     }
 
-    /// What was sent so far.
+    /// Returns the datagrams that were sent so far.
     pub fn gone(&self) -> &Arrivals
         ensures { ⟦<MemLink as Link>⟧.gone self.now ≡ Some result.now }
     {
@@ -71,7 +71,7 @@ impl Link for MemLink {
 
     ghost send_faults = { λ l. l.send_faults };
 
-    /// Gives the datagram that comes next. The receives that are planned to fail do, and no others.
+    /// Delivers the next datagram. Fails exactly if this receive is planned to fail.
     fn recv(&mut self, into: &mut [u8]) -> Came
         requires { MAX_DATAGRAM ≤ length into.old }
         ensures within { IsWithinLimit result }
@@ -98,8 +98,7 @@ impl Link for MemLink {
         came
     }
 
-    /// Keeps the datagram. The sends that are planned to fail do, and so does one that is out of
-    /// memory.
+    /// Stores the datagram. Fails if this send is planned to fail, or if memory runs out.
     fn send(&mut self, peer: Peer, piece: &[u8]) -> Went
         ensures adds { AddsLast result (peer, piece.now) self.old.gone self.new.gone }
         ensures cause { CountsSent self.old.send_faults self.new.send_faults result }

@@ -6,7 +6,7 @@ ghost use Rattle.udp_link.specs.Addresses.{peer_at};
 use rd_base::{Host, Peer};
 use std::net::{Ipv4Addr, Ipv6Addr, SocketAddr, SocketAddrV4, SocketAddrV6};
 
-/// The address of a peer, without flow information and zone.
+/// Returns the address of a peer, without flow information and zone.
 pub(crate) fn address_of(peer: Peer) -> SocketAddr
     ensures value { result ≡ socket_of peer.host peer.port }
     ensures back { peer_at result ≡ peer }
@@ -22,7 +22,7 @@ pub(crate) fn address_of(peer: Peer) -> SocketAddr
     }
 }
 
-/// The peer at an address. Its flow information and its zone are left out.
+/// Returns the peer at an address. Ignores the flow information and the zone of the address.
 pub(crate) fn peer_of(address: SocketAddr) -> Peer
     ensures { result ≡ peer_at address }
 {

@@ -1,4 +1,4 @@
-//! A link over a UDP socket, and a clock over the machine's time.
+//! A link over a UDP socket, and a clock over the host's time.
 ghost use Rattle.std.specs.Prelude.{◌≡◌, ◌<◌, ◌≤◌, ◌↔◌, false, None, IsSome, length};
 ghost use Rattle.udp_link.specs.Clocks.{IsHandedIn};
 ghost use Rattle.udp_link.specs.Links.{IsWithinLimit, CountsReceived};
@@ -19,17 +19,18 @@ use std::{io, time};
 /// How long a receive waits for a datagram, in milliseconds.
 const WAIT: u64 = 50;
 
-/// Room for a datagram, in octets: one more than the longest that is read, by which a longer one is
-/// told.
+/// Room for a datagram, in octets: one more than the longest that is received, so that a longer one
+/// is recognized.
 const ROOM: usize = MAX_DATAGRAM + 1;
 
-/// A link over a UDP socket, which other links may share. It tells no datagrams.
+/// A link over a UDP socket, which other links may share. It does not expose its datagrams.
 #[derive(Drop)]
 pub struct UdpLink {
     socket: Arc<UdpSocket>,
-    /// Whether a receive waits no longer than it is to.
+    /// Whether the socket accepted the timeout of a receive.
     limited: bool,
-    /// Why the last receive failed, where it did; at first why the socket takes no limit.
+    /// The reason for which the last receive failed, if it did; before the first, the reason for
+    /// which the socket accepts no timeout.
     fault: Option<io::Error>,
     room: [u8; ROOM],
     recv_faults: u64,
@@ -39,8 +40,10 @@ pub struct UdpLink {
 }
 
 impl UdpLink {
-    /// A link over `socket`. Its receives wait for 50 ms, and the system is asked for room for a
-    /// burst of datagrams. Where the socket takes no such limit, each receive fails.
+    /// Creates a link over `socket`, which other links may share.
+    ///
+    /// A receive waits at most 50 ms. The system is asked for room for a burst of datagrams. If the
+    /// socket accepts no timeout, every receive fails.
     pub fn of(socket: Arc<UdpSocket>) -> UdpLink
         ensures coming { ⟦<UdpLink as Link>⟧.coming result ≡ None }
         ensures gone { ⟦<UdpLink as Link>⟧.gone result ≡ None }
@@ -60,8 +63,9 @@ impl UdpLink {
         }
     }
 
-    /// Gives the system's reason why the last receive failed, or nothing where it did not. Before
-    /// the first receive, why the socket takes no limit of waiting, where it takes none.
+    /// Returns the system's reason for which the last receive failed, or `None` if it did not.
+    /// Before the first receive, returns the reason for which the socket accepts no timeout, if
+    /// that is so.
     pub fn fault(&self) -> Option<io::Error>
         ensures { result ≡ self.now.fault }
     {
@@ -69,10 +73,12 @@ impl UdpLink {
     }
 }
 
-/// Whether an error of a receive is no fault of the link: no datagram came in time, a signal
-/// interrupted the wait (the system restarts no receive that has a time limit), or an earlier
-/// datagram of this socket did not reach its peer (RFC 792, destination unreachable), which the
-/// system tells by a later receive.
+/// Returns whether an error of a receive is not a fault of the link. These errors are not:
+///
+/// - No datagram came in time.
+/// - A signal interrupted the wait. The system does not restart a receive that has a timeout.
+/// - An earlier datagram of this socket did not reach its peer (RFC 792, destination unreachable).
+///   The system reports this at a later receive.
 fn is_no_fault(kind: ErrorKind) -> bool {
     matches!(
         kind,
@@ -96,7 +102,7 @@ impl Link for UdpLink {
 
     ghost send_faults = { λ l. l.send_faults };
 
-    /// Receives a datagram. Where that fails, the link keeps the system's reason.
+    /// Receives a datagram. If that fails, the link stores the system's reason.
     fn recv(&mut self, into: &mut [u8]) -> Came
         requires { MAX_DATAGRAM ≤ length into.old }
         ensures within { IsWithinLimit result }
@@ -127,7 +133,7 @@ impl Link for UdpLink {
     }
 }
 
-/// The machine's time as a clock. It tells no lists.
+/// The host's time as a clock. It does not expose its moments and words.
 #[derive(Drop)]
 pub struct UdpClock<R> {
     system: R,
@@ -136,7 +142,7 @@ pub struct UdpClock<R> {
 }
 
 impl<R: time::Clock> UdpClock<R> {
-    /// A clock that reads the machine's time by `rt`.
+    /// Creates a clock that reads the host's time by `rt`.
     pub fn new(rt: R) -> UdpClock<R>
         ensures times { ⟦<UdpClock<R> as Clock>⟧.times result ≡ None }
         ensures words { ⟦<UdpClock<R> as Clock>⟧.words result ≡ None }
@@ -153,8 +159,8 @@ impl<R: time::Clock> Clock for UdpClock<R> {
 
     ghost words = { λ _. None };
 
-    /// The milliseconds since 1970. Where the machine's time cannot be read, the moment that was
-    /// given last.
+    /// Returns the milliseconds since 1970, at most 10^15. If the host's time cannot be read,
+    /// returns the last moment again.
     fn now(&mut self) -> Moment {
         if let Ok(time) = self.system.since_1970() {
             let millis = time.as_secs().saturating_mul(1000);
@@ -164,7 +170,7 @@ impl<R: time::Clock> Clock for UdpClock<R> {
         self.last
     }
 
-    /// The nanoseconds part of the machine's time, or 0 where that cannot be read.
+    /// Returns the nanoseconds part of the host's time, or 0 if the time cannot be read.
     fn word(&mut self) -> u32 {
         self.system
             .since_1970()

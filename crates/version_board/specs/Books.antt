@@ -1,5 +1,5 @@
--- The book of a board: its rule, the step that enters an entry, and what two beginnings of one list
--- have to do with one another.
+-- The book of a board: its rule, the step that enters an entry, and how two prefixes of one list
+-- are related.
 use Rattle.std.specs.Prelude.{◌≡◌, ◌⊎◌, ℕ, ◌==◌, true, List, [], ◌∷◌, ◌++◌}
 use Rattle.std.specs.Bool.{MatchBool}
 use mathlib.Core.List.{IsPrefix}
@@ -7,7 +7,7 @@ use Rattle.logbook.specs.Pages.{Cell, Step, View, Book, Named}
 use Rattle.history_model.specs.declared.entries.Entry.{Entry}
 use Rattle.history_model.specs.Replay.{counted}
 
--- of two lists one is the beginning of the other
+-- one of two lists is a prefix of the other
 abbrev pub InOrder : {A : Type 0} → List A → List A → Type 0
 InOrder one other = IsPrefix one other ⊎ IsPrefix other one
 
@@ -20,8 +20,8 @@ IsKept cells log = cells ≡ (counted 0 log, true) ∷ (0, true) ∷ []
 abbrev pub head_of : Book → Named
 head_of book = record { tracked = true; key = 0; book = book }
 
--- the entry came after all that had been seen, where the count of entries was found as it was
--- expected; otherwise the book was seen as it is
+-- the entry came after all that had been seen, if the count of entries was as expected; otherwise
+-- the current book was seen
 abbrev pub Enters : Step Entry → View Entry ℕ → ℕ → View Entry ℕ → Type 0
 Enters step before found after =
     MatchBool (found == step.old) (after.0 ≡ before.0 ++ step.ask ∷ []) (counted 0 after.0 ≡ found)

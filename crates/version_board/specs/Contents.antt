@@ -1,4 +1,4 @@
--- What is shown, as plain data.
+-- A published version, as plain data.
 use Rattle.std.specs.Arc.{arc_value}
 use Rattle.version_board.specs.declared.published.Published.{Published}
 use Rattle.version_board.specs.declared.published.Content.{Content}

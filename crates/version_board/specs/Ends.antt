@@ -1,17 +1,17 @@
--- What contracts see of the ends of a board.
+-- The ends of a board, as contracts see them.
 use Rattle.std.specs.Prelude.{ℕ, Bool, false, List, [], Option}
 use Rattle.history_model.specs.Versions.{Version}
 use Rattle.history_model.specs.declared.entries.Entry.{Entry}
 
--- a publisher: the name of its board, the entries of what is published, the version that is, and
--- the one that comes next, where it is staged
+-- a publisher: the name of its board, the published entries, the published version, and the next
+-- one, if it is staged
 pub record PublisherSeen : Type 0 where
   pub name : List ℕ
   pub told : List Entry
   pub published : Option Version
   pub staged : Option Version
 
--- a looker: the name of its board, the entries that it has seen, and whether it has the version
+-- a looker: the name of its board, the entries that it has seen, and whether it stores the version
 -- that stands for them
 pub record LookerSeen : Type 0 where
   pub name : List ℕ

@@ -10,14 +10,14 @@ use Rattle.version_board.specs.declared.readers.Known.{Known}
 abbrev pub name_of : Book → List ℕ
 name_of book = book.number ∷ book.log_name ∷ book.cells_name ∷ []
 
--- what is known once a name is known, and before
+-- what an end knows once it knows a name, and before
 abbrev pub knowing : List ℕ → Known
 knowing name = record { known = true; name = name }
 
 abbrev pub unknown : Known
 unknown = record { known = false; name = [] }
 
--- whoever knows a name knows that of what is shown
+-- each end that knows a name knows that of the published version
 abbrev pub AllKnow : Published → List Known → Type 0
 AllKnow shown views =
     (seat : ℕ) (v : Known)
@@ -25,16 +25,16 @@ AllKnow shown views =
     → v.known ≡ true
     → v ≡ knowing (name_of shown.front.book)
 
--- enter: a reader takes what is shown, and knows its name
+-- enter: a reader takes the published version, and knows its name
 abbrev pub Takes : Known → Published → Published → Known → Type 0
 Takes v before after w =
     (w ≡ knowing (name_of before.front.book))
     × (v.known ≡ true → v ≡ knowing (name_of before.front.book))
 
--- the first publishing: the publisher learns the name
+-- the first publication: the publisher learns the name
 abbrev pub Names : Known → Published → Published → Known → Type 0
 Names v before after w = w ≡ knowing (name_of after.front.book)
 
--- each later publishing: what is known stays
+-- each later publication: what is known stays
 abbrev pub Shows : Known → Published → Published → Known → Type 0
 Shows v before after w = w ≡ v

@@ -1,4 +1,4 @@
--- A registration that the tests make again and again.
+-- A registration that many tests make.
 use Rattle.std.specs.Prelude.{ℕ, [], ◌∷◌, None, codes}
 use Rattle.rd_base.specs.declared.parameters.RegParams.{RegParams}
 use Rattle.rd_base.specs.declared.peers.Peer.{Peer}
@@ -6,7 +6,7 @@ use Rattle.rd_base.specs.declared.peers.Host.TheVariants.{V4}
 use Rattle.history_model.specs.declared.entries.Change.TheVariants.{Register}
 use Rattle.history_model.specs.declared.entries.Entry.{Entry}
 
--- where it comes from
+-- its peer
 abbrev pub sample_peer : Peer
 sample_peer = record { host = V4 (192 ∷ 0 ∷ 2 ∷ 10 ∷ []); port = 5683 }
 

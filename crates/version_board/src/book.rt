@@ -1,5 +1,5 @@
-//! The book of a board: the list of the entries that were published, which only grows. It exists in
-//! contracts alone; of it the code has one word, the count of its entries.
+//! The book of a board: the list of the published entries, which only grows. It exists in contracts
+//! only; the code stores one word of it, the count of its entries.
 ghost use Rattle.std.specs.Prelude.{◌≡◌, ◌≢◌, ◌∷◌, ◌++◌, [], true, false};
 ghost use Rattle.history_model.specs.Replay.{count_after, counted};
 ghost use Rattle.version_board.specs.Books.{head_of, InOrder};
@@ -10,7 +10,7 @@ use logbook::{Gain, Offer, Plain, Play, Rule, Seen, Start, Word};
 use std::marker::PhantomData;
 use std::sync::Wait;
 
-/// The rule of a book. No value of it is made.
+/// The rule of a book. It exists in contracts only.
 pub struct BookRule;
 
 impl Rule<Entry, u64> for BookRule {
@@ -37,7 +37,7 @@ pub type Front = Seen<Entry, u64, BookRule>;
 /// The word of a book: the count of its entries.
 pub(crate) type Head = Word<Entry, u64, BookRule>;
 
-/// What a step that enters an entry gains: nothing. No value of it is made.
+/// What a step gains that enters an entry: nothing. It exists in contracts only.
 struct Nothing;
 
 impl Gain<Entry, u64> for Nothing {
@@ -46,7 +46,7 @@ impl Gain<Entry, u64> for Nothing {
     ghost after = { λ names about answer. ftrue };
 }
 
-/// The step that enters an entry, or finds that the book is longer. No value of it is made.
+/// The step that enters an entry, or finds that the book is longer. It exists in contracts only.
 struct EnteringStep<E> {
     marker: PhantomData<E>,
 }
@@ -65,7 +65,7 @@ impl<E: Entering> Plain<(), Entry, u64> for EnteringStep<E> {
     ghost state = { λ _. None };
 }
 
-/// A new book without entries: its word, and its front.
+/// Opens a book without entries, and returns its word and its front.
 pub(crate) fn open() -> (Head, Front)
     ensures head { result.0 ≡ head_of result.1.book }
     ensures empty { result.1.log ≡ [] }
@@ -74,7 +74,7 @@ pub(crate) fn open() -> (Head, Front)
     (Word::tracked(0, &mut pen), front)
 }
 
-/// Two fronts of one book are compared: one is the beginning of the other.
+/// Compares two fronts of one book: one is the beginning of the other.
 pub(crate) fn compare(one: &Front, other: &Front)
     requires { other.now.book ≡ one.now.book }
     ensures { InOrder one.now.log other.now.log }
@@ -83,8 +83,9 @@ pub(crate) fn compare(one: &Front, other: &Front)
     both.learn(other);
 }
 
-/// Enters the entry after those of the front, if the book has no others. Whether it did; if not,
-/// the front has the others too. Of the front `old` entries are counted, and `new` with the entry.
+/// Enters the entry after those of the front, if the book has no others, and returns whether it
+/// did. If not, the front gets the other entries too. `old` is the count of the front's entries,
+/// and `new` the count with the entry.
 fn try_enter<E: Entering>(head: &Head, front: &mut Front, old: u64, new: u64) -> bool
     requires head { head.now ≡ head_of front.old.book }
     requires old { old ≡ counted 0 front.old.log }
@@ -102,8 +103,8 @@ fn try_enter<E: Entering>(head: &Head, front: &mut Front, old: u64, new: u64) ->
     head.compare_exchange::<EnteringStep<E>, Nothing>(old, new, front, &mut offer, &mut pen) == old
 }
 
-/// Enters the entry after those of the front, of which `old` are counted, and `new` with it. Who
-/// enters is alone, so it takes one step.
+/// Enters the entry after those of the front. `old` is the count of the front's entries, and `new`
+/// the count with the entry. Only one publisher enters entries, so this takes one step.
 pub(crate) fn enter<E: Entering, R: Wait>(
     rt: &R,
     head: &Head,

@@ -1,4 +1,4 @@
-//! The entry that a publishing adds.
+//! The entry that a publication adds.
 ghost use Rattle.history_model.specs.declared.entries.Entry.{Entry};
 ghost use Rattle.history_model.specs.declared.entries.Change.TheVariants.{Remove};
 ghost use Rattle.rd_base.specs.declared.peers.Host.TheVariants.{V4};
@@ -6,7 +6,8 @@ ghost use Rattle.std.specs.Prelude.{[]};
 
 use std::marker::Brand;
 
-/// The entry that a call of `publish` adds, which contracts alone see. The call names it.
+/// The entry that a call of [`crate::Publisher::publish`] adds, which only contracts see. The
+/// caller names it.
 pub trait Entering {
     // The entry.
     ghost entered: { Entry };

@@ -1,8 +1,8 @@
-//! The version that was published last, which a lookup reads without waiting for anybody.
+//! The latest published version, which a lookup reads without waiting.
 //!
-//! One publisher shows versions, each of which stands for one entry more than the one before it; up
-//! to sixteen lookers read the one that is shown. What a looker has seen and what a publisher tells
-//! are beginnings of one list of entries, which no code keeps: it stands in the contracts alone.
+//! One publisher publishes versions, each of which stands for one more entry than the one before
+//! it. Up to sixteen lookers read the latest. What a looker has seen and what the publisher exposes
+//! are beginnings of one list of entries. No code stores this list: it exists in contracts only.
 #![tactic(auto)]
 
 mod book;

@@ -1,4 +1,4 @@
-//! A looker: it reads what is shown, and waits for nobody.
+//! A looker: a reader of the published version, which never waits.
 ghost use Rattle.std.specs.Prelude.{◌≡◌, ◌≢◌, ◌⊎◌, ◌≤◌, List, [], true, None, is_some, IfOk};
 ghost use Rattle.std.specs.Prelude.{IfErr, IfSome, IfNone};
 ghost use Rattle.std.specs.Arc.{arc_value};
@@ -19,17 +19,17 @@ use std::marker::Model;
 use std::mem;
 use std::sync::Arc;
 
-/// Who reads what is published. Contracts see the name of its board, and the entries that it has
-/// seen.
+/// A reader of the published version. Contracts see the name of its board, and the entries that it
+/// has seen.
 #[derive(Drop)]
 pub struct Looker {
-    /// It is there between any two calls.
+    /// The reader, which is present between any two calls.
     reader: Option<BoardReader>,
     /// The entries that it has seen. They have no bytes.
     front: Front,
-    /// How many they are.
+    /// The number of these entries.
     entries: u64,
-    /// The version that stands for them, where it is kept.
+    /// The version that stands for them, if the looker stores it.
     version: Option<Arc<Directory>>,
 }
 
@@ -58,7 +58,7 @@ impl Model for Looker {
 }
 
 impl Looker {
-    /// A looker that has seen nothing.
+    /// Creates a looker that has seen nothing.
     pub(crate) fn of(reader: BoardReader, front: Front) -> Looker
         requires reader { view reader.place ≡ knowing (name_of front.book) }
         requires none { front.log ≡ [] }
@@ -72,8 +72,8 @@ impl Looker {
         }
     }
 
-    /// The version that was published last, unless the looker has one of just so many entries.
-    /// Starved where its owners are too many to count one more, or where the board has ended.
+    /// Returns the latest published version, or `None` if it has `has` entries. Returns `Starved`
+    /// if its count of owners has no room for one more, or if the board has ended.
     #[tactic(auto, using(crate::proofs::Fronts::shorter_first))]
     fn newer(&mut self, has: Option<u64>) -> Result<Option<Arc<Directory>>, Starved>
         ensures name { self.new.name ≡ self.old.name }
@@ -93,8 +93,8 @@ impl Looker {
         let Some(shown) = shown? else {
             return Ok(None);
         };
-        // What is shown is never older than what was shown before, though no clause of its readers
-        // says so.
+        // The published version is never older than what was published before, though no clause of
+        // its readers says so.
         let entries = shown.version.entries();
         if entries < self.entries {
             return Err(Starved);
@@ -106,11 +106,15 @@ impl Looker {
         Ok(Some(shown.version))
     }
 
-    /// The version that was published last, or Starved where its owners are too many to count one
-    /// more, or where the board has ended. It waits for nobody.
+    /// Returns the latest published version, without waiting.
     ///
-    /// The version has all entries that the looker had seen, and from then on the looker has seen
-    /// all of its entries.
+    /// The version has all entries that the looker has seen. From then on, the looker has seen all
+    /// entries of the version.
+    ///
+    /// # Errors
+    ///
+    /// `Starved` if the version's count of owners has no room for one more, or if the board has
+    /// ended. The looker has seen no more entries then.
     pub fn look(&mut self) -> Result<Arc<Directory>, Starved>
         ensures name { self.new.name ≡ self.old.name }
         ensures seen { IsPrefix self.old.seen self.new.seen }
@@ -126,12 +130,16 @@ impl Looker {
         Ok(version)
     }
 
-    /// The looker keeps the version that was published last, which [`Looker::version`] then gives:
-    /// where that is the one that it has, nothing is written that other lookers read. Starved as at
-    /// [`Looker::look`]. It waits for nobody.
+    /// Stores the latest published version, which [`Looker::version`] then returns, without
+    /// waiting. If the looker has that version already, it writes nothing that other lookers read.
     ///
-    /// The version has all entries that the looker had seen, and from then on the looker has seen
-    /// all of its entries.
+    /// The version has all entries that the looker has seen. From then on, the looker has seen all
+    /// entries of the version.
+    ///
+    /// # Errors
+    ///
+    /// `Starved` if the version's count of owners has no room for one more, or if the board has
+    /// ended. The looker has seen no more entries then.
     pub fn refresh(&mut self) -> Result<(), Starved>
         ensures name { self.new.name ≡ self.old.name }
         ensures seen { IsPrefix self.old.seen self.new.seen }
@@ -149,8 +157,9 @@ impl Looker {
         Ok(())
     }
 
-    /// The version that stands for what the looker has seen, where it has one: it has none before
-    /// [`Looker::refresh`], and none where [`Looker::look`] or [`Looker::meet`] showed it more.
+    /// Returns the version that stands for what the looker has seen, if the looker stores it. It
+    /// does not before [`Looker::refresh`], nor after [`Looker::look`] or [`Looker::meet`] showed
+    /// it further entries.
     pub fn version(&self) -> Option<&Arc<Directory>>
         ensures has { is_some result ≡ self.now.has }
         ensures stands { IfSome result (λ version.
@@ -161,9 +170,9 @@ impl Looker {
         self.version.as_ref()
     }
 
-    /// Reads what is shown for as long as `during` runs, as a look does whose worker the system
-    /// sets aside: until then the publishing after the next one waits, and no look of another
-    /// looker does. After the end of the board `during` does not run.
+    /// Reads the published version for as long as `during` runs, like a look whose worker the
+    /// system suspends. Until then, the publication after the next one waits, but no look of
+    /// another looker does. After the end of the board, `during` does not run.
     ///
     /// # Requires
     ///
@@ -177,11 +186,15 @@ impl Looker {
         self.reader = Some(stay(reader, during));
     }
 
-    /// The looker has seen, from then on, all that the publisher has published.
+    /// Lets the looker see all that the publisher has published.
     ///
-    /// Each beginning of what the looker had seen is also the beginning of what is published, or
-    /// has all of that as its beginning: so no version that the looker gave before has an entry
-    /// where the published one has another.
+    /// Any prefix of what the looker had seen is a prefix of what is published, or the other way
+    /// round. So no version that the looker returned before has an entry where the published one
+    /// has another.
+    ///
+    /// # Requires
+    ///
+    /// The looker and the publisher are of the same board.
     pub fn meet(&mut self, publisher: &mut Publisher)
         requires name { self.old.name ≡ publisher.old.name }
         ensures publisher { publisher.new ≡ publisher.old }

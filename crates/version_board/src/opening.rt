@@ -1,4 +1,4 @@
-//! A board is opened: its publisher and its lookers.
+//! Opening a board, with its publisher and its lookers.
 ghost use Rattle.std.specs.Prelude.{◌≡◌, ◌≤◌, ◌∷◌, [], ℕ, None, Some, IfOk, true, length};
 ghost use Rattle.std.specs.Prelude.{replicate, drop};
 ghost use Rattle.std.specs.Arc.{arc_value};
@@ -20,7 +20,7 @@ use rd_base::Starved;
 use std::alloc::Global;
 use std::sync::{Arc, Wait};
 
-/// So many lookers that have seen nothing, for the writer's board.
+/// Returns `lookers` lookers of the writer's board that have seen nothing.
 fn lookers_of(
     alloc: Global,
     writer: &mut BoardWriter,
@@ -46,8 +46,16 @@ fn lookers_of(
     Ok(made)
 }
 
-/// A board that shows `first`, with its publisher and so many lookers. It waits while the first
-/// version is shown under the board's name.
+/// Opens a board that publishes `first`, and returns its publisher and `lookers` lookers. Waits
+/// while the first version is published under the board's name.
+///
+/// # Requires
+///
+/// `lookers` is 1 to 16. `first` stands for the empty history, and was never swept.
+///
+/// # Errors
+///
+/// `Starved` if memory runs out.
 pub fn board<R: Wait>(
     alloc: Global,
     rt: &R,

@@ -1,4 +1,4 @@
-//! What is shown: a version with the entries that it stands for.
+//! The published version, with the entries that it stands for.
 ghost use Rattle.std.specs.Prelude.{◌≡◌, ◌≤◌, IfOk};
 ghost use Rattle.std.specs.Arc.{arc_value};
 ghost use Rattle.history_model.specs.Versions.{VersionStandsFor};
@@ -22,7 +22,7 @@ pub struct Published {
     ghost unswept: { (arc_value version).swept ≤ (arc_value version).at },
 }
 
-/// What two copies of what is shown have in common. No value of it is made.
+/// What two copies of a published version have in common. It exists in contracts only.
 pub struct Content {
     /// The name of the board.
     pub name: LinkedList<u64>,
@@ -33,7 +33,7 @@ pub struct Content {
 }
 
 impl Published {
-    /// A copy, which shares the version.
+    /// Returns a copy, which shares the version.
     pub(crate) fn share(&self) -> Result<Published, AllocError>
         ensures version { IfOk result (λ copy. arc_value copy.version
             ≡ arc_value self.now.version) }

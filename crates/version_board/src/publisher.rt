@@ -1,4 +1,4 @@
-//! A publisher: it shows one version after another, each with one entry more.
+//! A publisher, which publishes one version after another, each with one more entry.
 ghost use Rattle.std.specs.Prelude.{◌≡◌, ◌∷◌, ◌++◌, [], None, Some};
 ghost use Rattle.std.specs.Prelude.{IsSome, IfSome, is_some, drop};
 ghost use Rattle.history_model.specs.Replay.{counted};
@@ -19,20 +19,20 @@ use std::marker::Model;
 use std::mem;
 use std::sync::{Arc, Wait};
 
-/// Who publishes versions. Contracts see the name of its board, the entries of what is published,
-/// the version that is, and the version that is staged.
+/// The writer of a board. Contracts see the name of the board, the published entries, the published
+/// version, and the staged one.
 ///
-/// It cannot be dropped: `end` ends it.
+/// It cannot be dropped: [`Publisher::end`] ends it.
 pub struct Publisher {
-    /// It is there between any two calls.
+    /// The writer, which is present between any two calls.
     writer: Option<BoardWriter>,
-    /// The word of the board's book: the number of its entries.
+    /// The word of the board's book: the count of its entries.
     head: Head,
-    /// The entries of what is published. They have no bytes.
+    /// The published entries. They have no bytes.
     front: Front,
-    /// Their count.
+    /// The count of these entries.
     entries: u64,
-    /// The version that comes next, where one is staged.
+    /// The version to be published next, if one is staged.
     staged: Option<Arc<Directory>>,
 }
 
@@ -65,7 +65,7 @@ impl Model for Publisher {
 }
 
 impl Publisher {
-    /// The publisher of what the writer shows, without entries.
+    /// Creates the publisher of what the writer shows, without entries.
     pub(crate) fn of(writer: BoardWriter, head: Head, front: Front) -> Publisher
         requires writer { view writer.desk.place ≡ knowing (name_of front.book) }
         requires shown { writer.desk.shown.value.front.book ≡ front.book }
@@ -87,7 +87,7 @@ impl Publisher {
         }
     }
 
-    /// The entries of what is published, and their count.
+    /// Returns the published entries, and their count.
     pub(crate) fn front(&self) -> (&Front, u64)
         ensures book { name_of result.0.now.book ≡ self.now.name }
         ensures told { result.0.now.log ≡ self.now.told }
@@ -96,14 +96,14 @@ impl Publisher {
         (&self.front, self.entries)
     }
 
-    /// Whether a version is staged.
+    /// Returns whether a version is staged.
     pub fn is_staged(&self) -> bool
         ensures { result ≡ is_some self.now.staged }
     {
         self.staged.is_some()
     }
 
-    /// The version that is published. It stands for the entries that the publisher tells.
+    /// Returns the published version. It stands for the entries that the publisher exposes.
     pub fn published(&self) -> &Arc<Directory>
         ensures shown { self.now.published ≡ Some (arc_value result.now) }
         ensures stands { VersionStandsFor 0 self.now.told (arc_value result.now) }
@@ -114,8 +114,13 @@ impl Publisher {
         &writer.published().version
     }
 
-    /// Publishes the version that is staged, which has one entry more. It waits for lookers that
-    /// read the version before the last one, and cannot be refused.
+    /// Publishes the staged version. Waits for lookers that read the version before the last one.
+    /// It cannot be refused.
+    ///
+    /// # Requires
+    ///
+    /// A version is staged, and stands for the published entries and the entry that the caller's
+    /// contract names (`E`).
     pub fn publish<E: Entering, R: Wait>(&mut self, rt: &R)
         requires staged { IsSome self.old.staged }
         requires stands { IfSome self.old.staged (VersionStandsFor 0 (self.old.told
@@ -142,8 +147,8 @@ impl Publisher {
         let None = out else { unreachable!() };
     }
 
-    /// Ends the board. It waits for lookers that are reading; a look that comes later finds
-    /// nothing, and answers Starved.
+    /// Ends the board, after waiting for lookers that are reading. Any later look returns
+    /// `Starved`.
     pub fn end<R: Wait>(self, rt: &R) {
         let Publisher {
             writer: held,
@@ -168,7 +173,7 @@ impl Board for Publisher {
 
     ghost staged = { λ p. Some p.staged };
 
-    /// It takes no memory, so it never answers Starved.
+    /// Stages the version. Does not allocate, and never returns `Starved`.
     fn stage(&mut self, version: Arc<Directory>) -> Result<(), Starved> {
         self.staged = Some(version);
         Ok(())

@@ -1,4 +1,4 @@
-//! Readers of what is shown, and what they know.
+//! Readers of the published version, and what they know.
 ghost use Rattle.std.specs.Prelude.{◌≡◌, ◌≢◌, true, Ok, None, IfOk, IfErr, IfSome};
 ghost use Rattle.left_right.specs.Sides.{view};
 ghost use Rattle.version_board.specs.Names.{name_of, knowing};
@@ -10,15 +10,16 @@ use left_right::reader::{Reader, Reading};
 use rd_base::Starved;
 use std::collections::LinkedList;
 
-/// What an end of a board knows of the board's name. No value of it is made.
+/// What an end of a board knows of the board's name. It exists in contracts only.
 pub struct Known {
-    /// Whether it knows it.
+    /// Whether it knows the name.
     pub known: bool,
     /// The name.
     pub name: LinkedList<u64>,
 }
 
-/// The rule of what is shown: who knows a name knows that of the board. No value of it is made.
+/// The rule of a published version: an end that knows a name knows that of the board. It exists in
+/// contracts only.
 pub struct BoardRule;
 
 impl Protocol<Published, Known> for BoardRule {
@@ -29,7 +30,7 @@ impl Protocol<Published, Known> for BoardRule {
     ghost first = { unknown };
 }
 
-/// The step of a reader that takes what is shown.
+/// The step of a reader that takes the published version.
 struct TakeShown;
 
 impl Outcome<Published, Known> for TakeShown {
@@ -38,13 +39,13 @@ impl Outcome<Published, Known> for TakeShown {
     ghost then = { Takes };
 }
 
-/// A reader of what is shown.
+/// A reader of the published version.
 pub(crate) type BoardReader = Reader<Published, Known, BoardRule>;
 
-/// A reader with what it has taken.
+/// A reader with the version that it has taken.
 pub(crate) type BoardReading = Reading<Published, Known, BoardRule>;
 
-/// Takes what is shown. The reader comes back where the board has ended.
+/// Takes the published version. Returns the reader if the board has ended.
 pub(crate) fn take(reader: BoardReader) -> Result<BoardReading, BoardReader>
     requires known { (view reader.place).known ≡ true }
     ensures taken { IfOk result (λ reading. (view reading.place ≡ view reader.place)
@@ -54,7 +55,7 @@ pub(crate) fn take(reader: BoardReader) -> Result<BoardReading, BoardReader>
     reader.enter_as::<TakeShown>()
 }
 
-/// Reads while `during` runs, where something is shown.
+/// Reads while `during` runs, if anything is published.
 pub(crate) fn stay<F: FnOnce()>(reader: BoardReader, during: F) -> BoardReader
     requires known { (view reader.place).known ≡ true }
     requires during { F.IsAlwaysCallable during }
@@ -69,7 +70,7 @@ pub(crate) fn stay<F: FnOnce()>(reader: BoardReader, during: F) -> BoardReader
     }
 }
 
-/// A copy of what is shown, unless it has just so many entries.
+/// Returns a copy of the published version, or `None` if it has `has` entries.
 fn other_than(has: Option<u64>, shown: &Published) -> Result<Option<Published>, Starved>
     ensures front { IfOk result (λ other. IfSome other (λ copy. copy.front ≡ shown.now.front)) }
     ensures same { has ≡ None → result ≢ Ok None }
@@ -80,8 +81,8 @@ fn other_than(has: Option<u64>, shown: &Published) -> Result<Option<Published>, 
     Ok(Some(shown.share()?))
 }
 
-/// A copy of what is shown, unless it has just so many entries. Starved where there is nothing, and
-/// where its version has too many owners.
+/// Returns a copy of the published version, or `None` if it has `has` entries. Returns `Starved` if
+/// nothing is published, or if the version's count of owners has no room for one more.
 pub(crate) fn read(
     reader: BoardReader,
     mine: &Front,

@@ -1,4 +1,4 @@
-//! The writer of what is shown.
+//! The writer of published versions.
 ghost use Rattle.std.specs.Prelude.{◌≡◌, ◌≤◌, ◌∷◌, [], true, IfOk, IfSome, drop};
 ghost use Rattle.left_right.specs.Sides.{view};
 ghost use Rattle.version_board.specs.Contents.{content_of};
@@ -14,7 +14,7 @@ use rd_base::Starved;
 use std::alloc::Global;
 use std::sync::Wait;
 
-/// The first publishing, at which the writer learns the name. No value of it is made.
+/// The first publication, at which the writer learns the name. It exists in contracts only.
 struct Named;
 
 impl Outcome<Published, Known> for Named {
@@ -23,7 +23,7 @@ impl Outcome<Published, Known> for Named {
     ghost then = { Names };
 }
 
-/// A later publishing. No value of it is made.
+/// A later publication. It exists in contracts only.
 struct Shown;
 
 impl Outcome<Published, Known> for Shown {
@@ -32,7 +32,7 @@ impl Outcome<Published, Known> for Shown {
     ghost then = { Shows };
 }
 
-/// The writer tells what it knows. No value of it is made.
+/// The step in which the writer passes on what it knows. It exists in contracts only.
 struct TellReader;
 
 impl Split<Known> for TellReader {
@@ -41,7 +41,7 @@ impl Split<Known> for TellReader {
     ghost right = { λ v. v };
 }
 
-/// A reader learns what it is told. No value of it is made.
+/// The step in which a reader learns that. It exists in contracts only.
 struct LearnName;
 
 impl Join<Known> for LearnName {
@@ -52,11 +52,10 @@ impl Join<Known> for LearnName {
     ghost spent = { unknown };
 }
 
-/// The writer of what is shown.
+/// The writer of published versions.
 pub(crate) type BoardWriter = Writer<Published, Published, Known, BoardRule>;
 
-/// Shows the one version that is pending, for the first time under a name. It waits for as long as
-/// it cannot.
+/// Publishes the one pending version, for the first time under a name. Waits until it can.
 fn show_first<R: Wait>(rt: &R, mut writer: BoardWriter) -> BoardWriter
     requires pending { (next : APublished)
         × (drop writer.behind writer.log.items ≡ next ∷ [])
@@ -75,7 +74,7 @@ fn show_first<R: Wait>(rt: &R, mut writer: BoardWriter) -> BoardWriter
     unreachable!()
 }
 
-/// A writer with room for so many readers, which shows the version under a name.
+/// Creates a writer with room for `readers` readers, and publishes the version under a name.
 pub(crate) fn open_writer<R: Wait>(
     alloc: Global,
     rt: &R,
@@ -98,7 +97,7 @@ pub(crate) fn open_writer<R: Wait>(
     Ok(show_first(rt, writer))
 }
 
-/// Takes in what comes next. It waits for as long as there is no memory for it.
+/// Adds the next version as pending. Waits until there is memory for it.
 fn append<R: Wait>(rt: &R, writer: &mut BoardWriter, next: Published)
     requires none { drop writer.old.behind writer.old.log.items ≡ [] }
     ensures desk { writer.new.desk ≡ writer.old.desk }
@@ -114,7 +113,7 @@ fn append<R: Wait>(rt: &R, writer: &mut BoardWriter, next: Published)
     unreachable!()
 }
 
-/// Shows the one version that is pending. It waits for as long as it cannot.
+/// Publishes the one pending version. Waits until it can.
 fn show_pending<R: Wait>(rt: &R, mut writer: BoardWriter) -> BoardWriter
     requires name { view writer.desk.place ≡ knowing (name_of writer.desk.shown.value.front.book) }
     requires pending { (next : APublished)
@@ -136,7 +135,7 @@ fn show_pending<R: Wait>(rt: &R, mut writer: BoardWriter) -> BoardWriter
     unreachable!()
 }
 
-/// Shows what comes next, of the same board. It waits for readers of what was shown before the last
+/// Publishes the next version, of the same board. Waits for readers of the version before the last
 /// one, and for memory.
 pub(crate) fn show<R: Wait>(rt: &R, mut writer: BoardWriter, next: Published) -> BoardWriter
     requires name { view writer.desk.place ≡ knowing (name_of writer.desk.shown.value.front.book) }
@@ -150,7 +149,7 @@ pub(crate) fn show<R: Wait>(rt: &R, mut writer: BoardWriter, next: Published) ->
     show_pending(rt, writer)
 }
 
-/// A reader that knows the name, where there is a place for one.
+/// Creates a reader that knows the name, if there is room for one.
 pub(crate) fn reader(writer: &mut BoardWriter) -> Option<BoardReader>
     requires known { (view writer.old.desk.place).known ≡ true }
     ensures reader { IfSome result (λ reader. view reader.place ≡ view writer.old.desk.place) }

@@ -1,4 +1,4 @@
--- What comes of a datagram that is heard: the job that it leaves, and whether it takes memory.
+-- The result of handling a datagram: the job that it leaves, and whether it allocates.
 use Rattle.std.specs.Prelude.{
   ◌≡◌,
   ℕ,
@@ -52,7 +52,7 @@ is_starved_admission admitted.Done = false
 is_starved_admission (admitted.Held job) = false
 is_starved_admission admitted.Starved = true
 
--- the worker is left with the job of the write that is admitted, where one is
+-- the worker has the job of the write that the row admits, or no job if the row admits none
 abbrev pub IsHeldFor : Admitted → List Note → Step → ℕ → Type 0
 IsHeldFor (admitted.Held job) notes s moment =
     (mid : ℕ)
@@ -61,12 +61,12 @@ IsHeldFor (admitted.Held job) notes s moment =
 IsHeldFor admitted.Done notes s moment = list_any is_admitting notes ≡ false
 IsHeldFor admitted.Starved notes s moment = list_any is_admitting notes ≡ false
 
--- a write takes memory where it is admitted, for its job: no repeat does, none for which there is
--- no room, and none that is challenged
+-- a write allocates if it is admitted, for its job; a duplicate, a challenged write and one for
+-- which there is no room do not
 abbrev pub write_takes : List Row → ℕ → Step → Message → Bool
 write_takes rows moment s m = list_any is_admitting (write_effects (events rows) moment s m).notes
 
--- a request on a registration takes memory, by its method: a read does
+-- a request to a registration allocates, by its method: a read does
 abbrev pub served_on_location_takes : Method → List Row → ℕ → Step → Message → Bool
 served_on_location_takes get rows moment s m = true
 served_on_location_takes post rows moment s m = write_takes rows moment s m
@@ -74,7 +74,7 @@ served_on_location_takes put rows moment s m = write_takes rows moment s m
 served_on_location_takes delete rows moment s m = write_takes rows moment s m
 served_on_location_takes other_method rows moment s m = false
 
--- a request that nothing refuses takes memory, by its path
+-- a request that is not refused allocates, by its path
 abbrev pub served_takes : Path → List Row → ℕ → Step → Message → Bool
 served_takes path.Core rows moment s m = true
 served_takes path.Res rows moment s m = true
@@ -85,16 +85,16 @@ served_takes (path.Location number) rows moment s m =
     served_on_location_takes (method_of m.code) rows moment s m
 served_takes path.Other rows moment s m = false
 
--- a request takes memory; none that is refused for itself does
+-- a request allocates, unless it is refused by its content alone
 abbrev pub request_takes : Option Reply → List Row → ℕ → Step → Message → Bool
 request_takes (Some refusal) rows moment s m = false
 request_takes None rows moment s m = served_takes (path_in m) rows moment s m
 
--- a response takes memory where it belongs to a fetch
+-- a response allocates if it belongs to a fetch
 abbrev pub response_takes : List Row → Step → Message → Bool
 response_takes rows s m = is_some (fetch_of s m (events rows))
 
--- a message takes memory, by what it is for: no empty message does
+-- a message allocates, by its role: an empty message does not
 abbrev pub message_takes : Role → List Row → ℕ → Step → Message → Bool
 message_takes role.Ping rows moment s m = false
 message_takes role.Acknowledgement rows moment s m = false
@@ -103,7 +103,7 @@ message_takes role.Request rows moment s m = request_takes (refusal_of_request m
 message_takes role.Response rows moment s m = response_takes rows s m
 message_takes role.Ignored rows moment s m = false
 
--- what is read of a datagram takes memory after a journal
+-- what is read of a datagram allocates after a journal
 abbrev pub takes_memory : List Row → ℕ → Step → Result Message Unread → Bool
 takes_memory rows moment s (Err fault) = false
 takes_memory rows moment s (Ok m) = message_takes (role_of m.kind m.code) rows moment s m

@@ -1,14 +1,14 @@
--- What a desk shows beside what it keeps: its board, and what it leaves there to be published.
+-- What a desk shows besides its tables: its board, with what it leaves there to be published.
 use Rattle.std.specs.Prelude.{List, Option, IfSome}
 use Rattle.history_model.specs.declared.entries.Entry.{Entry}
 use Rattle.history_model.specs.Versions.{Version, VersionStandsFor}
 use Rattle.rd_desk.specs.calls.Desks.{Seen}
 
--- what it keeps, and the board that its versions are laid on
+-- its tables, and the board on which it stages versions
 pub record Shown (B : Type 0) : Type 0 where
   pub tables : Seen
   pub board : B
 
--- the entries that a board tells, where it tells them, are those of this version
+-- if the board exposes its entries, they are those of this version
 abbrev pub AreToldOf : Version → Option (List Entry) → Type 0
 AreToldOf version told = IfSome told (λ history. VersionStandsFor 0 history version)

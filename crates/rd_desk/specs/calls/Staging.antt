@@ -16,15 +16,15 @@ use Rattle.history_model.specs.Versions.{Version}
 use Rattle.event_model.specs.declared.notes.Note.{Note}
 use Rattle.journal_model.specs.Journal.{entry_noted}
 
--- the version that is staged after a step that made these entries and left this version: that one,
--- where it made any, and else the one before
+-- the version that is staged after a step that made these entries and left this version: this
+-- version if the step made any entry, otherwise the one staged before
 abbrev pub staged_after : List Entry → Version → Option Version → Option Version
 staged_after [] version before = before
 staged_after (entry ∷ entries) version before = Some version
 
--- where a board tells what is staged, a step with these notes that left this version leaves its
--- version staged where it made an entry, and stages nothing where it made none; and whether the
--- board tells it or not, nothing is staged after a step that made none
+-- A step with these notes left this version. If the board exposes what is staged, this version is
+-- staged if the step made an entry; otherwise nothing new is staged. On every board, nothing is
+-- staged after a step that made no entry.
 abbrev pub LeavesStaged : List Note → Version → Option (Option Version)
     → Option (Option Version)
     → Bool → Type 0

@@ -1,9 +1,9 @@
--- How a step ends that does a job, or a tick.
+-- How a step ends that does a job, a tick or a beginning.
 use Rattle.std.specs.Prelude.{Bool, true, false}
 use Rattle.rd_desk.specs.declared.steps.Stepped.{Stepped}
 use Rattle.rd_desk.specs.declared.steps.Stepped.TheVariants as stepped
 
--- it ran out of memory
+-- memory ran out
 abbrev pub is_starved_step : Stepped → Bool
 is_starved_step stepped.Done = false
 is_starved_step stepped.Starved = true

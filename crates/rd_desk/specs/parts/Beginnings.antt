@@ -1,4 +1,4 @@
--- What is ready of a beginning before anything is changed.
+-- The entry that a beginning makes ready before anything changes.
 use Rattle.std.specs.Prelude.{◌≡◌, ℕ, List, Option, Some, None}
 use Rattle.history_model.specs.declared.entries.Entry.{Entry}
 use Rattle.history_model.specs.declared.refusals.Refusal.{Refusal}
@@ -6,8 +6,8 @@ use Rattle.history_model.specs.Refusals.{change_refusal}
 use Rattle.rd_desk.specs.declared.write.outcomes.Entering.{Entering}
 use Rattle.rd_desk.specs.parts.Outcomes.{IsEntering}
 
--- of a version that is swept up to a moment, as it comes after a history: the entry of the
--- beginning is ready, and nothing where that is refused
+-- a beginning after a history, of a version that is swept up to a moment: its entry is ready, or
+-- nothing is ready because the beginning is refused
 abbrev pub IsBegun : List Entry → ℕ → Entry → Option Entering → Type 0
 IsBegun history swept entry None = (why : Refusal) × (change_refusal 0 history entry ≡ Some why)
 IsBegun history swept entry (Some e) = IsEntering history swept entry e

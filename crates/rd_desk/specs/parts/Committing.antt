@@ -1,4 +1,4 @@
--- How a write that was admitted is done: it is settled by its answer, or it fails.
+-- How an admitted write is done: its answer settles it, or it fails.
 use Rattle.std.specs.Prelude.{ℕ, Bool, true, false, [], ◌∷◌}
 use Rattle.message_model.specs.Codes as codes_of
 use Rattle.message_model.specs.Message.{Message}
@@ -8,17 +8,17 @@ use Rattle.journal_model.specs.declared.steps.Step.{Step}
 use Rattle.journal_model.specs.Effects as effects
 use Rattle.journal_model.specs.Effects.{Effects, bare, answer, answering}
 
--- a request is answered, and its write, which was admitted at a place, is settled by that
+-- the directory answers a request; the answer settles its write, which was admitted at a place
 abbrev pub answering_settled : ℕ → Step → Message → effects.Reply → Effects
 answering_settled place s m reply =
     answering s m reply (note.Settled place (spelling (answer s m reply)) ∷ [])
 
--- it is answered 5.00, and the write fails: it may come again as a new one (RFC 7252 section
+-- the directory answers 5.00 and the write fails: it may come again as a new one (RFC 7252 section
 -- 5.9.3.1)
 abbrev pub failing : ℕ → Step → Message → Effects
 failing place s m = answering s m (bare codes_of.internal_server_error) (note.Failed place ∷ [])
 
--- a write is done so, or fails where memory ran out
+-- a write is done so, or fails if memory ran out
 abbrev pub unless_failing : Bool → ℕ → Step → Message → Effects → Effects
 unless_failing true place s m e = failing place s m
 unless_failing false place s m e = e

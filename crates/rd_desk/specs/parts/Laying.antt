@@ -1,4 +1,4 @@
--- What a part of a step lays on a board, to be published after the step.
+-- What a part of a step stages on a board, to be published after the step.
 use Rattle.std.specs.Prelude.{
   ◌≡◌,
   ◌≤◌,
@@ -19,8 +19,9 @@ use Rattle.directory_core.specs.Boards.{HasOneMore}
 use Rattle.rd_desk.specs.declared.write.outcomes.Entering.{Entering}
 use Rattle.rd_desk.specs.declared.write.outcomes.Outcome.{Outcome}
 
--- a part of a step found one version and left another, beside a board: either it entered one entry
--- and laid the version with it, or it left both as they were, and nothing is staged afterwards
+-- A part of a step found one version and left another, with a board. Either it made one entry and
+-- staged the version with it, or it left version and board as they were. In the second case,
+-- nothing is staged.
 pub record IsLaid (old new : Version) (before after : Option (Option Version))
     (is_staged : Bool) : Type 0 where
   pub entered : Bool
@@ -32,21 +33,20 @@ pub record IsLaid (old new : Version) (before after : Option (Option Version))
       → HasOneMore history new
   pub free : entered ≡ false → is_staged ≡ false
 
--- the version of what is ready to be entered, where anything is, and else the one before
+-- the version of the entry that is ready, or the one staged before if none is
 abbrev pub version_ready : Option Entering → Option Version → Option Version
 version_ready None before = before
 version_ready (Some e) before = Some (arc_value e.version)
 
--- what is planned has one entry more than a history, where it makes one
+-- the outcome has one entry more than a history, if it makes one
 abbrev pub IsNextOf : List Entry → Outcome → Type 0
 IsNextOf history o = IfSome o.entering (λ e. HasOneMore history (arc_value e.version))
 
--- it was not swept after its last entry
+-- the version was not swept after its last entry
 abbrev pub IsSweptBefore : Outcome → Type 0
 IsSweptBefore o = IfSome o.entering (λ e. (arc_value e.version).swept ≤ (arc_value e.version).at)
 
--- it is done beside these versions: the one that it has is the one that is left, and where it has
--- none, that one stays
+-- the outcome leaves the new version: its own, or the old one if it makes no entry
 abbrev pub IsLeftBy : Version → Version → Option Entering → Type 0
 IsLeftBy old new None = new ≡ old
 IsLeftBy old new (Some e) = new ≡ arc_value e.version

@@ -1,5 +1,5 @@
--- Lookups and reads that the journal takes part in: what takes memory for them, and what is noted
--- of them (RFC 7959 section 2.4, RFC 7641 sections 3 and 4.1).
+-- Lookups and reads whose answers depend on the journal: what they allocate, and what they note
+-- (RFC 7959 section 2.4, RFC 7641 sections 3 and 4.1).
 use Rattle.std.specs.Prelude.{
   ◌≡◌,
   ℕ,
@@ -56,13 +56,14 @@ answer_at history moment query = record {
   tag = tag history moment;
 }
 
--- what is found in a history at a moment of what a request seeks, under its tag; none where a
--- registration is not live
+-- what a history at a moment gives to a request, under its tag; none if the registration is not
+-- live
 abbrev pub answer_found : List Entry → ℕ → Message → Option Answer
 answer_found history moment m =
     option_and_then (λ sought. answer_for sought history moment) (sought_in m)
 
--- these kept answers are others with an answer kept after them at a moment, under a peer and a key
+-- the kept answers are those before, with this answer kept after them at a moment, under a peer and
+-- a key
 abbrev pub AreWith : ℕ → Peer → List ℕ → Answer → List KeptAnswer → List KeptAnswer → Type 0
 AreWith moment peer key answer before after =
     (events : List Event) (place word : ℕ)
@@ -70,13 +71,13 @@ AreWith moment peer key answer before after =
     → AnswersStandFor
     (noted place moment word (note.Kept peer key answer.body answer.tag ∷ []) events) after
 
--- this answer is formed, to be kept or not
+-- this answer is built, to be kept or not
 pub record IsFormed (keep : Bool) (answer : Answer) (f : Formed) : Type 0 where
   pub listed : answer_listed f.listed ≡ answer
   pub kept : is_some f.ready ≡ keep
 
--- what is formed of a further block: what is found, to be kept where it has that block, and nothing
--- where nothing is found
+-- the result for a later block: the answer found, to be kept if it has that block, or nothing if
+-- nothing is found
 abbrev pub IsFormedOf : Message → Option Answer → Option Formed → Type 0
 IsFormedOf m None None = Unit {0}
 IsFormedOf m None (Some f) = ⊥
@@ -84,27 +85,27 @@ IsFormedOf m (Some answer) None = ⊥
 IsFormedOf m (Some answer) (Some f) =
     IsFormed (has_asked_block (asked_block m) answer.body) answer f
 
--- the kept answers that are ready are others with it after them
+-- the kept answers that are ready are those before, with this answer after them
 abbrev pub IsReadied : ℕ → Peer → List ℕ → List KeptAnswer → Formed → Type 0
 IsReadied moment peer key before f =
     IfSome f.ready (AreWith moment peer key (answer_listed f.listed) before)
 
--- what is noted of an answer, where it is kept
+-- what is noted of an answer, if it is kept
 abbrev pub kept_if : Bool → Step → Message → Answer → List Note
 kept_if true s m answer = note.Kept s.peer (key_in m) answer.body answer.tag ∷ []
 kept_if false s m answer = []
 
--- the block of an answer that is asked for is sent, and the answer is kept or not
+-- the requested block of an answer is sent, and the answer is kept or not
 abbrev pub giving : Bool → Option ℕ → Step → Message → Answer → Effects
 giving keep observe s m answer =
     answering s m (body_reply (Some answer.tag) observe (asked_block m) answer.body)
     (kept_if keep s m answer)
 
--- the next Observe value, where one is given
+-- the next Observe value, if one is given
 abbrev pub value_given : Bool → List Event → Option ℕ
 value_given added events = if added then Some (observe_value events) else None
 
--- who asks to observe, by the request, and the body that it is answered with
+-- the client that asks to observe, by its request, and the body of the answer
 pub record IsJoining (peer : Peer) (m : Message) (octets : List ℕ) (j : Joining) : Type 0 where
   pub peer_is : j.peer ≡ peer
   pub token : j.token ≡ m.token
@@ -112,7 +113,7 @@ pub record IsJoining (peer : Peer) (m : Message) (octets : List ℕ) (j : Joinin
   pub szx : j.szx ≡ szx_of (asked_block m)
   pub body : arc_value j.body ≡ octets
 
--- a further block of the answer that is kept under a peer and a key was sent, which is a use of it
+-- a later block of the answer kept under a peer and a key was sent, which is a use of it
 pub record IsUsed (at moment : ℕ) (peer : Peer) (key : List ℕ) (m : Message) (events : List Event)
     (after : Table) (out sent : List (Peer × List ℕ)) (mids_before mids : Mids) : Type 0 where
   pub answer : Answer
@@ -126,12 +127,12 @@ pub record IsUsed (at moment : ℕ) (peer : Peer) (key : List ℕ) (m : Message)
       → e.moment ≡ moment
       → TransfersStandFor at (e ∷ events) after
 
--- a further block of what a request seeks; out of memory it is answered 5.00
+-- a later block of what a request seeks; out of memory, the answer is 5.00
 abbrev pub later_heard : Bool → List Row → Step → Message → Effects
 later_heard true rows s m = without_memory s m
 later_heard false rows s m = later_block rows (row_moment rows s) s m
 
--- a lookup that the journal takes part in; out of memory it is answered 5.00
+-- a lookup whose answer depends on the journal; out of memory, the answer is 5.00
 abbrev pub lookup_heard : Bool → List Row → Step → Message → Effects
 lookup_heard true rows s m = without_memory s m
 lookup_heard false rows s m = lookup_effects rows (row_moment rows s) s m

@@ -1,5 +1,5 @@
--- What a tick does with the notice in flight to an observer, and which observer comes next (RFC
--- 7641 sections 1.3 and 4.5).
+-- What a tick does with the notification in flight to an observer, and which observer comes next
+-- (RFC 7641 sections 1.3 and 4.5).
 use Rattle.std.specs.Prelude.{ℕ, ◌+◌, Bool, true, false, [], ◌∷◌, Option, Some}
 use Rattle.event_model.specs.declared.notes.Note.TheVariants as note
 use Rattle.event_model.specs.Flights.{Sent}
@@ -9,18 +9,18 @@ use Rattle.journal_model.specs.Effects.{Effects, nothing, noting}
 use Rattle.observers.specs.Standing.{Standing, due_of}
 use Rattle.observation.specs.Notices.{sending_again}
 
--- what a tick does with the notice in flight to an observer, by what is due of it: nothing, or it
--- is sent again, or the observer is given up (RFC 7641 section 4.5)
+-- what a tick does with the notification in flight to an observer, by what is due of it: nothing, a
+-- retransmission, or the removal of the observer (RFC 7641 section 4.5)
 abbrev pub again_as : Again → Standing → Option Sent → Effects
 again_as again.Send x (Some sent) = sending_again x sent
 again_as again.GaveUp x (Some sent) = noting (note.Unwatched x.peer x.token ∷ [])
 again_as _ x flight = nothing
 
--- so at a moment
+-- the same at a moment
 abbrev pub again_done : ℕ → Standing → Effects
 again_done now x = again_as (due_of now x.flight) x x.flight
 
--- the index of the next, after one that stays or is taken out
+-- the index of the next observer, after one that stays or is removed
 abbrev pub index_after : Bool → ℕ → ℕ
 index_after true index = index + 1
 index_after false index = index

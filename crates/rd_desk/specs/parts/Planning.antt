@@ -1,4 +1,4 @@
--- What is planned of the notices of a tick before anything changes, and how the plan is carried out
+-- What a tick plans of its notifications before anything changes, and how it carries out the plan
 -- (RFC 7641 sections 1.3 and 4.2).
 use Rattle.std.specs.Prelude.{
   ◌≡◌,
@@ -68,31 +68,31 @@ use Rattle.rd_desk.specs.declared.tick.planning.Planned.TheVariants as planned
 use Rattle.rd_desk.specs.calls.Desks.{Seen}
 use Rattle.rd_desk.specs.parts.UnderWay.{UnderWay}
 
--- ---- one notice
+-- ---- one notification
 
--- the block that an observer gets, by the exponent of the size that it asked for: the first, of a
--- size that there is (RFC 7959 section 2.2)
+-- the block that an observer gets, by the exponent of the size that it requested: the first, of a
+-- size that exists (RFC 7959 section 2.2)
 abbrev pub block_of_notice : ℕ → Option Block
 block_of_notice szx = Some (record { num = 0; more = false; szx = if nat_lt szx 6 then szx else 6 })
 
--- the block that a notice names: the first, where its body is longer than that
+-- the block that a notification names: the first, if its body is longer than that
 abbrev pub block_named : ℕ → List ℕ → Option Block
 block_named szx body = if is_long (block_of_notice szx) body then block_of_notice szx else None
 
--- the octets of a notice to an observer, with a body
+-- the octets of a notification to an observer, with a body
 abbrev pub notice_spelled : Standing → List ℕ → ℕ → ℕ → List ℕ → List ℕ
 notice_spelled x current mid observe body =
     spelling (notice_saying mid x.token
     (body_reply (Some current) (Some observe) (block_named x.szx body) body))
 
--- the answer that is kept of it: where its body is longer than the block
+-- the answer that is kept of it, if its body is longer than the block
 abbrev pub kept_by : Standing → List ℕ → List ℕ → List NamedAnswer
 kept_by x body current =
     if is_long (block_of_notice x.szx) body
     then record { name = (x.peer, x.key); answer = record { body = body; tag = current } } ∷ []
     else []
 
--- a notice to an observer is planned beside others
+-- a notification to an observer is added to a plan
 pub record AddsNotice (x : Standing) (now word : ℕ) (current body : List ℕ) (mid observe : ℕ)
     (sent : Sent) (before after : Plan) : Type 0 where
   pub mid_is : sent.mid ≡ mid
@@ -105,9 +105,9 @@ pub record AddsNotice (x : Standing) (now word : ℕ) (current body : List ℕ) 
   pub peers : after.peers.items ≡ before.peers.items ++ x.peer ∷ []
   pub kept : after.kept.items ≡ before.kept.items ++ kept_by x body current
 
--- ---- a plan that is carried out
+-- ---- carrying out a plan
 
--- a notice with a body is formed for an observer: it is sent and noted, and draws a Message ID
+-- a notification with a body is built for an observer: it is sent and noted, and draws a Message ID
 abbrev pub forming_for : Observer → List ℕ → Sent → Effects
 forming_for o body sent = record {
   sent = (o.peer, sent.octets) ∷ [];
@@ -115,19 +115,19 @@ forming_for o body sent = record {
   drew = 1;
 }
 
--- the answer that is kept of a notice to an observer
+-- the answer that is kept of a notification to an observer
 abbrev pub kept_of : Observer → List ℕ → List ℕ → List NamedAnswer
 kept_of o body current =
     if is_long (first_block o) body
     then record { name = (o.peer, o.key); answer = record { body = body; tag = current } } ∷ []
     else []
 
--- the note that it is kept
+-- the note of keeping it
 abbrev pub keeping_noted : List NamedAnswer → Effects
 keeping_noted [] = noting []
 keeping_noted (a ∷ more) = noting (note.Kept a.name.0 a.name.1 a.answer.body a.answer.tag ∷ [])
 
--- what is done for an observer as it is planned, where listings have this tag
+-- what is done for an observer as planned, if listings have this tag
 abbrev pub planned_done : List ℕ → Observer → Planned → Effects
 planned_done current o planned.Unchanged = noting (note.Unchanged o.peer o.token ∷ [])
 planned_done current o (planned.Noticed sent body) =
@@ -139,8 +139,9 @@ abbrev pub planned_kept : List ℕ → Observer → Planned → List NamedAnswer
 planned_kept current o planned.Unchanged = []
 planned_kept current o (planned.Noticed sent body) = kept_of o (arc_value body) current
 
--- a notice may be sent to an observer in a row that did this so far: no such message was sent
--- before, it is confirmable, it waits from this row on, and it is no longer than a datagram may be
+-- A notification may be sent to an observer in a row that did this so far. The row has not sent a
+-- confirmable message with its Message ID to that peer. The notification is confirmable, its
+-- timeout starts in this row, and it is no longer than a datagram may be.
 pub record MayBeSent (rows : List Row) (s : Step) (done : Effects) (o : Observer) (sent : Sent) :
     Type 0 where
   pub unsent :
@@ -152,13 +153,13 @@ pub record MayBeSent (rows : List Row) (s : Step) (done : Effects) (o : Observer
       → Resends first [] sent.resend
   pub short : length sent.octets ≤ 1_280
 
--- so it is of what is planned
+-- the same of what is planned
 abbrev pub MayBeDone : List Row → Step → Effects → Observer → Planned → Type 0
 MayBeDone rows s done o planned.Unchanged = Unit {0}
 MayBeDone rows s done o (planned.Noticed sent body) = MayBeSent rows s done o sent
 
--- the next observer from an index on that is due and free, after what the row did so far, and that
--- it may be done for it as it is planned
+-- the next observer from an index on that is due and free, after what the row did so far; and what
+-- is planned may be done for it
 pub record IsNext (rows : List Row) (s : Step) (starved : Bool) (done : Effects) (from : ℕ)
     (p : Planned) : Type 0 where
   pub index : ℕ
@@ -171,8 +172,8 @@ pub record IsNext (rows : List Row) (s : Step) (starved : Bool) (done : Effects)
   pub may : MayBeDone rows s done observer p
   pub room : length done.sent < 1_152
 
--- what is planned is, one after the other, all that a row does after what it did so far; and these
--- answers are kept
+-- the planned items, one after the other, are all that a row does after what it did so far; and
+-- these answers are kept
 abbrev pub AreDone : List Row
     → Step
     → Bool
@@ -191,9 +192,10 @@ AreDone rows s starved current whole done from (p ∷ ps) kept =
     × AreDone rows s starved current whole (joined done (planned_done current it.observer p))
     (it.index + 1) ps later
 
--- A plan is made up to an observer, after notices were sent again. It would leave the observers so,
--- who stand for the journal with the row so far and are those that they were; the notices are to
--- these peers, and whoever comes next is as before.
+-- A plan is made up to an observer, after the retransmissions of notifications. It would leave
+-- these observers, which stand for the journal with the row so far and are the same clients as
+-- before. The plan's notifications are to these peers, and the observers from this index on are
+-- unchanged.
 pub record PlannedUpTo (rows : List Row) (s : Step) (starved : Bool) (current : List ℕ)
     (whole first : Effects) (ws : List Standing) (given : ℕ) (p : Plan)
     (from : ℕ) : Type 0 where
@@ -240,7 +242,8 @@ pub record CarryingOut (rows : List Row) (s : Step) (starved : Bool) (current : 
   pub plan : AreDone rows s starved current whole done from ps kept
   pub becomes : kept_each (row_moment rows s) kept answers ≡ ready
 
--- what a row does with notices: new ones after those that are sent again; out of memory these alone
+-- what a row does with notifications: retransmissions, then new ones; out of memory, only the
+-- retransmissions
 abbrev pub notices_done : Bool → List Row → Step → Effects
 notices_done true rows s = notices_again rows (row_moment rows s)
 notices_done false rows s =

@@ -1,11 +1,11 @@
--- What is said of a write that is answered.
+-- Answers to writes.
 use Rattle.std.specs.Prelude.{false, None}
 use Rattle.journal_model.specs.Effects as effects
 use Rattle.coap_answers.specs.declared.replies.Reply.{Reply}
 use Rattle.coap_answers.specs.Replies.{reply_said}
 use Rattle.rd_desk.specs.declared.write.replies.ShortReply.{ShortReply}
 
--- as a reply: without a tag, an Observe value, a format and a block of its own
+-- the answer as a reply: without tag, Observe value, format and Block2
 abbrev pub as_reply : ShortReply → Reply
 as_reply r = record {
   code = r.code;
@@ -18,6 +18,6 @@ as_reply r = record {
   payload = r.diagnostic;
 }
 
--- what it says
+-- what the answer says
 abbrev pub short_said : ShortReply → effects.Reply
 short_said r = reply_said (as_reply r)

@@ -18,8 +18,8 @@ use Rattle.coap_answers.specs.Outboxes.{most_datagrams}
 use Rattle.rd_desk.specs.calls.Desks.{Seen}
 use Rattle.rd_desk.specs.parts.UnderWay.{UnderWay}
 
--- the fetch with a peer is as it was before the row that is being made: it made the same last
--- request, and the same is due of it
+-- the fetch with a peer is as it was before the current row: its last request is the same, and the
+-- same is due of it
 pub record IsAsBefore (rows : List Row) (s : Step) (starved : Bool) (done : Effects) (peer : Peer) :
     Type 0 where
   pub request :
@@ -28,13 +28,13 @@ pub record IsAsBefore (rows : List Row) (s : Step) (starved : Bool) (done : Effe
       → fetch_due (row_moment rows s) peer e (events (making rows s starved done))
       ≡ fetch_due (row_moment rows s) peer e (events rows)
 
--- what the row did so far leaves all fetches
+-- what the row did so far leaves all fetches unchanged
 pub record LeavesFetches (rows : List Row) (s : Step) (starved : Bool) (done : Effects) : Type 0
   where
     pub running : fetches (events (making rows s starved done)) ≡ fetches (events rows)
     pub same : (peer : Peer) → IsAsBefore rows s starved done peer
 
--- the fetches that are left from an index on
+-- the fetches from an index on
 abbrev pub fetches_left : List Row → Step → Bool → Effects → ℕ → List Peer
 fetches_left rows s starved done index = drop index (fetches (events (making rows s starved done)))
 
@@ -43,9 +43,9 @@ abbrev pub request_done : List Row → Step → Peer → Effects
 request_done rows s peer =
     fetch_again rows (row_moment rows s) peer (last_request peer (events rows))
 
--- After what the row did first, the requests of the fetches before an index are done with: what is
--- left of them comes next, at most so many, each as it was before the row, and the outbox has room
--- for a request to each.
+-- After what the row did first, the requests of the fetches before an index are done. The remaining
+-- fetches come next, at most `most`. Each is as it was before the row, and the outbox has room for
+-- a request to each.
 pub record Resending (rows : List Row) (s : Step) (starved : Bool) (first : Effects) (desk : Seen)
     (out : List (Peer × List ℕ)) (mids : Mids) (index most : ℕ) : Type 0 where
   pub done : Effects

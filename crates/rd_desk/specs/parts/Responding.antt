@@ -1,5 +1,4 @@
--- What a response to a fetch does where memory suffices, and where it ran out (RFC 9176 section
--- 5.1).
+-- What a response to a fetch does if memory suffices, and if it ran out (RFC 9176 section 5.1).
 use Rattle.std.specs.Prelude.{Bool, true, false, List, [], ◌∷◌}
 use Rattle.message_model.specs.Message.{Message}
 use Rattle.event_model.specs.declared.notes.Note.{Note}
@@ -10,16 +9,16 @@ use Rattle.journal_model.specs.Responses.{response_effects}
 use Rattle.journal_model.specs.Rows.{row_moment}
 use Rattle.simple_registration.specs.declared.asks.Ask.{Ask}
 
--- this is done, and out of memory nothing
+-- these effects; out of memory, none
 abbrev pub unless_starved : Bool → Effects → Effects
 unless_starved true e = nothing
 unless_starved false e = e
 
--- a response that is heard
+-- a response that arrives
 abbrev pub response_heard : Bool → List Row → Step → Message → Effects
 response_heard starved rows s m =
     unless_starved starved (response_effects rows (row_moment rows s) s m)
 
--- the next request of a fetch is sent, which draws a Message ID, and this is noted
+-- the next request of a fetch is sent, draws a Message ID, and has these notes
 abbrev pub asking_next : Ask → List Note → Effects
 asking_next ask notes = record { sent = (ask.peer, ask.bytes) ∷ []; notes = notes; drew = 1 }

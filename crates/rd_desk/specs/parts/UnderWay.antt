@@ -1,4 +1,4 @@
--- A step under way: what was done of its row so far, and the desk, the outbox and the Message IDs
+-- A step in progress: what was done of its row so far, and the desk, the outbox and the Message IDs
 -- after that.
 use Rattle.std.specs.Prelude.{◌≡◌, ℕ, Bool, false, List}
 use Rattle.rd_base.specs.declared.peers.Peer.{Peer}
@@ -12,9 +12,9 @@ use Rattle.coap_answers.specs.declared.mids.Mids.{Mids}
 use Rattle.coap_answers.specs.Sendings.{AreRequestsSent}
 use Rattle.rd_desk.specs.calls.Desks.{Seen, StandsFor}
 
--- the step is under way after a journal of a desk: the desk stands for the journal with a row that
--- did this so far, which is what was sent and drawn; the requests of fetches that the row noted are
--- among what it sent
+-- The step is in progress after a journal of a desk. The desk stands for the journal with a row
+-- that did this so far, and the outbox and the Message IDs agree with it. The row sent the requests
+-- of fetches that it noted.
 pub record UnderWay (rows : List Row) (s : Step) (starved : Bool) (done : Effects) (desk : Seen)
     (out : List (Peer × List ℕ)) (mids : Mids) : Type 0 where
   pub journal : IsDeskJournal rows

@@ -1,4 +1,4 @@
-//! Datagrams as they are heard by a desk: all but those that only look (RFC 7252 section 4).
+//! Datagrams that a desk handles: all except looks (RFC 7252 section 4).
 ghost use Rattle.std.specs.Prelude.{◌≡◌, ◌≤◌, ◌^◌, Bool, false, [], List};
 ghost use Rattle.message_model.specs.Reading.{reading};
 ghost use Rattle.journal_model.specs.declared.steps.Step.{Step};
@@ -25,7 +25,7 @@ use coap_message::Kind4;
 use directory_core::Board;
 use rd_request::Incoming;
 
-/// What comes of a datagram that leaves no job.
+/// Returns the result of a datagram that leaves no job.
 fn without_job(stepped: Stepped) -> Admitted
     ensures { result ≡ jobless stepped }
 {
@@ -36,7 +36,7 @@ fn without_job(stepped: Stepped) -> Admitted
 }
 
 impl Tables {
-    /// A datagram that does not only look, by what it is (RFC 7252 section 4).
+    /// Handles a datagram that is not a look, by what it is (RFC 7252 section 4).
     fn hear<B: Board>(
         &mut self,
         board: &mut B,
@@ -108,11 +108,13 @@ impl Tables {
         }
     }
 
-    /// The step that hears a datagram which does not only look ([`is_look`](crate::is_look)), at a
-    /// moment that is at most 10^15; one below that of the tables is lifted to it. `out` is empty.
-    /// A write that is admitted leaves the worker with a job. What is refused for itself, what is
-    /// no request and no response, a response that belongs to no fetch, a repeat of a write, one
-    /// for which there is no room, and one that is challenged take no memory.
+    /// Does the step that handles a datagram that is not a look ([`is_look`](crate::is_look)). The
+    /// moment is at most 10^15; one earlier than the tables' moment is raised to it. `out` is
+    /// empty. An admitted write leaves a job to the worker.
+    ///
+    /// These do not allocate: a request that is refused by its content alone, a datagram that is
+    /// neither request nor response, and a response that belongs to no fetch. Nor does a write that
+    /// is a duplicate, that is challenged, or for which there is no room.
     pub(crate) fn admit<B: Board>(
         &mut self,
         board: &mut B,

@@ -1,5 +1,4 @@
-//! Empty acknowledgements and Resets as they are heard (RFC 7252 section 4.2, RFC 7641 section
-//! 3.6).
+//! Empty acknowledgements and Resets (RFC 7252 section 4.2, RFC 7641 section 3.6).
 ghost use Rattle.std.specs.Prelude.{◌≡◌, ℕ, Bool, List};
 ghost use Rattle.rd_base.specs.declared.peers.Peer.{Peer};
 ghost use Rattle.journal_model.specs.declared.steps.Step.{Step};
@@ -14,8 +13,9 @@ use crate::tables::Tables;
 use rd_base::Peer;
 
 impl Tables {
-    /// An empty acknowledgement of a peer with a Message ID: it ends the flight of the notice that
-    /// it is of, or it makes the fetch wait for a response that comes apart. Takes no memory.
+    /// Records that a peer acknowledged the message with this Message ID, without a response. A
+    /// notification is no longer in flight, or the fetch waits for a separate response. Does not
+    /// allocate.
     pub(crate) fn acknowledge(&mut self, peer: Peer, mid: u16)
         ensures way { (rows : List Row) (s : Step) (starved : Bool) (out : List (Peer
             × List ℕ)) (mids : Mids)
@@ -29,8 +29,8 @@ impl Tables {
         let _waits = self.fetches.acked(&peer, mid);
     }
 
-    /// A Reset of a peer with a Message ID: it removes the observer whose notice it is of, or it
-    /// ends the fetch. Takes no memory.
+    /// Handles a Reset of the message with this Message ID. Removes the observer if it is a
+    /// notification to it, or ends the fetch. Does not allocate.
     pub(crate) fn reset(&mut self, peer: Peer, mid: u16)
         ensures way { (rows : List Row) (s : Step) (starved : Bool) (out : List (Peer
             × List ℕ)) (mids : Mids)

@@ -1,4 +1,5 @@
-//! The answer to a request that is refused for itself (RFC 7252 sections 5.4.1 and 5.5.2).
+//! Answers to requests that are refused by their content alone (RFC 7252 sections 5.4.1 and
+//! 5.5.2).
 ghost use Rattle.std.specs.Prelude.{◌≡◌, ◌<◌, length};
 ghost use Rattle.message_model.specs.OptionTable.{first_bad_option};
 ghost use Rattle.coap_message.specs.Views.{message_in};
@@ -16,7 +17,7 @@ use coap_options::Refusal;
 use rd_base::Peer;
 use rd_request::Refused;
 
-/// What is said of a refusal.
+/// Returns the response for a refusal.
 fn reply_to(refused: Refused) -> Reply<'static>
     ensures said { reply_said result ≡ refused_with refused }
     ensures reply { IsReply result }
@@ -31,8 +32,8 @@ fn reply_to(refused: Refused) -> Reply<'static>
     }
 }
 
-/// Whether nothing is answered: an unrecognized critical option in a message that is not
-/// confirmable (RFC 7252 section 5.4.1).
+/// Returns whether a refused request is ignored: it has an unrecognized critical option, and its
+/// message is non-confirmable (RFC 7252 section 5.4.1).
 fn is_passed_over(kind: Kind4, refused: &Refused) -> bool
     ensures { result ≡ is_passed_over kind refused.now }
 {
@@ -42,7 +43,7 @@ fn is_passed_over(kind: Kind4, refused: &Refused) -> bool
     }
 }
 
-/// A request is refused.
+/// Refuses a request.
 pub(crate) fn refuse(
     mids: &mut Mids,
     peer: Peer,

@@ -1,5 +1,5 @@
-//! Responses to the fetches of simple registrations, as they are heard (RFC 9176 section 5.1, RFC
-//! 7252 sections 4.2 and 5.2.2).
+//! Responses to the fetches of simple registrations (RFC 9176 section 5.1, RFC 7252 sections 4.2
+//! and 5.2.2).
 ghost use Rattle.std.specs.Prelude.{◌≡◌, ◌<◌, ◌≤◌, ◌+◌, ◌∷◌, [], true, ℕ, Bool, List, Some};
 ghost use Rattle.std.specs.Prelude.{None, IfSome, is_some, length, false, if◌then◌else◌};
 ghost use Rattle.rd_base.specs.declared.peers.Peer.{Peer};
@@ -44,8 +44,8 @@ use directory_core::Board;
 use rd_base::{Bytes, Peer, RegParams};
 use simple_registration::{Ask, Fetches, Heard};
 
-/// A response that belongs to no fetch: a confirmable one is rejected by a Reset, and another is
-/// ignored (RFC 7252 section 4.2).
+/// Rejects a confirmable response that belongs to no fetch by a Reset, and ignores any other (RFC
+/// 7252 section 4.2).
 fn reject_strange(peer: Peer, view: &View<'_>, out: &mut Outbox)
     requires { length out.old < most_datagrams }
     ensures { (s : Step) (mids : Mids)
@@ -61,8 +61,7 @@ fn reject_strange(peer: Peer, view: &View<'_>, out: &mut Outbox)
     }
 }
 
-/// A response that belongs to a fetch is acknowledged where it is confirmable (RFC 7252 section
-/// 5.2.2).
+/// Acknowledges a response that belongs to a fetch, if it is confirmable (RFC 7252 section 5.2.2).
 fn acknowledge_response(peer: Peer, view: &View<'_>, out: &mut Outbox)
     requires room { length out.old < most_datagrams }
     ensures sends { (s : Step) (mids : Mids)
@@ -79,8 +78,8 @@ fn acknowledge_response(peer: Peer, view: &View<'_>, out: &mut Outbox)
     }
 }
 
-/// What a response means that is to the last request of the fetch of a peer; none where it is to
-/// none, as where it has an unrecognized critical option (RFC 7252 section 5.3.2).
+/// Returns the meaning of a response to the last request of the fetch of a peer. Returns `None` if
+/// it belongs to no fetch or has an unrecognized critical option (RFC 7252 section 5.3.2).
 fn answered<'a>(fetches: &Fetches, peer: &Peer, view: &View<'a>) -> Option<Meaning<'a>>
     ensures fetch { (octets : OctetsSent) (events : List Event) (s : Step)
         → FetchesStandFor octets events fetches.now
@@ -101,7 +100,7 @@ fn answered<'a>(fetches: &Fetches, peer: &Peer, view: &View<'a>) -> Option<Meani
     }
 }
 
-/// The next request of a fetch is sent, under the next Message ID.
+/// Sends the next request of a fetch, under the next Message ID.
 pub(crate) fn ask_next(mids: &mut Mids, ask: &Ask, out: &mut Outbox)
     requires room { length out.old < most_datagrams }
     requires fits { length ask.now.bytes ≤ longest_datagram }
@@ -116,8 +115,8 @@ pub(crate) fn ask_next(mids: &mut Mids, ask: &Ask, out: &mut Outbox)
 }
 
 impl Tables {
-    /// What was planned of a registration is done: its entry is made where it is accepted, and a
-    /// refused one is silent. Takes no memory.
+    /// Does what is planned of a registration: makes its entry if it is accepted. A refusal is
+    /// silent. Does not allocate.
     fn register_fetched(&mut self, planned: Outcome)
         requires { IsTimely self.old.moment planned }
         ensures way { (rows : List Row) (s : Step) (starved : Bool) (done : Effects)
@@ -137,8 +136,8 @@ impl Tables {
         }
     }
 
-    /// A response completes the body of the fetch of its peer: that is registered, or refused in
-    /// silence, and the fetch ends. What takes memory comes before anything changes.
+    /// Registers the body that a response completes, or refuses it silently, and ends the fetch.
+    /// Everything that allocates comes before anything changes.
     fn complete_fetch<B: Board>(
         &mut self,
         board: &mut B,
@@ -183,7 +182,7 @@ impl Tables {
         Stepped::Done
     }
 
-    /// A response to the last request of the fetch of its peer, by what comes of it (RFC 7959
+    /// Handles a response to the last request of the fetch of its peer, by its result (RFC 7959
     /// section 2.4).
     fn hear_answer<B: Board>(
         &mut self,
@@ -246,10 +245,10 @@ impl Tables {
         }
     }
 
-    /// A response that is heard: one that belongs to no fetch is rejected or ignored; of one that
-    /// does, the next block is asked for, or the whole body is registered, or the fetch ends (RFC
-    /// 9176 section 5.1). Its first wait is made from the word. `Starved`: out of memory; then
-    /// nothing is done. One that belongs to no fetch takes no memory.
+    /// Handles a response (RFC 9176 section 5.1). Rejects or ignores one that belongs to no fetch,
+    /// which does not allocate. Otherwise requests the next block, registers the whole body, or
+    /// ends the fetch. `word` determines the initial timeout of a request. After `Starved`, nothing
+    /// has been done.
     pub(crate) fn hear_response<B: Board>(
         &mut self,
         board: &mut B,

@@ -1,4 +1,4 @@
-//! Datagrams that are no messages (RFC 7252 sections 3 and 4.2).
+//! Datagrams that are not messages (RFC 7252 sections 3 and 4.2).
 ghost use Rattle.std.specs.Prelude.{◌≡◌, ◌<◌, length};
 ghost use Rattle.journal_model.specs.declared.steps.Step.{Step};
 ghost use Rattle.journal_model.specs.Rows.{unread_answered};
@@ -11,8 +11,8 @@ use coap_answers::send_empty;
 use coap_message::{Kind4, Unread};
 use rd_base::Peer;
 
-/// A confirmable message with a format error is rejected by a Reset. What else is no message is
-/// passed over.
+/// Rejects a confirmable message with a format error by a Reset. Ignores anything else that is not
+/// a message.
 pub(crate) fn reject(peer: Peer, fault: Unread, out: &mut Outbox)
     requires { length out.old < most_datagrams }
     ensures { (s : Step) (mids : Mids)

@@ -1,4 +1,4 @@
-//! Writes as they are heard (RFC 7252 sections 4.2 and 4.5, RFC 9175 section 2.3).
+//! Writes as they arrive (RFC 7252 sections 4.2 and 4.5, RFC 9175 section 2.3).
 ghost use Rattle.std.specs.Prelude.{◌≡◌, ◌<◌, ℕ, Bool, true, false, [], ◌∷◌};
 ghost use Rattle.std.specs.Prelude.{List, length};
 ghost use Rattle.std.specs.Prelude.{if◌then◌else◌, Ok};
@@ -36,8 +36,9 @@ use exchange_core::Keyed;
 use rd_base::Peer;
 use rd_request::{KeptRequest, Request, Resource};
 
-/// A write that is not admitted: a repeat gets the octets of the first answer, or nothing while
-/// that is in flight; and one for which there is no room is refused (RFC 7252 section 4.5).
+/// Answers a write that is not admitted (RFC 7252 section 4.5). A duplicate gets the octets of the
+/// first answer, or nothing while the write is in progress. A write for which there is no room is
+/// refused.
 fn answer_unadmitted(mids: &mut Mids, peer: Peer, view: &View<'_>, keyed: Keyed, out: &mut Outbox)
     requires room { length out.old < most_datagrams }
     ensures sends { (s : Step)
@@ -56,8 +57,8 @@ fn answer_unadmitted(mids: &mut Mids, peer: Peer, view: &View<'_>, keyed: Keyed,
     }
 }
 
-/// Whether the directory would send requests to who makes a request: it is a simple registration
-/// (RFC 9176 section 5.1).
+/// Returns whether the directory would send requests to the sender: the request is a simple
+/// registration (RFC 9176 section 5.1).
 fn is_fetched_for(resource: &Resource) -> bool
     ensures { (path : Path)
         → is_at resource.now path ≡ true
@@ -72,8 +73,8 @@ fn is_fetched_for(resource: &Resource) -> bool
 }
 
 impl Tables {
-    /// Whether a write has to show first that its peer receives at its address: it is a simple
-    /// registration, and has no Echo that is good now (RFC 9175 sections 2.3 and 2.6).
+    /// Returns whether a write has yet to prove that its peer receives at its address: it is a
+    /// simple registration without an Echo value that is good now (RFC 9175 sections 2.3 and 2.6).
     fn is_unproved(&self, peer: &Peer, request: &Request<'_>) -> bool
         ensures { (rows : List Row) (s : Step) (starved : Bool) (out : List (Peer
             × List ℕ)) (mids : Mids)
@@ -91,8 +92,8 @@ impl Tables {
         }
     }
 
-    /// A write that has to show first that its peer receives at its address repeats another, or
-    /// there is no room for it, or it is challenged (RFC 9175 section 2.3). Takes no memory.
+    /// Handles a write that has yet to prove its peer's address: it is a duplicate, or there is no
+    /// room for it, or it is challenged (RFC 9175 section 2.3). Does not allocate.
     fn challenge_write(
         &mut self,
         word: u32,
@@ -129,8 +130,8 @@ impl Tables {
         answer_unadmitted(mids, peer, view, keyed, out);
     }
 
-    /// A write that has nothing to show first repeats another, or there is no room for it, or it is
-    /// admitted. Whether it is admitted. Takes no memory.
+    /// Handles a write that has nothing to prove: it is a duplicate, or there is no room for it, or
+    /// it is admitted. Returns whether it is admitted. Does not allocate.
     fn admit_write(
         &mut self,
         mids: &mut Mids,
@@ -164,9 +165,9 @@ impl Tables {
         false
     }
 
-    /// A write that nothing refuses. One that is admitted leaves a job with its request;
-    /// where there is no memory for that, it is forgotten again. What is not admitted takes no
-    /// memory. The value of a challenge is made from the word.
+    /// Handles a write that is not refused by its content alone. If it is admitted, it leaves a
+    /// job with its request. If there is no memory for the job, the write is forgotten again. A
+    /// write that is not admitted does not allocate. `word` determines the value of a challenge.
     pub(crate) fn hear_write(
         &mut self,
         word: u32,

@@ -1,4 +1,4 @@
-//! Listings and sources that looks formed are kept for their further blocks (RFC 7959 section 2.4).
+//! Listings and sources that looks built, kept for their later blocks (RFC 7959 section 2.4).
 ghost use Rattle.std.specs.Prelude.{◌≡◌, ◌<◌, ◌≤◌, ◌^◌, ℕ, [], ◌∷◌, List, length, IfOk};
 ghost use Rattle.std.specs.Arc.{arc_value};
 ghost use Rattle.message_model.specs.Reading.{reading};
@@ -28,8 +28,8 @@ use std::alloc::Global;
 use std::sync::Arc;
 use transfers::{Answer, Answers, Ready, Transfers};
 
-/// The kept answers with a listing or a source kept after them, under who asked and the key of the
-/// request. It is shared. `Starved`: out of memory.
+/// Returns the kept answers with a listing or a source after them, under the peer and the key of
+/// its request. The body is shared.
 pub(crate) fn with_listing(
     transfers: &Transfers,
     alloc: Global,
@@ -58,8 +58,8 @@ pub(crate) fn with_listing(
 }
 
 impl Tables {
-    /// A listing or a source is kept under its tag, and the block of it that the look asked for is
-    /// sent. What takes memory comes before anything changes.
+    /// Keeps a listing or a source under its tag, and sends the block of it that the look
+    /// requested. Everything that allocates comes before anything changes.
     fn keep_listing(&mut self, mids: &mut Mids, job: KeepJob, out: &mut Outbox) -> Stepped
         requires room { length out.old < most_datagrams }
         ensures way { (rows : List Row) (s : Step)
@@ -97,8 +97,8 @@ impl Tables {
         Stepped::Done
     }
 
-    /// The step that does the job to keep a listing or a source, at a moment that is at most 10^15;
-    /// one below that of the tables is lifted to it. `out` is empty.
+    /// Does the step of a job to keep a listing or a source. `now` is at most 10^15; one earlier
+    /// than the tables' moment is raised to it. `out` is empty.
     pub(crate) fn keep(
         &mut self,
         now: Moment,

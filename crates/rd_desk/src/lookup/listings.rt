@@ -1,5 +1,5 @@
-//! Listings and sources that are formed for requests in which the journal takes part, and the kept
-//! answers with them (RFC 7959 section 2.4).
+//! Listings and sources built for requests that depend on the journal, and the kept answers with
+//! them (RFC 7959 section 2.4).
 ghost use Rattle.std.specs.Prelude.{◌≡◌, ◌<◌, ◌≤◌, ℕ, true, false, List, length, None};
 ghost use Rattle.std.specs.Prelude.{IfOk, option_map};
 ghost use Rattle.std.specs.Arc.{arc_value};
@@ -34,7 +34,7 @@ use std::sync::Arc;
 use std::sync::ledger::Blank;
 use transfers::{Ready, Transfers};
 
-/// A listing or a source under its entity tag, which is shared and never copied.
+/// A listing or a source under its entity tag. The body is shared and never copied.
 #[derive(Drop)]
 pub(crate) struct Listed {
     /// The listing or the source.
@@ -43,17 +43,17 @@ pub(crate) struct Listed {
     pub tag: Tag,
 }
 
-/// A listing or a source that is formed for a request, with all that it takes to keep it.
+/// A listing or a source built for a request, with the memory needed to keep it.
 #[derive(Drop)]
 pub(crate) struct Formed {
     /// The listing or the source.
     pub listed: Listed,
-    /// The kept answers with it after them, where it is to be kept for its further blocks.
+    /// The kept answers with it after them, if it is to be kept for its later blocks.
     pub ready: Option<Ready>,
 }
 
-/// The listing of a query in a version at a moment, which is not before its last entry and its last
-/// sweep. `Starved`: out of memory.
+/// Returns the listing of a query in a version at a moment, which is no earlier than the version's
+/// last entry and last sweep.
 pub(crate) fn listed_at(
     alloc: Global,
     version: &Directory,
@@ -72,9 +72,9 @@ pub(crate) fn listed_at(
     Ok(Listed { body, tag })
 }
 
-/// The listing of a lookup, or the source of a read, in a version at a moment, which is not before
-/// its last entry and its last sweep; none where the registration that is read is not live.
-/// `Starved`: out of memory.
+/// Returns the listing of a lookup, or the source of a read, in a version at a moment, or `None` if
+/// the registration to read is not live. The moment is no earlier than the version's last entry and
+/// last sweep.
 pub(crate) fn found_at(
     alloc: Global,
     version: &Directory,
@@ -97,7 +97,7 @@ pub(crate) fn found_at(
     Ok(Some(Listed { body, tag: current }))
 }
 
-/// What it takes to keep a listing or a source, where it is to be kept. `Starved`: out of memory.
+/// Allocates what is needed to keep a listing or a source, if it is to be kept.
 pub(crate) fn form(
     transfers: &Transfers,
     alloc: Global,
@@ -132,7 +132,7 @@ pub(crate) fn form(
     })
 }
 
-/// Who asks to observe by a request that is answered with a listing. `Starved`: out of memory.
+/// Returns who asks to observe by a request that is answered with a listing.
 pub(crate) fn joining_by(
     alloc: Global,
     peer: Peer,
@@ -153,9 +153,8 @@ pub(crate) fn joining_by(
     })
 }
 
-/// The block that is asked for is sent of the answer that is kept under a peer and a key, where one
-/// is: that is a use of it, also where the block lies past its end. Whether one is kept. Takes no
-/// memory.
+/// Sends the requested block of the answer kept under a peer and a key, and returns whether there
+/// is one. This counts as a use of it, even if the block lies past its end. Does not allocate.
 pub(crate) fn send_kept(
     transfers: &mut Transfers,
     now: Moment,

@@ -1,5 +1,5 @@
-//! Lookups and reads that the journal takes part in: further blocks of a listing or a source, and
-//! observation (RFC 7959 section 2.4, RFC 7641 sections 3 and 4.1).
+//! Lookups and reads whose answers depend on the journal: later blocks of a listing or a source,
+//! and observation (RFC 7959 section 2.4, RFC 7641 sections 3 and 4.1).
 ghost use Rattle.std.specs.Prelude.{◌≡◌, ◌<◌, ◌^◌, ℕ, Bool, true, false, List, length, Some};
 ghost use Rattle.std.specs.Prelude.{None, IfOk, IfSome, OnErr, is_some};
 ghost use Rattle.std.specs.Arc.{arc_value};
@@ -40,23 +40,23 @@ use rd_base::{Peer, Query, Starved};
 use rd_look::{answer_not_live, send_block};
 use rd_request::{Request, begins_observation, is_later_block, query_of};
 
-/// How many Observe values there are: they have 24 bits (RFC 7641 section 3.4).
+/// The number of Observe values, which have 24 bits (RFC 7641 section 3.4).
 const OBSERVE_VALUES: u64 = 16_777_216;
 
-/// All that takes memory for a lookup that asks to observe, but the slot of its query.
+/// All memory that a lookup that asks to observe needs, except the slot of its query.
 #[derive(Drop)]
 struct Observing {
-    /// What it asks for.
+    /// The query that it looks up.
     query: Query,
-    /// Who asks.
+    /// The client that asks, with its request.
     joining: Joining,
-    /// The listing that it is answered with.
+    /// The listing that answers it.
     formed: Formed,
 }
 
 impl Tables {
-    /// The block that is asked for of a listing or a source is sent, and the whole of it is kept
-    /// where that is ready. Takes no memory.
+    /// Sends the requested block of a listing or a source, and keeps the whole body if that is
+    /// ready. Does not allocate.
     fn give_formed(
         &mut self,
         mids: &mut Mids,
@@ -98,8 +98,8 @@ impl Tables {
         }
     }
 
-    /// What a request for a further block finds now, to be kept where it has that block; none where
-    /// the registration that it reads is not live. `Starved`: out of memory.
+    /// Builds what a request for a later block finds now, to be kept if it has that block. Returns
+    /// `None` if the registration to read is not live.
     fn form_later(&self, peer: Peer, request: &Request<'_>) -> Result<Option<Formed>, Starved>
         requires seeks { has_tag (sought_in (message_of request.now)) ≡ true }
         ensures formed { (history : List Entry)
@@ -126,8 +126,8 @@ impl Tables {
         Ok(Some(formed))
     }
 
-    /// The listing of a query now, by which a lookup of a first block is answered, to be kept where
-    /// it is longer than a block. `Starved`: out of memory.
+    /// Builds the listing of a query now, which answers a lookup of a first block. It is to be kept
+    /// if it is longer than a block.
     fn form_first(
         &self,
         peer: Peer,
@@ -156,7 +156,7 @@ impl Tables {
         )
     }
 
-    /// What a lookup that asks to observe no more is answered with. `Starved`: out of memory.
+    /// Builds the answer to a lookup that ends an observation.
     fn form_unobserved(&self, peer: Peer, request: &Request<'_>) -> Result<Formed, Starved>
         requires seeks { seeks_links (path_in (message_of request.now)) ≡ true }
         ensures formed { (history : List Entry)
@@ -174,8 +174,7 @@ impl Tables {
         self.form_first(peer, request, &query)
     }
 
-    /// What takes memory for a lookup that asks to observe, but the slot of its query. `Starved`:
-    /// out of memory.
+    /// Allocates what a lookup that asks to observe needs, except the slot of its query.
     fn form_observed(&self, peer: Peer, request: &Request<'_>) -> Result<Observing, Starved>
         requires seeks { seeks_links (path_in (message_of request.now)) ≡ true }
         ensures query { IfOk result (λ o. o.query
@@ -203,8 +202,9 @@ impl Tables {
         })
     }
 
-    /// An observer joins in place of that of its peer and token, where it has room; the Observe
-    /// value that it is given then. `Starved`: out of memory, and nothing changed.
+    /// Adds an observer in place of that of its peer and token, if there is room. Returns the
+    /// Observe value that it gets then, or `None` if there is no room. `Starved` leaves everything
+    /// unchanged.
     fn join(&mut self, query: &Query, joining: Joining) -> Result<Option<u32>, Starved>
         ensures value { (rows : List Row) (s : Step) (starved : Bool) (out : List (Endpoint
             × List ℕ)) (mids : MidsSeen)
@@ -233,8 +233,8 @@ impl Tables {
         Ok(Some((self.observed % OBSERVE_VALUES) as u32))
     }
 
-    /// A lookup or a read, of a further block: it is a block of the kept answer, or else of what is
-    /// found now; 4.04 where the registration that is read is not live.
+    /// Answers a lookup or a read of a later block with a block of the kept answer, or else of what
+    /// is found now. Answers 4.04 if the registration to read is not live.
     pub(crate) fn answer_later(
         &mut self,
         mids: &mut Mids,
@@ -279,8 +279,8 @@ impl Tables {
         Stepped::Done
     }
 
-    /// A lookup of a first block that asks to observe: an observer of the same peer and token goes,
-    /// and one is added where it has room.
+    /// Answers a lookup of a first block that asks to observe. Removes the observer of the same
+    /// peer and token, and adds a new one if there is room.
     fn answer_observed(
         &mut self,
         mids: &mut Mids,
@@ -317,8 +317,8 @@ impl Tables {
         Stepped::Done
     }
 
-    /// A lookup of a first block that asks to observe no more: the observer of its peer and token
-    /// goes.
+    /// Answers a lookup of a first block that ends an observation, and removes the observer of its
+    /// peer and token.
     fn answer_unobserved(
         &mut self,
         mids: &mut Mids,
@@ -349,7 +349,7 @@ impl Tables {
         Stepped::Done
     }
 
-    /// A lookup that the journal takes part in: of a further block, beside which Observe is
+    /// Handles a lookup that depends on the journal: one of a later block, where Observe is
     /// ignored, or one that begins or ends an observation.
     pub(crate) fn hear_lookup(
         &mut self,

@@ -1,5 +1,5 @@
-//! New notices: observers that are due get one, one after the other (RFC 7641 sections 1.3, 4.2 and
-//! 4.5).
+//! New notifications: observers that are due get one, one after the other (RFC 7641 sections 1.3,
+//! 4.2 and 4.5).
 ghost use Rattle.std.specs.Prelude.{◌≡◌, ◌<◌, ◌≤◌, ◌+◌, ◌++◌, ◌∷◌, [], ℕ, Bool, false, List};
 ghost use Rattle.std.specs.Prelude.{Some, None, IfOk, OnOk, length, slice_get};
 ghost use Rattle.std.specs.Arc.{arc_value};
@@ -41,7 +41,7 @@ use rd_base::{Bytes, Starved, Tag};
 use std::sync::Arc;
 use transfers::Answers;
 
-/// A notice is sent to the observer with an index.
+/// Sends a notification to the observer with an index.
 fn send_to(watching: &Watching, index: usize, sent: &Sent, out: &mut Outbox)
     ensures { (x : Standing)
         → slice_get watching.now.observers index ≡ Some x
@@ -55,7 +55,7 @@ fn send_to(watching: &Watching, index: usize, sent: &Sent, out: &mut Outbox)
     out.push_fitting(observer.peer, sent.bytes.as_slice());
 }
 
-/// The index after that of an observer.
+/// Returns the index after that of an observer.
 fn index_after(watching: &Watching, index: usize) -> usize
     requires { index < length watching.now.observers }
     ensures { result ≡ index + 1 }
@@ -68,8 +68,8 @@ fn index_after(watching: &Watching, index: usize) -> usize
 }
 
 impl Tables {
-    /// The body of the query of the observer with an index. It is kept, so that it is formed once
-    /// for all who observe it. `Starved`: out of memory.
+    /// Returns the body for the query of the observer with an index. The body is kept, so that it
+    /// is built once for all observers of the query.
     fn body_for(&mut self, index: usize) -> Result<Arc<Bytes>, Starved>
         requires { index < length self.old.watching.observers }
         ensures body { (rows : List Row) (o : Observed)
@@ -93,8 +93,8 @@ impl Tables {
         Ok(body)
     }
 
-    /// What is done for the observer with an index, which is due and to whose peer no notice is in
-    /// flight, is planned: nothing where a notice to its peer is planned. `Starved`: out of memory.
+    /// Plans what to do for the observer with an index, which is due and to whose peer no
+    /// notification is in flight. Plans nothing if a notification to its peer is already planned.
     fn plan_one(
         &mut self,
         word: u32,
@@ -149,8 +149,8 @@ impl Tables {
         )
     }
 
-    /// What is done for each observer that is looked at is planned. Nothing changes but bodies that
-    /// are kept. `Starved`: out of memory.
+    /// Plans what to do for each observer that is examined. Nothing changes except bodies that are
+    /// kept.
     fn plan_all(&mut self, word: u32, tag: Tag, mids: &Mids, plan: &mut Plan) -> Result<(), Starved>
         ensures planned { (rows : List Row) (s : Step) (starved : Bool) (whole first : Effects)
             (out : List (Endpoint
@@ -177,8 +177,7 @@ impl Tables {
         Ok(())
     }
 
-    /// The observer with an index gets the notice with a body that is planned for it. Takes no
-    /// memory.
+    /// Sends the planned notification with a body to the observer with an index. Does not allocate.
     fn send_new(
         &mut self,
         index: usize,
@@ -207,7 +206,7 @@ impl Tables {
         self.watching.formed(index, sent, body);
     }
 
-    /// What is planned for the observer with an index is done. Takes no memory.
+    /// Does what is planned for the observer with an index. Does not allocate.
     fn carry_out_one(&mut self, index: usize, item: Planned, mids: &mut Mids, out: &mut Outbox)
         requires within { index < length self.old.watching.observers }
         requires free { (x : Standing)
@@ -235,8 +234,8 @@ impl Tables {
         }
     }
 
-    /// A plan is carried out: for each observer that is due and free, one after the other, what is
-    /// planned. Takes no memory.
+    /// Carries out a plan: does the planned items for the observers that are due and free, one
+    /// after the other. Does not allocate.
     fn carry_out(&mut self, items: Vec<Planned>, mids: &mut Mids, out: &mut Outbox)
         ensures { (rows : List Row) (s : Step) (starved : Bool) (current : List ℕ) (whole : Effects)
             (ready : List KeptAnswer)
@@ -254,8 +253,8 @@ impl Tables {
         }
     }
 
-    /// Observers of whom at least one is due and free get a notice, one after the other, at most 64
-    /// in all. What takes memory comes before anything changes.
+    /// Sends a notification to observers that are due and free, one after the other, at most 64. At
+    /// least one is due and free. Everything that allocates comes before anything changes.
     fn send_notices(&mut self, word: u32, mids: &mut Mids, out: &mut Outbox) -> Stepped
         ensures way { (rows : List Row) (s : Step)
             → s.word ≡ word
@@ -285,8 +284,9 @@ impl Tables {
         Stepped::Done
     }
 
-    /// The second part of a tick: observers that are due get a notice, one after the other, at most
-    /// 64 in all. Where none is due whose peer waits for no notice, it takes no memory.
+    /// Does the second part of a tick: sends a notification to observers that are due, one after
+    /// the other, at most 64. Does not allocate unless an observer is due to whose peer no
+    /// notification is in flight.
     pub(crate) fn notices(&mut self, word: u32, mids: &mut Mids, out: &mut Outbox) -> Stepped
         ensures way { (rows : List Row) (s : Step)
             → s.word ≡ word

@@ -1,5 +1,5 @@
-//! Notices in flight whose wait has ended: each is sent again, or its observer is given up (RFC
-//! 7252 section 4.2, RFC 7641 section 4.5).
+//! Notifications in flight whose timeout has expired: each is retransmitted, or its observer is
+//! removed (RFC 7252 section 4.2, RFC 7641 section 4.5).
 ghost use Rattle.std.specs.Prelude.{◌≡◌, ◌<◌, ◌≤◌, ◌+◌, ◌++◌, ◌∷◌, [], ℕ, Bool, List, Some};
 ghost use Rattle.std.specs.Prelude.{length, slice_get, drop};
 ghost use Rattle.rd_base.specs.declared.peers.Peer.{Peer as Endpoint};
@@ -21,7 +21,7 @@ use crate::tables::Tables;
 use exchange_core::Again;
 use observation::Watching;
 
-/// The notice in flight to the observer with an index is sent.
+/// Retransmits the notification in flight to the observer with an index.
 fn send_notice(watching: &Watching, index: usize, out: &mut Outbox)
     ensures { (x : Standing) (sent : Message)
         → slice_get watching.now.observers index ≡ Some x
@@ -40,8 +40,8 @@ fn send_notice(watching: &Watching, index: usize, out: &mut Outbox)
 }
 
 impl Tables {
-    /// What is due of the notice in flight to the observer with an index: nothing, or it is sent
-    /// again, or its observer is taken out. Whether the observer stays.
+    /// Does what is due of the notification in flight to the observer with an index: nothing, a
+    /// retransmission, or the removal of its observer. Returns whether the observer stays.
     fn notice_again(&mut self, index: usize, out: &mut Outbox) -> bool
         requires { index < length self.old.watching.observers }
         ensures way { (rows : List Row) (s : Step) (starved : Bool) (done : Effects) (mids : Mids)
@@ -69,8 +69,8 @@ impl Tables {
         }
     }
 
-    /// The first part of a tick: notices in flight whose wait has ended are sent again, and after
-    /// the last time their observers are taken out. Takes no memory.
+    /// Does the first part of a tick: retransmits notifications in flight whose timeout has
+    /// expired, and removes their observers after the last retransmission. Does not allocate.
     pub(crate) fn notices_again(&mut self, out: &mut Outbox)
         ensures { (rows : List Row) (s : Step) (starved : Bool) (mids : Mids)
             → UnderWay rows s starved nothing self.old out.old mids

@@ -44,43 +44,43 @@ use std::sync::Arc;
 use std::sync::ledger::Blank;
 use transfers::Answer;
 
-/// The most notices that one tick forms.
+/// The most notifications that one tick builds.
 pub(crate) const MAX_NOTICES: usize = 64;
 
-/// What is planned for an observer whose listing is looked at.
+/// What is planned for an observer whose listing is examined.
 #[derive(Drop)]
 pub(crate) enum Planned {
     /// Its listing is unchanged.
     Unchanged,
-    /// It gets this notice, with this body.
+    /// It gets this notification, with this body.
     Noticed(Sent, Arc<Bytes>),
 }
 
-/// What is planned for the observers that are looked at, in their order.
+/// What is planned for the observers that are examined, in their order.
 #[derive(Drop)]
 pub(crate) struct Plan {
-    /// For each of them.
+    /// An item for each of them.
     pub(crate) items: Vec<Planned>,
-    /// The peers that notices are planned for, at most 64: each gets no other (RFC 7252 section
+    /// The peers of the planned notifications, at most 64. Each gets no other (RFC 7252 section
     /// 4.7, NSTART).
     pub(crate) peers: Vec<Peer>,
-    /// The answers that are kept for further blocks.
+    /// The answers to keep for their later blocks.
     pub(crate) kept: Vec<Answer>,
 }
 
-/// What the notices of a tick have in common.
+/// What the notifications of a tick have in common.
 #[derive(Clone, Copy)]
 pub(crate) struct Occasion {
-    /// When they are sent.
+    /// The moment at which they are sent.
     pub(crate) now: Moment,
-    /// The word that their first waits are made from.
+    /// The random word that determines their initial timeouts.
     pub(crate) word: u32,
     /// The entity tag of their listings.
     pub(crate) tag: Tag,
 }
 
-/// The block that an observer gets, by the exponent of the size that it asked for: the first (RFC
-/// 7959 section 2.4).
+/// Returns the block that an observer gets, given the exponent of the size that it requested: the
+/// first block (RFC 7959 section 2.4).
 fn block_of_notice(szx: u8) -> Option<Block>
     ensures first { result ≡ planning_of.block_of_notice szx }
     ensures block { ForSome result IsBlock }
@@ -92,7 +92,7 @@ fn block_of_notice(szx: u8) -> Option<Block>
     })
 }
 
-/// The block that a notice names: the first, where its body is longer than that.
+/// Returns the block that a notification names: the first, if its body is longer than that.
 fn block_named(szx: u8, body: &[u8]) -> Option<Block>
     ensures named { result ≡ planning_of.block_named szx body.now }
     ensures block { ForSome result IsBlock }
@@ -104,8 +104,7 @@ fn block_named(szx: u8, body: &[u8]) -> Option<Block>
     None
 }
 
-/// The octets of a notice to an observer, with a body (RFC 7641 section 4.2). `Starved`: out of
-/// memory.
+/// Returns the octets of a notification to an observer, with a body (RFC 7641 section 4.2).
 fn notice_octets(
     alloc: Global,
     observer: &Observer,
@@ -127,7 +126,8 @@ fn notice_octets(
     spell_notice(alloc, mid, token, &reply)
 }
 
-/// The Observe value that is given after so many more (RFC 7641 section 3.4).
+/// Returns the Observe value that follows `given` values and `more` further ones (RFC 7641 section
+/// 3.4).
 pub(crate) fn observe_after(given: u64, more: u64) -> u32
     ensures value { result ≡ (given + more + 1) % 2 ^ 24 }
     ensures few { result < 2 ^ 24 }
@@ -135,14 +135,14 @@ pub(crate) fn observe_after(given: u64, more: u64) -> u32
     (given.wrapping_add(more).wrapping_add(1) % 16_777_216) as u32
 }
 
-/// Whether the body that was last formed for an observer has these octets.
+/// Returns whether the body last built for an observer has these octets.
 pub(crate) fn is_unchanged(observer: &Observer, body: &[u8]) -> bool
     ensures { result ≡ bytes_eq observer.now.last body.now }
 {
     observer.last.as_slice() == body
 }
 
-/// Whether it is the same peer.
+/// Returns whether both are the same peer.
 fn is_peer(one: &Peer, other: &Peer) -> bool
     ensures { result ≡ is_same_peer one.now other.now }
 {
@@ -150,7 +150,7 @@ fn is_peer(one: &Peer, other: &Peer) -> bool
 }
 
 impl Plan {
-    /// Nothing is planned. Takes no memory.
+    /// Returns a plan without items. Does not allocate.
     pub(crate) fn empty(alloc: Global) -> Plan
         ensures items { result.items.items ≡ [] }
         ensures peers { result.peers.items ≡ [] }
@@ -163,14 +163,14 @@ impl Plan {
         }
     }
 
-    /// Whether a notice to a peer is planned.
+    /// Returns whether a notification to a peer is planned.
     pub(crate) fn waits_for(&self, peer: &Peer) -> bool
         ensures { result ≡ list_any (λ q. is_same_peer q peer.now) self.now.peers.items }
     {
         self.peers.iter().any(|other| is_peer(other, peer))
     }
 
-    /// Another observer's listing is unchanged. `Starved`: out of memory.
+    /// Adds an observer whose listing is unchanged.
     pub(crate) fn add_unchanged(&mut self) -> Result<(), Starved>
         ensures items { OnOk result (self.new.items.items
             ≡ self.old.items.items ++ planned.Unchanged ∷ []) }
@@ -181,8 +181,8 @@ impl Plan {
         Ok(())
     }
 
-    /// The body of a notice to an observer is kept for further blocks, where it is longer than the
-    /// block that it gets. `Starved`: out of memory.
+    /// Plans to keep the body of a notification for its later blocks, if it is longer than the
+    /// block that the observer gets.
     fn keep(&mut self, observer: &Observer, body: &Arc<Bytes>, tag: Tag) -> Result<(), Starved>
         ensures kept { OnOk result (self.new.kept.items
             ≡ self.old.kept.items ++ planning_of.kept_by observer.now (arc_value body.now) tag.0) }
@@ -203,8 +203,7 @@ impl Plan {
         Ok(())
     }
 
-    /// Another observer gets a notice with this body, under a Message ID and with an Observe value.
-    /// `Starved`: out of memory.
+    /// Adds a notification with this body, Message ID and Observe value to an observer.
     pub(crate) fn add_notice(
         &mut self,
         alloc: Global,
@@ -233,8 +232,8 @@ impl Plan {
     }
 }
 
-/// The body of the query of the observer with an index: that which is kept for all who observe it,
-/// or else it is formed. `Starved`: out of memory.
+/// Returns the body for the query of the observer with an index: the one kept for all its
+/// observers, or else a new one.
 pub(crate) fn formed_body(
     watching: &Watching,
     alloc: Global,

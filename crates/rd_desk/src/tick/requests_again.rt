@@ -1,5 +1,5 @@
-//! Requests of fetches whose wait has ended: each is sent again, or its fetch ends (RFC 7252
-//! section 4.2, RFC 9176 section 5.1).
+//! Requests of fetches whose timeout has expired: each is retransmitted, or its fetch ends (RFC
+//! 7252 section 4.2, RFC 9176 section 5.1).
 ghost use Rattle.std.specs.Prelude.{◌≡◌, ◌<◌, ◌≤◌, ◌+◌, ◌++◌, ◌∷◌, [], ℕ, Bool, List, Some};
 ghost use Rattle.std.specs.Prelude.{length, slice_get};
 ghost use Rattle.rd_base.specs.declared.peers.Peer.{Peer as Endpoint};
@@ -26,7 +26,7 @@ use crate::tables::Tables;
 use exchange_core::Again;
 use simple_registration::Fetches;
 
-/// The last request of the fetch at an index is sent.
+/// Retransmits the last request of the fetch at an index.
 fn send_request(fetches: &Fetches, index: usize, out: &mut Outbox)
     ensures some { (f : running.Fetch)
         → slice_get fetches.now.fetches index ≡ Some f
@@ -43,7 +43,7 @@ fn send_request(fetches: &Fetches, index: usize, out: &mut Outbox)
     out.push_fitting(peer, fetches.sent(index));
 }
 
-/// The fetch at an index ends.
+/// Ends the fetch at an index.
 fn end_fetch(fetches: &mut Fetches, index: usize)
     ensures { (octets : OctetsSent) (past : List Event) (peer : Endpoint) (e : Event)
         → slice_get (running.fetches past) index ≡ Some peer
@@ -58,8 +58,8 @@ fn end_fetch(fetches: &mut Fetches, index: usize)
 }
 
 impl Tables {
-    /// What is due of the fetch at an index: nothing, or its request is sent again, or the fetch
-    /// ends. Whether it runs on.
+    /// Does what is due of the fetch at an index: nothing, a retransmission of its request, or its
+    /// end. Returns whether it continues.
     fn request_again(&mut self, index: usize, out: &mut Outbox) -> bool
         requires { index < length self.old.fetches.fetches }
         ensures { (rows : List Row) (s : Step) (starved : Bool) (first : Effects) (mids : Mids)
@@ -81,7 +81,7 @@ impl Tables {
         }
     }
 
-    /// What is due of the fetch at an index, where there is one. The index of the next.
+    /// Does what is due of the fetch at an index, if there is one. Returns the index of the next.
     fn request_next(&mut self, index: usize, out: &mut Outbox) -> usize
         ensures { (rows : List Row) (s : Step) (starved : Bool) (first : Effects) (mids : Mids)
             (most less : ℕ)
@@ -98,9 +98,9 @@ impl Tables {
         index
     }
 
-    /// The third part of a tick: requests of fetches whose wait has ended are sent again, and after
-    /// the last time, or where a response that comes apart did not come, their fetches end. Takes
-    /// no memory.
+    /// Does the third part of a tick: retransmits requests of fetches whose timeout has expired. A
+    /// fetch ends after the last retransmission, or if a separate response did not come. Does not
+    /// allocate.
     pub(crate) fn requests_again(&mut self, out: &mut Outbox)
         ensures { (rows : List Row) (s : Step) (starved : Bool) (done : Effects) (mids : Mids)
             → LeavesFetches rows s starved done

@@ -1,5 +1,5 @@
-//! The tick: what time makes due (RFC 7252 section 4.2, RFC 7641 sections 1.3 and 4.5, RFC 9176
-//! section 5).
+//! The tick: does what becomes due as time passes (RFC 7252 section 4.2, RFC 7641 sections 1.3 and
+//! 4.5, RFC 9176 section 5).
 ghost use Rattle.std.specs.Prelude.{◌≡◌, ◌<◌, ◌≤◌, ◌^◌, [], ℕ, Bool, false, List, IfOk};
 ghost use Rattle.std.specs.Arc.{arc_value};
 ghost use Rattle.rd_base.specs.declared.peers.Peer.{Peer as Endpoint};
@@ -25,7 +25,7 @@ use std::marker::Brand;
 use std::sync::Arc;
 use std::sync::ledger::{Blank, Ledger};
 
-/// The version without what has lapsed at a moment. `Starved`: out of memory.
+/// Returns the version without registrations that have lapsed at a moment.
 fn swept<L: Ledger>(
     blank: Blank,
     alloc: Global,
@@ -50,8 +50,8 @@ fn swept<L: Ledger>(
 }
 
 impl Tables {
-    /// What is old is dropped: exchanges that are older than an exchange lives, and, where memory
-    /// suffices, registrations that have lapsed.
+    /// Drops exchanges that have expired. Also drops registrations that have lapsed, if memory
+    /// suffices.
     fn drop_old(&mut self)
         ensures { (rows : List Row) (s : Step) (starved : Bool) (done : Effects)
             (out : List (Endpoint
@@ -67,11 +67,13 @@ impl Tables {
         self.version = version;
     }
 
-    /// The step of a tick, at a moment that is at most 10^15; one below that of the tables is
-    /// lifted to it. Notices are sent again, due observers get new ones, and requests of fetches
-    /// are sent again; what is old or has lapsed is dropped. `Starved`: out of memory, and then
-    /// there are no new notices. Where no observer is due whose peer waits for no notice, no memory
-    /// is needed: a sweep that finds none leaves what has lapsed. `out` is empty.
+    /// Does the step of a tick. `now` is at most 10^15; one earlier than the tables' moment is
+    /// raised to it. `out` is empty.
+    ///
+    /// Retransmits notifications, sends new ones to observers that are due, and retransmits
+    /// requests of fetches. Then drops what has expired or lapsed. After `Starved`, there are no
+    /// new notifications. No memory is needed unless an observer is due to whose peer no
+    /// notification is in flight: a sweep without memory leaves lapsed registrations stored.
     pub(crate) fn tick(
         &mut self,
         now: Moment,

@@ -1,4 +1,4 @@
-//! Writes that were admitted and are done (RFC 9176 section 5, RFC 7252 section 4.5).
+//! Admitted writes and their purposes (RFC 9176 section 5, RFC 7252 section 4.5).
 ghost use Rattle.std.specs.Prelude.{◌≡◌, true, is_none};
 ghost use Rattle.message_model.specs.Request.{queries_in};
 ghost use Rattle.record_model.specs.declared.readings.Reading.TheVariants as reading;
@@ -9,33 +9,33 @@ ghost use Rattle.rd_desk.specs.parts.Purposes.{has_good_params};
 use rd_base::{Moment, Peer};
 use rd_request::Request;
 
-/// A write that was admitted: who wrote, when it was admitted, and what it asks.
+/// An admitted write: its sender, the moment of its admission, and its request.
 #[derive(Clone, Copy)]
 pub(crate) struct Write<'a> {
-    /// Who wrote.
+    /// The peer that sent it.
     pub peer: Peer,
-    /// When it was admitted.
+    /// The moment at which it was admitted.
     pub admitted: Moment,
-    /// What it asks.
+    /// Its request.
     pub request: Request<'a>,
 }
 
-/// What the links of a body are for.
+/// The purpose of the links of a body.
 #[derive(Clone, Copy)]
 pub(crate) enum Purpose {
     /// A registration with the parameters that its request gives (RFC 9176 section 5).
     Register,
-    /// Other links for the registration of this number (RFC 9176 section 5.3.3).
+    /// A replacement of the links of the registration with this number (RFC 9176 section 5.3.3).
     Replace(u64),
 }
 
-/// A write that brings links, whole or in blocks, and what they are for. The query options of a
+/// A write that brings links, whole or in blocks, with their purpose. The query options of a
 /// registration are not refused.
 #[derive(Clone, Copy)]
 pub(crate) struct BringingLinks<'a> {
     /// The write.
     pub write: Write<'a>,
-    /// What its links are for.
+    /// The purpose of its links.
     pub purpose: Purpose,
     pub ghost good: { has_good_params purpose (message_of write.request) ≡ true },
 }

@@ -1,5 +1,5 @@
-//! Writes that were admitted are done: what they ask for is made, and they are answered (RFC 9176
-//! section 5, RFC 7252 section 4.5).
+//! Admitted writes, as they are done: the directory makes the requested change and answers (RFC
+//! 9176 section 5, RFC 7252 section 4.5).
 ghost use Rattle.std.specs.Prelude.{◌≡◌, ◌+◌, ◌<◌, ◌≤◌, ◌^◌, ℕ, Bool, [], List, length, Ok, IfOk};
 ghost use Rattle.std.specs.Prelude.{false};
 ghost use Rattle.message_model.specs.Message.{Message};
@@ -35,8 +35,8 @@ use rd_base::{Moment, Starved};
 use rd_request::Resource;
 
 impl Tables {
-    /// What is planned of a write is done: its entry is made, where it makes one, and then its
-    /// answer settles it. Takes no memory.
+    /// Does what is planned of a write: makes its entry, if it has one, and settles it by its
+    /// answer. Does not allocate.
     fn conclude(&mut self, mids: &mut Mids, write: &Write<'_>, outcome: Outcome, out: &mut Outbox)
         requires timely { IsTimely self.old.moment outcome }
         requires room { length out.old < most_datagrams }
@@ -62,8 +62,8 @@ impl Tables {
         self.settle(mids, write, &reply, out);
     }
 
-    /// A write that was admitted is done as it is planned, or fails where memory ran out meanwhile.
-    /// Takes no memory.
+    /// Does an admitted write as planned, or lets it fail if memory ran out meanwhile. Does not
+    /// allocate.
     pub(crate) fn finish<B: Board>(
         &mut self,
         board: &mut B,
@@ -106,7 +106,7 @@ impl Tables {
         }
     }
 
-    /// The write of a job is done, by what it writes to.
+    /// Does the write of a job, by the resource that it writes to.
     fn commit_write<B: Board>(
         &mut self,
         board: &mut B,
@@ -152,8 +152,8 @@ impl Tables {
         }
     }
 
-    /// The step that does a write that was admitted, at a moment that is at most 10^15; one below
-    /// that of the tables is lifted to it. `out` is empty.
+    /// Does the step of an admitted write. `now` is at most 10^15; one earlier than the tables'
+    /// moment is raised to it. `out` is empty.
     pub(crate) fn commit<B: Board>(
         &mut self,
         board: &mut B,

@@ -1,5 +1,5 @@
-//! Entries: a change of the registrations, and who is due by it (RFC 9176 section 5, RFC 7641
-//! section 1.3).
+//! Entries: changes of the registrations, and the observers that they make due (RFC 9176 section 5,
+//! RFC 7641 section 1.3).
 ghost use Rattle.std.specs.Prelude.{◌≡◌, ◌∷◌, [], ℕ, Bool, List};
 ghost use Rattle.std.specs.Arc.{arc_value};
 ghost use Rattle.rd_base.specs.declared.peers.Peer.{Peer};
@@ -19,9 +19,9 @@ use crate::write::outcomes::Entering;
 use std::mem;
 
 impl Tables {
-    /// An entry is made that is ready: the version with it takes the place of the one before, and
-    /// the observers are due to whose queries the registration that it is about gives other lines.
-    /// Takes no memory.
+    /// Makes an entry that is ready: the version with it replaces the one before. An observer
+    /// becomes due if the registration of the entry now contributes other lines to its query. Does
+    /// not allocate.
     pub(crate) fn enter(&mut self, entering: Entering)
         requires { IsReadyAt self.old.moment entering }
         ensures way { (rows : List Row) (s : Step) (starved : Bool) (done : Effects) (entry : Entry)

@@ -1,4 +1,4 @@
-//! The job that an admitted write leaves its worker with.
+//! The job that an admitted write leaves to its worker.
 ghost use Rattle.std.specs.Prelude.{◌≡◌, true, Ok};
 ghost use Rattle.message_model.specs.Reading.{reading};
 ghost use Rattle.rd_request.specs.Accepted.{message_of};
@@ -8,15 +8,15 @@ use rd_base::{Moment, Peer};
 use rd_request::{KeptRequest, Request};
 use std::marker::Model;
 
-/// A write that was admitted, to be done by the next step of its worker but ticks. Nothing refuses
-/// its request for itself.
+/// An admitted write. The worker's next step other than a tick does it. Its request is not refused
+/// by its content alone.
 #[derive(Drop)]
 pub struct WriteJob {
-    /// Who wrote.
+    /// The peer that sent it.
     pub(crate) peer: Peer,
     /// Its request.
     pub(crate) request: KeptRequest,
-    /// When it was admitted.
+    /// The moment at which it was admitted.
     pub(crate) admitted: Moment,
 }
 
@@ -40,7 +40,7 @@ impl Model for WriteJob {
 }
 
 impl WriteJob {
-    /// Its request.
+    /// Returns its request.
     pub(crate) fn request(&self) -> Request<'_>
         ensures read { reading self.now.datagram ≡ Ok (message_of result) }
         ensures writes { writes_to_registrations (message_of result) ≡ true }

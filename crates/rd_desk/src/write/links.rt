@@ -1,5 +1,5 @@
-//! Links for a new registration, or other ones for one that is: the body comes whole, or in blocks
-//! (RFC 9176 sections 5 and 5.3.3, RFC 7959 section 2.5).
+//! Links of a new registration, or replaced links of an existing one. The body comes whole or in
+//! blocks (RFC 9176 sections 5 and 5.3.3, RFC 7959 section 2.5).
 ghost use Rattle.std.specs.Prelude.{◌≡◌, ◌<◌, ◌≤◌, ◌^◌, ℕ, []};
 ghost use Rattle.std.specs.Prelude.{List, length, None, IfOk, false};
 ghost use Rattle.std.specs.Option.{ForSome};
@@ -38,8 +38,8 @@ use rd_base::{Moment, Starved};
 use rd_request::{Request, given_params};
 use std::alloc::Global;
 
-/// What comes of links with their whole body, by what they are for; it ends a block of a request
-/// where one is named. `Starved`: out of memory.
+/// Returns the outcome of links with their whole body, by their purpose. The answer names `block1`,
+/// if there is one.
 pub(crate) fn whole_outcome(
     alloc: Global,
     version: &Directory,
@@ -74,8 +74,7 @@ pub(crate) fn whole_outcome(
 }
 
 impl Tables {
-    /// Links whose body came whole are used for what they are for, or the write fails where memory
-    /// runs out.
+    /// Uses links whose body came whole, by their purpose. The write fails if memory runs out.
     fn commit_whole<B: Board>(
         &mut self,
         board: &mut B,
@@ -115,7 +114,7 @@ impl Tables {
         self.finish(board, mids, &bringing.write, planned, out)
     }
 
-    /// A write that brings links and was admitted is done: with its whole body, or as a block.
+    /// Does an admitted write that brings links, with its whole body or as a block.
     pub(crate) fn commit_links<B: Board>(
         &mut self,
         board: &mut B,

@@ -1,4 +1,4 @@
-//! Writes on a registration: updates, removals and replacements of its links (RFC 9176 sections
+//! Writes to a registration: updates, removals and replacements of its links (RFC 9176 sections
 //! 5.3.1, 5.3.2 and 5.3.3).
 ghost use Rattle.std.specs.Prelude.{◌≡◌, ◌<◌, ◌≤◌, ◌^◌, ℕ, [], List, length, IfOk};
 ghost use Rattle.std.specs.Prelude.{true, false};
@@ -37,7 +37,7 @@ use query_text::{QueryBad, update_params};
 use rd_base::{Moment, Starved, UpdateParams};
 use std::alloc::Global;
 
-/// What an update gives. `Starved`: out of memory.
+/// Returns the parameters of an update.
 fn given_change(alloc: Global, updating: &Updating<'_>) -> Result<UpdateParams, Starved>
     ensures value { IfOk result (λ change. change
         ≡ update_values (queries_in (message_of updating.now.write.request))) }
@@ -50,7 +50,7 @@ fn given_change(alloc: Global, updating: &Updating<'_>) -> Result<UpdateParams, 
     }
 }
 
-/// What comes of a request for an update of the registration of a number. `Starved`: out of memory.
+/// Returns the outcome of a request to update the registration with a number.
 fn update_outcome(
     alloc: Global,
     version: &Directory,
@@ -83,8 +83,7 @@ fn update_outcome(
 }
 
 impl Tables {
-    /// An update of the registration of a number that was admitted is done, or fails where memory
-    /// runs out.
+    /// Does an admitted update of a registration. It fails if memory runs out.
     fn commit_update<B: Board>(
         &mut self,
         board: &mut B,
@@ -115,8 +114,7 @@ impl Tables {
         self.finish(board, mids, &updating.write, planned, out)
     }
 
-    /// A removal of the registration of a number that was admitted is done, or fails where memory
-    /// runs out.
+    /// Does an admitted removal of the registration with a number. It fails if memory runs out.
     fn commit_removal<B: Board>(
         &mut self,
         board: &mut B,
@@ -146,8 +144,8 @@ impl Tables {
         self.finish(board, mids, write, planned, out)
     }
 
-    /// A write on the registration of a number that was admitted is done, by its method: POST
-    /// updates it, PUT replaces its links, and DELETE removes it.
+    /// Does an admitted write to the registration with a number, by its method: POST updates it,
+    /// PUT replaces its links, and DELETE removes it.
     pub(crate) fn commit_location<B: Board>(
         &mut self,
         board: &mut B,

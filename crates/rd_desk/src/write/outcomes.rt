@@ -1,5 +1,5 @@
-//! What is planned of a write before anything is changed: its answer, and the version with the
-//! entry that it makes (RFC 9176 sections 5, 5.3.1, 5.3.2 and 5.3.3).
+//! What is planned of a write before anything changes: its answer, and the version with its entry
+//! (RFC 9176 sections 5, 5.3.1, 5.3.2 and 5.3.3).
 ghost use Rattle.std.specs.Prelude.{◌≡◌, ◌≤◌, ◌^◌, ℕ, [], List, IfOk};
 ghost use Rattle.std.specs.Option.{ForSome};
 ghost use Rattle.message_model.specs.Blocks.{IsBlock};
@@ -39,28 +39,28 @@ use registration::{Draft, DraftFault, Submitted, build, submitted};
 use std::alloc::Global;
 use std::sync::Arc;
 
-/// A version with one entry more.
+/// A version with one more entry.
 #[derive(Drop)]
 pub(crate) struct Entering {
     /// The version.
     pub version: Arc<Directory>,
     /// The number of the registration that the entry is about.
     pub number: u64,
-    /// The kind of its change.
+    /// The kind of the change.
     pub kind: ChangeKind,
 }
 
-/// What comes of a write.
+/// The outcome of a write.
 #[derive(Drop)]
 pub(crate) struct Outcome {
-    /// What is answered.
+    /// The answer.
     pub reply: ShortReply,
-    /// The entry that it makes, where it is accepted.
+    /// The entry, if the write is accepted.
     pub entering: Option<Entering>,
 }
 
-/// What is answered to a change that is refused (RFC 9176 section 5.3); `Starved` where memory ran
-/// out.
+/// Returns the answer to a change that is refused (RFC 9176 section 5.3), or `Starved` if memory
+/// ran out.
 fn refused_reply(refusal: Refusal) -> Result<ShortReply, Starved>
     ensures { (history : List Entry) (entry : Entry)
         → IsRefusalOf 0 history entry refusal
@@ -75,8 +75,8 @@ fn refused_reply(refusal: Refusal) -> Result<ShortReply, Starved>
     }
 }
 
-/// What is answered to a body that gives no links (RFC 6690 section 2, RFC 9176 appendix C);
-/// `Starved` where memory ran out.
+/// Returns the answer to a body without valid links (RFC 6690 section 2, RFC 9176 appendix C), or
+/// `Starved` if memory ran out.
 fn bad_body_reply(fault: DraftFault) -> Result<ShortReply, Starved>
     ensures { (body : List ℕ)
         → IsFaultOf body fault
@@ -90,8 +90,8 @@ fn bad_body_reply(fault: DraftFault) -> Result<ShortReply, Starved>
     }
 }
 
-/// 2.01 with the location of a registration (RFC 9176 section 5), and the block of the request that
-/// it answers, where it is one.
+/// Returns 2.01 with the location of a registration (RFC 9176 section 5), and with the block of the
+/// request, if it is one.
 fn created(number: u64, block1: Option<Block>) -> ShortReply
     requires { ForSome block1 IsBlock }
     ensures { short_said result ≡ created_at number (block1_options block1) }
@@ -104,8 +104,8 @@ fn created(number: u64, block1: Option<Block>) -> ShortReply
     }
 }
 
-/// 2.04 where a registration has other links (RFC 9176 section 5.3.3), and the block of the request
-/// that it answers, where it is one.
+/// Returns 2.04 for replaced links (RFC 9176 section 5.3.3), with the block of the request, if it
+/// is one.
 fn replaced_reply(block1: Option<Block>) -> ShortReply
     requires { ForSome block1 IsBlock }
     ensures { short_said result ≡ changed_with (block1_options block1) }
@@ -118,8 +118,7 @@ fn replaced_reply(block1: Option<Block>) -> ShortReply
     }
 }
 
-/// What comes of a change that is accepted, by the version with its entry and what is answered.
-/// `Starved`: out of memory.
+/// Returns the outcome of an accepted change, from the version with its entry and its answer.
 fn entered(
     alloc: Global,
     version: Directory,
@@ -148,7 +147,7 @@ fn entered(
     })
 }
 
-/// What comes of a change that is refused. `Starved`: out of memory.
+/// Returns the outcome of a change that is refused.
 fn refused(refusal: Refusal) -> Result<Outcome, Starved>
     ensures moments { (moment : ℕ) → IfOk result (IsTimely moment) }
     ensures planned { (history : List Entry) (swept : ℕ) (entry : Entry) (meant : changes.Outcome)
@@ -162,7 +161,7 @@ fn refused(refusal: Refusal) -> Result<Outcome, Starved>
     })
 }
 
-/// What comes of a body that gives no links, whatever they are for. `Starved`: out of memory.
+/// Returns the outcome of a body without valid links, whatever their purpose.
 fn refused_body(fault: DraftFault) -> Result<Outcome, Starved>
     ensures moments { (moment : ℕ) → IfOk result (IsTimely moment) }
     ensures planned { (history : List Entry) (swept moment : ℕ) (s : Step)
@@ -178,8 +177,8 @@ fn refused_body(fault: DraftFault) -> Result<Outcome, Starved>
     })
 }
 
-/// What comes of the registration of a draft (RFC 9176 section 5), which ends a block of a request
-/// where one is named. `Starved`: out of memory.
+/// Returns the outcome of registering a draft (RFC 9176 section 5). The answer names `block1`, if
+/// there is one.
 fn draft_registered(
     alloc: Global,
     version: &Directory,
@@ -210,8 +209,8 @@ fn draft_registered(
     }
 }
 
-/// What comes of a registration with these parameters and this body (RFC 9176 section 5), which
-/// ends a block of a request where one is named. `Starved`: out of memory.
+/// Returns the outcome of a registration with these parameters and this body (RFC 9176 section 5).
+/// The answer names `block1`, if there is one.
 pub(crate) fn registered(
     alloc: Global,
     version: &Directory,
@@ -242,8 +241,8 @@ pub(crate) fn registered(
     }
 }
 
-/// What comes of other links for the registration of a number (RFC 9176 section 5.3.3), which end a
-/// block of a request where one is named. `Starved`: out of memory.
+/// Returns the outcome of replacing the links of the registration with a number (RFC 9176 section
+/// 5.3.3). The answer names `block1`, if there is one.
 fn links_replaced(
     alloc: Global,
     version: &Directory,
@@ -273,8 +272,8 @@ fn links_replaced(
     }
 }
 
-/// What comes of a body with other links for the registration of a number (RFC 9176 section 5.3.3),
-/// which ends a block of a request where one is named. `Starved`: out of memory.
+/// Returns the outcome of a body that replaces the links of the registration with a number (RFC
+/// 9176 section 5.3.3). The answer names `block1`, if there is one.
 pub(crate) fn replaced(
     alloc: Global,
     version: &Directory,
@@ -302,8 +301,7 @@ pub(crate) fn replaced(
     }
 }
 
-/// What comes of an update of the registration of a number (RFC 9176 section 5.3.1). `Starved`: out
-/// of memory.
+/// Returns the outcome of an update of the registration with a number (RFC 9176 section 5.3.1).
 pub(crate) fn updated(
     alloc: Global,
     version: &Directory,
@@ -336,8 +334,7 @@ pub(crate) fn updated(
     }
 }
 
-/// What comes of a removal of the registration of a number (RFC 9176 section 5.3.2). `Starved`: out
-/// of memory.
+/// Returns the outcome of a removal of the registration with a number (RFC 9176 section 5.3.2).
 pub(crate) fn removed(
     alloc: Global,
     version: &Directory,

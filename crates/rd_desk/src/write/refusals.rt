@@ -1,4 +1,4 @@
-//! Writes that are refused as they are done (RFC 7252 section 5.5.2).
+//! Admitted writes that are refused (RFC 7252 section 5.5.2).
 ghost use Rattle.std.specs.Prelude.{◌≡◌, ◌<◌, ◌≤◌, ℕ, Bool, false, List, length};
 ghost use Rattle.message_model.specs.Codes as codes_of;
 ghost use Rattle.message_model.specs.Codes.{is_reserved};
@@ -19,8 +19,8 @@ use crate::write::replies::ShortReply;
 use crate::{Mids, Outbox};
 
 impl Tables {
-    /// An admitted write is refused with a code and a diagnostic, and settled by that. Takes no
-    /// memory.
+    /// Refuses an admitted write with a code and a diagnostic payload, which settles it. Does not
+    /// allocate.
     pub(crate) fn refuse_write(
         &mut self,
         mids: &mut Mids,

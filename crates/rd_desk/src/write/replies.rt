@@ -1,4 +1,4 @@
-//! What writes are answered with (RFC 7252 section 4.5, RFC 9176 section 5).
+//! Answers to writes (RFC 7252 section 4.5, RFC 9176 section 5).
 ghost use Rattle.std.specs.Prelude.{◌≡◌, ◌<◌, ◌≤◌, ◌^◌, false, length};
 ghost use Rattle.std.specs.Option.{ForSome};
 ghost use Rattle.message_model.specs.Blocks.{IsBlock};
@@ -7,17 +7,17 @@ ghost use Rattle.message_model.specs.Codes.{is_reserved};
 
 use message_model::Block;
 
-/// What a write is answered with. It is short, so that its octets are kept for repeats of the write
-/// (RFC 7252 section 4.5): no body, and a diagnostic of 13 octets at most.
+/// The answer to a write. It is short, because its octets are kept for duplicates of the write (RFC
+/// 7252 section 4.5): it has no body, and a diagnostic payload of at most 13 octets.
 #[derive(Clone, Copy)]
 pub(crate) struct ShortReply {
     /// The code.
     pub code: u8,
-    /// The number of the registration that was made, in Location-Path.
+    /// The number of the new registration, for Location-Path.
     pub location: Option<u64>,
-    /// The block of the request that is answered, in Block1.
+    /// The block of the answered request, for Block1.
     pub block1: Option<Block>,
-    /// The diagnostic of a refusal (RFC 7252 section 5.5.2), or nothing.
+    /// The diagnostic payload of a refusal (RFC 7252 section 5.5.2), or nothing.
     pub diagnostic: &'static [u8],
     pub ghost class: { is_reserved code ≡ false },
     pub ghost filled: { codes_of.empty < code },
@@ -30,7 +30,7 @@ impl ShortReply {
     ghost use Rattle.journal_model.specs.Effects as effects;
     ghost use Rattle.rd_desk.specs.parts.Replies.{short_said};
 
-    /// A code with the diagnostic of a refusal, or with nothing.
+    /// Returns an answer of a code with the diagnostic payload of a refusal, or with nothing.
     pub(crate) fn plain(code: u8, diagnostic: &'static [u8]) -> ShortReply
         requires class { is_reserved code ≡ false }
         requires filled { codes_of.empty < code }

@@ -1,4 +1,4 @@
-//! Writes that were admitted are settled by their answers, or fail (RFC 7252 sections 4.2 and 4.5).
+//! Admitted writes that are settled by their answers, or that fail (RFC 7252 sections 4.2 and 4.5).
 ghost use Rattle.std.specs.Prelude.{◌≡◌, ◌^◌, ◌<◌, ℕ, Bool, List, length};
 ghost use Rattle.std.specs.Option.{ForSome};
 ghost use Rattle.coap_message.specs.Views.{message_in};
@@ -27,7 +27,7 @@ use coap_message::View;
 use exchange_core::Octets;
 use rd_base::Peer;
 
-/// The answer to a write is sent; its octets are given back, to be kept for repeats.
+/// Sends the answer to a write. Returns its octets, which are kept for duplicates.
 pub(crate) fn answer_short(
     mids: &mut Mids,
     peer: Peer,
@@ -63,8 +63,8 @@ pub(crate) fn answer_short(
 }
 
 impl Tables {
-    /// An admitted write is answered, and the answer settles it: a repeat gets the same octets.
-    /// Takes no memory.
+    /// Answers an admitted write and settles it by the answer: a duplicate gets the same octets.
+    /// Does not allocate.
     pub(crate) fn settle(
         &mut self,
         mids: &mut Mids,
@@ -90,8 +90,8 @@ impl Tables {
             .settle(write.peer, view.mid, write.admitted, octets);
     }
 
-    /// An admitted write for which memory ran out is answered 5.00, and is forgotten, so that it
-    /// may come again as a new one. Takes no memory.
+    /// Answers 5.00 to an admitted write for which memory ran out, and forgets it, so that it may
+    /// come again as a new one. Does not allocate.
     pub(crate) fn fail(&mut self, mids: &mut Mids, write: &Write<'_>, out: &mut Outbox)
         requires room { length out.old < most_datagrams }
         ensures way { (rows : List Row) (s : Step) (starved : Bool) (place : ℕ)

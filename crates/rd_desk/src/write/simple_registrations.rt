@@ -1,5 +1,5 @@
-//! Simple registrations: the directory answers, and then fetches the links of the device itself
-//! (RFC 9176 section 5.1).
+//! Simple registrations: the directory answers, and then fetches the device's links itself (RFC
+//! 9176 section 5.1).
 ghost use Rattle.std.specs.Prelude.{◌≡◌, ◌<◌, ◌+◌, ℕ, Bool, [], ◌∷◌, ◌++◌, List, length, None};
 ghost use Rattle.message_model.specs.Codes as codes_of;
 ghost use Rattle.event_model.specs.AdmissionOrder.{IsOpen};
@@ -27,7 +27,7 @@ use message_model::codes::{CHANGED, SERVICE_UNAVAILABLE};
 use rd_request::{Request, given_params};
 use simple_registration::{AllowedParams, StartFault};
 
-/// How many Message IDs the answer to a request of this type draws.
+/// Returns how many Message IDs the answer to a request of this type draws.
 fn drawn_for(kind: Kind4) -> u64
     ensures { result ≡ effects.drawn_for kind }
 {
@@ -38,8 +38,8 @@ fn drawn_for(kind: Kind4) -> u64
 }
 
 impl Tables {
-    /// The 2.04 is sent and settles the write, where the fetch that comes after it started already:
-    /// whatever fetches the tables have, these stay.
+    /// Sends the 2.04 and settles the write by it, after its fetch has started. Whatever fetches
+    /// the tables have, they do not change.
     fn settle_beside_fetch(&mut self, mids: &mut Mids, write: &Write<'_>, out: &mut Outbox)
         requires room { length out.old < most_datagrams }
         ensures way { (fetches : Table) (rows : List Row) (s : Step) (starved : Bool) (place : ℕ)
@@ -62,10 +62,10 @@ impl Tables {
             .settle(write.peer, view.mid, write.admitted, octets);
     }
 
-    /// A simple registration that was admitted is done: it is answered, and a fetch of the links of
-    /// its device starts after the answer, unless one runs or as many run as may (RFC 9176 section
-    /// 5.1). The first wait is made from the word. What takes memory comes before anything is sent;
-    /// where it runs out, the write fails.
+    /// Does an admitted simple registration: answers it, and then starts a fetch of the device's
+    /// links (RFC 9176 section 5.1). Refuses it if a fetch for its peer is running, or if the table
+    /// of fetches is full. `word` determines the initial timeout. Everything that allocates comes
+    /// before anything is sent. If memory runs out, the write fails.
     pub(crate) fn commit_simple(
         &mut self,
         word: u32,

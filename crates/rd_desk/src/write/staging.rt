@@ -1,4 +1,4 @@
-//! Versions that a step leaves on a board, to be published after it.
+//! Versions that a step stages on a board, to be published after it.
 ghost use Rattle.std.specs.Prelude.{◌≡◌, ◌≤◌, false, Some, None, Ok, IfOk, IfSome, OnOk, OnErr};
 ghost use Rattle.std.specs.Arc.{arc_value};
 ghost use Rattle.directory_core.specs.Boards.{HasOneMore};
@@ -9,8 +9,7 @@ use directory_core::Board;
 use rd_base::Starved;
 use std::sync::Arc;
 
-/// The version of an entry that is ready is laid on the board. `Starved`: memory ran out, and
-/// nothing is staged.
+/// Stages the version of an entry that is ready. After `Starved`, nothing is staged.
 pub(crate) fn lay<B: Board>(board: &mut B, entering: &Entering) -> Result<(), Starved>
     requires free { B.has_staged board.old ≡ false }
     requires next { IfSome (B.told board.old)
@@ -28,8 +27,8 @@ pub(crate) fn lay<B: Board>(board: &mut B, entering: &Entering) -> Result<(), St
     board.stage(version)
 }
 
-/// What is planned of a write, with its version laid on the board, where it makes an entry.
-/// `Starved`: memory ran out, and nothing is staged.
+/// Returns what is planned of a write, and stages the version of its entry, if it makes one. After
+/// `Starved`, nothing is staged.
 pub(crate) fn staged<B: Board>(
     board: &mut B,
     planned: Result<Outcome, Starved>,

@@ -48,7 +48,7 @@ use rd_base::{Key, Peer};
 use rd_request::Request;
 use transfers::Upload;
 
-/// 2.31 to a block that is collected, and more follow.
+/// Returns 2.31 for a block that was stored and that more follow.
 fn continued(block: Block) -> ShortReply
     requires { IsBlock block }
     ensures { short_said result
@@ -62,10 +62,10 @@ fn continued(block: Block) -> ShortReply
     }
 }
 
-/// A body of links whose last block came.
+/// The body of links whose last block came.
 #[derive(Clone, Copy)]
 pub(crate) struct WholeBody<'a> {
-    /// The key of the requests that its blocks came by (RFC 7959 section 2.5).
+    /// The key of the requests that brought its blocks (RFC 7959 section 2.5).
     pub key: &'a Key,
     /// Its last block.
     pub last: Block,
@@ -74,8 +74,8 @@ pub(crate) struct WholeBody<'a> {
 }
 
 impl Tables {
-    /// How a block is answered that comes from a peer, under the key of its request. One that more
-    /// follow is collected where it is answered by `More`; after any other answer all is as before.
+    /// Adds a block from a peer to the upload under the key of its request. After `More`, the block
+    /// is stored and more follow. Any other answer leaves everything unchanged.
     fn take_block(&mut self, peer: Peer, key: &Key, block: &Block, piece: &[u8]) -> Upload
         ensures answer { (rows : List Row) (s : Step) (starved : Bool) (out : List (Peer
             × List ℕ)) (mids : Mids)
@@ -100,7 +100,7 @@ impl Tables {
             .upload(self.alloc, self.moment, peer, key, block, piece)
     }
 
-    /// The upload of a body whose links are accepted ends. Takes no memory.
+    /// Ends the upload of a body whose links were accepted. Does not allocate.
     fn end_upload(&mut self, peer: Peer, key: &Key)
         ensures way { (rows : List Row) (s : Step) (starved : Bool) (done : Effects)
             (out : List (Peer
@@ -114,9 +114,9 @@ impl Tables {
         self.transfers.end_upload(peer, key);
     }
 
-    /// What is planned of links by the last of their blocks is done: where they are accepted, their
-    /// entry is made and their upload ends; else its upload stays, so that the block can come
-    /// again. In both cases the write is answered, and settled by that. Takes no memory.
+    /// Does what is planned of links after the last of their blocks. If they are accepted, makes
+    /// their entry and ends the upload. Otherwise the upload stays, so that the block can come
+    /// again. In both cases, the answer settles the write. Does not allocate.
     fn settle_upload(
         &mut self,
         mids: &mut Mids,
@@ -151,8 +151,8 @@ impl Tables {
         self.settle(mids, write, &reply, out);
     }
 
-    /// Links whose last block came are used with their whole body. What takes memory comes
-    /// before anything changes; where it runs out, the write fails.
+    /// Uses links whose last block came, with their whole body. Everything that allocates comes
+    /// before anything changes. If memory runs out, the write fails.
     fn commit_body<B: Board>(
         &mut self,
         board: &mut B,
@@ -203,8 +203,8 @@ impl Tables {
         }
     }
 
-    /// A block of links that was admitted is done (RFC 7959 sections 2.5 and 2.9). What
-    /// takes memory comes before anything changes; where it runs out, the write fails.
+    /// Does an admitted block of links (RFC 7959 sections 2.5 and 2.9). Everything that allocates
+    /// comes before anything changes. If memory runs out, the write fails.
     pub(crate) fn commit_block<B: Board>(
         &mut self,
         board: &mut B,

@@ -12,8 +12,8 @@ invariant-loop g l = record {
   each : (i : ℕ) (p : _) → slice_get l.passes.items i ≡ Some p
       → IsNew (g.T.Replays.label l.self.table.shared.key.value.value) l.fn.seats i p
       × (lock_of p ≡ id_of l.self);
-  last : IsFresh (g.T.Replays.label l.self.table.shared.key.value.value) l.fn.seats (length l.passes.items)
-      l.last.me;
+  last : IsFresh (g.T.Replays.label l.self.table.shared.key.value.value) l.fn.seats
+      (length l.passes.items) l.last.me;
   table : l.last.table_id ≡ l.self.table.shared.table_id;
   mark : l.last.me.0.last ≡ true;
 }

@@ -47,7 +47,8 @@ returns-then-self-entries-clause-seen c =
         → mine < theirs
         → counted 0 seen ≤ counted 0 told
     fewer mine theirs front seen told a b d less =
-        let same : counted 0 front ≡ counted 0 seen = ap (counted 0) b in omega (arith, a, same, d, less)
+        let same : counted 0 front ≡ counted 0 seen = ap (counted 0) b in
+        omega (arith, a, same, d, less)
 
 pub returns-then-self-entries-clause-order : goal.returns-then-self-entries-clause-order
 returns-then-self-entries-clause-order c entries p =
