@@ -7,7 +7,7 @@ use std::sync::Wait;
 use std::test::Fail;
 use std::thread;
 use std::thread::Threads;
-use turn_lock::{Ended, Pass, Replays, TurnLock};
+use turn_lock::{Ended, Pass, Replays, TurnLock, Wake};
 
 /// The number of steps of each worker.
 const STEPS: u64 = 10_000;
@@ -39,7 +39,7 @@ impl Replays for Counter {
     ghost label = { λ counter. tt };
 }
 
-/// Returns the counter to the lock, one step further.
+/// Returns the counter to the lock, one step further. Wakes nobody after an odd step.
 fn give_back(lock: &TurnLock<Counter>, pass: &mut Pass<Counter>, counter: Counter)
     requires lock { lock_of pass.old ≡ id_of lock.now }
     requires holding { is_holding pass.old ≡ true }
@@ -47,7 +47,12 @@ fn give_back(lock: &TurnLock<Counter>, pass: &mut Pass<Counter>, counter: Counte
     ensures lock { lock_of pass.new ≡ lock_of pass.old }
     ensures idle { is_holding pass.new ≡ false }
 {
-    lock.give::<Brand>(pass, counter);
+    let wake = if counter.count % 2 == 0 {
+        Wake::One
+    } else {
+        Wake::Nobody
+    };
+    lock.give_back::<Brand>(pass, counter, wake);
 }
 
 /// Makes `steps` steps, one after the other. Returns the value of the counter afterwards.
