@@ -42,6 +42,13 @@ fn is_counted_out(watches: &IndexMap<u32, Watch>) -> bool
     watches.values().any(|watch| watch.is_counted_out())
 }
 
+/// Whether a query is marked.
+pub(crate) fn any_marked(watches: &IndexMap<u32, Watch>) -> bool
+    ensures { result ≡ list_any (λ w. w.marked) (values watches.now) }
+{
+    watches.values().any(|watch| watch.is_marked())
+}
+
 /// Whether one observer at most is left in a slot.
 fn is_last(watches: &IndexMap<u32, Watch>, slot: u32) -> bool
     ensures { result ≡ has_last (watched_at slot watches.now.entries) }
