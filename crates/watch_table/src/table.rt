@@ -12,7 +12,9 @@ ghost use Rattle.watch_table.specs.WatchedQueries.{with_body};
 ghost use Rattle.watch_table.specs.ObserverCounts.{WatchesStandFor, IsFullAmong};
 
 use crate::WatchFault;
-use crate::slots::{any_marked, leave, set_body, touch_at, unmark_at, watch_instead};
+use crate::notes::note_change;
+use crate::prints::PLACES;
+use crate::slots::{any_marked, leave, set_body, touch_noted_at, unmark_at, watch_instead};
 use crate::watch::Watch;
 use event_model::limits::MAX_WATCHED;
 use indexmap::IndexMap;
@@ -112,8 +114,13 @@ impl WatchTable {
             → WatchesStandFor standing self.old
             → WatchesStandFor standing self.new }
     {
+        if self.watches.is_empty() {
+            return;
+        }
+        let mut notes = [false; PLACES];
+        note_change(&mut notes, old, new);
         'watches: for index in 0..self.watches.len() {
-            touch_at(&mut self.watches, index, old, new);
+            touch_noted_at(&mut self.watches, index, old, new, &notes);
         }
     }
 

@@ -10,12 +10,12 @@ use Rattle.watch_table.proofs.table.WatchTable.touched.Goals as goal
 pub watches-preserved : goal.watches-preserved
 watches-preserved c = record {
   changed =
-      c.touch_at.ensures.touched
+      c.touch_noted_at.ensures.touched
       ∙ (ap (changed_at (touched (option_copied c.args.old) (option_copied c.args.new))
       c.watches.index) c.watches.invariant.changed
       ∙ changed-more (touched (option_copied c.args.old) (option_copied c.args.new))
       c.self.inside.watches.entries c.watches.index);
-  len = c.touch_at.ensures.len ∙ c.watches.invariant.len;
+  len = c.touch_noted_at.ensures.len ∙ c.watches.invariant.len;
 }
 
 pub returns-clause-stands : goal.returns-clause-stands
