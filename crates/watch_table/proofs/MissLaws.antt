@@ -91,7 +91,7 @@ use Rattle.watch_table.specs.Prints.{
   value_texts,
 }
 use Rattle.watch_table.specs.Slots.{changed_at}
-use Rattle.watch_table.specs.WatchedQueries.{Table, Watched, touched}
+use Rattle.watch_table.specs.WatchedQueries.{Table, touched}
 use Rattle.watch_table.proofs.PrintLaws.{AreNotes, Misses, not_before, texts_full, texts_missed}
 
 misses_parts : (front : List ℕ) (texts more : List (List ℕ))
