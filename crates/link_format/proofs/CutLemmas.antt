@@ -31,8 +31,7 @@ use Rattle.std.proofs.Common.{
   arith,
 }
 use Rattle.std.specs.Prelude.{◌==◌, if◌then◌else◌}
-use Rattle.std.specs.List.{list_any}
-use Rattle.std.proofs.lemmas.Bool.{eqb-true, and_parts, or_parts, cases_lt}
+use Rattle.std.proofs.lemmas.Bool.{eqb-true, and_parts, cases_lt}
 use Rattle.std.proofs.lemmas.Bool.Decides.{nat_tests}
 use Rattle.std.proofs.Math.Bool.{and-false}
 use Rattle.std.specs.Prelude.{slice_index}
@@ -335,27 +334,6 @@ leading separator n (b ∷ bs) after e h =
     ap (octets_before separator Outside) e in
     let t = octets_before_step separator Leading b bs (and-false (b == separator)) in
     omega arith
-
--- where no separator stands, no octet is one
-none_there : (separator : ℕ) (quotes : Quotes) (text : List ℕ)
-    → list_any (λ b. b == separator) text ≡ false
-    → octets_before separator quotes text ≡ length text
-none_there separator quotes [] h = octets_before_end separator quotes
-none_there separator quotes (b ∷ bs) h =
-    let parts = or_parts (b == separator) (list_any (λ b. b == separator) bs) h in
-    octets_before_step separator quotes b bs (rw parts.0 refl)
-    ∙ ap suc (none_there separator (quotes_after quotes b) bs parts.1)
-
--- and so where none stands after the first octet
-pub none_leading : (separator : ℕ) (text after : List ℕ)
-    → after ≡ drop 1 text
-    → list_any (λ b. b == separator) after ≡ false
-    → length text ≡ octets_before separator Leading text
-none_leading separator [] after e h = sym (octets_before_end separator Leading)
-none_leading separator (b ∷ bs) after e h =
-    sym (octets_before_step separator Leading b bs (and-false (b == separator))
-    ∙ ap suc
-    (none_there separator Outside bs (ap (list_any (λ b. b == separator)) (sym e) ∙ h)))
 
 -- it stands after a backslash in a quoted string
 pub escaped : (separator n : ℕ) (text inside after : List ℕ)

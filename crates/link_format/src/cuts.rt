@@ -89,16 +89,12 @@ fn octets_before_outside(separator: u8, text: &[u8], outside: &[u8]) -> usize
 }
 
 /// How many octets stand before the first separator, where the first octet is none and begins no
-/// quoted string. The last part of a link has no further one, within quoted strings or outside.
+/// quoted string.
 fn octets_before_leading(separator: u8, text: &[u8]) -> usize
     ensures value { result ≡ cuts.octets_before separator Leading text.now }
     ensures within { result ≤ length text.now }
 {
-    let rest = after_octet(text);
-    if !rest.contains(&separator) {
-        return text.len();
-    }
-    octets_before_outside(separator, text, rest)
+    octets_before_outside(separator, text, after_octet(text))
 }
 
 /// How many octets stand before the first separator, and all where there is none.

@@ -102,11 +102,14 @@ fn point_at_value(octet: u8) -> Option<Point>
     point_if(is_token_character(octet), Token)
 }
 
-/// The point after a further octet of a token.
+/// The point after a further octet of a token. What ends most tokens is told first.
 #[tactic(auto, unfolding(link_model::specs::DocumentReading::point_after))]
 fn point_in_token(octet: u8) -> Option<Point>
     ensures { option_map point_in result ≡ grammar.point_after grammar.in_token octet }
 {
+    if octet == b';' {
+        return Some(Name);
+    }
     if is_token_character(octet) {
         return Some(Token);
     }

@@ -1,5 +1,5 @@
 -- The components that the parts of a reference show.
-use Rattle.std.specs.Prelude.{option_map}
+use Rattle.std.specs.Prelude.{Bool, false, ◌&&◌, Option, Some, None, option_map, is_none}
 use Rattle.reference_model.specs.References.{Components}
 use Rattle.ref_resolve.specs.declared.components.Parts.{Parts}
 
@@ -12,3 +12,8 @@ components_of parts = record {
   query = option_map (λ text. text.now) parts.query;
   fragment = option_map (λ text. text.now) parts.fragment;
 }
+
+-- the components are there, without query and fragment
+abbrev pub is_without_query : Option Components → Bool
+is_without_query None = false
+is_without_query (Some c) = is_none c.query && is_none c.fragment

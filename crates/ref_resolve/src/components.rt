@@ -1,5 +1,6 @@
 //! The five components of a text, before they are checked.
-ghost use Rattle.std.specs.Prelude.{◌≡◌, option_map};
+ghost use Rattle.std.specs.Prelude.{◌≡◌, None, option_map};
+ghost use Rattle.link_model.specs.Characters.{number_sign, question_mark};
 ghost use Rattle.reference_model.specs.References as references;
 ghost use Rattle.ref_resolve.specs.ComponentsOfParts.{components_of};
 ghost use Rattle.ref_resolve.specs.PlainPaths.{with_path_alone};
@@ -70,6 +71,25 @@ pub(crate) fn apart(text: &str) -> Parts<'_>
         path,
         query,
         fragment,
+    }
+}
+
+/// Returns the components of a text without query and fragment, whatever its other characters.
+#[tactic(auto, unfolding(reference_model::specs::References::components))]
+pub(crate) fn apart_without_query(text: &str) -> Parts<'_>
+    requires hierarchy { references.without_query text.now ≡ text.now }
+    requires query { references.after question_mark (references.without_fragment text.now) ≡ None }
+    requires fragment { references.after number_sign text.now ≡ None }
+    ensures { components_of result ≡ references.components text.now }
+{
+    let (scheme, rest) = scheme_of(text);
+    let (authority, path) = authority_of(rest);
+    Parts {
+        scheme,
+        authority,
+        path,
+        query: None,
+        fragment: None,
     }
 }
 

@@ -10,5 +10,5 @@ mod references;
 mod resolution;
 
 pub use components::Parts;
-pub use references::{RefBad, host, is_uri, parts};
+pub use references::{RefBad, host, is_uri, parts, parts_without_query};
 pub use resolution::{resolve, resolve_into};

@@ -5,11 +5,11 @@ ghost use Rattle.std.specs.Prelude.{is_some, IfSome, IfOk, IfErr, IsOkAnd, Match
 ghost use Rattle.std.specs.Prelude.{false};
 ghost use Rattle.reference_model.specs.References as references;
 ghost use Rattle.reference_model.specs.ReferenceFaults as faults;
-ghost use Rattle.ref_resolve.specs.ComponentsOfParts.{components_of};
+ghost use Rattle.ref_resolve.specs.ComponentsOfParts.{components_of, is_without_query};
 ghost use Rattle.ref_resolve.specs.ComponentFaults.{have_no_fault, size_of};
 ghost use Rattle.ref_resolve.specs.PlainPaths.{is_path_alone};
 
-use crate::components::{Parts, apart, with_path_alone};
+use crate::components::{Parts, apart, apart_without_query, with_path_alone};
 use crate::cuts::{around, through};
 use crate::reach::{Class, are_path_characters, authority_reach, is_scheme, text_reach};
 
@@ -178,6 +178,19 @@ pub fn parts(text: &str) -> Result<Parts<'_>, RefBad>
         None => Ok(parts),
         Some(at) => Err(RefBad { at }),
     }
+}
+
+/// Returns the components of a URI-reference without query and fragment (RFC 3986 section 4.1). It
+/// is not checked again. Does not allocate.
+///
+/// # Requires
+///
+/// The text is such a URI-reference.
+pub fn parts_without_query(text: &str) -> Parts<'_>
+    requires { is_without_query (references.reference text.now) ≡ true }
+    ensures { references.IsReference text.now (components_of result) }
+{
+    apart_without_query(text)
 }
 
 /// Returns whether a reference has a scheme, which makes it a URI (RFC 3986 section 4.3).

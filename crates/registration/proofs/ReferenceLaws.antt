@@ -24,7 +24,6 @@ use Rattle.rd_base.specs.declared.records.Item.{Item}
 use Rattle.record_model.specs.Bodies.{is_reference, is_uri}
 use Rattle.reference_model.specs.References.{Components, IsReference, reference, has_scheme}
 use Rattle.reference_model.specs.Resolution.{resolved}
-use Rattle.record_model.specs.Parameters.{is_base, is_base_of}
 use Rattle.record_model.specs.Records.{based, rebased}
 use Rattle.ref_resolve.specs.declared.components.Parts.{Parts}
 use Rattle.ref_resolve.specs.ComponentsOfParts.{components_of}
@@ -60,18 +59,6 @@ stays base text e = rw e refl
 pub is_resolved : (base text : List ℕ) → is_uri text ≡ false → based base text ≡ resolved base text
 unfolding based
 is_resolved base text e = rw e refl
-
--- a base is a reference
-pub base_reads : (text : List ℕ)
-    → is_base text ≡ true
-    → ((c : Components) → IsReference text c → ⊥)
-    → ⊥
-unfolding is_base
-base_reads text h none = by_read (reference text) refl h
-  where
-    by_read : (o : Option Components) → reference text ≡ o → is_base_of o ≡ true → ⊥
-    by_read None e h = cc
-    by_read (Some c) e h = none c (reference_found text c e)
 
 -- ---- links against another base
 

@@ -2,7 +2,10 @@
 use Rattle.std.proofs.Common.{
   ◌≡◌,
   ℕ,
+  Bool,
   true,
+  false,
+  ◌&&◌,
   List,
   [],
   ◌∷◌,
@@ -12,6 +15,7 @@ use Rattle.std.proofs.Common.{
   None,
   option_map,
   is_some,
+  is_none,
   refl,
   sym,
   ap,
@@ -20,40 +24,36 @@ use Rattle.std.proofs.Common.{
 }
 use Rattle.rd_base.specs.declared.records.Item.{Item}
 use Rattle.rd_base.specs.declared.submitted_links.SubmittedLink.{SubmittedLink}
-use Rattle.reference_model.specs.References.{Components, IsReference, reference}
+use Rattle.ref_resolve.specs.ComponentsOfParts.{is_without_query}
+use Rattle.reference_model.specs.References.{Components, host, reference}
 use Rattle.reference_model.proofs.OnLiterals.{reference_on_literals}
-use Rattle.reference_model.proofs.ReferenceLaws.{reference_found}
-use Rattle.record_model.specs.Bodies.{is_reference}
-use Rattle.record_model.specs.Parameters.{is_base, is_base_of}
+use Rattle.record_model.specs.Parameters.{has_host, is_base, is_base_of}
 use Rattle.record_model.specs.Records.{item_of, items_of, rebased}
 use Rattle.registration.specs.Submissions.{submitted_of, all_submitted}
 
 -- ---- what bases are
 
--- a text that is a reference is read
-pub reference_reads : (text : List ℕ)
-    → is_reference text ≡ true
-    → ((c : Components) → IsReference text c → ⊥)
-    → ⊥
-reference_reads text h none = by_read (reference text) refl h
-  where
-    by_read : (o : Option Components) → reference text ≡ o → is_some o ≡ true → ⊥
-    by_read None e h = cc
-    by_read (Some c) e h = none c (reference_found text c e)
+last_two : (a b c d : Bool) → (a && b && c && d) ≡ true → (c && d) ≡ true
+last_two true true c d h = h
+last_two true false c d h = cc
+last_two false b c d h = cc
 
--- a base is a reference
-pub base_is_reference : (text : List ℕ) → is_base text ≡ true → is_reference text ≡ true
+-- a base has neither query nor fragment
+pub base_is_without_query : (text : List ℕ)
+    → is_base text ≡ true
+    → is_without_query (reference text) ≡ true
 unfolding is_base
-base_is_reference text h = by_read (reference text) h
+base_is_without_query text h = by_read (reference text) h
   where
-    by_read : (o : Option Components) → is_base_of o ≡ true → is_some o ≡ true
+    by_read : (o : Option Components) → is_base_of o ≡ true → is_without_query o ≡ true
     by_read None h = cc
-    by_read (Some c) h = refl
+    by_read (Some c) h =
+        last_two (is_some c.scheme) (has_host (host c)) (is_none c.query) (is_none c.fragment) h
 
--- the empty text is a reference
-pub nothing_is_reference : is_reference [] ≡ true
+-- nor has the empty text
+pub nothing_is_without_query : is_without_query (reference []) ≡ true
 unfolding reference_on_literals
-nothing_is_reference = refl
+nothing_is_without_query = refl
 
 -- ---- links
 

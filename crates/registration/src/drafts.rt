@@ -7,11 +7,13 @@ ghost use Rattle.rd_base.specs.declared.moments.Moment.{Moment};
 ghost use Rattle.rd_base.specs.Peers.{IsHost};
 ghost use Rattle.record_model.specs.AllowedParameters.{AreAllowed};
 ghost use Rattle.record_model.specs.Bases.{registered_base};
-ghost use Rattle.record_model.specs.Bodies.{is_reference, linked_references};
+ghost use Rattle.record_model.specs.Bodies.{linked_references};
 ghost use Rattle.record_model.specs.BodyFaults.{body_fault};
 ghost use Rattle.record_model.specs.Parameters.{is_base};
 ghost use Rattle.record_model.specs.Records.{registered};
 ghost use Rattle.record_model.specs.Refusals.{is_refused_as_limited};
+ghost use Rattle.ref_resolve.specs.ComponentsOfParts.{is_without_query};
+ghost use Rattle.reference_model.specs.References.{reference};
 ghost use Rattle.registration.specs.Drafts.{IsDraft, IsFaultOf, drafted, has_references, recorded};
 ghost use Rattle.registration.specs.Links.{BodyReads};
 
@@ -19,7 +21,7 @@ use crate::links::read_links;
 use crate::submissions::Submitted;
 use link_format::{LinkBad, check};
 use rd_base::{Items, LinksBuilder, Name, Pairs, Peer, RegParams, Starved, Text, base_of};
-use ref_resolve::parts;
+use ref_resolve::parts_without_query;
 use std::alloc::{AllocFailed, Global};
 
 /// What a registration is before it has a number and a moment (RFC 9176 section 5).
@@ -95,13 +97,11 @@ fn registered_base(alloc: Global, given: Option<Text>, peer: Peer) -> Result<Tex
 
 /// The links of a body against a base, or its first fault. The empty base is one too.
 fn items_of(alloc: Global, base: &str, body: &[u8]) -> Result<Items, DraftFault>
-    requires { is_reference base.now ≡ true }
+    requires { is_without_query (reference base.now) ≡ true }
     ensures { BodyReads base.now body.now result }
 {
     let listed = usize::saturating_add(base.len(), body.len());
-    let Ok(base) = parts(base) else {
-        unreachable!();
-    };
+    let base = parts_without_query(base);
     match check(body) {
         Ok(links) => {
             let builder = LinksBuilder::with_room(alloc, body.len(), listed)?;

@@ -13,7 +13,7 @@ ghost use Rattle.registration.specs.OtherBases.{AddsRebased, AreBased, IsBased};
 
 use crate::references::{Referred, refer};
 use rd_base::{Items, Link, LinkParts, LinksBuilder, Starved, Text};
-use ref_resolve::{Parts, parts};
+use ref_resolve::{Parts, parts_without_query};
 use std::alloc::Global;
 
 /// Writes a reference against a base.
@@ -95,9 +95,7 @@ pub fn rebased(alloc: Global, items: &Items, base: &Text) -> Result<Items, Starv
     ensures items { IfOk result (λ new. new ≡ map (records.rebased base.now) items.now) }
     ensures references { IfOk result (λ new. list_all has_references new ≡ true) }
 {
-    let Ok(base) = parts(base.as_str()) else {
-        unreachable!();
-    };
+    let base = parts_without_query(base.as_str());
     let none = LinksBuilder::with_room_of(alloc, items)?;
     let mut builder = none;
     let mut referred = Referred::new(alloc);

@@ -3,12 +3,12 @@ use Rattle.record_model.specs.Parameters.{is_base}
 use Rattle.record_model.specs.Bodies.{linked_references}
 use Rattle.registration.proofs.DraftLaws.{not_limited, is_draft}
 use Rattle.registration.proofs.LinksLaws.{drafts, records}
-use Rattle.registration.proofs.SubmissionLaws.{base_is_reference}
+use Rattle.registration.proofs.SubmissionLaws.{base_is_without_query}
 use Rattle.registration.proofs.drafts.build.Goals as goal
 
 pub items_of-requires : goal.items_of-requires
 items_of-requires c =
-    base_is_reference c.as_str.result.now
+    base_is_without_query c.as_str.result.now
     (ap (λ (t : List ℕ). is_base t) c.as_str.ensures ∙ c.in_ok-base.ensures.base)
 
 pub returns-clause-draft : goal.returns-clause-draft

@@ -2,11 +2,11 @@ use Rattle.std.proofs.Common.{List, [], Some, sym, ap, ◌∙◌}
 use Rattle.rd_base.specs.declared.submitted_links.SubmittedLink.{SubmittedLink}
 use Rattle.record_model.specs.Bodies.{linked_references}
 use Rattle.registration.proofs.DraftLaws.{not_limited}
-use Rattle.registration.proofs.SubmissionLaws.{nothing_is_reference, submitted_body}
+use Rattle.registration.proofs.SubmissionLaws.{nothing_is_without_query, submitted_body}
 use Rattle.registration.proofs.drafts.submitted.Goals as goal
 
 pub items_of-requires : goal.items_of-requires
-items_of-requires c = nothing_is_reference
+items_of-requires c = nothing_is_without_query
 
 pub returns-clause-links : goal.returns-clause-links
 returns-clause-links c =

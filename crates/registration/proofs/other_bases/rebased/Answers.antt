@@ -5,14 +5,14 @@ use Rattle.rd_base.specs.Drafted.{Drafted}
 use Rattle.rd_base.specs.declared.records.Item.{Item}
 use Rattle.record_model.specs.Records.{rebased}
 use Rattle.registration.specs.Drafts.{has_references}
-use Rattle.registration.proofs.ReferenceLaws.{base_reads, keeps_references}
+use Rattle.registration.proofs.ReferenceLaws.{keeps_references}
+use Rattle.registration.proofs.SubmissionLaws.{base_is_without_query}
 use Rattle.registration.proofs.LinksLaws.{one_more, all_more}
 use Rattle.registration.proofs.other_bases.rebased.Goals as goal
 
-pub unreachable-requires : goal.unreachable-requires
-unreachable-requires c =
-    base_reads c.args.base.now c.requires.base
-    (λ k h. c.in_default.ensures.only k (rw c.as_str.ensures h))
+pub parts_without_query-base-requires : goal.parts_without_query-base-requires
+parts_without_query-base-requires c =
+    base_is_without_query c.as_str.result.now (rw c.as_str.ensures c.requires.base)
 
 pub links-preserved : goal.links-preserved
 links-preserved c =
@@ -37,7 +37,7 @@ links-preserved c =
           all_more c.links.builder.links c.in_ok-builder.builder.links more.added longer
           c.links.invariant.new
           (keeps_references c.as_str.result.now item more.added
-          (more.rebased c.as_str.result.now c.in-Ok.ensures.found) parts.0);
+          (more.rebased c.as_str.result.now c.parts_without_query-base.ensures) parts.0);
       waits =
           (ap (λ (d : Drafted). d.raw) more.builder, ap (λ (d : Drafted). d.pairs) more.builder);
     }
