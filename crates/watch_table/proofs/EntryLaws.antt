@@ -1,13 +1,57 @@
 -- What is known of each watched query, and what is found in a slot, after one is taken out or
 -- changed.
-use Rattle.std.proofs.Common.{◌≡◌, ℕ, ◌+◌, ◌-◌, ◌<◌, ◌^◌, nat_eq, nat_le, Bool, true, false, cond, [], ◌∷◌, find, is_some, Some, None, Option, option_map, refl, sym, ap, ◌∙◌, subst, arith, eqb-true}
+use Rattle.std.proofs.Common.{
+  ◌≡◌,
+  ℕ,
+  ◌+◌,
+  ◌-◌,
+  ◌<◌,
+  ◌≤◌,
+  ◌^◌,
+  zero,
+  suc,
+  nat_eq,
+  nat_le,
+  Bool,
+  true,
+  false,
+  cond,
+  List,
+  [],
+  ◌∷◌,
+  ◌++◌,
+  find,
+  length,
+  is_some,
+  Some,
+  None,
+  Option,
+  option_map,
+  refl,
+  sym,
+  ap,
+  ◌∙◌,
+  subst,
+  arith,
+  eqb-true,
+}
 use Rattle.std.specs.List.{AllByRecursion, list_any}
 use Rattle.std.specs.Map.{lookup, remove_entry, set_value, values_of}
 use Rattle.std.proofs.lemmas.Bool.{false≢true, or_parts, leb-false}
 use Rattle.rd_base.specs.declared.queries.Query.{Query}
 use Rattle.rd_base.proofs.lemmas.Numbers.{eqb-refl}
 use Rattle.event_model.specs.Same.{is_same_query}
-use Rattle.watch_table.specs.WatchedQueries.{Watched, Table, watched_at, slot_of, one_more, one_fewer, fewer_at, without}
+use Rattle.watch_table.specs.WatchedQueries.{
+  Watched,
+  Table,
+  watched_at,
+  slot_of,
+  one_more,
+  one_fewer,
+  fewer_at,
+  fewer_of,
+  without,
+}
 use Rattle.watch_table.specs.Slots.{has_last, CanCount}
 
 -- ---- each of them

@@ -1,5 +1,32 @@
 -- Where a print is not noted, no text that was noted begins with a text of this print.
-use Rattle.std.proofs.Common.{◌≡◌, ℕ, ◌*◌, ◌%◌, ◌^◌, ◌<◌, ◌==◌, ap, bit_or, w64, Bool, true, false, List, [], ◌∷◌, ◌++◌, length, nat_eq, slice_index_or, refl, sym, subst, ◌∙◌, arith, eqb-true}
+use Rattle.std.proofs.Common.{
+  ◌≡◌,
+  ℕ,
+  ◌*◌,
+  ◌%◌,
+  ◌^◌,
+  ◌<◌,
+  ◌==◌,
+  ap,
+  bit_or,
+  w64,
+  Bool,
+  true,
+  false,
+  List,
+  [],
+  ◌∷◌,
+  ◌++◌,
+  length,
+  nat_eq,
+  slice_index_or,
+  refl,
+  sym,
+  subst,
+  ◌∙◌,
+  arith,
+  eqb-true,
+}
 use Rattle.std.specs.Int.{bit_at}
 use Rattle.std.specs.List.{AllByRecursion, starts_with}
 use Rattle.std.proofs.lemmas.Bool.{false≢true, and_parts, eqb-false}
@@ -77,13 +104,15 @@ noted_kept notes print other full before =
         (eqb-false (word_of other) (word_of print) apart))
         ∙ before
     by true same true alike =
-        subst (λ word. bit_at (slice_index_or (noted notes print) word 0) (bit_of other) == 1 ≡ true)
+        subst (λ word.
+        bit_at (slice_index_or (noted notes print) word 0) (bit_of other) == 1 ≡ true)
         (sym (eqb-true (word_of other) (word_of print) same))
         (subst (λ bit.
         bit_at (slice_index_or (noted notes print) (word_of print) 0) bit == 1 ≡ true)
         (sym (eqb-true (bit_of other) (bit_of print) alike)) (noted_here notes print full))
     by true same false unlike =
-        subst (λ word. bit_at (slice_index_or (noted notes print) word 0) (bit_of other) == 1 ≡ true)
+        subst (λ word.
+        bit_at (slice_index_or (noted notes print) word 0) (bit_of other) == 1 ≡ true)
         (sym (eqb-true (word_of other) (word_of print) same))
         (ap (λ (word : ℕ). bit_at word (bit_of other) == 1) (word_noted notes print full)
         ∙ (ap (λ (n : ℕ). n == 1) (bit_at_set_other w64 (slice_index_or notes (word_of print) 0)

@@ -1,5 +1,39 @@
 -- Slots: a free one is found, and what is at each is changed one after the other.
-use Rattle.std.proofs.Common.{◌≡◌, ℕ, ◌+◌, ◌<◌, ◌≤◌, zero, suc, nat_eq, Bool, true, false, cond, [], ◌∷◌, ◌++◌, map, take, drop, length, is_some, Some, None, slice_get, refl, sym, ap, ◌∙◌, arith, eqb-true}
+use Rattle.std.proofs.Common.{
+  ◌≡◌,
+  ℕ,
+  ◌+◌,
+  ◌-◌,
+  ◌<◌,
+  ◌≤◌,
+  zero,
+  suc,
+  nat_eq,
+  Bool,
+  true,
+  false,
+  cond,
+  List,
+  [],
+  ◌∷◌,
+  ◌++◌,
+  map,
+  take,
+  drop,
+  length,
+  is_some,
+  Some,
+  None,
+  Option,
+  slice_get,
+  refl,
+  sym,
+  ap,
+  ◌∙◌,
+  arith,
+  eqb-true,
+  ne_eqb,
+}
 use Rattle.std.specs.Map.{lookup, remove_entry, values_of}
 use Rattle.std.proofs.lemmas.Bool.{false≢true}
 use Rattle.rd_base.specs.declared.queries.Query.{Query}

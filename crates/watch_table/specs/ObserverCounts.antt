@@ -1,5 +1,21 @@
 -- Which observers a table of watched queries stands for (RFC 7641 section 4.1).
-use Rattle.std.specs.Prelude.{◌≡◌, ℕ, ◌<◌, false, ◌||◌, nat_eq, nat_lt, List, [], ◌∷◌, sum_by, count_by, if◌then◌else◌}
+use Rattle.std.specs.Prelude.{
+  ◌≡◌,
+  ℕ,
+  ◌≤◌,
+  ◌<◌,
+  Bool,
+  false,
+  ◌||◌,
+  nat_eq,
+  nat_lt,
+  List,
+  [],
+  ◌∷◌,
+  sum_by,
+  count_by,
+  if◌then◌else◌,
+}
 use Rattle.std.specs.List.{AllByRecursion}
 use Rattle.rd_base.specs.declared.queries.Query.{Query}
 use Rattle.event_model.specs.declared.notes.Observer.{Observer}

@@ -1,6 +1,32 @@
 -- Prints of texts: numbers that tell, mostly, that no text of a registration begins with what a
 -- criterion seeks.
-use Rattle.std.specs.Prelude.{◌≡◌, ℕ, ◌+◌, ◌*◌, ◌/◌, ◌%◌, ◌^◌, ◌==◌, bit_or, Bool, false, List, [], ◌∷◌, ◌++◌, map, flat_map, take, Option, Some, None, unwrap_or, slice_index_or, slice_set, if◌then◌else◌}
+use Rattle.std.specs.Prelude.{
+  ◌≡◌,
+  ℕ,
+  ◌+◌,
+  ◌*◌,
+  ◌/◌,
+  ◌%◌,
+  ◌^◌,
+  ◌==◌,
+  bit_or,
+  Bool,
+  false,
+  List,
+  [],
+  ◌∷◌,
+  ◌++◌,
+  map,
+  flat_map,
+  take,
+  Option,
+  Some,
+  None,
+  unwrap_or,
+  slice_index_or,
+  slice_set,
+  if◌then◌else◌,
+}
 use Rattle.std.specs.Int.{bit_at}
 use Rattle.std.specs.List.{list_all}
 use Rattle.rd_base.specs.declared.attributes.Pair.{Pair}

@@ -1,5 +1,23 @@
 -- What the functions over a map of watched queries say of one another.
-use Rattle.std.specs.Prelude.{◌≡◌, ℕ, ◌≤◌, ◌<◌, ◌-◌, ◌^◌, zero, suc, Bool, false, [], ◌∷◌, nat_le, Option, Some, None}
+use Rattle.std.specs.Prelude.{
+  ◌≡◌,
+  ℕ,
+  ◌≤◌,
+  ◌<◌,
+  ◌-◌,
+  ◌^◌,
+  zero,
+  suc,
+  Bool,
+  false,
+  List,
+  [],
+  ◌∷◌,
+  nat_le,
+  Option,
+  Some,
+  None,
+}
 use Rattle.std.specs.List.{AllByRecursion}
 use Rattle.event_model.specs.Observers.{max_watched}
 use Rattle.watch_table.specs.WatchedQueries.{Watched, Table, watched_at}

@@ -32,15 +32,23 @@ fn note_text(notes: &mut [u64; WORDS], text: &str)
     let _ = note_fronts(notes, 0, text.as_bytes());
 }
 
+/// Notes what a text in two pieces begins with.
+#[tactic(auto, using(crate::proofs::PrintLaws::fronts_after))]
+fn note_pieces(notes: &mut [u64; WORDS], text: &str, more: &str)
+    ensures { notes.new ≡ prints.text_noted notes.old (text.now ++ more.now) }
+{
+    note(notes, 0);
+    let print = note_fronts(notes, 0, text.as_bytes());
+    let _ = note_fronts(notes, print, more.as_bytes());
+}
+
 /// Notes what the location of a registration begins with.
-#[tactic(auto, using(crate::proofs::PrintLaws::fronts_after), unfolding(record_model::specs::Matching::location))]
+#[tactic(auto, unfolding(record_model::specs::Matching::location))]
 fn note_location(notes: &mut [u64; WORDS], number: u64)
     ensures { notes.new ≡ prints.text_noted notes.old (model.location number) }
 {
     let mut digits = Buffer::new();
-    note(notes, 0);
-    let print = note_fronts(notes, 0, b"/rd/");
-    let _ = note_fronts(notes, print, digits.format(number).as_bytes());
+    note_pieces(notes, "/rd/", digits.format(number));
 }
 
 /// Notes what the parts of a value begin with.

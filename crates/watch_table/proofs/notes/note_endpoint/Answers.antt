@@ -12,4 +12,6 @@ returns c =
     c.note_sector.new.notes c.note_value-3.new.notes c.note_pairs.new.notes c.as_str.ensures
     c.as_str-2.ensures c.as_slice.ensures c.note_value.ensures c.note_value-2.ensures
     c.note_sector.ensures c.note_value-3.ensures c.note_pairs.ensures in
-    noted ∙ ap (λ (ns : List ℕ). texts_noted ns (pairs_texts (endpoint_pairs c.args.record_of.now))) c.note_location.ensures
+    noted
+    ∙ ap (λ (ns : List ℕ).
+    texts_noted ns (pairs_texts (endpoint_pairs c.args.record_of.now))) c.note_location.ensures
