@@ -238,7 +238,7 @@ and_false true = refl
 and_false false = refl
 
 -- a test that each criterion fails whose print is not noted
-failing : (notes : List Bool) (n : ℕ) (criteria : List Criterion) (test : Criterion → Bool)
+failing : (notes : List ℕ) (n : ℕ) (criteria : List Criterion) (test : Criterion → Bool)
     → ((criterion : Criterion)
     → is_noted notes (front_print criterion) ≡ false
     → test criterion ≡ false)
@@ -258,7 +258,7 @@ failing notes (suc n) (c ∷ cs) test fails lacks =
     by false e g more = rw (fails c e) refl
     by true e g more = rw (more g) (and_false (test c))
 
-none_listed : (notes : List Bool) (query : Query) (r : Record) (items : List Item)
+none_listed : (notes : List ℕ) (query : Query) (r : Record) (items : List Item)
     → ((criterion : Criterion)
     → is_noted notes (front_print criterion) ≡ false
     → (endpoint_matches criterion r ≡ false)
@@ -283,7 +283,7 @@ none_listed notes query r (item ∷ items) missed lacks =
     miss.1 in
     (miss.0, both.1)) lacks)
 
-endpoint_unlisted : (notes : List Bool) (query : Query) (r : Record)
+endpoint_unlisted : (notes : List ℕ) (query : Query) (r : Record)
     → ((criterion : Criterion)
     → is_noted notes (front_print criterion) ≡ false
     → (endpoint_matches criterion r ≡ false)
@@ -298,7 +298,7 @@ endpoint_unlisted notes query r missed lacks =
     let miss = missed criterion lack in rw miss.0 (links_missed criterion r.items miss.1)) lacks
 
 -- nothing of a registration is listed, none of whose texts begins with what is not noted
-part_missed : (notes : List Bool) (query : Query) (r : Record)
+part_missed : (notes : List ℕ) (query : Query) (r : Record)
     → ((front : List ℕ) → is_noted notes (print_of front) ≡ false → Misses front (record_texts r))
     → may_match notes query ≡ false
     → part query r ≡ []
@@ -320,7 +320,7 @@ part_missed notes query r missed lacks = by query.kind
     by kind.Endpoint = rw (endpoint_unlisted notes query r each lacks) refl
     by kind.Discovery = refl
 
-part_missed_if_any : (notes : List Bool) (query : Query) (o : Option Record)
+part_missed_if_any : (notes : List ℕ) (query : Query) (o : Option Record)
     → ((front : List ℕ) → is_noted notes (print_of front) ≡ false → Misses front (texts_if_any o))
     → may_match notes query ≡ false
     → part_or_none query o ≡ []
@@ -330,11 +330,11 @@ part_missed_if_any notes query (Some r) missed lacks = part_missed notes query r
 -- ---- changes
 
 -- the notes of both states of a registration, after any others
-abbrev pub change_noted : List Bool → Option Record → Option Record → List Bool
+abbrev pub change_noted : List ℕ → Option Record → Option Record → List ℕ
 change_noted notes old new = texts_noted (texts_noted notes (texts_if_any old)) (texts_if_any new)
 
 -- a change leaves the lines of a query that may match neither state
-pub same_part_of : (notes : List Bool) (old new : Option Record) (query : Query)
+pub same_part_of : (notes : List ℕ) (old new : Option Record) (query : Query)
     → AreNotes notes
     → may_match (change_noted notes old new) query ≡ false
     → is_other_part query old new ≡ false
@@ -354,7 +354,7 @@ same_part_of notes old new query full lacks =
     ap₂ (λ xs ys. not (same_lines xs ys)) before after
 
 -- and so it leaves what the entry with an index watches, where notes tell so
-pub unchanged_at : (notes : List Bool) (old new : Option Record) (i : ℕ) (t : Table)
+pub unchanged_at : (notes : List ℕ) (old new : Option Record) (i : ℕ) (t : Table)
     → TellOf notes old new
     → may_match_in notes (slice_get t i) ≡ false
     → t ≡ changed_at (touched old new) i t

@@ -4,7 +4,6 @@ use Rattle.std.proofs.Common.{
   ℕ,
   ◌+◌,
   ◌<◌,
-  Bool,
   List,
   [],
   ◌∷◌,
@@ -28,7 +27,7 @@ use Rattle.watch_table.specs.Prints.{pair_texts, pairs_texts, texts_noted, value
 use Rattle.watch_table.proofs.PrintLaws.{texts_after}
 
 -- the attributes after one that was noted
-pub pairs_next : (pairs : List Pair) (i : ℕ) (pair : Pair) (notes next : List Bool)
+pub pairs_next : (pairs : List Pair) (i : ℕ) (pair : Pair) (notes next : List ℕ)
     → i < length pairs
     → pair ≡ slice_index_or pairs i pair
     → next ≡ texts_noted notes (pair_texts pair)
@@ -39,24 +38,24 @@ pairs_next pairs i pair notes next inside is e =
     let split : drop i pairs ≡ pair ∷ drop (i + 1) pairs =
     rw add-one (drop-cons pairs i pair inside
     ∙ ap (λ (p : Pair). p ∷ drop (suc i) pairs) (sym is)) in
-    ap (λ (ns : List Bool). texts_noted ns rest) e
+    ap (λ (ns : List ℕ). texts_noted ns rest) e
     ∙ sym (texts_after (pair_texts pair) rest notes)
     ∙ ap (λ (ps : List Pair). texts_noted notes (pairs_texts ps)) (sym split)
 
 -- attributes after others
-pairs_after : (pairs more : List Pair) (notes : List Bool)
+pairs_after : (pairs more : List Pair) (notes : List ℕ)
     → texts_noted notes (pairs_texts (pairs ++ more))
     ≡ texts_noted (texts_noted notes (pairs_texts pairs)) (pairs_texts more)
 pairs_after [] more notes = refl
 pairs_after (pair ∷ pairs) more notes =
     texts_after (pair_texts pair) (pairs_texts (pairs ++ more)) notes
     ∙ pairs_after pairs more (texts_noted notes (pair_texts pair))
-    ∙ ap (λ (ns : List Bool). texts_noted ns (pairs_texts more))
+    ∙ ap (λ (ns : List ℕ). texts_noted ns (pairs_texts more))
     (sym (texts_after (pair_texts pair) (pairs_texts pairs) notes))
 
 -- the attributes of an endpoint, one after the other
 pub endpoint_noted : (r : Record) (base ep : List ℕ) (attrs : List Pair)
-    (notes first second third fourth last : List Bool)
+    (notes first second third fourth last : List ℕ)
     → base ≡ r.base
     → ep ≡ r.name.ep
     → attrs ≡ r.attrs
@@ -77,15 +76,15 @@ endpoint_noted r base ep attrs notes first second third fourth last base_is ep_i
     ++ record { name = codes "rt"; value = endpoint_type } ∷ r.attrs) in
     e5
     ∙ ap (λ (ps : List Pair). texts_noted fourth (pairs_texts ps)) attrs_are
-    ∙ ap (λ (ns : List Bool). texts_noted ns (pairs_texts r.attrs)) e4
+    ∙ ap (λ (ns : List ℕ). texts_noted ns (pairs_texts r.attrs)) e4
     ∙ sym (texts_after typed (pairs_texts r.attrs) third)
-    ∙ ap (λ (ns : List Bool). texts_noted ns ending) e3
+    ∙ ap (λ (ns : List ℕ). texts_noted ns ending) e3
     ∙ sym (pairs_after (sector_pairs r.name.sector)
     (record { name = codes "rt"; value = endpoint_type } ∷ r.attrs) second)
-    ∙ ap (λ (ns : List Bool). texts_noted ns sectored) e2
+    ∙ ap (λ (ns : List ℕ). texts_noted ns sectored) e2
     ∙ sym (texts_after (value_texts (codes "ep") ep) sectored first)
     ∙ ap (λ (text : List ℕ). texts_noted first (value_texts (codes "ep") text ++ sectored)) ep_is
-    ∙ ap (λ (ns : List Bool).
+    ∙ ap (λ (ns : List ℕ).
     texts_noted ns (value_texts (codes "ep") r.name.ep ++ sectored)) e1
     ∙ sym (texts_after (value_texts (codes "base") base)
     (value_texts (codes "ep") r.name.ep ++ sectored) notes)

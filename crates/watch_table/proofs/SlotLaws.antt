@@ -3,6 +3,7 @@ use Rattle.std.proofs.Common.{
   ◌≡◌,
   ℕ,
   ◌+◌,
+  ◌-◌,
   ◌<◌,
   ◌≤◌,
   zero,
@@ -12,6 +13,7 @@ use Rattle.std.proofs.Common.{
   true,
   false,
   cond,
+  List,
   [],
   ◌∷◌,
   ◌++◌,
@@ -22,6 +24,7 @@ use Rattle.std.proofs.Common.{
   is_some,
   Some,
   None,
+  Option,
   slice_get,
   refl,
   sym,
@@ -29,6 +32,7 @@ use Rattle.std.proofs.Common.{
   ◌∙◌,
   arith,
   eqb-true,
+  ne_eqb,
 }
 use Rattle.std.specs.Map.{lookup, remove_entry, values_of}
 use Rattle.std.proofs.lemmas.Bool.{false≢true}

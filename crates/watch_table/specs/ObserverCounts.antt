@@ -2,7 +2,9 @@
 use Rattle.std.specs.Prelude.{
   ◌≡◌,
   ℕ,
+  ◌≤◌,
   ◌<◌,
+  Bool,
   false,
   ◌||◌,
   nat_eq,

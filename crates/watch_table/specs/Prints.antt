@@ -5,10 +5,12 @@ use Rattle.std.specs.Prelude.{
   ℕ,
   ◌+◌,
   ◌*◌,
+  ◌/◌,
   ◌%◌,
   ◌^◌,
+  ◌==◌,
+  bit_or,
   Bool,
-  true,
   false,
   List,
   [],
@@ -25,6 +27,7 @@ use Rattle.std.specs.Prelude.{
   slice_set,
   if◌then◌else◌,
 }
+use Rattle.std.specs.Int.{bit_at}
 use Rattle.std.specs.List.{list_all}
 use Rattle.rd_base.specs.declared.attributes.Pair.{Pair}
 use Rattle.rd_base.specs.declared.queries.Criterion.{Criterion}
@@ -73,28 +76,34 @@ prints_of criteria = map front_print (take most_prints criteria)
 
 -- ---- notes of prints
 
--- the place of a print among 4,096
-unfoldable pub place_of : ℕ → ℕ
-place_of print = print % 4096
+-- the number among 128 whose bit tells of a print, and which of its bits does
+unfoldable pub word_of : ℕ → ℕ
+word_of print = print / 64 % 128
 
--- a print is noted, as far as its place tells
-abbrev pub is_noted : List Bool → ℕ → Bool
-is_noted notes print = slice_index_or notes (place_of print) false
+unfoldable pub bit_of : ℕ → ℕ
+bit_of print = print % 64
 
-abbrev pub noted : List Bool → ℕ → List Bool
-noted notes print = slice_set notes (place_of print) true
+-- a print is noted, as far as its bit tells
+abbrev pub is_noted : List ℕ → ℕ → Bool
+is_noted notes print = bit_at (slice_index_or notes (word_of print) 0) (bit_of print) == 1
+
+-- the bit set
+abbrev pub noted : List ℕ → ℕ → List ℕ
+noted notes print =
+    slice_set notes (word_of print)
+    (bit_or (slice_index_or notes (word_of print) 0) (1 * 2 ^ bit_of print % 2 ^ 64))
 
 -- the prints of what a text begins with, where this stands before it
-abbrev pub fronts_noted : List Bool → ℕ → List ℕ → List Bool
+abbrev pub fronts_noted : List ℕ → ℕ → List ℕ → List ℕ
 fronts_noted notes print [] = notes
 fronts_noted notes print (c ∷ cs) =
     fronts_noted (noted notes (print_after print c)) (print_after print c) cs
 
 -- those of a text, from the empty one on
-abbrev pub text_noted : List Bool → List ℕ → List Bool
+abbrev pub text_noted : List ℕ → List ℕ → List ℕ
 text_noted notes text = fronts_noted (noted notes 0) 0 text
 
-abbrev pub texts_noted : List Bool → List (List ℕ) → List Bool
+abbrev pub texts_noted : List ℕ → List (List ℕ) → List ℕ
 texts_noted notes [] = notes
 texts_noted notes (text ∷ texts) = texts_noted (text_noted notes text) texts
 
@@ -132,19 +141,19 @@ texts_if_any (Some r) = record_texts r
 -- ---- queries by their prints
 
 -- the prints are all noted
-abbrev pub all_noted : List Bool → List ℕ → Bool
+abbrev pub all_noted : List ℕ → List ℕ → Bool
 all_noted notes prints = list_all (is_noted notes) prints
 
 -- what each first criterion seeks stands among the texts, as far as prints tell
-abbrev pub may_match : List Bool → Query → Bool
+abbrev pub may_match : List ℕ → Query → Bool
 may_match notes query = all_noted notes (prints_of query.criteria)
 
 -- the notes tell of queries that a change of a registration leaves their lines
-abbrev pub TellOf : List Bool → Option Record → Option Record → Type 0
+abbrev pub TellOf : List ℕ → Option Record → Option Record → Type 0
 TellOf notes old new =
     (query : Query) → may_match notes query ≡ false → is_other_part query old new ≡ false
 
 -- the same of what an entry watches, where there is one
-abbrev pub may_match_in : List Bool → Option (ℕ × Watched) → Bool
+abbrev pub may_match_in : List ℕ → Option (ℕ × Watched) → Bool
 may_match_in notes None = false
 may_match_in notes (Some e) = may_match notes e.1.query

@@ -10,6 +10,7 @@ use Rattle.std.specs.Prelude.{
   suc,
   Bool,
   false,
+  List,
   [],
   ◌∷◌,
   nat_le,

@@ -5,14 +5,14 @@ ghost use Rattle.rd_base.specs.PairRefs.{text_seen};
 ghost use Rattle.record_model.specs.Matching as model;
 ghost use Rattle.watch_table.specs.Prints as prints;
 
-use crate::prints::{PLACES, note, print_after};
+use crate::prints::{WORDS, note, print_after};
 use itoa::Buffer;
 use listing::{first_part, is_list_name};
 use rd_base::{Link, LinkPairs, Links, Pair, Record};
 
 /// Notes what a text begins with that goes on so after one of this print, and gives the print of
 /// the whole.
-fn note_fronts(notes: &mut [bool; PLACES], before: u32, text: &[u8]) -> u32
+fn note_fronts(notes: &mut [u64; WORDS], before: u32, text: &[u8]) -> u32
     ensures noted { notes.new ≡ prints.fronts_noted notes.old before text.now }
     ensures print { result ≡ prints.print_from before text.now }
 {
@@ -25,26 +25,34 @@ fn note_fronts(notes: &mut [bool; PLACES], before: u32, text: &[u8]) -> u32
 }
 
 /// Notes what a text begins with.
-fn note_text(notes: &mut [bool; PLACES], text: &str)
+fn note_text(notes: &mut [u64; WORDS], text: &str)
     ensures { notes.new ≡ prints.text_noted notes.old text.now }
 {
     note(notes, 0);
     let _ = note_fronts(notes, 0, text.as_bytes());
 }
 
+/// Notes what a text in two pieces begins with.
+#[tactic(auto, using(crate::proofs::PrintLaws::fronts_after))]
+fn note_pieces(notes: &mut [u64; WORDS], text: &str, more: &str)
+    ensures { notes.new ≡ prints.text_noted notes.old (text.now ++ more.now) }
+{
+    note(notes, 0);
+    let print = note_fronts(notes, 0, text.as_bytes());
+    let _ = note_fronts(notes, print, more.as_bytes());
+}
+
 /// Notes what the location of a registration begins with.
-#[tactic(auto, using(crate::proofs::PrintLaws::fronts_after), unfolding(record_model::specs::Matching::location))]
-fn note_location(notes: &mut [bool; PLACES], number: u64)
+#[tactic(auto, unfolding(record_model::specs::Matching::location))]
+fn note_location(notes: &mut [u64; WORDS], number: u64)
     ensures { notes.new ≡ prints.text_noted notes.old (model.location number) }
 {
     let mut digits = Buffer::new();
-    note(notes, 0);
-    let print = note_fronts(notes, 0, b"/rd/");
-    let _ = note_fronts(notes, print, digits.format(number).as_bytes());
+    note_pieces(notes, "/rd/", digits.format(number));
 }
 
 /// Notes what the parts of a value begin with.
-fn note_parts(notes: &mut [bool; PLACES], value: &str)
+fn note_parts(notes: &mut [u64; WORDS], value: &str)
     ensures { notes.new ≡ prints.texts_noted notes.old (model.parts_of value.now) }
 {
     let mut rest = value;
@@ -56,7 +64,7 @@ fn note_parts(notes: &mut [bool; PLACES], value: &str)
 
 /// Notes what a value of a name begins with, or its parts where the name's values are lists.
 #[tactic(auto, unfolding(crate::specs::Prints::value_texts))]
-fn note_value(notes: &mut [bool; PLACES], name: &str, value: &str)
+fn note_value(notes: &mut [u64; WORDS], name: &str, value: &str)
     ensures { notes.new ≡ prints.texts_noted notes.old (prints.value_texts name.now value.now) }
 {
     if is_list_name(name) {
@@ -67,7 +75,7 @@ fn note_value(notes: &mut [bool; PLACES], name: &str, value: &str)
 }
 
 /// Notes the values of attributes.
-fn note_pairs(notes: &mut [bool; PLACES], pairs: &[Pair])
+fn note_pairs(notes: &mut [u64; WORDS], pairs: &[Pair])
     ensures { notes.new ≡ prints.texts_noted notes.old (prints.pairs_texts pairs.now) }
 {
     'pairs: for pair in pairs {
@@ -77,7 +85,7 @@ fn note_pairs(notes: &mut [bool; PLACES], pairs: &[Pair])
 
 /// Notes the values of the attributes of a link.
 #[tactic(auto, using(crate::proofs::PrintLaws::texts_after))]
-fn note_link_pairs(notes: &mut [bool; PLACES], pairs: LinkPairs<'_>)
+fn note_link_pairs(notes: &mut [u64; WORDS], pairs: LinkPairs<'_>)
     ensures { notes.new ≡ prints.texts_noted notes.old (prints.pairs_texts pairs.entry) }
 {
     let mut left = pairs;
@@ -87,7 +95,7 @@ fn note_link_pairs(notes: &mut [bool; PLACES], pairs: LinkPairs<'_>)
 }
 
 /// Notes an anchor, where there is one.
-fn note_anchor(notes: &mut [bool; PLACES], anchor: Option<&str>)
+fn note_anchor(notes: &mut [u64; WORDS], anchor: Option<&str>)
     ensures { notes.new
         ≡ prints.texts_noted notes.old (prints.text_if_any (text_seen anchor.entry)) }
 {
@@ -98,7 +106,7 @@ fn note_anchor(notes: &mut [bool; PLACES], anchor: Option<&str>)
 
 /// Notes the texts of a link.
 #[tactic(auto, using(crate::proofs::PrintLaws::texts_after))]
-fn note_link(notes: &mut [bool; PLACES], link: &Link<'_>)
+fn note_link(notes: &mut [u64; WORDS], link: &Link<'_>)
     ensures { notes.new ≡ prints.texts_noted notes.old (prints.link_texts link.now) }
 {
     note_text(notes, link.target());
@@ -108,7 +116,7 @@ fn note_link(notes: &mut [bool; PLACES], link: &Link<'_>)
 
 /// Notes the texts of links.
 #[tactic(auto, using(crate::proofs::PrintLaws::texts_after))]
-fn note_links(notes: &mut [bool; PLACES], links: Links<'_>)
+fn note_links(notes: &mut [u64; WORDS], links: Links<'_>)
     ensures { notes.new
         ≡ prints.texts_noted notes.old (flat_map prints.link_texts links.entry) }
 {
@@ -119,7 +127,7 @@ fn note_links(notes: &mut [bool; PLACES], links: Links<'_>)
 }
 
 /// Notes the sector of an endpoint, where it has one.
-fn note_sector(notes: &mut [bool; PLACES], record_of: &Record)
+fn note_sector(notes: &mut [u64; WORDS], record_of: &Record)
     ensures { notes.new ≡ prints.texts_noted notes.old
         (prints.pairs_texts (model.sector_pairs record_of.now.name.sector)) }
 {
@@ -130,7 +138,7 @@ fn note_sector(notes: &mut [bool; PLACES], record_of: &Record)
 
 /// Notes the texts of an endpoint: its location, its base, its name, its sector, its type and its
 /// extra attributes.
-fn note_endpoint(notes: &mut [bool; PLACES], record_of: &Record)
+fn note_endpoint(notes: &mut [u64; WORDS], record_of: &Record)
     ensures { notes.new ≡ prints.texts_noted notes.old (prints.endpoint_texts record_of.now) }
 {
     note_location(notes, record_of.number);
@@ -143,7 +151,7 @@ fn note_endpoint(notes: &mut [bool; PLACES], record_of: &Record)
 
 /// Notes the texts of a registration, where there is one.
 #[tactic(auto, using(crate::proofs::PrintLaws::texts_after))]
-fn note_record(notes: &mut [bool; PLACES], record_of: Option<&Record>)
+fn note_record(notes: &mut [u64; WORDS], record_of: Option<&Record>)
     ensures { notes.new ≡ prints.texts_noted notes.old
         (prints.texts_if_any (option_copied record_of.entry)) }
 {
@@ -154,7 +162,7 @@ fn note_record(notes: &mut [bool; PLACES], record_of: Option<&Record>)
 }
 
 /// Notes the texts of both states of a registration, where there are these.
-pub(crate) fn note_change(notes: &mut [bool; PLACES], old: Option<&Record>, new: Option<&Record>)
+pub(crate) fn note_change(notes: &mut [u64; WORDS], old: Option<&Record>, new: Option<&Record>)
     ensures { prints.TellOf notes.new (option_copied old.entry) (option_copied new.entry) }
 {
     note_record(notes, old);

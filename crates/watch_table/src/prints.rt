@@ -10,8 +10,8 @@ use rd_base::Criterion;
 /// Of how many criteria of a query prints are kept.
 pub(crate) const MOST_PRINTS: usize = 4;
 
-/// How many places there are for notes of prints.
-pub(crate) const PLACES: usize = 4096;
+/// How many numbers there are whose bits tell which prints are noted.
+pub(crate) const WORDS: usize = 128;
 
 /// The print of a text with one octet more.
 #[tactic(auto, unfolding(crate::specs::Prints::print_after))]
@@ -64,25 +64,41 @@ pub(crate) fn prints_of(criteria: &[Criterion]) -> ArrayVec<u32, MOST_PRINTS>
     kept
 }
 
-/// The place of a print.
-#[tactic(auto, unfolding(crate::specs::Prints::place_of))]
-fn place_of(print: u32) -> usize
-    ensures place { result ≡ prints.place_of print }
-    ensures within { result < 4096 }
+/// The index of the number whose bit tells of a print.
+#[tactic(auto, unfolding(crate::specs::Prints::word_of))]
+fn word_of(print: u32) -> usize
+    ensures word { result ≡ prints.word_of print }
+    ensures within { result < 128 }
 {
-    (print % 4096) as usize
+    (print / 64 % 128) as usize
+}
+
+/// Which bit of that number tells of it.
+#[tactic(auto, unfolding(crate::specs::Prints::bit_of))]
+fn bit_of(print: u32) -> u32
+    ensures bit { result ≡ prints.bit_of print }
+    ensures within { result < 64 }
+{
+    print % 64
 }
 
 /// Notes a print.
-pub(crate) fn note(notes: &mut [bool; PLACES], print: u32)
+pub(crate) fn note(notes: &mut [u64; WORDS], print: u32)
     ensures { notes.new ≡ prints.noted notes.old print }
 {
-    notes[place_of(print)] = true;
+    notes[word_of(print)] |= 1 << bit_of(print);
 }
 
-/// Whether the prints are all noted, as far as their places tell.
-pub(crate) fn are_noted(notes: &[bool; PLACES], kept: &[u32]) -> bool
+/// Whether a print is noted, as far as its bit tells.
+fn is_noted(notes: &[u64; WORDS], print: u32) -> bool
+    ensures { result ≡ prints.is_noted notes.now print }
+{
+    (notes[word_of(print)] >> bit_of(print)) & 1 == 1
+}
+
+/// Whether the prints are all noted, as far as their bits tell.
+pub(crate) fn are_noted(notes: &[u64; WORDS], kept: &[u32]) -> bool
     ensures { result ≡ prints.all_noted notes.now kept.now }
 {
-    kept.iter().all(|print| notes[place_of(*print)])
+    kept.iter().all(|print| is_noted(notes, *print))
 }

@@ -16,7 +16,7 @@ ghost use Rattle.watch_table.specs.Outcomes.{Watches};
 ghost use Rattle.watch_table.specs.Prints.{TellOf, may_match_in};
 
 use crate::WatchFault;
-use crate::prints::PLACES;
+use crate::prints::WORDS;
 use crate::watch::Watch;
 use event_model::limits::MAX_WATCHED;
 use indexmap::IndexMap;
@@ -102,7 +102,7 @@ fn join(watches: &mut IndexMap<u32, Watch>, slot: u32)
 
 /// Whether what each first criterion of the query of the entry with an index seeks stands among
 /// texts whose prints are noted, as far as prints tell.
-fn may_match_at(watches: &IndexMap<u32, Watch>, index: usize, notes: &[bool; PLACES]) -> bool
+fn may_match_at(watches: &IndexMap<u32, Watch>, index: usize, notes: &[u64; WORDS]) -> bool
     ensures { result ≡ may_match_in notes.now (slice_get watches.now.entries index) }
 {
     match watches.get_index(index) {
@@ -136,7 +136,7 @@ pub(crate) fn touch_noted_at(
     index: usize,
     old: Option<&Record>,
     new: Option<&Record>,
-    notes: &[bool; PLACES],
+    notes: &[u64; WORDS],
 )
     requires { TellOf notes.now (option_copied old) (option_copied new) }
     ensures len { index_map_len watches.new ≡ index_map_len watches.old }

@@ -13,7 +13,7 @@ ghost use Rattle.watch_table.specs.ObserverCounts.{WatchesStandFor, IsFullAmong}
 
 use crate::WatchFault;
 use crate::notes::note_change;
-use crate::prints::PLACES;
+use crate::prints::WORDS;
 use crate::slots::{any_marked, leave, set_body, touch_noted_at, unmark_at, watch_instead};
 use crate::watch::Watch;
 use event_model::limits::MAX_WATCHED;
@@ -117,7 +117,7 @@ impl WatchTable {
         if self.watches.is_empty() {
             return;
         }
-        let mut notes = [false; PLACES];
+        let mut notes = [0; WORDS];
         note_change(&mut notes, old, new);
         'watches: for index in 0..self.watches.len() {
             touch_noted_at(&mut self.watches, index, old, new, &notes);

@@ -7,7 +7,7 @@ ghost use Rattle.event_model.specs.Same.{is_same_query};
 ghost use Rattle.watch_table.specs.WatchedQueries.{watched_first, touched, unmarked};
 ghost use Rattle.watch_table.specs.Prints.{may_match};
 
-use crate::prints::{MOST_PRINTS, PLACES, are_noted, prints_of};
+use crate::prints::{MOST_PRINTS, WORDS, are_noted, prints_of};
 use crate::same_queries::is_same_query;
 use arrayvec::ArrayVec;
 use listing::same_part;
@@ -80,7 +80,7 @@ impl Watch {
 
     /// Whether what each of its first criteria seeks stands among texts whose prints are noted, as
     /// far as prints tell.
-    pub(crate) fn may_match(&self, notes: &[bool; PLACES]) -> bool
+    pub(crate) fn may_match(&self, notes: &[u64; WORDS]) -> bool
         ensures { result ≡ may_match notes.now self.now.query }
     {
         are_noted(notes, self.prints.as_slice())

@@ -1,4 +1,4 @@
-use Rattle.std.proofs.Common.{Bool, List, ap, ◌∙◌}
+use Rattle.std.proofs.Common.{ℕ, List, ap, ◌∙◌}
 use Rattle.record_model.specs.Matching.{endpoint_pairs}
 use Rattle.watch_table.specs.Prints.{pairs_texts, texts_noted}
 use Rattle.watch_table.proofs.NoteLaws.{endpoint_noted}
@@ -13,5 +13,5 @@ returns c =
     c.as_str-2.ensures c.as_slice.ensures c.note_value.ensures c.note_value-2.ensures
     c.note_sector.ensures c.note_value-3.ensures c.note_pairs.ensures in
     noted
-    ∙ ap (λ (ns : List Bool). texts_noted ns
-    (pairs_texts (endpoint_pairs c.args.record_of.now))) c.note_location.ensures
+    ∙ ap (λ (ns : List ℕ).
+    texts_noted ns (pairs_texts (endpoint_pairs c.args.record_of.now))) c.note_location.ensures
