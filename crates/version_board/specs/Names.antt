@@ -25,8 +25,8 @@ AllKnow shown views =
     → v.known ≡ true
     → v ≡ knowing (name_of shown.front.book)
 
--- States that a reader takes the published version and then knows its name. If the reader knew a name
--- before, that was the same.
+-- States that a reader takes the published version and then knows its name. If the reader knew a
+-- name before, it was that one.
 abbrev pub Takes : Known → Published → Published → Known → Type 0
 Takes v before after w =
     (w ≡ knowing (name_of before.front.book))
