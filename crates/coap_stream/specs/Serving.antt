@@ -26,7 +26,7 @@ use Rattle.coap_stream.specs.Asked.{asked_in_all}
 use Rattle.coap_stream.specs.Spoken.{IsPut}
 use Rattle.coap_stream.specs.Endings.{TalkSeen, Talks}
 
--- ---- what a door opens
+-- ---- what a listener opens
 
 -- States that a connection is the first of those that were to come, and that its source has its
 -- octets. A failure opens none.
@@ -205,15 +205,15 @@ Concludes count _ old new faults faults_then _ = ⊥
 
 -- ---- all of it
 
--- States that the count is what the first of the streams pass to the seat, if the door exposes its
--- streams and no call of their sources and sinks fails.
+-- States that the count is what the first of the streams pass to the seat, if the listener exposes
+-- its streams and no call of their sources and sinks fails.
 abbrev pub CountsStreams : ℕ → Option (List Datagram) → Result ℕ StreamsFault → Type 0
 CountsStreams count None outcome = ⊤
 CountsStreams count (Some streams) (Err why) = ⊤
 CountsStreams count (Some streams) (Ok asked) =
     (count ≤ length streams) × (asked ≡ asked_in_all (take count streams))
 
--- What a door and an output show.
+-- What a listener and an output show.
 pub record DoorSeen : Type 0 where
   pub coming : Option (List Datagram)
   pub faults : ℕ

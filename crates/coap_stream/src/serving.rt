@@ -160,8 +160,8 @@ pub fn serve_streams<R: Wait + AllocGlobal, A: Accept, C: Clock, G: Gate, K: Sin
 ) -> StreamsStatus
     requires count { count ≤ 1_000_000 }
     // The seat of a new hall served the connections that were opened, and the status is their
-    // result; or memory ran out before. If the door exposes its connections, and no call of their
-    // sources and sinks fails, the count is what their octets hand to the seat.
+    // result; or memory ran out before. If the listener exposes its connections, and no call of
+    // their sources and sinks fails, the count is what their octets pass to the seat.
     ensures serves { ServesStreams (NeverFail A.In.Source.own A.Out.Sink.own) count
         (clock_seen C.Clock.own clock.old) (clock_seen C.Clock.own clock.new)
         (record { coming = A.coming door.old; faults = A.faults door.old })
