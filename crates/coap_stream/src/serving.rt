@@ -36,7 +36,7 @@ pub(crate) enum StreamsFault {
     Memory,
 }
 
-/// Returns how many requests a conversation handed to the seat, or 0 if a read or a write failed.
+/// Returns how many requests a conversation passed to the seat, or 0 if a read or a write failed.
 fn asked_of(talked: Result<Talked, TalkFault>) -> Result<u64, StreamsFault>
     ensures { result ≡ spec.asked_unless talked }
 {
@@ -48,7 +48,7 @@ fn asked_of(talked: Result<Talked, TalkFault>) -> Result<u64, StreamsFault>
     }
 }
 
-/// Opens the next connection and serves it. Returns how many requests its conversation handed to
+/// Opens the next connection and serves it. Returns how many requests its conversation passed to
 /// the seat.
 fn serve_one<R: Wait + AllocGlobal, A: Accept, C: Clock, G: Gate>(
     rt: &R,
@@ -76,7 +76,7 @@ fn serve_one<R: Wait + AllocGlobal, A: Accept, C: Clock, G: Gate>(
     }
 }
 
-/// Serves `count` connections, one after the other. Returns how many requests were handed to the
+/// Serves `count` connections, one after the other. Returns how many requests were passed to the
 /// seat.
 fn serve_all<R: Wait + AllocGlobal, A: Accept, C: Clock, G: Gate>(
     rt: &R,
