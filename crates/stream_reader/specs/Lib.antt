@@ -1,4 +1,4 @@
--- How many octets are missing (RFC 8323 section 3.2).
+-- How many octets are needed (RFC 8323 section 3.2).
 pub mod Wanting
 -- What is stored, and what a piece does, however the stream is cut (RFC 8323 sections 3.2 and 3.3).
 pub mod Reading
