@@ -69,9 +69,9 @@ pub record IsFoundAt (now : ℕ) (peer : Peer) (mid : ℕ) (before after : Table
   -- The table was changed at no later moment.
   pub moment : after.moment ≤ now
 
--- A write of a peer under a Message ID that was passed to a table at a moment: the answer that it
--- gets, and what the table stands for afterwards. This holds for all events that the table stood
--- for at that moment.
+-- A write of a peer under a Message ID that was passed to a table at a moment. It gets this answer,
+-- and the table then stands for these events. This holds for all events that the table stood for at
+-- that moment.
 pub record IsKeyedAt (now : ℕ) (peer : Peer) (mid : ℕ) (before after : Table) (answer : Keyed) :
     Type 0 where
   -- It gets the answer that it gets after those events.
