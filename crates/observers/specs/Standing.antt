@@ -28,8 +28,8 @@ use Rattle.exchange_core.specs.declared.resends.Again.{Again}
 use Rattle.exchange_core.specs.declared.resends.Again.TheVariants as again
 use Rattle.exchange_core.specs.Retransmissions.{kept_due, kept_after}
 
--- An observer as the table stores it: who it is, the slot of its query, whether it is due, the body
--- last built for it, and its notification in flight.
+-- An observer as the table stores it: who it is, the slot of its query, and whether it is due. It
+-- also has the body last built for it, and its notification in flight.
 pub record Standing : Type 0 where
   pub peer : Peer
   pub token : List ℕ
