@@ -36,8 +36,8 @@ kept_message kind code mid token octets options = record {
   payload = drop options octets;
 }
 
--- A request that is not refused by its content alone, and what was read of it: the meaning of its
--- options, its resource, and the blocks that it names (RFC 7252 section 5.10).
+-- A request that is not refused by its content alone, with what was read of it. That is the meaning
+-- of its options, its resource, and the blocks that it names (RFC 7252 section 5.10).
 pub record IsReadAs (m : Message) (path : Path) (observe accept format : Option ℕ)
     (block1 block2 : Option (List ℕ)) (proxy : Bool) (echo : Option (List ℕ)) (resource : Resource)
     (asked sent : Option Block) : Type 0 where
