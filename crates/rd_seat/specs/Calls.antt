@@ -22,8 +22,8 @@ use Rattle.rd_seat.specs.Seats.{SeatSeen, IsOfHall, MakesStep, LooksAtMet}
 
 -- ---- one call
 
--- A call of the seat: its step, whether it ran out of memory, its output in the caller's own form,
--- and the job that it left to the caller.
+-- A call of the seat: its step, and whether it ran out of memory. It also has its output in the
+-- caller's own form, and the job that it left to the caller.
 pub record Call (S : Type 0) : Type 0 where
   pub step : Step
   pub starved : Bool

@@ -54,8 +54,8 @@ abbrev pub IsOpenWrite : ℕ → SeatSeen → Job → Type 0
 IsOpenWrite place seat (job.Write j) = IsOpenJob place seat j
 IsOpenWrite place seat (job.Keep j) = Unit {0}
 
--- States that the job that is left, if any, may be done next: the admission of a write is open, at
--- the place of the last row that the seat has seen.
+-- States that the job that is left, if any, may be done next. If it is a write, its admission is
+-- open, at the place of the last row that the seat has seen.
 abbrev pub MayBeDone : SeatHeard → SeatSeen → Type 0
 MayBeDone (heard.Held j) seat = IsOpenWrite (last_place seat.seen) seat j
 MayBeDone _ seat = Unit {0}
