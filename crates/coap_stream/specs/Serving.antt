@@ -205,8 +205,8 @@ Concludes count _ old new faults faults_then _ = ⊥
 
 -- ---- all of it
 
--- States that the count is what the first of the streams pass to the seat, if the listener exposes
--- its streams and no call of their sources and sinks fails.
+-- States that the count is what the first of the streams pass to the seat. This holds if the
+-- listener exposes its streams, and no call of their sources and sinks fails.
 abbrev pub CountsStreams : ℕ → Option (List Datagram) → Result ℕ StreamsFault → Type 0
 CountsStreams count None outcome = ⊤
 CountsStreams count (Some streams) (Err why) = ⊤

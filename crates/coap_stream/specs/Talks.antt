@@ -91,8 +91,8 @@ replies_to peer (d ∷ ds) = reply_of peer d ++ replies_to peer ds
 
 -- ---- one message
 
--- A message, the calls of the seat that it led to, the octets that were written for it, and how
--- many datagrams came out of ticks and were dropped.
+-- A message with the calls of the seat that it led to, and the octets that were written for it. It
+-- also counts the datagrams that came out of ticks and were dropped.
 pub record Exchange : Type 0 where
   pub message : Shown
   pub calls : List Call
@@ -116,8 +116,8 @@ pub record Asks (peer : Peer) (number : ℕ) (datagram : List ℕ) (e : Exchange
   pub written : e.written ≡ replies_to peer (calls_sent heard)
   pub dropped : e.dropped ≡ length (calls_sent ticks)
 
--- States how a request is answered, given the reason why it is answered without a seat, if there is
--- one, and how many requests were passed to the seat before.
+-- States how a request is answered, given how many requests were passed to the seat before. If
+-- there is a reason, it is answered without a seat.
 abbrev pub AnswersRequest : Peer → ℕ → Option Unasked → Exchange → Type 0
 AnswersRequest peer before (Some why) e =
     Says (saying (unasked_code why) e.message.token (unasked_diagnostic why)) e
