@@ -24,8 +24,8 @@ use Rattle.registrant.specs.declared.echoes.TheConstants.{MAX_ECHO}
 abbrev pub with_echo : Ask → List ℕ → Ask
 with_echo ask value = record ask { options = ask.options ++ (table.echo, value) ∷ [] }
 
--- Returns that request if the value has 1 to 40 octets, no option of the request has a higher
--- number than Echo, and its datagram is not too long.
+-- Returns that request if it can be built. The value must have 1 to 40 octets, no option of the
+-- request may have a higher number than Echo, and the datagram must not be too long.
 abbrev pub echoed : Ask → List ℕ → Result Ask AskBad
 echoed ask value =
     if nat_le 1 (length value)

@@ -37,8 +37,8 @@ use Rattle.registrant.specs.Talking.{Talking, StandsFor}
 
 -- ---- a link and a clock
 
--- What a link and a clock expose: the datagrams still to come and those sent, how many receives and
--- sends failed, and the moments and words still to come.
+-- What a link and a clock expose: the datagrams still to come and those sent, and how many receives
+-- and sends failed. Then the moments and words still to come.
 pub record Outside : Type 0 where
   pub coming : Option (List Datagram)
   pub gone : Option (List Datagram)
