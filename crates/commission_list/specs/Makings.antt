@@ -230,8 +230,8 @@ is_there (Some (Some o)) = true
 is_there (Some None) = false
 is_there None = false
 
--- States that the lines of outcomes up to an index were written after a text, up to one that is
--- missing, or that a prefix of the lines was.
+-- States that the lines of outcomes up to an index were written after a text, and that the next
+-- outcome is missing. If the writing stopped early, a prefix of the lines was written.
 abbrev pub IsWrittenOn : {A : Type 0}
     → List (Option Outcome)
     → List ℕ
