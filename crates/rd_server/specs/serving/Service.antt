@@ -81,8 +81,8 @@ StopsAfter number [] faults faults_then = ⊥
 StopsAfter number (t ∷ earlier) faults faults_then = (t.came ≡ Failed) × AllCame earlier
     × (length earlier < number) × (faults ≤ faults_then) × Rose faults faults_then
 
--- States that this number of receives was made, none of which failed, and that these are the sums;
--- or that a receive failed; or that memory ran out before the first.
+-- States how a service ends. Either this number of receives was made, none of which failed, and
+-- these are the sums; or a receive failed; or memory ran out before the first.
 abbrev pub EndsAs : ℕ → List Turn → ℕ → ℕ → Result Served ServeFault → Type 0
 EndsAs number turns faults faults_then (Ok served) = (length turns ≡ number) × AllCame turns
     × IsSumOf turns served × (faults_then ≡ faults)
