@@ -111,7 +111,8 @@ words_found matches = record {
   devices = number_found max_devices (codes "make") matches;
 }
 
--- States that what is asked for is within its limits.
+-- States that a number that is asked for, if there is one, is at least 1 and does not exceed this
+-- limit.
 abbrev pub IsWithin : ℕ → Option ℕ → Type 0
 IsWithin limit o = IfSome o (λ n. (1 ≤ n) × (n ≤ limit))
 
