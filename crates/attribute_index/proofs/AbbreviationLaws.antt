@@ -6,6 +6,7 @@ use Rattle.std.proofs.Common.{
   suc,
   ◌+◌,
   ◌*◌,
+  ◌/◌,
   ◌%◌,
   ◌<◌,
   ◌≤◌,
@@ -17,6 +18,7 @@ use Rattle.std.proofs.Common.{
   List,
   [],
   ◌∷◌,
+  ◌++◌,
   map,
   nat_cmp,
   refl,
@@ -33,12 +35,23 @@ use Rattle.std.specs.Cmp.{ranks}
 use Rattle.std.specs.Cmp.Lexicographic.{slice_cmp}
 use Rattle.std.specs.List.{AllByRecursion}
 use Rattle.attribute_index.specs.declared.abbreviations.Abbreviation.{Abbreviation}
+use Rattle.attribute_index.specs.declared.abbreviations.Last.{Last}
+use Rattle.attribute_index.specs.declared.abbreviations.Last.TheVariants.{Own, Raised}
 use Rattle.attribute_index.specs.Abbreviations.{
   IsAbbreviation,
+  Spells,
+  abbreviation_cmp,
   symbols_of,
+  symbols_to,
+  raised,
   digit_of,
   spelled,
   AreOctets,
+  digits_in,
+  digits_of,
+  octets_in,
+  digits_behind,
+  told_by,
 }
 use Rattle.attribute_index.specs.Rows.{value_cmp}
 
@@ -72,7 +85,7 @@ lifted x y Greater h =
 
 -- ---- symbols
 
-joined_orders : (r s t : Ordering)
+pub joined_orders : (r s t : Ordering)
     → ordering_then (ordering_then r s) t ≡ ordering_then r (ordering_then s t)
 joined_orders Less s t = refl
 joined_orders Equal s t = refl
@@ -110,27 +123,50 @@ symbols_cmp (x ∷ xs) us (y ∷ ys) vs =
 
 -- each symbol has a digit below the base
 abbrev pub AreSymbols : List ℕ → Type 0
-AreSymbols symbols = AllByRecursion (λ symbol. symbol < 511) symbols
+AreSymbols symbols = AllByRecursion (λ symbol. symbol < 255) symbols
 
-lifted_symbols : (text : List ℕ) → AreOctets text → AreSymbols (map (λ octet. octet + 1) text)
-lifted_symbols [] h = tt
-lifted_symbols (octet ∷ text) h =
-    let small : octet < 256 = h.0 in (omega arith, lifted_symbols text h.1)
+-- and so it has where it is one more
+abbrev AreLow : List ℕ → Type 0
+AreLow symbols = AllByRecursion (λ symbol. symbol < 254) symbols
+
+low_text : (text : List ℕ) → AreOctets text → AreLow (map (λ octet. octet + 1) text)
+low_text [] h = tt
+low_text (octet ∷ text) h =
+    let small : octet < 245 = h.0 in (omega arith, low_text text h.1)
+
+low_symbols : (name value : List ℕ) → AreOctets name → AreOctets value
+    → AreLow (symbols_of (name, value))
+low_symbols [] value h k = (omega arith, low_text value k)
+low_symbols (octet ∷ name) value h k =
+    let small : octet < 245 = h.0 in (omega arith, low_symbols name value h.1 k)
+
+low_fits : (symbols : List ℕ) → AreLow symbols → AreSymbols symbols
+low_fits [] h = tt
+low_fits (symbol ∷ symbols) h =
+    let small : symbol < 254 = h.0 in (omega arith, low_fits symbols h.1)
+
+raised_fits : (symbols : List ℕ) → AreLow symbols → AreSymbols (raised symbols)
+raised_fits [] h = tt
+raised_fits (symbol ∷ []) h = let small : symbol < 254 = h.0 in (omega arith, tt)
+raised_fits (symbol ∷ next ∷ symbols) h =
+    let small : symbol < 254 = h.0 in (omega arith, raised_fits (next ∷ symbols) h.1)
 
 pub are_symbols : (name value : List ℕ) → AreOctets name → AreOctets value
     → AreSymbols (symbols_of (name, value))
-are_symbols [] value h k = (omega arith, lifted_symbols value k)
-are_symbols (octet ∷ name) value h k =
-    let small : octet < 256 = h.0 in (omega arith, are_symbols name value h.1 k)
+are_symbols name value h k = low_fits (symbols_of (name, value)) (low_symbols name value h k)
+
+pub are_raised : (name value : List ℕ) → AreOctets name → AreOctets value
+    → AreSymbols (raised (symbols_of (name, value)))
+are_raised name value h k = raised_fits (symbols_of (name, value)) (low_symbols name value h k)
 
 pub symbols_behind : (n : ℕ) (symbols : List ℕ) → AreSymbols symbols → AreSymbols (drop n symbols)
 symbols_behind zero symbols h = h
 symbols_behind (suc n) [] h = h
 symbols_behind (suc n) (symbol ∷ symbols) h = symbols_behind n symbols h.1
 
-pub digit_bound : (symbols : List ℕ) → AreSymbols symbols → digit_of symbols < 512
+pub digit_bound : (symbols : List ℕ) → AreSymbols symbols → digit_of symbols < 256
 digit_bound [] h = omega arith
-digit_bound (symbol ∷ symbols) h = let small : symbol < 511 = h.0 in omega arith
+digit_bound (symbol ∷ symbols) h = let small : symbol < 255 = h.0 in omega arith
 
 next_behind : (n : ℕ) (symbols : List ℕ) → drop (suc n) symbols ≡ drop 1 (drop n symbols)
 next_behind zero symbols = refl
@@ -170,9 +206,9 @@ by_digit (p ∷ ps) (q ∷ qs) Greater h =
 -- one digit more
 by_more : (a b d e : ℕ) (xs ys ps qs : List ℕ) (q r : Ordering)
     → MatchOrdering q (a < b) (a ≡ b) (b < a)
-    → MatchOrdering r (a * 512 + d < b * 512 + e) (a * 512 + d ≡ b * 512 + e)
-    (b * 512 + e < a * 512 + d)
-    → d < 512 → e < 512 → d ≡ digit_of ps → e ≡ digit_of qs → Says q xs ys ps qs
+    → MatchOrdering r (a * 256 + d < b * 256 + e) (a * 256 + d ≡ b * 256 + e)
+    (b * 256 + e < a * 256 + d)
+    → d < 256 → e < 256 → d ≡ digit_of ps → e ≡ digit_of qs → Says q xs ys ps qs
     → Says r xs ys (drop 1 ps) (drop 1 qs)
 by_more a b d e xs ys ps qs Less Less h k d_small e_small d_is e_is says = says
 by_more a b d e xs ys ps qs Less Equal h k d_small e_small d_is e_is says = absurd (omega arith)
@@ -206,27 +242,33 @@ by_numbers (suc n) xs ys r x_fits y_fits h =
     (by_numbers n xs ys (nat_cmp (spelled n xs) (spelled n ys)) x_fits y_fits
     (ranks (spelled n xs) (spelled n ys)))))
 
--- where the last digit is 0, no symbol is behind it
-pub none_behind : (n : ℕ) (symbols : List ℕ) → AreSymbols symbols
-    → spelled (suc n) symbols % 512 ≡ 0 → drop (suc n) symbols ≡ []
+-- where the last digit is 0, there is no symbol for it
+pub last_none : (n : ℕ) (symbols : List ℕ) → AreSymbols symbols
+    → spelled (suc n) symbols % 256 ≡ 0 → drop n symbols ≡ []
 unfolding spelled
-none_behind n symbols fits zero_is =
-    next_behind n symbols
-    ∙ ap (λ (ss : List ℕ). drop 1 ss)
-    (none (drop n symbols) (spelled n symbols)
-    (digit_bound (drop n symbols) (symbols_behind n symbols fits)) zero_is)
+last_none n symbols fits zero_is =
+    none (drop n symbols) (spelled n symbols)
+    (digit_bound (drop n symbols) (symbols_behind n symbols fits)) zero_is
   where
-    none : (ss : List ℕ) (a : ℕ) → digit_of ss < 512 → (a * 512 + digit_of ss) % 512 ≡ 0 → ss ≡ []
+    none : (ss : List ℕ) (a : ℕ) → digit_of ss < 256 → (a * 256 + digit_of ss) % 256 ≡ 0 → ss ≡ []
     none [] a small h = refl
     none (s ∷ ss) a small h = absurd (omega arith)
 
--- ---- abbreviations
+-- and where there is none, it is 0
+none_last : (n : ℕ) (symbols : List ℕ) → drop n symbols ≡ [] → spelled (suc n) symbols % 256 ≡ 0
+unfolding spelled
+none_last n symbols none =
+    ap (λ (ss : List ℕ). (spelled n symbols * 256 + digit_of ss) % 256) none
+    ∙ whole (spelled n symbols)
+  where
+    whole : (a : ℕ) → (a * 256 + 0) % 256 ≡ 0
+    whole a = omega arith
 
--- abbreviations are ordered by their first numbers, then by their second, then by their third
-abbrev pub abbreviation_cmp : Abbreviation → Abbreviation → Ordering
-abbreviation_cmp f g =
-    ordering_then (nat_cmp f.first g.first)
-    (ordering_then (nat_cmp f.second g.second) (nat_cmp f.third g.third))
+-- where there is none, there is none behind it
+none_next : (n : ℕ) (symbols : List ℕ) → drop n symbols ≡ [] → drop (suc n) symbols ≡ []
+none_next n symbols none = next_behind n symbols ∙ ap (λ (ss : List ℕ). drop 1 ss) none
+
+-- ---- abbreviations
 
 says_more : (q r : Ordering) (xs ys ps qs us vs : List ℕ) → Says q xs ys ps qs → Says r ps qs us vs
     → Says (ordering_then q r) xs ys us vs
@@ -237,111 +279,284 @@ says_more Equal Greater xs ys ps qs us vs h k = h ∙ k
 says_more Greater r xs ys ps qs us vs h k = h
 
 says_part : (a b from : ℕ) (xs ys : List ℕ) → AreSymbols xs → AreSymbols ys
-    → a ≡ spelled 7 (drop from xs) → b ≡ spelled 7 (drop from ys)
-    → Says (nat_cmp a b) (drop from xs) (drop from ys) (drop (from + 7) xs) (drop (from + 7) ys)
+    → a ≡ spelled 8 (drop from xs) → b ≡ spelled 8 (drop from ys)
+    → Says (nat_cmp a b) (drop from xs) (drop from ys) (drop (from + 8) xs) (drop (from + 8) ys)
 says_part a b from xs ys x_fits y_fits a_is b_is =
     subst (λ (ps : List ℕ). Says (nat_cmp a b) (drop from xs) (drop from ys) ps
-    (drop (from + 7) ys)) (drop-drop 7 from xs)
+    (drop (from + 8) ys)) (drop-drop 8 from xs)
     (subst (λ (qs : List ℕ). Says (nat_cmp a b) (drop from xs) (drop from ys)
-    (drop 7 (drop from xs)) qs) (drop-drop 7 from ys)
-    (by_numbers 7 (drop from xs) (drop from ys) (nat_cmp a b) (symbols_behind from xs x_fits)
+    (drop 8 (drop from xs)) qs) (drop-drop 8 from ys)
+    (by_numbers 8 (drop from xs) (drop from ys) (nat_cmp a b) (symbols_behind from xs x_fits)
     (symbols_behind from ys y_fits)
-    (subst (λ (n : ℕ). MatchOrdering (nat_cmp a b) (n < spelled 7 (drop from ys))
-    (n ≡ spelled 7 (drop from ys)) (spelled 7 (drop from ys) < n)) a_is
+    (subst (λ (n : ℕ). MatchOrdering (nat_cmp a b) (n < spelled 8 (drop from ys))
+    (n ≡ spelled 8 (drop from ys)) (spelled 8 (drop from ys) < n)) a_is
     (subst (λ (n : ℕ). MatchOrdering (nat_cmp a b) (a < n) (a ≡ n) (n < a)) b_is (ranks a b)))))
+
+equal_parts : (q r : Ordering) → ordering_then q r ≡ Equal → (q ≡ Equal) × (r ≡ Equal)
+equal_parts Less r h = absurd cc
+equal_parts Equal r h = (refl, h)
+equal_parts Greater r h = absurd cc
+
+equal_numbers : (x y : ℕ) (r : Ordering) → MatchOrdering r (x < y) (x ≡ y) (y < x)
+    → r ≡ Equal → x ≡ y
+equal_numbers x y Less h k = absurd cc
+equal_numbers x y Equal h k = h
+equal_numbers x y Greater h k = absurd cc
+
+-- abbreviations that compare equal have equal last numbers
+equal_thirds : (f g : Abbreviation) → abbreviation_cmp f g ≡ Equal → f.third ≡ g.third
+equal_thirds f g h =
+    let rest = (equal_parts (nat_cmp f.first g.first)
+    (ordering_then (nat_cmp f.second g.second) (nat_cmp f.third g.third)) h).1 in
+    equal_numbers f.third g.third (nat_cmp f.third g.third) (ranks f.third g.third)
+    (equal_parts (nat_cmp f.second g.second) (nat_cmp f.third g.third) rest).1
+
+-- where the last digit is 0, there are fewer than 24 symbols
+third_none : (f : Abbreviation) (xs : List ℕ) → Spells f xs → AreSymbols xs
+    → f.third % 256 ≡ 0 → drop 23 xs ≡ []
+third_none f xs spells fits h =
+    sym (drop-drop 7 16 xs)
+    ∙ last_none 7 (drop 16 xs) (symbols_behind 16 xs fits)
+    (ap (λ (n : ℕ). n % 256) (sym spells.third) ∙ h)
+
+none_third : (f : Abbreviation) (xs : List ℕ) → Spells f xs → drop 23 xs ≡ [] → f.third % 256 ≡ 0
+none_third f xs spells none =
+    ap (λ (n : ℕ). n % 256) spells.third
+    ∙ none_last 7 (drop 16 xs) (drop-drop 7 16 xs ∙ none)
+
+-- of symbols that are spelled alike one has fewer than 24 where the other has
+pub none_alike : (f g : Abbreviation) (xs ys : List ℕ) → Spells f xs → Spells g ys → AreSymbols xs
+    → abbreviation_cmp f g ≡ Equal → drop 23 ys ≡ [] → drop 23 xs ≡ []
+none_alike f g xs ys left right fits same none =
+    third_none f xs left fits
+    (ap (λ (n : ℕ). n % 256) (equal_thirds f g same) ∙ none_third g ys right none)
+
+alike_none : (f g : Abbreviation) (xs ys : List ℕ) → Spells f xs → Spells g ys → AreSymbols ys
+    → abbreviation_cmp f g ≡ Equal → drop 23 xs ≡ [] → drop 23 ys ≡ []
+alike_none f g xs ys left right fits same none =
+    third_none g ys right fits
+    (ap (λ (n : ℕ). n % 256) (sym (equal_thirds f g same)) ∙ none_third f xs left none)
+
+module _ (f g : Abbreviation) (xs ys : List ℕ) (left : Spells f xs) (right : Spells g ys)
+    (x_fits : AreSymbols xs) (y_fits : AreSymbols ys) where
+  by_spelled : Says (abbreviation_cmp f g) xs ys (drop 24 xs) (drop 24 ys)
+  by_spelled =
+      says_more (nat_cmp f.first g.first)
+      (ordering_then (nat_cmp f.second g.second) (nat_cmp f.third g.third)) xs ys (drop 8 xs)
+      (drop 8 ys) (drop 24 xs) (drop 24 ys)
+      (says_part f.first g.first 0 xs ys x_fits y_fits left.first right.first)
+      (says_more (nat_cmp f.second g.second) (nat_cmp f.third g.third) (drop 8 xs) (drop 8 ys)
+      (drop 16 xs) (drop 16 ys) (drop 24 xs) (drop 24 ys)
+      (says_part f.second g.second 8 xs ys x_fits y_fits left.second right.second)
+      (says_part f.third g.third 16 xs ys x_fits y_fits left.third right.third))
+
+  -- where abbreviations differ, symbols are ordered as they are
+  pub spelled_apart : (r : Ordering) → r ≡ abbreviation_cmp f g → (r ≡ Equal → ⊥)
+      → r ≡ slice_cmp nat_cmp xs ys
+  spelled_apart r is apart =
+      by r (subst (λ (q : Ordering). Says q xs ys (drop 24 xs) (drop 24 ys)) (sym is) by_spelled)
+      apart
+    where
+      by : (q : Ordering) → Says q xs ys (drop 24 xs) (drop 24 ys) → (q ≡ Equal → ⊥)
+          → q ≡ slice_cmp nat_cmp xs ys
+      by Less h k = sym h
+      by Equal h k = absurd (k refl)
+      by Greater h k = sym h
+
+  -- where both are short if they are spelled alike, symbols are ordered as abbreviations
+  spelled_short : (abbreviation_cmp f g ≡ Equal → (drop 23 xs ≡ []) × (drop 23 ys ≡ []))
+      → abbreviation_cmp f g ≡ slice_cmp nat_cmp xs ys
+  spelled_short short = by (abbreviation_cmp f g) refl by_spelled
+    where
+      by : (q : Ordering) → abbreviation_cmp f g ≡ q → Says q xs ys (drop 24 xs) (drop 24 ys)
+          → q ≡ slice_cmp nat_cmp xs ys
+      by Less is h = sym h
+      by Equal is h =
+          let none = short is in
+          sym (h ∙ ap (λ (ps : List ℕ). slice_cmp nat_cmp ps (drop 24 ys)) (none_next 23 xs none.0)
+          ∙ ap (λ (qs : List ℕ). slice_cmp nat_cmp [] qs) (none_next 23 ys none.1))
+      by Greater is h = sym h
+
+  -- where one of both has fewer than 24 symbols, they are ordered as abbreviations
+  pub spelled_first : drop 23 xs ≡ [] → abbreviation_cmp f g ≡ slice_cmp nat_cmp xs ys
+  spelled_first none =
+      spelled_short (λ same. (none, alike_none f g xs ys left right y_fits same none))
+
+  pub spelled_second : drop 23 ys ≡ [] → abbreviation_cmp f g ≡ slice_cmp nat_cmp xs ys
+  spelled_second none =
+      spelled_short (λ same. (none_alike f g xs ys left right x_fits same none, none))
+
+-- the symbols of a value
+pub value_symbols : (f : Abbreviation) (v : List ℕ × List ℕ) → IsAbbreviation f v
+    → AreSymbols (symbols_of v)
+value_symbols f v is = are_symbols v.0 v.1 is.name_octets is.value_octets
 
 module _ (f g : Abbreviation) (v w : List ℕ × List ℕ) (left : IsAbbreviation f v)
     (right : IsAbbreviation g w) where
-  abbrev behind : List ℕ × List ℕ → List ℕ
-  behind value = drop 21 (symbols_of value)
-
-  by_abbreviations : Says (abbreviation_cmp f g) (symbols_of v) (symbols_of w) (behind v) (behind w)
-  by_abbreviations =
-      let xs = symbols_of v in
-      let ys = symbols_of w in
-      let x_fits = are_symbols v.0 v.1 left.name_octets left.value_octets in
-      let y_fits = are_symbols w.0 w.1 right.name_octets right.value_octets in
-      says_more (nat_cmp f.first g.first)
-      (ordering_then (nat_cmp f.second g.second) (nat_cmp f.third g.third)) xs ys (drop 7 xs)
-      (drop 7 ys) (drop 21 xs) (drop 21 ys)
-      (says_part f.first g.first 0 xs ys x_fits y_fits left.first right.first)
-      (says_more (nat_cmp f.second g.second) (nat_cmp f.third g.third) (drop 7 xs) (drop 7 ys)
-      (drop 14 xs) (drop 14 ys) (drop 21 xs) (drop 21 ys)
-      (says_part f.second g.second 7 xs ys x_fits y_fits left.second right.second)
-      (says_part f.third g.third 14 xs ys x_fits y_fits left.third right.third))
-
   -- where abbreviations differ, values are ordered as they are
   pub by_abbreviations_apart : (r : Ordering)
       → r ≡ abbreviation_cmp f g
       → (r ≡ Equal → ⊥)
       → r ≡ value_cmp v w
   by_abbreviations_apart r is apart =
-      by r (subst (λ (q : Ordering). Says q (symbols_of v) (symbols_of w) (behind v) (behind w))
-      (sym is) by_abbreviations) apart ∙ symbols_cmp v.0 v.1 w.0 w.1
-    where
-      by : (q : Ordering) → Says q (symbols_of v) (symbols_of w) (behind v) (behind w)
-          → (q ≡ Equal → ⊥) → q ≡ slice_cmp nat_cmp (symbols_of v) (symbols_of w)
-      by Less h k = sym h
-      by Equal h k = absurd (k refl)
-      by Greater h k = sym h
-
-  -- where they are equal, and nothing is left out of them, values are equal
-  pub by_abbreviations_whole : Equal ≡ abbreviation_cmp f g
-      → ((value : List ℕ × List ℕ) → IsAbbreviation f value → behind value ≡ [])
-      → Equal ≡ value_cmp v w
-  by_abbreviations_whole is whole =
-      let says : slice_cmp nat_cmp (symbols_of v) (symbols_of w)
-      ≡ slice_cmp nat_cmp (behind v) (behind w) =
-      subst (λ (q : Ordering). Says q (symbols_of v) (symbols_of w) (behind v) (behind w))
-      (sym is) by_abbreviations in
-      let first = equal_parts (nat_cmp f.first g.first)
-      (ordering_then (nat_cmp f.second g.second) (nat_cmp f.third g.third)) (sym is) in
-      let second = equal_parts (nat_cmp f.second g.second) (nat_cmp f.third g.third) first.1 in
-      let same : IsAbbreviation f w = record {
-        first =
-            equal_numbers f.first g.first (nat_cmp f.first g.first) (ranks f.first g.first) first.0
-            ∙ right.first;
-        second =
-            equal_numbers f.second g.second (nat_cmp f.second g.second) (ranks f.second g.second)
-            second.0 ∙ right.second;
-        third =
-            equal_numbers f.third g.third (nat_cmp f.third g.third) (ranks f.third g.third)
-            second.1 ∙ right.third;
-        name_octets = right.name_octets;
-        value_octets = right.value_octets;
-      } in
-      sym (ap (λ (ps : List ℕ). slice_cmp nat_cmp ps (behind w)) (whole v left)
-      ∙ ap (λ (qs : List ℕ). slice_cmp nat_cmp [] qs) (whole w same)) ∙ sym says
+      spelled_apart f g (symbols_of v) (symbols_of w) left.spells right.spells
+      (value_symbols f v left) (value_symbols g w right) r is apart
       ∙ symbols_cmp v.0 v.1 w.0 w.1
-    where
-      equal_parts : (q r : Ordering) → ordering_then q r ≡ Equal → (q ≡ Equal) × (r ≡ Equal)
-      equal_parts Less r h = absurd cc
-      equal_parts Equal r h = (refl, h)
-      equal_parts Greater r h = absurd cc
 
-      equal_numbers : (x y : ℕ) (r : Ordering) → MatchOrdering r (x < y) (x ≡ y) (y < x)
-          → r ≡ Equal → x ≡ y
-      equal_numbers x y Less h k = absurd cc
-      equal_numbers x y Equal h k = h
-      equal_numbers x y Greater h k = absurd cc
+  -- where one of both has fewer than 24 symbols, so they are where they are equal
+  pub by_abbreviations_first : drop 23 (symbols_of v) ≡ [] → abbreviation_cmp f g ≡ value_cmp v w
+  by_abbreviations_first none =
+      spelled_first f g (symbols_of v) (symbols_of w) left.spells right.spells
+      (value_symbols f v left) (value_symbols g w right) none
+      ∙ symbols_cmp v.0 v.1 w.0 w.1
+
+  pub by_abbreviations_second : drop 23 (symbols_of w) ≡ []
+      → abbreviation_cmp f g ≡ value_cmp v w
+  by_abbreviations_second none =
+      spelled_second f g (symbols_of v) (symbols_of w) left.spells right.spells
+      (value_symbols f v left) (value_symbols g w right) none
+      ∙ symbols_cmp v.0 v.1 w.0 w.1
 
 -- where the last digit is 0, nothing is left out
 pub whole_abbreviation : (f : Abbreviation) (value : List ℕ × List ℕ)
     → IsAbbreviation f value
-    → f.third % 512 ≡ 0
-    → drop 21 (symbols_of value) ≡ []
+    → f.third % 256 ≡ 0
+    → drop 23 (symbols_of value) ≡ []
 whole_abbreviation f value is h =
-    let fits = are_symbols value.0 value.1 is.name_octets is.value_octets in
-    sym (drop-drop 7 14 (symbols_of value))
-    ∙ none_behind 6 (drop 14 (symbols_of value)) (symbols_behind 14 (symbols_of value) fits)
-    (ap (λ (n : ℕ). n % 512) (sym is.third) ∙ h)
+    third_none f (symbols_of value) is.spells (value_symbols f value is) h
+
+-- ---- what they tell
+
+-- the digits of so many first symbols
+abbrev first_digits : ℕ → List ℕ → List ℕ
+first_digits zero symbols = []
+first_digits (suc n) symbols = digit_of symbols ∷ first_digits n (drop 1 symbols)
+
+one_less : (n : ℕ) (symbols : List ℕ) → drop n (drop 1 symbols) ≡ drop (suc n) symbols
+one_less n [] = drop-nil n
+one_less n (symbol ∷ symbols) = refl
+
+-- one digit more
+digit_more : (n : ℕ) (symbols : List ℕ)
+    → first_digits (suc n) symbols ≡ first_digits n symbols ++ (digit_of (drop n symbols) ∷ [])
+digit_more zero symbols = refl
+digit_more (suc n) symbols =
+    ap (λ (ds : List ℕ). digit_of symbols ∷ ds) (digit_more n (drop 1 symbols))
+    ∙ ap (λ (ss : List ℕ). digit_of symbols
+    ∷ (first_digits n (drop 1 symbols) ++ (digit_of ss ∷ []))) (one_less n symbols)
+
+digits_joined : (n m : ℕ) (symbols : List ℕ)
+    → first_digits n symbols ++ first_digits m (drop n symbols) ≡ first_digits (n + m) symbols
+digits_joined zero m symbols =
+    let e : m ≡ 0 + m = omega arith in ap (λ (k : ℕ). first_digits k symbols) e
+digits_joined (suc n) m symbols =
+    let e : suc (n + m) ≡ suc n + m = omega arith in
+    ap (λ (ss : List ℕ). digit_of symbols
+    ∷ (first_digits n (drop 1 symbols) ++ first_digits m ss)) (sym (one_less n symbols))
+    ∙ ap (λ (ds : List ℕ). digit_of symbols ∷ ds) (digits_joined n m (drop 1 symbols))
+    ∙ ap (λ (k : ℕ). first_digits k symbols) e
+
+-- the digits of a number are those of the symbols that it spells
+digits_spelled : (n : ℕ) (symbols : List ℕ) → AreSymbols symbols
+    → digits_in n (spelled n symbols) ≡ first_digits n symbols
+unfolding spelled digits_in
+digits_spelled zero symbols fits = refl
+digits_spelled (suc n) symbols fits =
+    let front : (spelled n symbols * 256 + digit_of (drop n symbols)) / 256 ≡ spelled n symbols =
+    front_of (spelled n symbols) (digit_of (drop n symbols))
+    (digit_bound (drop n symbols) (symbols_behind n symbols fits)) in
+    let last : (spelled n symbols * 256 + digit_of (drop n symbols)) % 256
+    ≡ digit_of (drop n symbols) =
+    last_of (spelled n symbols) (digit_of (drop n symbols))
+    (digit_bound (drop n symbols) (symbols_behind n symbols fits)) in
+    ap (λ (m : ℕ). digits_in n m
+    ++ ((spelled n symbols * 256 + digit_of (drop n symbols)) % 256 ∷ [])) front
+    ∙ ap (λ (d : ℕ). digits_in n (spelled n symbols) ++ (d ∷ [])) last
+    ∙ ap (λ (ds : List ℕ). ds ++ (digit_of (drop n symbols) ∷ []))
+    (digits_spelled n symbols fits)
+    ∙ sym (digit_more n symbols)
+  where
+    front_of : (a d : ℕ) → d < 256 → (a * 256 + d) / 256 ≡ a
+    front_of a d small = omega arith
+
+    last_of : (a d : ℕ) → d < 256 → (a * 256 + d) % 256 ≡ d
+    last_of a d small = omega arith
+
+octet_told : (octet : ℕ) (digits : List ℕ)
+    → octets_in ((octet + 1 + 1) ∷ digits) ≡ octet ∷ octets_in digits
+octet_told octet digits =
+    let e : octet + 1 + 1 ≡ suc (suc octet) = omega arith in
+    ap (λ (d : ℕ). octets_in (d ∷ digits)) e
+
+octet_passed : (octet : ℕ) (digits : List ℕ)
+    → digits_behind ((octet + 1 + 1) ∷ digits) ≡ digits_behind digits
+octet_passed octet digits =
+    let e : octet + 1 + 1 ≡ suc (suc octet) = omega arith in
+    ap (λ (d : ℕ). digits_behind (d ∷ digits)) e
+
+text_told : (n : ℕ) (text : List ℕ) → drop n (map (λ octet. octet + 1) text) ≡ []
+    → octets_in (first_digits n (map (λ octet. octet + 1) text)) ≡ text
+text_told zero [] none = refl
+text_told zero (octet ∷ text) none = absurd cc
+text_told (suc n) [] none = refl
+text_told (suc n) (octet ∷ text) none =
+    octet_told octet (first_digits n (map (λ octet. octet + 1) text))
+    ∙ ap (λ (os : List ℕ). octet ∷ os) (text_told n text none)
+
+name_told : (n : ℕ) (name value : List ℕ) → drop n (symbols_of (name, value)) ≡ []
+    → octets_in (first_digits n (symbols_of (name, value))) ≡ name
+name_told zero [] value none = absurd cc
+name_told zero (octet ∷ name) value none = absurd cc
+name_told (suc n) [] value none = refl
+name_told (suc n) (octet ∷ name) value none =
+    octet_told octet (first_digits n (symbols_of (name, value)))
+    ∙ ap (λ (os : List ℕ). octet ∷ os) (name_told n name value none)
+
+value_told : (n : ℕ) (name value : List ℕ) → drop n (symbols_of (name, value)) ≡ []
+    → octets_in (digits_behind (first_digits n (symbols_of (name, value)))) ≡ value
+value_told zero [] value none = absurd cc
+value_told zero (octet ∷ name) value none = absurd cc
+value_told (suc n) [] value none = text_told n value none
+value_told (suc n) (octet ∷ name) value none =
+    ap octets_in (octet_passed octet (first_digits n (symbols_of (name, value))))
+    ∙ value_told n name value none
+
+digits_part : (number from : ℕ) (symbols : List ℕ) → AreSymbols symbols
+    → number ≡ spelled 8 (drop from symbols)
+    → digits_in 8 number ≡ first_digits 8 (drop from symbols)
+digits_part number from symbols fits is =
+    ap (digits_in 8) is ∙ digits_spelled 8 (drop from symbols) (symbols_behind from symbols fits)
+
+digits_all : (f : Abbreviation) (symbols : List ℕ) → AreSymbols symbols → Spells f symbols
+    → digits_of f ≡ first_digits 24 symbols
+digits_all f symbols fits spells =
+    ap (λ (ds : List ℕ). ds ++ (digits_in 8 f.second ++ digits_in 8 f.third))
+    (digits_part f.first 0 symbols fits spells.first)
+    ∙ ap (λ (ds : List ℕ). first_digits 8 symbols ++ (ds ++ digits_in 8 f.third))
+    (digits_part f.second 8 symbols fits spells.second)
+    ∙ ap (λ (ds : List ℕ). first_digits 8 symbols ++ (first_digits 8 (drop 8 symbols) ++ ds))
+    (digits_part f.third 16 symbols fits spells.third
+    ∙ ap (first_digits 8) (sym (drop-drop 8 8 symbols)))
+    ∙ ap (λ (ds : List ℕ). first_digits 8 symbols ++ ds) (digits_joined 8 8 (drop 8 symbols))
+    ∙ digits_joined 8 16 symbols
+
+-- an abbreviation tells a value that has fewer than 24 symbols
+pub told_whole : (f : Abbreviation) (v : List ℕ × List ℕ) → IsAbbreviation f v
+    → drop 23 (symbols_of v) ≡ [] → told_by f ≡ v
+told_whole f v is none =
+    let digits = digits_all f (symbols_of v) (value_symbols f v is) is.spells in
+    let all = none_next 23 (symbols_of v) none in
+    ap (λ (ds : List ℕ). (octets_in ds, octets_in (digits_behind ds))) digits
+    ∙ ap (λ (name : List ℕ). (name, octets_in (digits_behind (first_digits 24 (symbols_of v)))))
+    (name_told 24 v.0 v.1 all)
+    ∙ ap (λ (value : List ℕ). (v.0, value)) (value_told 24 v.0 v.1 all)
 
 -- ---- how they are spelled
 
 -- below what so many digits spell
 abbrev pub limit : ℕ → ℕ
 limit zero = 1
-limit (suc n) = limit n * 512
+limit (suc n) = limit n * 256
 
 limit_rises : (n k : ℕ) → limit n ≤ limit (n + k)
 limit_rises n zero =
@@ -352,21 +567,21 @@ limit_rises n (suc k) =
     subst (λ (m : ℕ). limit n ≤ limit m) (sym e) (omega arith)
 
 -- there is room for one digit more, and for its product
-pub limit_room : (n : ℕ) → n < 7 → limit n ≤ 18014398509481984
+pub limit_room : (n : ℕ) → n < 8 → limit n ≤ 72057594037927936
 limit_room n h =
-    let e : n + (6 - n) ≡ 6 = omega arith in
-    subst (λ (m : ℕ). limit n ≤ limit m) e (limit_rises n (6 - n))
+    let e : n + (7 - n) ≡ 7 = omega arith in
+    subst (λ (m : ℕ). limit n ≤ limit m) e (limit_rises n (7 - n))
 
 pub spelled_more : (n from number digit : ℕ) (symbols : List ℕ)
     → number ≡ spelled n (drop from symbols) → digit ≡ digit_of (drop (from + n) symbols)
-    → number * 512 + digit ≡ spelled (n + 1) (drop from symbols)
+    → number * 256 + digit ≡ spelled (n + 1) (drop from symbols)
 unfolding spelled
 spelled_more n from number digit symbols number_is digit_is =
     let e : suc n ≡ n + 1 = omega arith in
     let here : digit_of (drop n (drop from symbols)) ≡ digit_of (drop (from + n) symbols) =
     ap digit_of (drop-drop n from symbols) in
-    let sum : number * 512 + digit
-    ≡ spelled n (drop from symbols) * 512 + digit_of (drop n (drop from symbols)) =
+    let sum : number * 256 + digit
+    ≡ spelled n (drop from symbols) * 256 + digit_of (drop n (drop from symbols)) =
     omega arith in
     sum ∙ ap (λ (m : ℕ). spelled m (drop from symbols)) e
 
@@ -375,6 +590,11 @@ unfolding spelled
 spelled_none symbols = refl
 
 -- ---- digits of names and values
+
+pub octet_bound : (n : ℕ) (text : List ℕ) → AreOctets text → n < length text → get_or text n 0 < 245
+octet_bound n [] h k = absurd (omega arith)
+octet_bound zero (octet ∷ text) h k = h.0
+octet_bound (suc n) (octet ∷ text) h k = octet_bound n text h.1 (omega arith)
 
 text_digit : (n : ℕ) (text : List ℕ) → n < length text
     → digit_of (drop n (map (λ octet. octet + 1) text)) ≡ get_or text n 0 + 2
@@ -398,18 +618,31 @@ value_digit (suc n) k [] value e h =
 value_digit (suc n) k (octet ∷ name) value e h = value_digit n k name value (omega arith) h
 
 -- past the last symbol
-no_symbols : (n : ℕ) (name value : List ℕ) → length name + length value < n
-    → drop n (symbols_of (name, value)) ≡ []
-no_symbols zero name value h = absurd (omega arith)
-no_symbols (suc n) [] value h = none n value (omega arith)
-  where
-    none : (m : ℕ) (text : List ℕ) → length text ≤ m
-        → drop m (map (λ octet. octet + 1) text) ≡ []
-    none zero [] h = refl
-    none (suc m) [] h = refl
-    none zero (octet ∷ text) h = absurd (omega arith)
-    none (suc m) (octet ∷ text) h = none m text (omega arith)
-no_symbols (suc n) (octet ∷ name) value h = no_symbols n name value (omega arith)
+none_past : (n : ℕ) (symbols : List ℕ) → length symbols ≤ n → drop n symbols ≡ []
+none_past zero [] h = refl
+none_past (suc n) [] h = refl
+none_past zero (symbol ∷ symbols) h = absurd (omega arith)
+none_past (suc n) (symbol ∷ symbols) h = none_past n symbols (omega arith)
+
+text_count : (text : List ℕ) → length (map (λ octet. octet + 1) text) ≡ length text
+text_count [] = refl
+text_count (octet ∷ text) = ap suc (text_count text)
+
+symbols_count : (name value : List ℕ)
+    → length (symbols_of (name, value)) ≡ length name + length value + 1
+symbols_count [] value = let e = text_count value in omega (arith, e)
+symbols_count (octet ∷ name) value = let e = symbols_count name value in omega (arith, e)
+
+raised_count : (symbols : List ℕ) → length (raised symbols) ≡ length symbols
+raised_count [] = refl
+raised_count (symbol ∷ []) = refl
+raised_count (symbol ∷ next ∷ symbols) = ap suc (raised_count (next ∷ symbols))
+
+count_to : (last : Last) (name value : List ℕ)
+    → length (symbols_to last (name, value)) ≡ length name + length value + 1
+count_to Own name value = symbols_count name value
+count_to Raised name value =
+    raised_count (symbols_of (name, value)) ∙ symbols_count name value
 
 spelled_nothing : (n : ℕ) → 0 ≡ spelled n []
 unfolding spelled
@@ -419,8 +652,46 @@ spelled_nothing (suc n) =
     let rest : 0 ≡ spelled n [] = spelled_nothing n in
     omega arith
 
-pub spelled_past : (n from : ℕ) (name value : List ℕ) → length name + length value < from
-    → 0 ≡ spelled n (drop from (symbols_of (name, value)))
-spelled_past n from name value h =
+pub spelled_past : (n from : ℕ) (last : Last) (name value : List ℕ)
+    → length name + length value < from
+    → 0 ≡ spelled n (drop from (symbols_to last (name, value)))
+spelled_past n from last name value h =
+    let count = count_to last name value in
     spelled_nothing n
-    ∙ ap (λ (ss : List ℕ). spelled n ss) (sym (no_symbols from name value h))
+    ∙ ap (λ (ss : List ℕ). spelled n ss)
+    (sym (none_past from (symbols_to last (name, value)) (omega (arith, count, h))))
+
+-- ---- the last symbol
+
+-- where the last symbol is raised, its digit is one more
+raised_last : (n : ℕ) (symbols : List ℕ) → n + 1 ≡ length symbols
+    → digit_of (drop n (raised symbols)) ≡ digit_of (drop n symbols) + 1
+raised_last n [] e = absurd (omega arith)
+raised_last zero (symbol ∷ []) e = refl
+raised_last (suc n) (symbol ∷ []) e = absurd (omega arith)
+raised_last zero (symbol ∷ next ∷ symbols) e = absurd (omega arith)
+raised_last (suc n) (symbol ∷ next ∷ symbols) e = raised_last n (next ∷ symbols) (omega arith)
+
+-- and the others are as they were
+raised_other : (n : ℕ) (symbols : List ℕ) → (n + 1 ≡ length symbols → ⊥)
+    → digit_of (drop n (raised symbols)) ≡ digit_of (drop n symbols)
+raised_other n [] e = refl
+raised_other zero (symbol ∷ []) e = absurd (e refl)
+raised_other (suc n) (symbol ∷ []) e = refl
+raised_other zero (symbol ∷ next ∷ symbols) e = refl
+raised_other (suc n) (symbol ∷ next ∷ symbols) e =
+    raised_other n (next ∷ symbols) (λ k. e (omega arith))
+
+pub digit_last : (n : ℕ) (name value : List ℕ) → n ≡ length name + length value
+    → digit_of (drop n (raised (symbols_of (name, value))))
+    ≡ digit_of (drop n (symbols_of (name, value))) + 1
+digit_last n name value e =
+    let count = symbols_count name value in
+    raised_last n (symbols_of (name, value)) (omega (arith, count, e))
+
+pub digit_other : (n : ℕ) (name value : List ℕ) → (n ≡ length name + length value → ⊥)
+    → digit_of (drop n (raised (symbols_of (name, value))))
+    ≡ digit_of (drop n (symbols_of (name, value)))
+digit_other n name value other =
+    let count = symbols_count name value in
+    raised_other n (symbols_of (name, value)) (λ e. other (omega (arith, count, e)))

@@ -14,6 +14,8 @@ use Rattle.std.proofs.Common.{
   Option,
   Some,
   None,
+  map,
+  filter,
   take,
   length,
   nat_eq,
@@ -33,7 +35,7 @@ use Rattle.std.specs.declared.cmp.Ordering.TheVariants.{Less, Equal, Greater}
 use Rattle.std.specs.Ordering.{is_le, is_eq, ordering_then, MatchOrdering}
 use Rattle.std.specs.Cmp.Lexicographic.{slice_cmp}
 use Rattle.std.specs.Cmp.{tied_itself, ranks, nat_cmp_total}
-use Rattle.std.specs.List.{starts_with, flat_map, AllByRecursion}
+use Rattle.std.specs.List.{starts_with, AllByRecursion}
 use Rattle.std.specs.BTreeMap.Range.{entries_from}
 use Rattle.std.proofs.lemmas.Cmp.{nat_list_cmp_total}
 use Rattle.std.proofs.lemmas.Bool.{and_parts, and_from, eqb-true, eq-eqb, false≢true}
@@ -42,13 +44,15 @@ use Rattle.rd_base.proofs.lemmas.Each.{each_weaker, each_filter}
 use Rattle.rd_base.proofs.lemmas.Filters.{filter_stronger, filter_none}
 use Rattle.record_model.specs.Matching.{before_wildcard, is_value_of, matches_value}
 use Rattle.chunk_map.specs.Sorted as sorted
+use Rattle.attribute_index.specs.declared.rows.Row.{Row}
 use Rattle.attribute_index.specs.Rows.{
-  Row,
   WantedFirst,
   value_cmp,
+  row_cmp,
   is_wanted,
   wanted_numbers,
   first_wanted,
+  first_row,
 }
 
 -- ---- texts that begin with a front
@@ -166,14 +170,13 @@ wanted_behind name pattern value h =
 
 -- what stands between the first that may be wanted and a wanted value is wanted
 pub wanted_between : (name pattern : List ℕ) (value other : List ℕ × List ℕ)
-    → is_le (value_cmp (first_wanted name pattern) value) ≡ true → value_cmp value other ≡ Less
-    → is_wanted name pattern other ≡ true → is_wanted name pattern value ≡ true
+    → is_le (value_cmp (first_wanted name pattern) value) ≡ true
+    → is_le (value_cmp value other) ≡ true → is_wanted name pattern other ≡ true → is_wanted name pattern value ≡ true
 unfolding matches_value
-wanted_between name pattern value other h less matches =
+wanted_between name pattern value other h below matches =
     let parts = and_parts (bytes_eq other.0 name) (matches_value pattern other.1) matches in
     let other_name = (bytes_eq-Decides other.0 name).0 parts.0 in
     let front = unwrap_or (before_wildcard pattern) pattern in
-    let below = less_le (value_cmp value other) less in
     let up : is_le (slice_cmp nat_cmp name value.0) ≡ true =
     by_name (slice_cmp nat_cmp name value.0) (slice_cmp nat_cmp front value.1) h in
     let down : is_le (slice_cmp nat_cmp value.0 name) ≡ true =
@@ -191,75 +194,106 @@ wanted_between name pattern value other h less matches =
 
 -- ---- rows
 
+-- a wanted row does not stand before the first that may be
+row_behind : (name pattern : List ℕ) (row : Row) → is_wanted name pattern row.value ≡ true
+    → is_le (row_cmp (first_row name pattern) row) ≡ true
+row_behind name pattern row h =
+    by (value_cmp (first_wanted name pattern) row.value) (nat_cmp 0 row.number)
+    (wanted_behind name pattern row.value h) (least row.number (nat_cmp 0 row.number)
+    (ranks 0 row.number))
+  where
+    least : (n : ℕ) (r : Ordering) → MatchOrdering r (0 < n) (0 ≡ n) (n < 0) → is_le r ≡ true
+    least n Less k = refl
+    least n Equal k = refl
+    least n Greater k = absurd (omega arith)
+
+    by : (r s : Ordering) → is_le r ≡ true → is_le s ≡ true → is_le (ordering_then r s) ≡ true
+    by Less s k l = refl
+    by Equal s k l = l
+    by Greater s k l = k
+
 -- the rows from the first that may be wanted on have the same wanted numbers
-pub wanted_from : (name pattern : List ℕ) (rows : List Row)
-    → wanted_numbers name pattern (entries_from (value_cmp (first_wanted name pattern)) rows)
+pub wanted_from : (name pattern : List ℕ) (rows : List (Row × Unit {0}))
+    → wanted_numbers name pattern (entries_from (row_cmp (first_row name pattern)) rows)
     ≡ wanted_numbers name pattern rows
 wanted_from name pattern rows =
-    ap (λ some. flat_map (λ (row : Row). row.1) some)
-    (filter_stronger (λ row. is_wanted name pattern row.0)
-    (λ row. is_le (value_cmp (first_wanted name pattern) row.0))
-    (λ row h. wanted_behind name pattern row.0 h) rows)
+    ap (λ some. map (λ (row : Row × Unit {0}). row.0.number) some)
+    (filter_stronger (λ row. is_wanted name pattern row.0.value)
+    (λ row. is_le (row_cmp (first_row name pattern) row.0))
+    (λ row h. row_behind name pattern row.0 h) rows)
 
-none_behind : (name pattern : List ℕ) (row : Row) (rows : List Row)
-    → is_le (value_cmp (first_wanted name pattern) row.0) ≡ true
-    → AllByRecursion (λ other. value_cmp row.0 other.0 ≡ Less) rows
-    → is_wanted name pattern row.0 ≡ false
-    → AllByRecursion (λ other. is_wanted name pattern other.0 ≡ false) rows
+none_behind : (name pattern : List ℕ) (row : Row × Unit {0}) (rows : List (Row × Unit {0}))
+    → is_le (row_cmp (first_row name pattern) row.0) ≡ true
+    → AllByRecursion (λ other. row_cmp row.0 other.0 ≡ Less) rows
+    → is_wanted name pattern row.0.value ≡ false
+    → AllByRecursion (λ other. is_wanted name pattern other.0.value ≡ false) rows
 none_behind name pattern row rows h up not_wanted =
-    each_weaker (λ other. value_cmp row.0 other.0 ≡ Less)
-    (λ other. is_wanted name pattern other.0 ≡ false)
-    (λ other less. by other less (is_wanted name pattern other.0) refl) rows up
+    each_weaker (λ other. row_cmp row.0 other.0 ≡ Less)
+    (λ other. is_wanted name pattern other.0.value ≡ false)
+    (λ other less. by other less (is_wanted name pattern other.0.value) refl) rows up
   where
-    by : (other : Row) → value_cmp row.0 other.0 ≡ Less → (t : Bool)
-        → is_wanted name pattern other.0 ≡ t → is_wanted name pattern other.0 ≡ false
+    by : (other : Row × Unit {0}) → row_cmp row.0 other.0 ≡ Less → (t : Bool)
+        → is_wanted name pattern other.0.value ≡ t → is_wanted name pattern other.0.value ≡ false
     by other less true wanted =
         absurd (false≢true (sym not_wanted
-        ∙ wanted_between name pattern row.0 other.0 h less wanted))
+        ∙ wanted_between name pattern row.0.value other.0.value
+        (by_name (value_cmp (first_wanted name pattern) row.0.value) (nat_cmp 0 row.0.number) h)
+        (by_name (value_cmp row.0.value other.0.value) (nat_cmp row.0.number other.0.number)
+        (less_le (row_cmp row.0 other.0) less)) wanted))
     by other less false wanted = wanted
 
 -- in the rows from the first that may be wanted on the wanted ones stand in front
-pub wanted_first : (name pattern : List ℕ) (rows : List Row) → sorted.IsAscending value_cmp rows
-    → WantedFirst name pattern (entries_from (value_cmp (first_wanted name pattern)) rows)
+pub wanted_first : (name pattern : List ℕ) (rows : List (Row × Unit {0}))
+    → sorted.IsAscending row_cmp rows
+    → WantedFirst name pattern (entries_from (row_cmp (first_row name pattern)) rows)
 unfolding WantedFirst sorted.IsAscending
 wanted_first name pattern [] up = tt
 wanted_first name pattern (row ∷ rows) up =
-    by (is_le (value_cmp (first_wanted name pattern) row.0)) refl
-    (wanted_first name pattern rows up.1)
+    by (is_le (row_cmp (first_row name pattern) row.0)) refl (wanted_first name pattern rows up.1)
   where
-    by : (t : Bool) → is_le (value_cmp (first_wanted name pattern) row.0) ≡ t
-        → WantedFirst name pattern (entries_from (value_cmp (first_wanted name pattern)) rows)
+    by : (t : Bool) → is_le (row_cmp (first_row name pattern) row.0) ≡ t
+        → WantedFirst name pattern (entries_from (row_cmp (first_row name pattern)) rows)
         → WantedFirst name pattern
-        (cond t (row ∷ entries_from (value_cmp (first_wanted name pattern)) rows)
-        (entries_from (value_cmp (first_wanted name pattern)) rows))
+        (cond t (row ∷ entries_from (row_cmp (first_row name pattern)) rows)
+        (entries_from (row_cmp (first_row name pattern)) rows))
     by true h more = (
       λ not_wanted. none_behind name pattern row
-          (entries_from (value_cmp (first_wanted name pattern)) rows) h
-          (each_filter (λ other. value_cmp row.0 other.0 ≡ Less)
-          (λ other. is_le (value_cmp (first_wanted name pattern) other.0)) rows up.0) not_wanted,
+          (entries_from (row_cmp (first_row name pattern)) rows) h
+          (each_filter (λ other. row_cmp row.0 other.0 ≡ Less)
+          (λ other. is_le (row_cmp (first_row name pattern) other.0)) rows up.0) not_wanted,
       more,
     )
     by false h more = more
 
 -- ---- one row after another
 
-pub wanted_rest : (name pattern : List ℕ) (row : Row) (rows : List Row)
+pub wanted_rest : (name pattern : List ℕ) (row : Row × Unit {0}) (rows : List (Row × Unit {0}))
     → WantedFirst name pattern (row ∷ rows) → WantedFirst name pattern rows
 unfolding WantedFirst
 wanted_rest name pattern row rows first = first.1
 
-nothing : (name pattern : List ℕ) (rows : List Row)
-    → AllByRecursion (λ other. is_wanted name pattern other.0 ≡ false) rows
+nothing : (name pattern : List ℕ) (rows : List (Row × Unit {0}))
+    → AllByRecursion (λ other. is_wanted name pattern other.0.value ≡ false) rows
     → wanted_numbers name pattern rows ≡ []
 nothing name pattern rows none =
-    ap (λ some. flat_map (λ (row : Row). row.1) some)
-    (filter_none (λ row. is_wanted name pattern row.0) rows none)
+    ap (λ some. map (λ (row : Row × Unit {0}). row.0.number) some)
+    (filter_none (λ row. is_wanted name pattern row.0.value) rows none)
 
 -- where a row is not wanted, no number is left
-pub wanted_end : (name pattern : List ℕ) (row : Row) (rows : List Row)
-    → WantedFirst name pattern (row ∷ rows) → is_wanted name pattern row.0 ≡ false
+pub wanted_end : (name pattern : List ℕ) (row : Row × Unit {0}) (rows : List (Row × Unit {0}))
+    → WantedFirst name pattern (row ∷ rows) → is_wanted name pattern row.0.value ≡ false
     → (wanted_numbers name pattern (row ∷ rows) ≡ []) × (wanted_numbers name pattern rows ≡ [])
 unfolding WantedFirst
 wanted_end name pattern row rows first not_wanted =
     let none = first.0 not_wanted in
     (nothing name pattern (row ∷ rows) (not_wanted, none), nothing name pattern rows none)
+
+-- where it is, its number is the first
+pub wanted_next : (name pattern : List ℕ) (row : Row × Unit {0}) (rows : List (Row × Unit {0}))
+    → is_wanted name pattern row.0.value ≡ true
+    → wanted_numbers name pattern (row ∷ rows)
+    ≡ row.0.number ∷ wanted_numbers name pattern rows
+wanted_next name pattern row rows wanted =
+    ap (λ (t : Bool). map (λ (other : Row × Unit {0}). other.0.number)
+    (cond t (row ∷ filter (λ (other : Row × Unit {0}). is_wanted name pattern other.0.value) rows)
+    (filter (λ (other : Row × Unit {0}). is_wanted name pattern other.0.value) rows))) wanted

@@ -1,30 +1,41 @@
 //! Numbers that order most names and values before their texts are looked at.
 ghost use Rattle.std.specs.Prelude.{◌≡◌, ◌<◌, ◌≤◌, ℕ, List, [], IsTrue, drop};
-ghost use Rattle.attribute_index.specs.Abbreviations.{AreOctets, IsAbbreviation, digit_of};
-ghost use Rattle.attribute_index.specs.Abbreviations.{spelled, symbols_of};
+ghost use Rattle.attribute_index.specs.Abbreviations.{AreOctets, IsAbbreviation, Spells, digit_of};
+ghost use Rattle.attribute_index.specs.Abbreviations.{spelled, symbols_of, symbols_to};
 
 /// How many symbols stand in a number.
-const SYMBOLS: usize = 7;
+const SYMBOLS: usize = 8;
 
 /// The base in which a number spells them: above all digits.
-const BASE: u64 = 512;
+const BASE: u64 = 256;
 
-/// The first 21 symbols of a name and its value, seven in each number. Abbreviations are ordered as
+/// The first 24 symbols of a name and its value, eight in each number. Abbreviations are ordered as
 /// the names and values are whose abbreviations they are, where they differ.
 #[derive(Clone, Copy, Drop, PartialEq, Eq, PartialOrd, Ord)]
 pub(crate) struct Abbreviation {
-    /// The first seven symbols.
+    /// The first eight symbols.
     first: u64,
-    /// The next seven.
+    /// The next eight.
     second: u64,
-    /// The seven after those.
+    /// The eight after those.
     third: u64,
+}
+
+/// Which symbol is the last of a name and a value.
+#[derive(Clone, Copy, Drop)]
+pub(crate) enum Last {
+    /// Their own.
+    Own,
+    /// The one behind it.
+    Raised,
 }
 
 /// The digit of the symbol at this place of a name and a value.
 fn digit_at(name: &[u8], value: &[u8], at: usize) -> u64
+    requires name { AreOctets name.now }
+    requires value { AreOctets value.now }
     ensures digit { result ≡ digit_of (drop at (symbols_of (name.now, value.now))) }
-    ensures below { result < 512 }
+    ensures below { result < 248 }
 {
     if at < name.len() {
         return u64::from(name[at]) + 2;
@@ -39,37 +50,75 @@ fn digit_at(name: &[u8], value: &[u8], at: usize) -> u64
     0
 }
 
-/// The number of seven symbols of a name and a value, from this place on.
-fn number_at(name: &[u8], value: &[u8], from: usize) -> u64
-    requires { from ≤ 14 }
-    ensures { result ≡ spelled 7 (drop from (symbols_of (name.now, value.now))) }
+/// The same with this last symbol.
+fn digit_to(name: &[u8], value: &[u8], last: Last, at: usize) -> u64
+    requires name { AreOctets name.now }
+    requires value { AreOctets value.now }
+    ensures digit { result ≡ digit_of (drop at (symbols_to last (name.now, value.now))) }
+    ensures below { result < 256 }
+{
+    let digit = digit_at(name, value, at);
+    match last {
+        Last::Own => digit,
+        Last::Raised => {
+            if at == name.len() + value.len() {
+                return digit + 1;
+            }
+            digit
+        }
+    }
+}
+
+/// A number of eight symbols of a name and a value, from this place on, with this last symbol.
+fn number_at(name: &[u8], value: &[u8], last: Last, from: usize) -> u64
+    requires name { AreOctets name.now }
+    requires value { AreOctets value.now }
+    requires place { from ≤ 16 }
+    ensures { result ≡ spelled 8 (drop from (symbols_to last (name.now, value.now))) }
 {
     if name.len() + value.len() < from {
         return 0;
     }
     let mut number = 0;
     for i in 0..SYMBOLS {
-        number = number * BASE + digit_at(name, value, from + i);
+        number = number * BASE + digit_to(name, value, last, from + i);
     }
     number
 }
 
+/// The numbers of the first 24 symbols of a name and a value, with this last symbol.
+fn numbers_of(name: &[u8], value: &[u8], last: Last) -> Abbreviation
+    requires name { AreOctets name.now }
+    requires value { AreOctets value.now }
+    ensures { Spells result (symbols_to last (name.now, value.now)) }
+{
+    Abbreviation {
+        first: number_at(name, value, last, 0),
+        second: number_at(name, value, last, SYMBOLS),
+        third: number_at(name, value, last, 2 * SYMBOLS),
+    }
+}
+
 impl Abbreviation {
     /// The abbreviation of a name and a value.
-    pub(crate) fn of(name: &[u8], value: &[u8]) -> Abbreviation
+    pub(crate) fn of(name: &str, value: &str) -> Abbreviation
         ensures { IsAbbreviation result (name.now, value.now) }
     {
-        Abbreviation {
-            first: number_at(name, value, 0),
-            second: number_at(name, value, SYMBOLS),
-            third: number_at(name, value, 2 * SYMBOLS),
-        }
+        numbers_of(name.as_bytes(), value.as_bytes(), Last::Own)
+    }
+
+    /// What all abbreviations are before that begin with the symbols of this name and this value,
+    /// and none that is behind those.
+    pub(crate) fn behind(name: &str, value: &str) -> Abbreviation
+        ensures { Spells result (symbols_to (Last.Raised) (name.now, value.now)) }
+    {
+        numbers_of(name.as_bytes(), value.as_bytes(), Last::Raised)
     }
 
     /// Whether it spells the whole of its name and its value.
     pub(crate) fn is_whole(&self) -> bool
         ensures { (value : List ℕ × List ℕ) → IsAbbreviation self.now value → IsTrue result
-            → drop 21 (symbols_of value) ≡ [] }
+            → drop 23 (symbols_of value) ≡ [] }
     {
         self.third % BASE == 0
     }

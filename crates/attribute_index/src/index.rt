@@ -11,7 +11,7 @@ ghost use Rattle.attribute_index.specs.Entries.{
 };
 
 use crate::Carriers;
-use crate::rows::{Edit, Rows, edited};
+use crate::rows::{Edit, Row, Rows, edited};
 use crate::values::Value;
 use chunk_map::ChunkMap;
 use listing::before_wildcard;
@@ -27,8 +27,7 @@ use std::marker::Model;
 /// number, in ascending order and without doubles.
 #[derive(Drop)]
 pub struct AttributeIndex {
-    /// The numbers of the records that carry a value, by the value: a value that many records
-    /// carry is kept once.
+    /// Each value with each number of a record that carries it.
     rows: Rows,
 }
 
@@ -36,24 +35,25 @@ impl Model for AttributeIndex {
     ghost use Rattle.std.specs.Prelude.{List};
     ghost use Rattle.chunk_map.specs.Sorted as sorted;
     ghost use Rattle.attribute_index.specs.Entries.{Entry};
-    ghost use Rattle.attribute_index.specs.Rows.{value_cmp, entries_of_rows, AreRows};
+    ghost use Rattle.attribute_index.specs.Rows.{row_cmp, entries_of_rows};
 
     ghost Value = { List Entry };
 
     ghost view = { λ a. entries_of_rows a.rows };
 
-    ghost invariant = { λ a. sorted.IsAscending value_cmp a.rows × AreRows a.rows };
+    ghost invariant = { λ a. sorted.IsAscending row_cmp a.rows };
 }
 
 /// Where the values begin that a pattern of a name matches: at what stands before its wildcard, or
 /// at the pattern. `Starved`: out of memory.
-fn first_wanted(alloc: Global, name: &str, pattern: &str) -> Result<Value, Starved>
-    ensures { IfOk result (λ value. value ≡ spec.first_wanted name.now pattern.now) }
+fn first_wanted(alloc: Global, name: &str, pattern: &str) -> Result<Row, Starved>
+    ensures { IfOk result (λ row. row ≡ spec.first_row name.now pattern.now) }
 {
-    match before_wildcard(pattern) {
-        Some(front) => Value::of(alloc, name, front),
-        None => Value::of(alloc, name, pattern),
-    }
+    let value = match before_wildcard(pattern) {
+        Some(front) => Value::of(alloc, name, front)?,
+        None => Value::of(alloc, name, pattern)?,
+    };
+    Ok(Row { value, number: 0 })
 }
 
 impl AttributeIndex {

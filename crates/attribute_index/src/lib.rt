@@ -2,9 +2,9 @@
 #![tactic(auto)]
 
 mod abbreviations;
+mod bounds;
 mod carriers;
 mod index;
-mod numbers;
 mod rows;
 mod values;
 

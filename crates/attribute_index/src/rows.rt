@@ -1,95 +1,141 @@
 //! The rows of an index: edited one value of a name at a time.
-ghost use Rattle.std.specs.Prelude.{◌≡◌, IfOk};
+ghost use Rattle.std.specs.Prelude.{◌≡◌, ◌<◌, IfOk, IfSome, IfNone, [], ◌∷◌};
 ghost use Rattle.chunk_map.specs.Sorted.{IsAscending};
 ghost use Rattle.rd_base.specs.PairRefs.{pair_seen};
 ghost use Rattle.record_model.specs.Matching.{parts_of};
 ghost use Rattle.attribute_index.specs.Entries.{Entry, entries_of, has_entry, is_same};
 ghost use Rattle.attribute_index.specs.Rows.{
-  AreRows,
-  IsEdited,
+  after_edit,
   entries_of_rows,
   entries_under_name,
+  entry_of,
   is_after,
-  value_cmp,
+  row_cmp,
 };
 
-use crate::numbers::Numbers;
 use crate::values::Value;
-use chunk_map::{Change, ChunkMap};
+use chunk_map::{Change, ChunkMap, RangeIter, Shared};
 use listing::{first_part, is_list_name};
-use rd_base::{PairRef, Starved};
+use rd_base::{PairRef, Starved, Steps};
 use std::alloc::Global;
+use std::marker::Brand;
+use std::sync::ledger::{Blank, Ledger};
 
-/// The numbers of the records that carry a value, by the value.
-pub(crate) type Rows = ChunkMap<Value, Numbers>;
+/// A value of a name, and the number of a record that carries it. Rows are ordered by their values,
+/// those of one value by their numbers. What is shared of one shares the texts of its value.
+#[derive(Drop, PartialEq, Eq, PartialOrd, Ord)]
+pub struct Row {
+    /// The value.
+    pub(crate) value: Value,
+    /// The number.
+    pub(crate) number: u64,
+}
 
-/// What is done to the entries of values.
+impl Shared for Row {
+    fn share(&self) -> Result<Row, Starved> {
+        let value = self.value.share()?;
+        Ok(Row {
+            value,
+            number: self.number,
+        })
+    }
+}
+
+/// The rows of an index, as keys.
+pub(crate) type Rows = ChunkMap<Row, ()>;
+
+/// What is done to rows.
 #[derive(Clone, Copy, Drop)]
 pub(crate) enum Edit {
-    /// They come.
+    /// They come, or stay where they are there.
     Put,
     /// They go.
     Take,
 }
 
-/// An edit of the numbers of a value. The value goes with its last number.
-#[derive(Drop)]
-struct EditOfNumbers {
-    /// The allocator of what it makes.
-    alloc: Global,
-    /// The number that comes or goes.
-    number: u64,
-    /// Whether it comes or goes.
-    edit: Edit,
-}
+impl Change<()> for Edit {
+    ghost gives = { λ edit _ new. new ≡ after_edit edit };
 
-impl Change<Numbers> for EditOfNumbers {
-    ghost gives = { λ change old new. IsEdited change.edit change.number old new };
-
-    fn begin(self) -> Result<Option<Numbers>, Starved> {
-        match self.edit {
-            Edit::Put => Ok(Some(Numbers::one(self.number))),
+    fn begin(self) -> Result<Option<()>, Starved> {
+        match self {
+            Edit::Put => Ok(Some(())),
             Edit::Take => Ok(None),
         }
     }
 
-    fn follow(self, old: &Numbers) -> Result<Option<Numbers>, Starved> {
-        match self.edit {
-            Edit::Put => {
-                let numbers = old.with(self.alloc, self.number)?;
-                Ok(Some(numbers))
-            }
-            Edit::Take => old.without(self.alloc, self.number),
-        }
+    fn follow(self, _: &()) -> Result<Option<()>, Starved> {
+        self.begin()
     }
+}
+
+/// The next row of a cursor over rows.
+pub(crate) fn next_row<'a, L: Ledger>(
+    blank: Blank,
+    rows: &mut RangeIter<'a, Row, ()>,
+) -> Option<&'a Row>
+    requires name { blank.name ≡ L.name }
+    requires parts { blank.parts ≡ L.parts }
+    requires some { 0 < L.parts }
+    ensures next { IfSome result (λ row. rows.old ≡ (row.now, tt) ∷ rows.new) }
+    ensures end { IfNone result ((rows.old ≡ []) × (rows.new ≡ [])) }
+{
+    let mut steps = Steps::<L>::new(blank);
+    let (row, _) = rows.step(&mut steps)?;
+    Some(row)
+}
+
+/// An equal value: that of a row which has an equal one, where one does, so that records that carry
+/// a long value share its texts. `Starved`: out of memory.
+fn shared_value(rows: &Rows, value: Value) -> Result<Value, Starved>
+    ensures { IfOk result (λ shared. shared ≡ value) }
+{
+    if value.texts().is_none() {
+        return Ok(value);
+    }
+    let first = Row { value, number: 0 };
+    let mut left = rows.range(&first);
+    match next_row::<Brand>(Blank::new(1), &mut left) {
+        Some(row) if row.value == first.value => row.value.share(),
+        _ => Ok(first.value),
+    }
+}
+
+/// The row of a value and a number, as it is edited. `Starved`: out of memory.
+fn row_to_edit(rows: &Rows, value: Value, number: u64, edit: Edit) -> Result<Row, Starved>
+    ensures { IfOk result (λ row. row ≡ record { value = value; number = number }) }
+{
+    match edit {
+        Edit::Put => {
+            let value = shared_value(rows, value)?;
+            Ok(Row { value, number })
+        }
+        Edit::Take => Ok(Row { value, number }),
+    }
+}
+
+/// These rows after an edit of a row. `Starved`: out of memory.
+fn edited_row(rows: Rows, row: &Row, edit: Edit) -> Result<Rows, Starved>
+    requires { IsAscending row_cmp rows }
+    ensures entries { IfOk result
+        (λ after. (e : Entry) → has_entry (entries_of_rows after) e
+        ≡ is_after edit (has_entry (entries_of_rows rows) e) (is_same e (entry_of row.now))) }
+    ensures ascends { IfOk result (λ after. IsAscending row_cmp after) }
+{
+    rows.changed(row, edit)
 }
 
 /// These rows, in which the record with this number carries this value too, or carries it no
 /// longer. `Starved`: out of memory.
-fn edited_value(
-    alloc: Global,
-    rows: Rows,
-    value: &Value,
-    number: u64,
-    edit: Edit,
-) -> Result<Rows, Starved>
-    requires ascends { IsAscending value_cmp rows }
-    requires whole { AreRows rows }
+fn edited_value(rows: Rows, value: Value, number: u64, edit: Edit) -> Result<Rows, Starved>
+    requires { IsAscending row_cmp rows }
     ensures entries { IfOk result
         (λ after. (e : Entry) → has_entry (entries_of_rows after) e
         ≡ is_after edit (has_entry (entries_of_rows rows) e)
-        (is_same e (record { name = value.now.0; value = value.now.1; number = number }))) }
-    ensures ascends { IfOk result (λ after. IsAscending value_cmp after) }
-    ensures whole { IfOk result (λ after. AreRows after) }
+        (is_same e (record { name = value.0; value = value.1; number = number }))) }
+    ensures ascends { IfOk result (λ after. IsAscending row_cmp after) }
 {
-    Ok(rows.changed(
-        value,
-        EditOfNumbers {
-            alloc,
-            number,
-            edit,
-        },
-    )?)
+    let row = row_to_edit(&rows, value, number, edit)?;
+    edited_row(rows, &row, edit)
 }
 
 /// These rows, in which the record with this number carries the parts of this value too, or
@@ -102,20 +148,18 @@ fn edited_parts(
     number: u64,
     edit: Edit,
 ) -> Result<Rows, Starved>
-    requires ascends { IsAscending value_cmp rows }
-    requires whole { AreRows rows }
+    requires { IsAscending row_cmp rows }
     ensures entries { IfOk result
         (λ after. (e : Entry) → has_entry (entries_of_rows after) e
         ≡ is_after edit (has_entry (entries_of_rows rows) e)
         (has_entry (entries_under_name name.now (parts_of value.now) number) e)) }
-    ensures ascends { IfOk result (λ after. IsAscending value_cmp after) }
-    ensures whole { IfOk result (λ after. AreRows after) }
+    ensures ascends { IfOk result (λ after. IsAscending row_cmp after) }
 {
     let mut after = rows;
     let mut rest = value;
     'parts: while let Some((part, more)) = first_part(rest) {
         let carried = Value::of(alloc, name, part)?;
-        after = edited_value(alloc, after, &carried, number, edit)?;
+        after = edited_value(after, carried, number, edit)?;
         rest = more;
     }
     Ok(after)
@@ -131,19 +175,17 @@ pub(crate) fn edited(
     number: u64,
     edit: Edit,
 ) -> Result<Rows, Starved>
-    requires ascends { IsAscending value_cmp rows }
-    requires whole { AreRows rows }
+    requires { IsAscending row_cmp rows }
     ensures entries { IfOk result
         (λ after. (e : Entry) → has_entry (entries_of_rows after) e
         ≡ is_after edit (has_entry (entries_of_rows rows) e)
         (has_entry (entries_of (pair_seen pair.now) number) e)) }
-    ensures ascends { IfOk result (λ after. IsAscending value_cmp after) }
-    ensures whole { IfOk result (λ after. AreRows after) }
+    ensures ascends { IfOk result (λ after. IsAscending row_cmp after) }
 {
     let PairRef { name, value } = *pair;
     if is_list_name(name) {
         return edited_parts(alloc, rows, name, value, number, edit);
     }
     let value = Value::of(alloc, name, value)?;
-    edited_value(alloc, rows, &value, number, edit)
+    edited_value(rows, value, number, edit)
 }

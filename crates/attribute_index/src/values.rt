@@ -1,5 +1,5 @@
 //! Values of names, as keys that versions share.
-ghost use Rattle.std.specs.Prelude.{◌≡◌, IfOk};
+ghost use Rattle.std.specs.Prelude.{◌≡◌, [], IfOk, IfSome, IfNone, drop};
 ghost use Rattle.std.proofs.Common.{rules};
 ghost use Rattle.std.specs.Cmp.{partial_order_from_own_ties};
 ghost use Rattle.std.specs.Cmp.Rules.{comparing};
@@ -12,7 +12,7 @@ ghost use Rattle.std.proofs.lemmas.Cmp.{
   and_equiv,
   on_equiv,
 };
-ghost use Rattle.attribute_index.specs.Abbreviations.{IsAbbreviation};
+ghost use Rattle.attribute_index.specs.Abbreviations.{IsAbbreviation, symbols_of};
 ghost use Rattle.attribute_index.specs.Rows.{value_cmp, is_same_value};
 
 use crate::abbreviations::Abbreviation;
@@ -32,75 +32,91 @@ struct Abbreviated {
     pair: Pair,
 }
 
+/// Where a name and a value stand.
+#[derive(Drop)]
+enum Kept {
+    /// In an abbreviation that spells the whole of them, and takes no memory.
+    Whole(Abbreviation),
+    /// In texts, which no version copies.
+    Long(Arc<Abbreviated>),
+}
+
 /// A name with a value of it, or with one part of the value. Values are ordered by their names,
 /// those of one name by their texts. What is shared of one shares the texts. Contracts see it as
 /// the name and the value.
 #[derive(Drop)]
 pub struct Value {
-    /// The name and the value, which no version copies.
-    abbreviated: Arc<Abbreviated>,
+    /// The name and the value.
+    kept: Kept,
 }
 
 impl Model for Value {
     ghost use Rattle.std.specs.Prelude.{ℕ, List};
-    ghost use Rattle.std.specs.Arc.{arc_value};
     ghost use Rattle.attribute_index.specs.Abbreviations.{IsAbbreviation};
+    ghost use Rattle.attribute_index.specs.Values.{IsKept, abbreviation_in, value_in};
 
     ghost Value = { List ℕ × List ℕ };
 
-    ghost view = { λ v. (
-      (arc_value v.abbreviated).pair.name,
-      (arc_value v.abbreviated).pair.value,
-    ) };
+    ghost view = { λ v. value_in v.kept };
 
-    ghost invariant = { λ v. IsAbbreviation (arc_value v.abbreviated).abbreviation
-        ((arc_value v.abbreviated).pair.name, (arc_value v.abbreviated).pair.value) };
+    ghost invariant = { λ v. IsAbbreviation (abbreviation_in v.kept) (value_in v.kept)
+        × IsKept v.kept };
+}
+
+/// How the texts of two values are ordered, those of their names first.
+fn order_of_texts(one: &Pair, other: &Pair) -> Ordering
+    ensures { result ≡ value_cmp (one.now.name, one.now.value) (other.now.name, other.now.value) }
+{
+    match one.name.as_str().cmp(other.name.as_str()) {
+        Ordering::Equal => one.value.as_str().cmp(other.value.as_str()),
+        order => order,
+    }
 }
 
 impl Value {
-    /// A value of a name. `Starved`: out of memory.
+    /// A value of a name. `Starved`: out of memory, which only texts take that are long.
     pub(crate) fn of(alloc: Global, name: &str, value: &str) -> Result<Value, Starved>
         ensures { IfOk result (λ v. v ≡ (name.now, value.now)) }
     {
-        let abbreviation = Abbreviation::of(name.as_bytes(), value.as_bytes());
+        let abbreviation = Abbreviation::of(name, value);
+        if abbreviation.is_whole() {
+            return Ok(Value {
+                kept: Kept::Whole(abbreviation),
+            });
+        }
         let name = Text::copy_of(alloc, name)?;
         let value = Text::copy_of(alloc, value)?;
         let pair = Pair { name, value };
         let abbreviated = Arc::new(alloc, Abbreviated { abbreviation, pair })?;
-        Ok(Value { abbreviated })
-    }
-
-    /// The name.
-    pub(crate) fn name(&self) -> &str
-        ensures { result.now ≡ self.now.0 }
-    {
-        let abbreviated: &Abbreviated = &*self.abbreviated;
-        abbreviated.pair.name.as_str()
-    }
-
-    /// The value without its name.
-    pub(crate) fn value(&self) -> &str
-        ensures { result.now ≡ self.now.1 }
-    {
-        let abbreviated: &Abbreviated = &*self.abbreviated;
-        abbreviated.pair.value.as_str()
+        Ok(Value {
+            kept: Kept::Long(abbreviated),
+        })
     }
 
     /// The abbreviation of its name and its value.
-    fn abbreviation(&self) -> &Abbreviation
+    pub(crate) fn abbreviation(&self) -> &Abbreviation
         ensures { IsAbbreviation result.now self.now }
     {
-        let abbreviated: &Abbreviated = &*self.abbreviated;
-        &abbreviated.abbreviation
+        match &self.kept {
+            Kept::Whole(abbreviation) => abbreviation,
+            Kept::Long(abbreviated) => {
+                let abbreviated: &Abbreviated = &**abbreviated;
+                &abbreviated.abbreviation
+            }
+        }
     }
 
-    /// How it is ordered by its texts.
-    fn order_of_texts(&self, other: &Value) -> Ordering
-        ensures { result ≡ value_cmp self.now other.now }
+    /// The name and the value as texts; None where the abbreviation spells the whole of them.
+    pub(crate) fn texts(&self) -> Option<&Pair>
+        ensures some { IfSome result (λ pair. (pair.now.name, pair.now.value) ≡ self.now) }
+        ensures none { IfNone result (drop 23 (symbols_of self.now) ≡ []) }
     {
-        match self.name().cmp(other.name()) {
-            Ordering::Equal => self.value().cmp(other.value()),
-            order => order,
+        match &self.kept {
+            Kept::Whole(_) => None,
+            Kept::Long(abbreviated) => {
+                let abbreviated: &Abbreviated = &**abbreviated;
+                Some(&abbreviated.pair)
+            }
         }
     }
 
@@ -109,13 +125,15 @@ impl Value {
     fn order(&self, other: &Value) -> Ordering
         ensures { result ≡ value_cmp self.now other.now }
     {
-        let abbreviation = self.abbreviation();
-        match abbreviation.cmp(other.abbreviation()) {
+        match self.abbreviation().cmp(other.abbreviation()) {
             Ordering::Equal => {
-                if abbreviation.is_whole() {
+                let Some(texts) = self.texts() else {
                     return Ordering::Equal;
-                }
-                self.order_of_texts(other)
+                };
+                let Some(other_texts) = other.texts() else {
+                    return Ordering::Equal;
+                };
+                order_of_texts(texts, other_texts)
             }
             order => order,
         }
@@ -125,8 +143,17 @@ impl Value {
 /// An equal value, which shares the texts.
 impl Shared for Value {
     fn share(&self) -> Result<Value, Starved> {
-        let abbreviated = Arc::try_clone(&self.abbreviated)?;
-        Ok(Value { abbreviated })
+        match &self.kept {
+            Kept::Whole(abbreviation) => Ok(Value {
+                kept: Kept::Whole(*abbreviation),
+            }),
+            Kept::Long(abbreviated) => {
+                let abbreviated = Arc::try_clone(abbreviated)?;
+                Ok(Value {
+                    kept: Kept::Long(abbreviated),
+                })
+            }
+        }
     }
 }
 
@@ -136,7 +163,7 @@ impl PartialEq for Value {
     ghost laws = { Prim.search (comparing, rules) };
 
     fn eq(&self, other: &Value) -> bool {
-        self.name() == other.name() && self.value() == other.value()
+        self.order(other).is_eq()
     }
 }
 

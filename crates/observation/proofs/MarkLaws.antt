@@ -281,6 +281,20 @@ unmarked_at slot t h = by (lookup (nat_eq slot) t) refl
     by None e = refl
     by (Some w) e = each_found (λ (x : Watched). x.marked ≡ false) (nat_eq slot) t w h e
 
+either_false : (a b : Bool) → (a || b) ≡ false → (a ≡ false) × (b ≡ false)
+either_false true b e = absurd (false≢true (sym e))
+either_false false b e = (refl, e)
+
+-- no query is marked
+pub none_marked : (t : Table)
+    → list_any (λ (w : Watched). w.marked) (map (λ (e : ℕ × Watched). e.1) t) ≡ false
+    → AllByRecursion IsUnmarked t
+none_marked [] none = tt
+none_marked (e ∷ t) none =
+    let parts = either_false e.1.marked
+    (list_any (λ (w : Watched). w.marked) (map (λ (e : ℕ × Watched). e.1) t)) none in
+    (parts.0, none_marked t parts.1)
+
 -- where no mark is set there is none to take off, and none to hand on
 pub unmarked_same : (t : Table) → AllByRecursion IsUnmarked t → all_unmarked t ≡ t
 unmarked_same [] h = refl

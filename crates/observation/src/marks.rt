@@ -51,6 +51,9 @@ pub(crate) fn hand_on(watches: &mut WatchTable, observers: &mut Observers)
     ensures due { observers.new ≡ map (handed watches.old) observers.old }
     ensures cleared { watches.new ≡ all_unmarked watches.old }
 {
+    if !watches.any_marked() {
+        return;
+    }
     mark_observers(watches, observers);
     watches.clear();
 }

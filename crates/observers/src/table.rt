@@ -1,7 +1,7 @@
 //! The table of observers.
 ghost use Rattle.std.specs.Prelude.{◌≡◌, ◌≢◌, ◌↔◌, ℕ, ◌≤◌, ◌<◌, List, [], ◌∷◌, ◌++◌, false, Some};
-ghost use Rattle.std.specs.Prelude.{None, true, map, find, remove, slice_get, length, option_map, IfOk};
-ghost use Rattle.std.specs.Prelude.{IfSome, IfNone, OnOk, OnErr, IsErr, IsTrue};
+ghost use Rattle.std.specs.Prelude.{None, true, map, find, remove, slice_get, length, option_map};
+ghost use Rattle.std.specs.Prelude.{IfOk, IfSome, IfNone, OnOk, OnErr, IsErr, IsTrue};
 ghost use Rattle.std.specs.List.{list_any, AllByRecursion};
 ghost use Rattle.std.specs.Arc.{arc_value};
 ghost use Rattle.rd_base.specs.declared.queries.Query.{Query};

@@ -437,9 +437,12 @@ impl<B: Board> Desk<B> {
 
     /// Returns the number of observers.
     pub fn watchers(&self) -> usize
-        ensures { result ≡ length self.now.tables.watching.observers }
+        ensures kept { result ≡ length self.now.tables.watching.observers }
+        ensures observers { (rows : List Row)
+            → StandsFor rows self.now.tables
+            → result ≡ length (observers (events rows)) }
     {
-        self.tables.watching.len()
+        self.tables.watchers()
     }
 
     /// Lends the board. The rest of the desk does not change.

@@ -1,5 +1,5 @@
 //! Observers as a desk shows them (RFC 7641 section 4).
-ghost use Rattle.std.specs.Prelude.{◌≡◌, Some, List, IfSome, slice_get};
+ghost use Rattle.std.specs.Prelude.{◌≡◌, Some, List, IfSome, slice_get, length};
 ghost use Rattle.event_model.specs.declared.notes.Observer.{Observer as Observed};
 ghost use Rattle.event_model.specs.Observers.{observers};
 ghost use Rattle.journal_model.specs.declared.rows.Row.{Row};
@@ -51,5 +51,14 @@ impl Tables {
             Some(observer) => Some(shown(observer)),
             None => None,
         }
+    }
+    /// Returns the number of observers.
+    pub(crate) fn watchers(&self) -> usize
+        ensures kept { result ≡ length self.now.watching.observers }
+        ensures observers { (rows : List Row)
+            → StandsFor rows self.now
+            → result ≡ length (observers (events rows)) }
+    {
+        self.watching.len()
     }
 }

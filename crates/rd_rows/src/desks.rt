@@ -24,13 +24,18 @@ fn take_all(text: &mut String, told: &mut Tables, lines: &str) -> Result<(), Sta
     add(text, told.end()?)
 }
 
-/// Returns the results of the tables in these lines. A line `desk NAME` begins a table, and its
-/// lines follow. Empty lines and those that begin with `#` are ignored.
-pub(crate) fn coming(alloc: Global, lines: &str) -> Result<String, Starved> {
+/// Takes these lines, and returns the results of their tables, with a last line that counts them.
+fn results(alloc: Global, told: &mut Tables, lines: &str) -> Result<String, Starved> {
     let mut text = String::new(alloc);
-    let mut told = Tables::new(alloc);
-    take_all(&mut text, &mut told, lines)?;
+    take_all(&mut text, told, lines)?;
     let Tally { tables, differ } = told.tally();
     writeln!(text, "{tables} tables, {differ} differ")?;
     Ok(text)
+}
+
+/// Returns the results of the tables in these lines. A line `desk NAME` begins a table, and its
+/// lines follow. Empty lines and those that begin with `#` are ignored.
+pub(crate) fn coming(alloc: Global, lines: &str) -> Result<String, Starved> {
+    let mut told = Tables::new(alloc);
+    results(alloc, &mut told, lines)
 }

@@ -3,14 +3,12 @@
 use Rattle.std.proofs.Common.{
   if◌then◌else◌,
   ◌≡◌,
-  ◌↔◌,
   ℕ,
   ◌+◌,
   ◌-◌,
   ◌*◌,
   ◌<◌,
   ◌≤◌,
-  zero,
   suc,
   nat_eq,
   nat_le,
@@ -18,18 +16,14 @@ use Rattle.std.proofs.Common.{
   Bool,
   true,
   false,
-  not,
   ◌||◌,
   cond,
   List,
   [],
   ◌∷◌,
   ◌++◌,
-  map,
   find,
   length,
-  sum_by,
-  count_by,
   is_some,
   Some,
   None,
@@ -38,14 +32,11 @@ use Rattle.std.proofs.Common.{
   refl,
   sym,
   ap,
-  ap₂,
   ◌∙◌,
   subst,
   arith,
-  eqb-true,
-  length-append,
 }
-use Rattle.std.specs.List.{AllByRecursion, list_any}
+use Rattle.std.specs.List.{AllByRecursion}
 use Rattle.std.specs.Map.{lookup, remove_entry, set_value}
 use Rattle.std.proofs.lemmas.Bool.{false≢true, or_parts}
 use Rattle.std.proofs.lemmas.Bool.Decides.{nat_tests}
@@ -81,13 +72,7 @@ use Rattle.watch_table.specs.ObserverCounts.{
   WatchesStandFor,
   IsFullAmong,
 }
-use Rattle.watch_table.proofs.EntryLaws.{
-  each_found,
-  each_in_slot,
-  each_removed,
-  each_set,
-  slot_of-used,
-}
+use Rattle.watch_table.proofs.EntryLaws.{each_found, each_in_slot, each_removed, each_set}
 
 -- ---- queries
 

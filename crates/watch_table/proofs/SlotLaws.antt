@@ -3,7 +3,6 @@ use Rattle.std.proofs.Common.{
   ◌≡◌,
   ℕ,
   ◌+◌,
-  ◌-◌,
   ◌<◌,
   ◌≤◌,
   zero,
@@ -13,7 +12,6 @@ use Rattle.std.proofs.Common.{
   true,
   false,
   cond,
-  List,
   [],
   ◌∷◌,
   ◌++◌,
@@ -24,7 +22,6 @@ use Rattle.std.proofs.Common.{
   is_some,
   Some,
   None,
-  Option,
   slice_get,
   refl,
   sym,
@@ -32,7 +29,6 @@ use Rattle.std.proofs.Common.{
   ◌∙◌,
   arith,
   eqb-true,
-  ne_eqb,
 }
 use Rattle.std.specs.Map.{lookup, remove_entry, values_of}
 use Rattle.std.proofs.lemmas.Bool.{false≢true}

@@ -5,8 +5,6 @@ use Rattle.std.proofs.Common.{
   ℕ,
   ◌+◌,
   ◌-◌,
-  ◌<◌,
-  ◌≤◌,
   nat_eq,
   nat_le,
   Bool,
@@ -34,7 +32,6 @@ use Rattle.std.proofs.lemmas.Bool.{false≢true, leb-true}
 use Rattle.rd_base.specs.declared.queries.Query.{Query}
 use Rattle.rd_base.proofs.lemmas.Numbers.{eqb-refl}
 use Rattle.event_model.specs.declared.notes.Observer.{Observer}
-use Rattle.event_model.specs.Same.{is_same_query}
 use Rattle.event_model.specs.Observers.{is_watched}
 use Rattle.event_model.proofs.SameLaws.{is_same_query-Decides}
 use Rattle.watch_table.specs.WatchedQueries.{
@@ -54,7 +51,7 @@ use Rattle.watch_table.specs.WatchedQueries.{
   IsSlotOf,
   IsSlotFor,
 }
-use Rattle.watch_table.specs.ObserverCounts.{AreApart, counted_of, observers_of, WatchesStandFor}
+use Rattle.watch_table.specs.ObserverCounts.{AreApart, WatchesStandFor}
 use Rattle.watch_table.proofs.ObserverLaws.{
   one,
   observers-between,

@@ -4,3 +4,5 @@ pub mod WatchedQueries
 pub mod Outcomes
 pub mod ObserverCounts
 pub mod Slots
+-- prints of texts, by which most queries are told apart from what changed
+pub mod Prints

@@ -2,9 +2,7 @@
 use Rattle.std.specs.Prelude.{
   ◌≡◌,
   ℕ,
-  ◌≤◌,
   ◌<◌,
-  Bool,
   false,
   ◌||◌,
   nat_eq,

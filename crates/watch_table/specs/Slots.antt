@@ -10,7 +10,6 @@ use Rattle.std.specs.Prelude.{
   suc,
   Bool,
   false,
-  List,
   [],
   ◌∷◌,
   nat_le,

@@ -3,6 +3,8 @@
 #![tactic(auto)]
 
 mod faults;
+mod notes;
+mod prints;
 mod same_queries;
 mod slots;
 mod table;

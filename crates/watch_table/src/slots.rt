@@ -1,7 +1,7 @@
 //! Watched queries by their slots: one observer more, one fewer, and a slot for a query that is
 //! not watched yet.
 ghost use Rattle.std.specs.Prelude.{◌≡◌, ◌≢◌, ℕ, ◌+◌, ◌≤◌, ◌<◌, ◌-◌, ◌^◌, nat_le, List, Some};
-ghost use Rattle.std.specs.Prelude.{None, false, IsSome, IsOk, ◌∷◌, [], ◌++◌};
+ghost use Rattle.std.specs.Prelude.{None, false, IsSome, IsOk, ◌∷◌, [], ◌++◌, slice_get};
 ghost use Rattle.std.specs.List.{list_any};
 ghost use Rattle.std.specs.Arc.{arc_value};
 ghost use Rattle.std.specs.Option.{option_copied};
@@ -13,8 +13,10 @@ ghost use Rattle.watch_table.specs.WatchedQueries.{one_fewer, without, touched, 
 ghost use Rattle.watch_table.specs.WatchedQueries.{with_body};
 ghost use Rattle.watch_table.specs.Slots.{has_last, CanCount, IsFree, changed_at};
 ghost use Rattle.watch_table.specs.Outcomes.{Watches};
+ghost use Rattle.watch_table.specs.Prints.{TellOf, may_match_in};
 
 use crate::WatchFault;
+use crate::prints::PLACES;
 use crate::watch::Watch;
 use event_model::limits::MAX_WATCHED;
 use indexmap::IndexMap;
@@ -40,6 +42,13 @@ fn is_counted_out(watches: &IndexMap<u32, Watch>) -> bool
     ensures { result ≡ list_any (λ w. nat_le (2 ^ 64 - 1) w.observers) (values watches.now) }
 {
     watches.values().any(|watch| watch.is_counted_out())
+}
+
+/// Whether a query is marked.
+pub(crate) fn any_marked(watches: &IndexMap<u32, Watch>) -> bool
+    ensures { result ≡ list_any (λ w. w.marked) (values watches.now) }
+{
+    watches.values().any(|watch| watch.is_marked())
 }
 
 /// Whether one observer at most is left in a slot.
@@ -91,9 +100,20 @@ fn join(watches: &mut IndexMap<u32, Watch>, slot: u32)
     }
 }
 
+/// Whether what each first criterion of the query of the entry with an index seeks stands among
+/// texts whose prints are noted, as far as prints tell.
+fn may_match_at(watches: &IndexMap<u32, Watch>, index: usize, notes: &[bool; PLACES]) -> bool
+    ensures { result ≡ may_match_in notes.now (slice_get watches.now.entries index) }
+{
+    match watches.get_index(index) {
+        Some((_, watch)) => watch.may_match(notes),
+        None => false,
+    }
+}
+
 /// Marks what the entry with an index watches where a change of a registration changed its lines,
 /// and then drops its body.
-pub(crate) fn touch_at(
+fn touch_at(
     watches: &mut IndexMap<u32, Watch>,
     index: usize,
     old: Option<&Record>,
@@ -106,6 +126,26 @@ pub(crate) fn touch_at(
 {
     if let Some(watch) = watches.get_index_mut(index) {
         watch.touch(old, new);
+    }
+}
+
+/// The same, where notes tell of queries that the change leaves their lines: these are not
+/// compared.
+pub(crate) fn touch_noted_at(
+    watches: &mut IndexMap<u32, Watch>,
+    index: usize,
+    old: Option<&Record>,
+    new: Option<&Record>,
+    notes: &[bool; PLACES],
+)
+    requires { TellOf notes.now (option_copied old) (option_copied new) }
+    ensures len { index_map_len watches.new ≡ index_map_len watches.old }
+    ensures touched { watches.new.entries
+        ≡ changed_at (touched (option_copied old.entry) (option_copied new.entry)) index
+        watches.old.entries }
+{
+    if may_match_at(watches, index, notes) {
+        touch_at(watches, index, old, new);
     }
 }
 

@@ -1,6 +1,7 @@
 //! The table of watched queries.
 ghost use Rattle.std.specs.Prelude.{◌≡◌, ◌≢◌, ℕ, [], ◌∷◌, ◌++◌, List, Some, IsSome, IfOk, OnOk};
-ghost use Rattle.std.specs.Prelude.{option_map};
+ghost use Rattle.std.specs.Prelude.{map, option_map};
+ghost use Rattle.std.specs.List.{list_any};
 ghost use Rattle.std.specs.Option.{option_copied};
 ghost use Rattle.std.specs.Arc.{arc_value};
 ghost use Rattle.event_model.specs.declared.notes.Observer.{Observer};
@@ -11,7 +12,9 @@ ghost use Rattle.watch_table.specs.WatchedQueries.{with_body};
 ghost use Rattle.watch_table.specs.ObserverCounts.{WatchesStandFor, IsFullAmong};
 
 use crate::WatchFault;
-use crate::slots::{leave, set_body, touch_at, unmark_at, watch_instead};
+use crate::notes::note_change;
+use crate::prints::PLACES;
+use crate::slots::{any_marked, leave, set_body, touch_noted_at, unmark_at, watch_instead};
 use crate::watch::Watch;
 use event_model::limits::MAX_WATCHED;
 use indexmap::IndexMap;
@@ -111,8 +114,13 @@ impl WatchTable {
             → WatchesStandFor standing self.old
             → WatchesStandFor standing self.new }
     {
+        if self.watches.is_empty() {
+            return;
+        }
+        let mut notes = [false; PLACES];
+        note_change(&mut notes, old, new);
         'watches: for index in 0..self.watches.len() {
-            touch_at(&mut self.watches, index, old, new);
+            touch_noted_at(&mut self.watches, index, old, new, &notes);
         }
     }
 
@@ -135,6 +143,13 @@ impl WatchTable {
             Some(watch) => watch.is_marked(),
             None => false,
         }
+    }
+
+    /// Whether a query is marked.
+    pub fn any_marked(&self) -> bool
+        ensures { result ≡ list_any (λ w. w.marked) (map (λ e. e.1) self.now) }
+    {
+        any_marked(&self.watches)
     }
 
     /// Takes all marks off.

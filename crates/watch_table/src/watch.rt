@@ -5,8 +5,11 @@ ghost use Rattle.std.specs.Arc.{arc_value};
 ghost use Rattle.history_model.specs.ChangedParts.{is_other_part};
 ghost use Rattle.event_model.specs.Same.{is_same_query};
 ghost use Rattle.watch_table.specs.WatchedQueries.{watched_first, touched, unmarked};
+ghost use Rattle.watch_table.specs.Prints.{may_match};
 
+use crate::prints::{MOST_PRINTS, PLACES, are_noted, prints_of};
 use crate::same_queries::is_same_query;
+use arrayvec::ArrayVec;
 use listing::same_part;
 use rd_base::{Bytes, Query, Record};
 use std::marker::Model;
@@ -17,6 +20,8 @@ use std::sync::Arc;
 pub(crate) struct Watch {
     /// The query.
     query: Query,
+    /// The prints of what its first criteria seek.
+    prints: ArrayVec<u32, MOST_PRINTS>,
     /// How many watch it.
     observers: u64,
     /// Whether its lines changed since the marks were taken off.
@@ -28,6 +33,8 @@ pub(crate) struct Watch {
 impl Model for Watch {
     ghost use Rattle.std.specs.Prelude.{option_map};
     ghost use Rattle.std.specs.Arc.{arc_value};
+    ghost use Rattle.std.specs.Prelude.{◌≡◌};
+    ghost use Rattle.watch_table.specs.Prints.{prints_of};
     ghost use Rattle.watch_table.specs.WatchedQueries.{Watched};
 
     ghost Value = { Watched };
@@ -38,6 +45,8 @@ impl Model for Watch {
       marked = w.marked;
       body = option_map arc_value w.body;
     } };
+
+    ghost invariant = { λ w. w.prints.items ≡ prints_of w.query.criteria };
 }
 
 impl Watch {
@@ -45,8 +54,10 @@ impl Watch {
     pub(crate) fn first(query: Query) -> Watch
         ensures { result ≡ watched_first query }
     {
+        let prints = prints_of(query.criteria.as_slice());
         Watch {
             query,
+            prints,
             observers: 1,
             marked: false,
             body: None,
@@ -65,6 +76,14 @@ impl Watch {
         ensures { result ≡ is_same_query self.now.query query.now }
     {
         is_same_query(&self.query, query)
+    }
+
+    /// Whether what each of its first criteria seeks stands among texts whose prints are noted, as
+    /// far as prints tell.
+    pub(crate) fn may_match(&self, notes: &[bool; PLACES]) -> bool
+        ensures { result ≡ may_match notes.now self.now.query }
+    {
+        are_noted(notes, self.prints.as_slice())
     }
 
     /// Whether one observer is left at most.

@@ -9,6 +9,7 @@ use Rattle.std.proofs.Common.{
   is_some,
   option_map,
   slice_get,
+  length,
   refl,
   sym,
   ap,
@@ -19,9 +20,10 @@ use Rattle.event_model.specs.Flights.{OctetsSent, waiting_notice, flight, notice
 use Rattle.event_model.specs.Events.{Event}
 use Rattle.event_model.specs.Observers.{observers}
 use Rattle.journal_model.specs.declared.rows.Row.{Row}
-use Rattle.journal_model.specs.Journal.{events}
+use Rattle.journal_model.specs.Journal.{events, transitions}
 use Rattle.journal_model.specs.Ticks.{octets_sent}
 use Rattle.observers.specs.Standing as kept
+use Rattle.observers.proofs.StandLaws.{length-StandsFor}
 use Rattle.observation.specs.Watching.{Watching, WatchingStandsFor}
 use Rattle.observation.proofs.TickLaws.{kept-StandsFor}
 use Rattle.rd_desk.specs.declared.watchers.Watcher.{Watcher}
@@ -52,3 +54,11 @@ shown-IsObserverAfter rows w i o x it h at there shown =
       waiting =
           shown.waiting ∙ (ap is_some (sym keeps.waits) ∙ waits (octets_sent rows) (events rows) o);
     }
+
+-- as many are kept as the journal has
+pub shown_count : (rows : List Row) (w : Watching)
+    → WatchingStandsFor rows w
+    → length w.observers ≡ length (observers (events rows))
+shown_count rows w h =
+    sym (length-StandsFor h.queries (octets_sent rows) (events rows) (transitions rows) w.observers
+    h.observers)

@@ -1,5 +1,5 @@
 use Rattle.std.proofs.Common.{◌≡◌, ◌<◌, ◌+◌, ◌*◌, suc, arith, subst}
-use Rattle.attribute_index.specs.Abbreviations.{symbols_of}
+use Rattle.attribute_index.specs.Abbreviations.{symbols_to}
 use Rattle.attribute_index.proofs.AbbreviationLaws.{
   limit,
   limit_room,
@@ -21,15 +21,15 @@ overflow_add-number c = let room = limit_room c.loop-i.i (omega arith) in omega 
 pub loop-i-preserved : goal.loop-i-preserved
 loop-i-preserved c =
     let e : suc c.loop-i.i ≡ c.loop-i.i + 1 = omega arith in
-    let here : c.loop-i.number * 512 + c.digit_at.result < limit (suc c.loop-i.i) = omega arith in
+    let here : c.loop-i.number * 256 + c.digit_to.result < limit (suc c.loop-i.i) = omega arith in
     record {
       spells =
-          spelled_more c.loop-i.i c.args.from c.loop-i.number c.digit_at.result
-          (symbols_of (c.args.name.now, c.args.value.now)) c.loop-i.invariant.spells
-          c.digit_at.ensures.digit;
-      below = subst (λ n. c.loop-i.number * 512 + c.digit_at.result < limit n) e here;
+          spelled_more c.loop-i.i c.args.from c.loop-i.number c.digit_to.result
+          (symbols_to c.args.last (c.args.name.now, c.args.value.now)) c.loop-i.invariant.spells
+          c.digit_to.ensures.digit;
+      below = subst (λ n. c.loop-i.number * 256 + c.digit_to.result < limit n) e here;
     }
 
 pub returns-then-name-value : goal.returns-then-name-value
 returns-then-name-value c =
-    spelled_past 7 c.args.from c.args.name.now c.args.value.now (omega arith)
+    spelled_past 8 c.args.from c.args.last c.args.name.now c.args.value.now (omega arith)

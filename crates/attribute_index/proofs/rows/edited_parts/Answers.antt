@@ -24,7 +24,6 @@ parts-preserved c =
           (ap (λ ps. has_entry (entries_under_name c.args.name.now ps c.args.number) e) split)
           ∙ c.parts.invariant.entries e;
       ascends = c.in_ok-after.ensures.ascends;
-      whole = c.in_ok-after.ensures.whole;
     }
 
 pub returns-clause-entries : goal.returns-clause-entries

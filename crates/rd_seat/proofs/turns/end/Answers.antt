@@ -71,7 +71,8 @@ returns g c =
     (number_of c.args.pass.now) (seen_of c.args.pass.now) c.deref_mut.result.now)
     (λ (r : Row). seen_of c.give_back.new.pass ≡ r ∷ seen_of c.args.pass.now)
     (λ (r : Row). mine_of c.give_back.new.pass ≡ r ∷ mine_of c.args.pass.now)
-    (λ (r : Row). HasEnded r c.args.pass.now c.give_back.new.pass c.args.looker.now c.meet.new.looker)
+    (λ (r : Row). HasEnded r c.args.pass.now c.give_back.new.pass c.args.looker.now
+    c.meet.new.looker)
     stepped c.give_back.ensures.seen c.give_back.ensures.mine
     (λ r h seen mine.
     let told : c.deref_mut-2.result.now.board.told ≡ entries (seen_of c.give_back.new.pass) =

@@ -1,4 +1,4 @@
-use Rattle.std.proofs.Common.{arith, ◌≡◌, ℕ, ◌<◌, nat_eq, is_some, true}
+use Rattle.std.proofs.Common.{arith}
 use Rattle.watch_table.proofs.SlotLaws.{slots_used}
 use Rattle.watch_table.proofs.slots.free_slot.Goals as goal
 

@@ -5,4 +5,4 @@ use Rattle.attribute_index.proofs.abbreviations.Abbreviation.is_whole.Goals as g
 
 pub returns : goal.returns
 returns c value is zero =
-    whole_abbreviation c.args.self.now value is (eqb-true (c.args.self.now.third % 512) 0 zero)
+    whole_abbreviation c.args.self.now value is (eqb-true (c.args.self.now.third % 256) 0 zero)

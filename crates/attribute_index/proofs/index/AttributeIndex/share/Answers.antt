@@ -3,5 +3,4 @@ use Rattle.attribute_index.proofs.index.AttributeIndex.share.Goals as goal
 
 pub returns-clause-ascends : goal.returns-clause-ascends
 returns-clause-ascends c =
-    rw c.in_ok-share.ensures.same
-    (ascends_rows c.self.inside.rows c.self.invariant.0 c.self.invariant.1)
+    rw c.in_ok-share.ensures.same (ascends_rows c.self.inside.rows c.self.invariant)

@@ -3,4 +3,4 @@ use Rattle.attribute_index.proofs.index.AttributeIndex.without.Goals as goal
 
 pub returns-clause-ascends : goal.returns-clause-ascends
 returns-clause-ascends c =
-    ascends_rows c.in_ok-edited.field-0 c.in_ok-edited.ensures.ascends c.in_ok-edited.ensures.whole
+    ascends_rows c.in_ok-edited.field-0 c.in_ok-edited.ensures.ascends

@@ -1,6 +1,5 @@
 use Rattle.std.proofs.Common.{arith, sym, ap, subst, ◌∙◌}
-use Rattle.std.specs.Option.{option_copied}
-use Rattle.watch_table.specs.WatchedQueries.{touched, unmarked, all_touched, all_unmarked}
+use Rattle.watch_table.specs.WatchedQueries.{unmarked, all_unmarked}
 use Rattle.watch_table.specs.ObserverCounts.{WatchesStandFor}
 use Rattle.watch_table.specs.Slots.{changed_at}
 use Rattle.watch_table.proofs.SlotLaws.{changed-more, changed-all}

@@ -1,6 +1,5 @@
-use Rattle.std.proofs.Common.{◌≡◌, ◌≤◌, length}
-use Rattle.std.specs.Option.{option_copied}
-use Rattle.watch_table.specs.WatchedQueries.{touched, unmarked}
+use Rattle.std.proofs.Common.{◌≡◌, length}
+use Rattle.watch_table.specs.WatchedQueries.{unmarked}
 use Rattle.watch_table.proofs.SlotLaws.{changed_before}
 use Rattle.watch_table.proofs.table.WatchTable.clear.Given as goal
 

@@ -1,6 +1,6 @@
 use Rattle.std.proofs.Common.{arith, sym, ap, subst, ◌∙◌}
 use Rattle.std.specs.Option.{option_copied}
-use Rattle.watch_table.specs.WatchedQueries.{touched, unmarked, all_touched, all_unmarked}
+use Rattle.watch_table.specs.WatchedQueries.{touched, all_touched}
 use Rattle.watch_table.specs.ObserverCounts.{WatchesStandFor}
 use Rattle.watch_table.specs.Slots.{changed_at}
 use Rattle.watch_table.proofs.SlotLaws.{changed-more, changed-all}
@@ -10,12 +10,12 @@ use Rattle.watch_table.proofs.table.WatchTable.touched.Goals as goal
 pub watches-preserved : goal.watches-preserved
 watches-preserved c = record {
   changed =
-      c.touch_at.ensures.touched
+      c.touch_noted_at.ensures.touched
       ∙ (ap (changed_at (touched (option_copied c.args.old) (option_copied c.args.new))
       c.watches.index) c.watches.invariant.changed
       ∙ changed-more (touched (option_copied c.args.old) (option_copied c.args.new))
       c.self.inside.watches.entries c.watches.index);
-  len = c.touch_at.ensures.len ∙ c.watches.invariant.len;
+  len = c.touch_noted_at.ensures.len ∙ c.watches.invariant.len;
 }
 
 pub returns-clause-stands : goal.returns-clause-stands

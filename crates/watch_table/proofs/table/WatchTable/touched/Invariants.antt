@@ -1,6 +1,6 @@
-use Rattle.std.proofs.Common.{◌≡◌, ◌≤◌, length}
+use Rattle.std.proofs.Common.{◌≡◌, length}
 use Rattle.std.specs.Option.{option_copied}
-use Rattle.watch_table.specs.WatchedQueries.{touched, unmarked}
+use Rattle.watch_table.specs.WatchedQueries.{touched}
 use Rattle.watch_table.proofs.SlotLaws.{changed_before}
 use Rattle.watch_table.proofs.table.WatchTable.touched.Given as goal
 

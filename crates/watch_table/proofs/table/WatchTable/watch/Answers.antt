@@ -1,4 +1,4 @@
-use Rattle.std.proofs.Common.{sym, subst}
+use Rattle.std.proofs.Common.{subst}
 use Rattle.watch_table.specs.WatchedQueries.{without}
 use Rattle.watch_table.specs.Outcomes.{Watches}
 use Rattle.watch_table.proofs.OutcomeLaws.{watches-StandsFor, refused_among, accepted_among}

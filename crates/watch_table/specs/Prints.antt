@@ -1,0 +1,150 @@
+-- Prints of texts: numbers that tell, mostly, that no text of a registration begins with what a
+-- criterion seeks.
+use Rattle.std.specs.Prelude.{
+  ◌≡◌,
+  ℕ,
+  ◌+◌,
+  ◌*◌,
+  ◌%◌,
+  ◌^◌,
+  Bool,
+  true,
+  false,
+  List,
+  [],
+  ◌∷◌,
+  ◌++◌,
+  map,
+  flat_map,
+  take,
+  Option,
+  Some,
+  None,
+  unwrap_or,
+  slice_index_or,
+  slice_set,
+  if◌then◌else◌,
+}
+use Rattle.std.specs.List.{list_all}
+use Rattle.rd_base.specs.declared.attributes.Pair.{Pair}
+use Rattle.rd_base.specs.declared.queries.Criterion.{Criterion}
+use Rattle.rd_base.specs.declared.queries.Query.{Query}
+use Rattle.rd_base.specs.declared.records.Item.{Item}
+use Rattle.rd_base.specs.declared.records.Record.{Record}
+use Rattle.record_model.specs.Matching.{
+  before_wildcard,
+  endpoint_pairs,
+  list_names,
+  location,
+  parts_of,
+}
+use Rattle.record_model.specs.Options.{is_among}
+use Rattle.history_model.specs.ChangedParts.{is_other_part}
+use Rattle.watch_table.specs.WatchedQueries.{Watched}
+
+-- ---- prints
+
+-- the print of a text with one octet more
+unfoldable pub print_after : ℕ → ℕ → ℕ
+print_after print octet = (print * 37 % 2 ^ 32 + octet) % 2 ^ 32
+
+-- the print of a text that goes on so, after this one
+abbrev pub print_from : ℕ → List ℕ → ℕ
+print_from print [] = print
+print_from print (c ∷ cs) = print_from (print_after print c) cs
+
+abbrev pub print_of : List ℕ → ℕ
+print_of text = print_from 0 text
+
+-- what each value begins with that a pattern matches
+abbrev pub front_of : List ℕ → List ℕ
+front_of pattern = unwrap_or (before_wildcard pattern) pattern
+
+abbrev pub front_print : Criterion → ℕ
+front_print criterion = print_of (front_of criterion.pattern)
+
+-- of how many criteria prints are kept
+abbrev pub most_prints : ℕ
+most_prints = 4
+
+-- the prints of the first criteria
+abbrev pub prints_of : List Criterion → List ℕ
+prints_of criteria = map front_print (take most_prints criteria)
+
+-- ---- notes of prints
+
+-- the place of a print among 4,096
+unfoldable pub place_of : ℕ → ℕ
+place_of print = print % 4096
+
+-- a print is noted, as far as its place tells
+abbrev pub is_noted : List Bool → ℕ → Bool
+is_noted notes print = slice_index_or notes (place_of print) false
+
+abbrev pub noted : List Bool → ℕ → List Bool
+noted notes print = slice_set notes (place_of print) true
+
+-- the prints of what a text begins with, where this stands before it
+abbrev pub fronts_noted : List Bool → ℕ → List ℕ → List Bool
+fronts_noted notes print [] = notes
+fronts_noted notes print (c ∷ cs) =
+    fronts_noted (noted notes (print_after print c)) (print_after print c) cs
+
+-- those of a text, from the empty one on
+abbrev pub text_noted : List Bool → List ℕ → List Bool
+text_noted notes text = fronts_noted (noted notes 0) 0 text
+
+abbrev pub texts_noted : List Bool → List (List ℕ) → List Bool
+texts_noted notes [] = notes
+texts_noted notes (text ∷ texts) = texts_noted (text_noted notes text) texts
+
+-- ---- the texts of a registration
+
+-- what a pattern is matched against of a value of a name (RFC 6690 section 2)
+unfoldable pub value_texts : List ℕ → List ℕ → List (List ℕ)
+value_texts name value = if is_among list_names name then parts_of value else value ∷ []
+
+abbrev pub pair_texts : Pair → List (List ℕ)
+pair_texts pair = value_texts pair.name pair.value
+
+abbrev pub pairs_texts : List Pair → List (List ℕ)
+pairs_texts pairs = flat_map pair_texts pairs
+
+abbrev pub text_if_any : Option (List ℕ) → List (List ℕ)
+text_if_any None = []
+text_if_any (Some text) = text ∷ []
+
+-- of a link: its target, its anchor where it has one, and its attributes
+abbrev pub link_texts : Item → List (List ℕ)
+link_texts item = item.target ∷ (text_if_any item.anchor ++ pairs_texts item.pairs)
+
+-- of an endpoint: its location, and its attributes
+abbrev pub endpoint_texts : Record → List (List ℕ)
+endpoint_texts r = location r.number ∷ pairs_texts (endpoint_pairs r)
+
+abbrev pub record_texts : Record → List (List ℕ)
+record_texts r = endpoint_texts r ++ flat_map link_texts r.items
+
+abbrev pub texts_if_any : Option Record → List (List ℕ)
+texts_if_any None = []
+texts_if_any (Some r) = record_texts r
+
+-- ---- queries by their prints
+
+-- the prints are all noted
+abbrev pub all_noted : List Bool → List ℕ → Bool
+all_noted notes prints = list_all (is_noted notes) prints
+
+-- what each first criterion seeks stands among the texts, as far as prints tell
+abbrev pub may_match : List Bool → Query → Bool
+may_match notes query = all_noted notes (prints_of query.criteria)
+
+-- the notes tell of queries that a change of a registration leaves their lines
+abbrev pub TellOf : List Bool → Option Record → Option Record → Type 0
+TellOf notes old new =
+    (query : Query) → may_match notes query ≡ false → is_other_part query old new ≡ false
+
+-- the same of what an entry watches, where there is one
+abbrev pub may_match_in : List Bool → Option (ℕ × Watched) → Bool
+may_match_in notes None = false
+may_match_in notes (Some e) = may_match notes e.1.query
