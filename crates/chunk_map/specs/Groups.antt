@@ -6,38 +6,38 @@ use Rattle.std.specs.declared.alloc.Global.{Global}
 use Rattle.std.specs.declared.sync.Arc.{Arc}
 use Rattle.std.specs.Arc.{arc_value}
 
--- the pairs of a shared list of parts, one part after another
+-- Returns the pairs of a shared list of parts, one part after another.
 abbrev pub list_pairs : {P E : Type 0} → (P → List E) → Arc (Vec P) Global → List E
 list_pairs pairs list = flat_map pairs (arc_value list).items
 
--- the list has a part, and each of its parts is whole
+-- States that the list has a part, and each of its parts is whole.
 abbrev pub IsWholeList : {P : Type 0} → (P → Type 0) → Arc (Vec P) Global → Type 0
 IsWholeList is_whole list =
     (0 < length (arc_value list).items) × All is_whole (arc_value list).items
 
--- the pairs of a chunk, one after another
+-- Returns the pairs of a chunk, one after another.
 abbrev pub chunk_pairs : {K V : Type 0} → Arc (Vec (K × V)) Global → List (K × V)
 chunk_pairs chunk = list_pairs (λ p. p ∷ []) chunk
 
--- the pairs of a group, one chunk after another
+-- Returns the pairs of a group, one chunk after another.
 abbrev pub group_pairs : {K V : Type 0} → Arc (Vec (Arc (Vec (K × V)) Global)) Global → List (K × V)
 group_pairs group = list_pairs chunk_pairs group
 
--- the pairs of a section, one group after another
+-- Returns the pairs of a section, one group after another.
 abbrev pub section_pairs : {K V : Type 0}
     → Arc (Vec (Arc (Vec (Arc (Vec (K × V)) Global)) Global)) Global
     → List (K × V)
 section_pairs section = list_pairs group_pairs section
 
--- the chunk has a pair
+-- States that the chunk has a pair.
 abbrev pub IsWholeChunk : {K V : Type 0} → Arc (Vec (K × V)) Global → Type 0
 IsWholeChunk {K} {V} chunk = IsWholeList (λ (_ : K × V). Unit {0}) chunk
 
--- the group has a chunk, and each of its chunks has a pair
+-- States that the group has a chunk, and each of its chunks has a pair.
 abbrev pub IsWholeGroup : {K V : Type 0} → Arc (Vec (Arc (Vec (K × V)) Global)) Global → Type 0
 IsWholeGroup group = IsWholeList IsWholeChunk group
 
--- the section has a group, and each of its groups is whole
+-- States that the section has a group, and each of its groups is whole.
 abbrev pub IsWholeSection : {K V : Type 0}
     → Arc (Vec (Arc (Vec (Arc (Vec (K × V)) Global)) Global)) Global
     → Type 0

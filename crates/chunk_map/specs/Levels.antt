@@ -12,13 +12,13 @@ use Rattle.chunk_map.specs.Groups.{
   IsWholeSection,
 }
 
--- the pairs, one part after another
+-- Returns the pairs, one part after another.
 abbrev pub pairs_in : {K V : Type 0} → Levels K V → List (K × V)
 pairs_in (Chunks chunks) = flat_map chunk_pairs chunks.items
 pairs_in (Groups groups) = flat_map group_pairs groups.items
 pairs_in (Sections sections) = flat_map section_pairs sections.items
 
--- no part is empty
+-- States that no part is empty.
 abbrev pub AreWhole : {K V : Type 0} → Levels K V → Type 0
 AreWhole (Chunks chunks) = All IsWholeChunk chunks.items
 AreWhole (Groups groups) = All IsWholeGroup groups.items

@@ -9,7 +9,7 @@ as_many : (again : List Noted) → length (map (λ (e : Noted). e.moment) again)
 as_many [] = refl
 as_many (e ∷ again) = ap suc (as_many again)
 
--- of a request that one event sent first, and others sent again, the newest first
+-- of a request that one event sent first, and others retransmitted, the newest first
 pub wait_end-deadline : (a : Asked) (first : Noted) (again : List Noted)
     → first.moment ≡ a.at
     → first.word ≡ a.word

@@ -1,9 +1,9 @@
--- what an outbox shows, what a part of a step sends
+-- What an outbox shows, and what a part of a step sends.
 pub mod Outboxes
 pub mod Sendings
--- what a reply says, a message while it is written (RFC 7252 sections 3.1 and 5.2, RFC 7641 section
--- 4.2)
+-- What a reply says, and a message while it is written (RFC 7252 sections 3.1 and 5.2, RFC 7641
+-- section 4.2).
 pub mod Replies
 pub mod Writing
--- the requested block (RFC 7959 section 2.2)
+-- The requested block (RFC 7959 section 2.2).
 pub mod AskedBlocks

@@ -7,24 +7,24 @@ use Rattle.coap_message.specs.PartialMessages.{longest_datagram}
 use Rattle.coap_answers.specs.declared.outbox.Span.{Span}
 use Rattle.coap_answers.specs.declared.outbox.Outbox.TheInside.{Inside}
 
--- the most datagrams that one step sends
+-- The most datagrams that one step sends.
 abbrev pub most_datagrams : ℕ
 most_datagrams = 1_152
 
--- the datagram at a position
+-- Returns the datagram at a position.
 abbrev pub datagram_at : List ℕ → Span → Peer × List ℕ
 datagram_at octets s = (s.peer, take (s.end - s.start) (drop s.start octets))
 
--- all of them, in order
+-- Returns all datagrams of an outbox, in order.
 abbrev pub datagrams_shown : Inside → List (Peer × List ℕ)
 datagrams_shown o = map (datagram_at o.octets.items) o.spans.items
 
--- a datagram lies within the first `size` octets
+-- States that a datagram lies within the first `size` octets.
 abbrev pub LiesWithin : ℕ → Span → Type 0
 LiesWithin size s = (s.start ≤ s.end) × (s.end ≤ size)
 
--- each datagram lies within the octets, there are no more than one step sends, and there is room
--- for all of these
+-- An outbox: each datagram lies within the octets, and there are no more than one step sends. The
+-- room for all of these is reserved.
 pub record IsOutbox (o : Inside) : Type 0 where
   pub room : 1_474_560 ≤ vec_capacity o.octets
   pub spans : most_datagrams ≤ vec_capacity o.spans

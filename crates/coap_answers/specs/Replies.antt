@@ -32,38 +32,38 @@ use Rattle.journal_model.specs.Changes.{location_options}
 use Rattle.journal_model.specs.Registrations.{block1_option}
 use Rattle.coap_answers.specs.declared.replies.Reply.{Reply}
 
--- the octets of an entity tag, if there is one
+-- Returns the octets of an entity tag, if there is one.
 abbrev pub tag_octets : Option Tag → Option (List ℕ)
 tag_octets None = None
 tag_octets (Some tag) = Some tag.0
 
--- the location of a registration, if there is one
+-- Returns the options with the location of a registration, if there is one.
 abbrev pub location_option : Option ℕ → List Opt
 location_option None = []
 location_option (Some number) = location_options number
 
--- the format of link documents, if it is named
+-- Returns the option that names the format of link documents, if the reply names it.
 abbrev pub format_option : Bool → List Opt
 format_option true = (table.content_format, uint_bytes link_format) ∷ []
 format_option false = []
 
--- the block of the answered request, if there is one
+-- Returns the option with the block of the answered request, if there is one.
 abbrev pub block1_options : Option Block → List Opt
 block1_options None = []
 block1_options (Some b) = block1_option b
 
--- the options, in ascending order of their numbers
+-- Returns the options of a reply, in ascending order of their numbers.
 abbrev pub options_of : Reply → List Opt
 options_of r =
     tag_option (tag_octets r.tag) ++ (observe_option r.observe ++ (location_option r.location
     ++ (format_option r.format ++ (block2_option r.block2 ++ block1_options r.block1))))
 
--- what the reply says
+-- Returns what the reply says.
 abbrev pub reply_said : Reply → effects.Reply
 reply_said r = record { code = r.code; options = options_of r; payload = r.payload.now }
 
--- a reply of a directory: its Observe value and its blocks have encodings, and its payload is at
--- most one block (RFC 7641 section 3.4, RFC 7959 section 2.2)
+-- A reply of a directory. Its Observe value and its blocks have encodings, and its payload is at
+-- most one block (RFC 7641 section 3.4, RFC 7959 section 2.2).
 pub record IsReply (r : Reply) : Type 0 where
   pub class : is_reserved r.code ≡ false
   pub filled : empty < r.code

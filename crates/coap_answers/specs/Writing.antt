@@ -5,18 +5,18 @@ use Rattle.message_model.specs.Codes.{empty}
 use Rattle.message_model.specs.Message.{Message, Opt, end_number}
 use Rattle.journal_model.specs.Effects.{Reply}
 
--- a message with these options after its own
+-- Returns a message with these options after its own.
 abbrev pub with_options : Message → List Opt → Message
 with_options m more = record m { options = m.options ++ more }
 
--- an option with this number may follow: the message is not empty, it has no payload yet, and it
--- has no later option (RFC 7252 section 3.1)
+-- A message that an option with this number may follow. The message is not empty, has no payload
+-- yet, and has no option with a greater number (RFC 7252 section 3.1).
 pub record IsReadyFor (number : ℕ) (m : Message) : Type 0 where
   pub filled : empty < m.code
   pub open_end : m.payload ≡ []
   pub ascends : end_number 0 m.options ≤ number
 
--- a confirmable message that says a reply, with a token (RFC 7641 section 4.2)
+-- Returns a confirmable message that says a reply, with a token (RFC 7641 section 4.2).
 abbrev pub notice_saying : ℕ → List ℕ → Reply → Message
 notice_saying mid token reply = record {
   kind = Con;

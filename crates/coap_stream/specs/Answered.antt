@@ -8,7 +8,8 @@ use Rattle.rd_seat.specs.Callers.{CallerSeen}
 use Rattle.coap_stream.specs.Made.{VoiceSeen, CallsMade, Speaks}
 use Rattle.coap_stream.specs.Talks.{Exchange, AnswersRequest, Answers}
 
--- Its calls were made, its octets were written, and the datagrams that its ticks sent are counted.
+-- What was done for a message: its calls were made, its octets were written, and the datagrams that
+-- its ticks sent are counted.
 pub record IsDone (e : Exchange) (before after : CallerSeen) (voice spoken : VoiceSeen)
     (dropped dropped_then : ℕ) : Type 0 where
   pub made : CallsMade e.calls before after
@@ -16,8 +17,8 @@ pub record IsDone (e : Exchange) (before after : CallerSeen) (voice spoken : Voi
   pub drops : dropped_then ≡ dropped + e.dropped
   pub few : e.dropped ≤ most_datagrams
 
--- A request was answered, given the reason for which it is answered without a seat, if there is
--- one, and the number of requests handed to the seat before.
+-- A request that was answered. It has the reason why it is answered without a seat, if there is
+-- one, and the number of requests passed to the seat before.
 pub record RequestDone (peer : Peer) (asked : ℕ) (message : Shown) (why : Option Unasked)
     (before after : CallerSeen) (voice spoken : VoiceSeen) (dropped dropped_then : ℕ)
     : Type 0 where
@@ -26,7 +27,7 @@ pub record RequestDone (peer : Peer) (asked : ℕ) (message : Shown) (why : Opti
   pub answers : AnswersRequest peer asked why exchange
   pub done : IsDone exchange before after voice spoken dropped dropped_then
 
--- The same of a message.
+-- The same of any message.
 pub record MessageDone (peer : Peer) (asked : ℕ) (message : Shown) (before after : CallerSeen)
     (voice spoken : VoiceSeen) (dropped dropped_then : ℕ) : Type 0 where
   pub exchange : Exchange

@@ -1,4 +1,4 @@
--- How many requests a stream hands to the seat, computed from its octets alone.
+-- How many requests a stream passes to the seat, computed from its octets alone.
 use Rattle.std.specs.Prelude.{ℕ, ◌+◌, ◌==◌, List, [], ◌∷◌, Option, Some, None}
 use Rattle.udp_link.specs.Links.{Datagram}
 use Rattle.stream_model.specs.Streams.{stream_of}
@@ -7,25 +7,25 @@ use Rattle.coap_stream.specs.declared.talked.TalkEnd.{TalkEnd}
 use Rattle.coap_stream.specs.Requests.{meant_by}
 use Rattle.coap_stream.specs.Talks.{asked_by, ends_by, end_by, most_asked}
 
--- How many requests were handed to the seat after a message.
+-- Returns how many requests were passed to the seat after a message.
 abbrev pub asked_after : ℕ → Option Shown → ℕ
 asked_after asked None = asked
 asked_after asked (Some message) = asked + asked_by asked message
 
--- How the message ends the conversation, if it does, given how many requests were handed to the
--- seat.
+-- Returns how the message ends the conversation, if it does, given how many requests were passed to
+-- the seat.
 abbrev pub end_with : Option Shown → ℕ → Option TalkEnd
 end_with None asked = None
 end_with (Some message) asked =
     end_by (ends_by (meant_by message.code)) (asked == most_asked)
 
--- The count, or that of further messages if the conversation continues.
+-- Returns the count, or that of further messages if the conversation continues.
 abbrev pub unless_ended : Option TalkEnd → ℕ → ℕ → ℕ
 unless_ended None asked further = further
 unless_ended (Some end) asked further = asked
 
--- How many requests are handed to the seat after these messages, up to the one that ends the
--- conversation.
+-- Returns how many requests are passed to the seat after these messages, up to the one that ends
+-- the conversation.
 abbrev pub asked_over : ℕ → List (List ℕ) → ℕ
 asked_over asked [] = asked
 asked_over asked (octets ∷ messages) =
@@ -33,11 +33,11 @@ asked_over asked (octets ∷ messages) =
     (asked_after asked (shown_in octets))
     (asked_over (asked_after asked (shown_in octets)) messages)
 
--- How many requests the octets of a connection hand to the seat.
+-- Returns how many requests the octets of a connection pass to the seat.
 abbrev pub asked_in : List ℕ → ℕ
 asked_in octets = asked_over 0 (stream_of octets).messages
 
--- The same of several connections.
+-- Returns the same for several connections.
 abbrev pub asked_in_all : List Datagram → ℕ
 asked_in_all [] = 0
 asked_in_all (stream ∷ streams) = asked_in stream.1 + asked_in_all streams

@@ -70,7 +70,7 @@ talk_seen k c source seat out clock = record {
 
 -- ---- how it ends
 
--- These octets, the last first, are those of the messages.
+-- States that these octets, the last first, are those of the messages.
 abbrev pub AreShown : List (List ℕ) → List Exchange → Type 0
 AreShown [] [] = ⊤
 AreShown (octets ∷ earlier) (e ∷ es) = (shown_in octets ≡ Some e.message)
@@ -78,17 +78,17 @@ AreShown (octets ∷ earlier) (e ∷ es) = (shown_in octets ≡ Some e.message)
 AreShown [] (e ∷ es) = ⊥
 AreShown (octets ∷ earlier) [] = ⊥
 
--- These messages, the last first, are the first ones of the stream.
+-- Messages, the last first, that are the first ones of the stream.
 pub record AreFirst (messages : List (List ℕ)) (s : Stream) : Type 0 where
   pub more : List (List ℕ)
   pub all : s.messages ≡ reverse messages ++ more
 
--- These messages are all of the stream, and this follows them.
+-- Messages that are all of the stream, and what follows them.
 pub record AreAll (messages : List (List ℕ)) (why : Option StreamBad) (s : Stream) : Type 0 where
   pub all : s.messages ≡ reverse messages
   pub follows : s.fault ≡ why
 
--- How the conversation ended, by the octets that were read, the messages in them that were
+-- States how the conversation ended, by the octets that were read, the messages in them that were
 -- answered, and what is left to be read. It ended between two messages or within one, at the end of
 -- the source; at a bad message, whatever follows it; or as its last message says.
 abbrev pub EndsSo : TalkEnd → List ℕ → List (List ℕ) → List Exchange → Option (List ℕ)
@@ -108,13 +108,13 @@ EndsSo (end_as.Refused why) taken messages es left =
     × (ended_by es ≡ None)
 EndsSo end taken messages es left = ended_by es ≡ Some end
 
--- A prefix of these octets was written.
+-- States that a prefix of these octets was written.
 abbrev pub WritesFront : Option (List ℕ) → List ℕ → Option (List ℕ) → Type 0
 WritesFront before octets now =
     (n : ℕ) × (n ≤ length octets) × Appends before now (take n octets)
 
--- What was to be written when a write failed: the responses to the messages, followed, if the
--- conversation had ended, by its last message.
+-- States what was to be written when a write failed: the responses to the messages, followed, if
+-- the conversation had ended, by its last message.
 abbrev pub WasSaying : Option TalkEnd → List ℕ → List (List ℕ) → List Exchange
     → Option (List ℕ) → List ℕ → Type 0
 WasSaying None taken messages es left octets = octets ≡ opening ++ written_of es
@@ -122,8 +122,8 @@ WasSaying (Some end) taken messages es left octets =
     EndsSo end taken messages es left
     × (octets ≡ opening ++ (written_of es ++ farewell end))
 
--- The result of a conversation, by the octets that were read and the messages in them that were
--- answered.
+-- States the result of a conversation, by the octets that were read and the messages in them that
+-- were answered.
 abbrev pub Concludes : List ℕ → List (List ℕ) → List Exchange → TalkSeen → TalkSeen
     → Result Talked TalkFault → Type 0
 Concludes taken messages es before after (Ok talked) =
@@ -166,7 +166,7 @@ pub record Talks (peer : Peer) (before after : TalkSeen) (result : Result Talked
   pub first : (further : List ℕ) → AreFirst messages (stream_of (taken ++ further))
   pub answered : AreAnswered peer exchanges
   -- Each call changed the seat from the state in which the one before it left it, with the moments
-  -- and words that the clock gave, in order.
+  -- and words that the clock returned, in order.
   pub made : CallsMade (calls_of exchanges) before.caller after.caller
-  -- The conversation ended so.
+  -- The conversation ended as its result says.
   pub concludes : Concludes taken messages exchanges before after result

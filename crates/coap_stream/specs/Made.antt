@@ -1,4 +1,5 @@
--- The effects of a conversation's calls: on its seat, with what its clock gives, and on its output.
+-- The effects of a conversation's calls: on its seat, with what its clock returns, and on its
+-- output.
 use Rattle.std.specs.Prelude.{
   ◌≡◌,
   ◌%◌,
@@ -24,7 +25,7 @@ use Rattle.coap_stream.specs.Talks.{replies_to}
 
 -- ---- the seat and the clock
 
--- What calls did to the seat, with what the clock gave.
+-- States what calls did to the seat, with what the clock returned.
 abbrev pub CallsMade : List Call → CallerSeen → CallerSeen → Type 0
 CallsMade calls before after = callers.CallsMade as_they_came calls before after
 
@@ -40,8 +41,8 @@ abbrev pub voice_seen : {K : Type 0} → sinks.Ghosts K → K → Bool → Voice
 voice_seen g out still =
     record { holds = g.holds out; faults = g.faults out; open_still = still }
 
--- All octets were written; or a prefix of them, if the count of the output's faults rose; or
--- nothing, if a write failed before.
+-- States that all octets were written. Otherwise a prefix of them was written and the count of the
+-- output's faults rose, or nothing was written because a write failed before.
 abbrev pub SpeaksBy : Bool → Bool → List ℕ → VoiceSeen → VoiceSeen → Type 0
 SpeaksBy true true octets before after =
     Appends before.holds after.holds octets × (after.faults ≡ before.faults)
@@ -55,10 +56,10 @@ SpeaksBy false false octets before after =
 abbrev pub Speaks : VoiceSeen → List ℕ → VoiceSeen → Type 0
 Speaks before octets after = SpeaksBy before.open_still after.open_still octets before after
 
--- ---- a request that is handed to the seat
+-- ---- a request that is passed to the seat
 
--- The seat handled the request and did its job, the replies were written, and time passed after
--- each 64th request.
+-- A request that was passed to the seat. The seat handled it and did its job, the replies were
+-- written, and time passed after each 64th request.
 pub record IsAsked (peer : Peer) (number : ℕ) (datagram : List ℕ) (dropped : ℕ)
     (before after : CallerSeen) (voice spoken : VoiceSeen) : Type 0 where
   pub heard : List Call

@@ -42,8 +42,8 @@ use Rattle.coap_stream.specs.declared.purposes.Meant.TheVariants as meant
 use Rattle.coap_stream.specs.declared.refusing.Unasked.{Unasked}
 use Rattle.coap_stream.specs.declared.refusing.Unasked.TheVariants as unasked_for
 
--- The purpose of a message with this code. A CSM, a Pong, an empty message and a response need no
--- response (RFC 8323 sections 3.4 and 5).
+-- Returns the purpose of a message with this code. A CSM, a Pong, an empty message and a response
+-- need no response (RFC 8323 sections 3.4 and 5).
 abbrev pub meant_by : ℕ → Meant
 meant_by c =
     if c == signals.PING then meant.Ping
@@ -52,14 +52,14 @@ meant_by c =
     else if code_named.is_request_code c then meant.Request
     else meant.Passed
 
--- ---- how a seat handles it
+-- ---- how a seat handles a message
 
--- The option is not Observe (RFC 7641 section 2).
+-- Returns whether the option is not Observe (RFC 7641 section 2).
 abbrev pub is_not_observe : Opt → Bool
 is_not_observe option = not (option.0 == observe)
 
--- A request of a connection in the form in which a seat handles it: confirmable, with this Message
--- ID and without Observe, so that it gets a plain response.
+-- Returns a request of a connection in the form in which a seat handles it. It is confirmable, with
+-- this Message ID and without Observe, so that it gets a plain response.
 abbrev pub heard_as : ℕ → Shown → Message
 heard_as mid s = record {
   kind = Con;
@@ -70,11 +70,11 @@ heard_as mid s = record {
   payload = s.payload;
 }
 
--- A message with further options.
+-- Returns a message with further options.
 abbrev pub with_options : Message → List Opt → Message
 with_options m options = record m { options = m.options ++ options }
 
--- The parts of a request that fits a message of a stream (RFC 8323 section 5.3.1).
+-- A request that fits a message of a stream, by its parts (RFC 8323 section 5.3.1).
 pub record IsRequest (s : Shown) : Type 0 where
   pub code : code_named.is_request_code s.code ≡ true
   pub token : length s.token ≤ longest_token
@@ -84,7 +84,7 @@ pub record IsRequest (s : Shown) : Type 0 where
 
 -- ---- which are answered without a seat
 
--- A refusal that is tested before the method.
+-- Returns whether the refusal is tested before the method.
 abbrev pub is_before_method : Refusal → Bool
 is_before_method (refusal.BadOption number) = true
 is_before_method refusal.Proxy = true
@@ -94,7 +94,7 @@ is_before_method refusal.Block = false
 is_before_method refusal.Accept = false
 is_before_method refusal.Format = false
 
--- The path of simple registrations.
+-- Returns whether the path is that of simple registrations.
 abbrev pub is_simple_rd : Path → Bool
 is_simple_rd path.Core = false
 is_simple_rd path.SimpleRd = true
@@ -104,15 +104,15 @@ is_simple_rd path.Res = false
 is_simple_rd path.Ep = false
 is_simple_rd path.Other = false
 
--- A simple registration (RFC 9176 section 5.1).
+-- Returns whether the message is a simple registration (RFC 9176 section 5.1).
 abbrev pub is_simple : Message → Bool
 is_simple m = m.code == code_named.post && is_simple_rd (path_in m)
 
--- A registration that gives no base (RFC 9176 section 5).
+-- Returns whether the message is a registration that gives no base (RFC 9176 section 5).
 abbrev pub is_baseless : Message → Bool
 is_baseless m = is_registration m && not (has_named base (queries_in m))
 
--- The reason for which a request is answered without a seat. It depends on the first refusal that
+-- Returns the reason why a request is answered without a seat. It depends on the first refusal that
 -- the request alone decides before its query, if there is one. It also depends on whether the
 -- request is a simple registration or one without a base.
 abbrev pub unasked_by : Option Refusal → Bool → Bool → Option Unasked
@@ -125,22 +125,22 @@ unasked_by (Some why) simple baseless =
     else if simple then Some unasked_for.Simple
     else None
 
--- The reason for which a request is answered without a seat; none if it is for a seat.
+-- Returns the reason why a request is answered without a seat, or none if it is for a seat.
 abbrev pub unasked_of : Message → Option Unasked
 unasked_of m = unasked_by (refusal_of m) (is_simple m) (is_baseless m)
 
--- How many requests it hands to the seat.
+-- Returns how many requests are passed to the seat: one, unless it is answered without a seat.
 abbrev pub number_asked : Option Unasked → ℕ
 number_asked None = 1
 number_asked (Some why) = 0
 
--- The code of the response without a seat (RFC 7252 section 5.9).
+-- Returns the code of the response without a seat (RFC 7252 section 5.9).
 abbrev pub unasked_code : Unasked → ℕ
 unasked_code (unasked_for.Refused why) = refusal_code why
 unasked_code unasked_for.Simple = code_named.not_found
 unasked_code unasked_for.Baseless = code_named.bad_request
 
--- Its diagnostic payload (RFC 7252 section 5.5.2).
+-- Returns the diagnostic payload of that response (RFC 7252 section 5.5.2).
 abbrev pub unasked_diagnostic : Unasked → List ℕ
 unasked_diagnostic (unasked_for.Refused why) = diagnostic_of why
 unasked_diagnostic unasked_for.Simple = codes "path"

@@ -26,10 +26,10 @@ use Rattle.coap_stream.specs.Asked.{asked_in_all}
 use Rattle.coap_stream.specs.Spoken.{IsPut}
 use Rattle.coap_stream.specs.Endings.{TalkSeen, Talks}
 
--- ---- what a door opens
+-- ---- what a listener opens
 
--- A connection is the first of those that were to come, and its source has its octets. A failure
--- opens none.
+-- States that a connection is the first of those that were to come, and that its source has its
+-- octets. A failure opens none.
 abbrev pub Opens : {S K : Type 0} → (S → Option (List ℕ)) → Option (List Datagram)
     → Option (List Datagram) → Opened S K → Type 0
 Opens left before now (opened.One peer source sink) = WhereTold
@@ -38,12 +38,12 @@ Opens left before now (opened.One peer source sink) = WhereTold
     before now
 Opens left before now opened.Failed = Stays before now
 
--- A call failed only if the count rose; otherwise the count is the same.
+-- States that the count rose if the call failed, and that it is the same otherwise.
 abbrev pub CountsOpened : {S K : Type 0} → ℕ → ℕ → Opened S K → Type 0
 CountsOpened before now (opened.One peer source sink) = now ≡ before
 CountsOpened before now opened.Failed = (before ≤ now) × Rose before now
 
--- The peer of the connection that was opened.
+-- Returns the peer of the connection that was opened.
 abbrev pub opened_peer : {S K : Type 0} → Opened S K → Option Peer
 opened_peer (opened.One peer source sink) = Some peer
 opened_peer opened.Failed = None
@@ -58,21 +58,21 @@ pub record Connection : Type 0 where
   pub after : TalkSeen
   pub result : Result Talked TalkFault
 
--- The conversation of the connection led the seat and the clock from one state to the other.
+-- A connection whose conversation led the seat and the clock from one state to the other.
 pub record WasServed (before : CallerSeen) (c : Connection) (after : CallerSeen) : Type 0 where
   pub begins : c.before.caller ≡ before
   pub ends : c.after.caller ≡ after
   pub talks : Talks c.peer c.before c.after c.result
 
--- Its peer and its octets were the first of those that were to come.
+-- A connection whose peer and octets were the first of those that were to come.
 pub record WasOpened (before : List Datagram) (c : Connection) (now : List Datagram)
     : Type 0 where
   pub octets : List ℕ
   pub first : before ≡ (c.peer, octets) ∷ now
   pub told : c.before.source.left ≡ Some octets
 
--- How many requests its conversation handed to the seat. A conversation with a failed read or write
--- counts none.
+-- Returns how many requests a conversation passed to the seat. A conversation with a failed read or
+-- write counts none.
 abbrev pub asked_of : Result Talked TalkFault → ℕ
 asked_of (Ok talked) = talked.asked
 asked_of (Err why) = 0
@@ -81,7 +81,7 @@ abbrev pub asked_of_all : List Connection → ℕ
 asked_of_all [] = 0
 asked_of_all (c ∷ earlier) = asked_of_all earlier + asked_of c.result
 
--- Its conversation did not run out of memory.
+-- States that a conversation did not run out of memory.
 abbrev pub IsFed : Result Talked TalkFault → Type 0
 IsFed (Err fault.Starved) = ⊥
 IsFed _ = ⊤
@@ -90,12 +90,12 @@ abbrev pub AreFed : List Connection → Type 0
 AreFed [] = ⊤
 AreFed (c ∷ earlier) = AreFed earlier × IsFed c.result
 
--- The last conversation ran out of memory, and none before it.
+-- States that the last conversation ran out of memory, and none before it.
 abbrev pub IsLastStarved : List Connection → Type 0
 IsLastStarved [] = ⊥
 IsLastStarved (c ∷ earlier) = (c.result ≡ Err fault.Starved) × AreFed earlier
 
--- None of its reads and writes failed.
+-- States that none of the reads and writes of a conversation failed.
 abbrev pub IsUnfailed : Result Talked TalkFault → Type 0
 IsUnfailed (Err fault.Read) = ⊥
 IsUnfailed (Err fault.Write) = ⊥
@@ -105,18 +105,19 @@ abbrev pub AreUnfailed : List Connection → Type 0
 AreUnfailed [] = ⊤
 AreUnfailed (c ∷ earlier) = AreUnfailed earlier × IsUnfailed c.result
 
--- No call of sources and sinks fails.
+-- Sources and sinks of which no call fails.
 pub record NeverFail {S K : Type 0} (s : sources.Ghosts S) (k : sinks.Ghosts K) : Type 0 where
   pub reads : (source : S) → s.faults source ≡ 0
   pub writes : (out : K) → k.faults out ≡ 0
 
--- These connections were opened one after the other, and one seat held their conversations.
+-- Connections that were opened one after the other. One seat held their conversations.
 pub record Serves (connections : List Connection) (before after : CallerSeen)
     (coming now : Option (List Datagram)) : Type 0 where
   pub served : Chain WasServed before connections after
   pub opened : WhereTold (λ old new. Chain WasOpened old connections new) coming now
 
--- The result: this number of connections was served, or opening one failed, or memory ran out.
+-- States the result: this number of connections was served, or opening one failed, or memory ran
+-- out.
 abbrev pub EndsAs : ℕ → List Connection → ℕ → ℕ → Result ℕ StreamsFault → Type 0
 EndsAs count connections faults faults_then (Ok asked) =
     (length connections ≡ count)
@@ -131,14 +132,14 @@ EndsAs count connections faults faults_then (Err streams_fault.Link) =
 EndsAs count connections faults faults_then (Err streams_fault.Memory) =
     (length connections ≤ count) × IsLastStarved connections × (faults_then ≡ faults)
 
--- How many requests a conversation counts, unless it ran out of memory.
+-- Returns how many requests a conversation counts, unless it ran out of memory.
 abbrev pub asked_unless : Result Talked TalkFault → Result ℕ StreamsFault
 asked_unless (Ok talked) = Ok talked.asked
 asked_unless (Err fault.Read) = Ok 0
 asked_unless (Err fault.Write) = Ok 0
 asked_unless (Err fault.Starved) = Err streams_fault.Memory
 
--- One connection was opened and served; `sure` says that no call of its source and sink fails.
+-- One connection that was opened and served; `sure` says that no call of its source and sink fails.
 pub record Served (sure : Type 0) (before after : CallerSeen)
     (coming now : Option (List Datagram)) (faults faults_then : ℕ)
     (result : Result ℕ StreamsFault) : Type 0 where
@@ -148,7 +149,7 @@ pub record Served (sure : Type 0) (before after : CallerSeen)
   pub stands : faults_then ≡ faults
   pub unfailed : sure → IsUnfailed connection.result
 
--- One connection was served so, or it could not be opened.
+-- States that one connection was served so, or that it could not be opened.
 abbrev pub ServesOne : Type 0 → CallerSeen → CallerSeen → Option (List Datagram)
     → Option (List Datagram) → ℕ → ℕ → Result ℕ StreamsFault → Type 0
 ServesOne sure before after coming now faults faults_then (Err streams_fault.Link) =
@@ -158,7 +159,7 @@ ServesOne sure before after coming now faults faults_then (Err streams_fault.Mem
 ServesOne sure before after coming now faults faults_then (Ok asked) =
     Served sure before after coming now faults faults_then (Ok asked)
 
--- `count` connections were served so, one after the other.
+-- The connections that were served so, one after the other, up to `count`.
 pub record ServesAll (sure : Type 0) (count : ℕ) (before after : CallerSeen)
     (coming now : Option (List Datagram)) (faults faults_then : ℕ)
     (result : Result ℕ StreamsFault) : Type 0 where
@@ -180,13 +181,13 @@ pub record ServedSo (sure : Type 0) (done asked : ℕ) (before now : CallerSeen)
 
 -- ---- what is written
 
--- The line with these numbers of connections and requests.
+-- Returns the line with these numbers of connections and requests.
 abbrev pub talked_line : ℕ → ℕ → List ℕ
 talked_line count asked =
     codes "talked " ++ (decimal count ++ (codes " " ++ (decimal asked ++ codes "\n")))
 
--- The final status, by the result: the line is written, or a prefix of it if the count of the
--- output's faults rose.
+-- States the final status, by the result. The line is written, or a prefix of it if the count of
+-- the output's faults rose.
 abbrev pub Concludes : ℕ → Result ℕ StreamsFault → Option (List ℕ) → Option (List ℕ)
     → ℕ → ℕ
     → StreamsStatus → Type 0
@@ -204,15 +205,15 @@ Concludes count _ old new faults faults_then _ = ⊥
 
 -- ---- all of it
 
--- If the door exposes its streams, and no call of their sources and sinks fails, the count is what
--- the first of them hand to the seat.
+-- States that the count is what the first of the streams pass to the seat. This holds if the
+-- listener exposes its streams, and no call of their sources and sinks fails.
 abbrev pub CountsStreams : ℕ → Option (List Datagram) → Result ℕ StreamsFault → Type 0
 CountsStreams count None outcome = ⊤
 CountsStreams count (Some streams) (Err why) = ⊤
 CountsStreams count (Some streams) (Ok asked) =
     (count ≤ length streams) × (asked ≡ asked_in_all (take count streams))
 
--- What a door and an output show.
+-- What a listener and an output show.
 pub record DoorSeen : Type 0 where
   pub coming : Option (List Datagram)
   pub faults : ℕ
@@ -224,8 +225,8 @@ pub record OutSeen : Type 0 where
 abbrev pub out_seen : {K : Type 0} → sinks.Ghosts K → K → OutSeen
 out_seen g out = record { holds = g.holds out; faults = g.faults out }
 
--- The seat of a new hall served all connections, and the status is their result. The seat still
--- belongs to that hall.
+-- The seat of a new hall that served all connections, and the status that is their result. The seat
+-- still belongs to that hall.
 pub record ServesBySeat (sure : Type 0) (count : ℕ) (before after : ClockSeen)
     (door door_then : DoorSeen) (out out_then : OutSeen) (result : StreamsStatus) : Type 0 where
   pub hall : HallSeen
@@ -240,7 +241,7 @@ pub record ServesBySeat (sure : Type 0) (count : ℕ) (before after : ClockSeen)
   pub concludes : Concludes count outcome out.holds out_then.holds out.faults out_then.faults
       result
 
--- The same, or memory ran out before the first connection was opened.
+-- States the same, or that memory ran out before the first connection was opened.
 abbrev pub ServesStreams : Type 0 → ℕ → ClockSeen → ClockSeen → DoorSeen → DoorSeen
     → OutSeen
     → OutSeen → StreamsStatus → Type 0

@@ -19,7 +19,7 @@ use Rattle.stream_model.specs.Messages.{StreamMessage, stream_spelling}
 use Rattle.stream_reader.specs.declared.frames.Frame.{Frame}
 use Rattle.rd_base.specs.Outside.{Rose}
 
--- The octets of a frame.
+-- Returns the message of a frame; `frame_spelling` returns its octets.
 abbrev pub frame_message : Frame → StreamMessage
 frame_message f = record {
   code = f.code;
@@ -30,12 +30,13 @@ frame_message f = record {
 abbrev pub frame_spelling : Frame → List ℕ
 frame_spelling f = stream_spelling (frame_message f)
 
--- Its token is not too long, and it is no longer than what a datagram carries.
+-- A frame whose token is not too long, and that is no longer than what a datagram carries.
 pub record FitsRoom (f : Frame) : Type 0 where
   pub token : length f.token.now ≤ 8
   pub tail : length f.token.now + length f.options.now + length f.payload.now ≤ 1276
 
--- All octets were written, or a prefix of them if the count of the output's faults rose.
+-- States that all octets were written, or a prefix of them if the count of the output's faults
+-- rose.
 abbrev pub IsPut : Option (List ℕ) → Option (List ℕ) → ℕ → ℕ → List ℕ → Bool
     → Type 0
 IsPut before now faults faults_then octets true =

@@ -52,7 +52,7 @@ pub record Counts : Type 0 where
   pub asked : ℕ
   pub dropped : ℕ
 
--- A message that is complete was answered, and the conversation ends with it so, if it does.
+-- A complete message that was answered. It ends the conversation as `end` says, if it does.
 pub record WasHeard (peer : Peer) (message : Option Shown) (end : Option TalkEnd)
     (before after : CallerSeen) (voice spoken : VoiceSeen) (counts counted : Counts)
     : Type 0 where
@@ -65,14 +65,14 @@ pub record WasHeard (peer : Peer) (message : Option Shown) (end : Option TalkEnd
 
 -- ---- all messages so far
 
--- A stream with these messages, the last first, before its own.
+-- Returns a stream with these messages, the last first, before its own.
 abbrev pub with_messages : List (List ℕ) → Stream → Stream
 with_messages messages s = record s { messages = reverse messages ++ s.messages }
 
 abbrev pub voice_of : Bool → TalkSeen → VoiceSeen
 voice_of still t = record { holds = t.holds; faults = t.write_faults; open_still = still }
 
--- Messages of what was read were answered.
+-- A conversation in which messages of what was read were answered.
 pub record Answering (peer : Peer) (before now : TalkSeen) (still : Bool) (counts : Counts)
     (taken : List ℕ) (messages : List (List ℕ)) (exchanges : List Exchange) : Type 0 where
   pub read : Consumes before.source.left now.source.left taken
@@ -85,9 +85,9 @@ pub record Answering (peer : Peer) (before now : TalkSeen) (still : Bool) (count
   pub asked : counts.asked ≡ asked_of exchanges
   pub dropped : counts.dropped ≡ dropped_of exchanges
 
--- What was read so far begins with these messages, all of which are answered. The rest is what the
--- reader finds in the remaining octets of the last piece and in any that follow. The conversation
--- continues.
+-- A conversation that continues. What was read so far begins with these messages, all of which are
+-- answered. The rest is what the reader finds in the remaining octets of the last piece and in any
+-- that follow.
 pub record TalksSo (peer : Peer) (before now : TalkSeen) (counts : Counts) (held : Held)
     (rest : List ℕ) : Type 0 where
   pub taken : List ℕ
@@ -99,7 +99,7 @@ pub record TalksSo (peer : Peer) (before now : TalkSeen) (counts : Counts) (held
       ≡ with_messages messages (stream_after held (rest ++ further))
   pub goes_on : ended_by exchanges ≡ None
 
--- The conversation ends so.
+-- A conversation that ends as `end` says.
 pub record TalksTo (peer : Peer) (before now : TalkSeen) (counts : Counts) (end : TalkEnd)
     : Type 0 where
   pub taken : List ℕ
@@ -109,7 +109,7 @@ pub record TalksTo (peer : Peer) (before now : TalkSeen) (counts : Counts) (end 
   pub first : (further : List ℕ) → AreFirst messages (stream_of (taken ++ further))
   pub ends : EndsSo end taken messages exchanges now.source.left
 
--- A write failed.
+-- A conversation in which a write failed.
 pub record TalksUntil (peer : Peer) (before now : TalkSeen) (counts : Counts) : Type 0 where
   pub taken : List ℕ
   pub messages : List (List ℕ)
@@ -119,30 +119,31 @@ pub record TalksUntil (peer : Peer) (before now : TalkSeen) (counts : Counts) : 
 
 -- ---- after a piece
 
--- How the conversation ends if nothing more comes: the last message is complete, or it is not.
+-- States how the conversation ends if nothing more comes: the last message is complete, or it is
+-- not.
 abbrev pub WouldEnd : TalkEnd → Stream → Type 0
 WouldEnd end_as.Closed s = s ≡ partial []
 WouldEnd end_as.Cut s = (rest : List ℕ) × (0 < length rest) × (s ≡ partial rest)
 WouldEnd _ s = ⊥
 
--- The result of a piece.
+-- States the result of a piece.
 abbrev pub IsHeard : Heard → Peer → TalkSeen → TalkSeen → Counts → Held → Type 0
 IsHeard (heard.Open end) peer before now counts held =
     TalksSo peer before now counts held [] × WouldEnd end (stream_after held [])
 IsHeard (heard.Ended end) peer before now counts held = TalksTo peer before now counts end
 IsHeard heard.Failed peer before now counts held = TalksUntil peer before now counts
 
--- The conversation continues.
+-- Returns whether the conversation continues.
 abbrev pub is_open : Heard → Bool
 is_open (heard.Open end) = true
 is_open _ = false
 
--- No write failed.
+-- Returns whether no write failed.
 abbrev pub is_still : Heard → Bool
 is_still heard.Failed = false
 is_still _ = true
 
--- The result if no write failed, and if one did.
+-- Returns the result: this one if no write failed, and otherwise that a write failed.
 abbrev pub told_if : Bool → Talked → Result Talked TalkFault
 told_if true talked = Ok talked
 told_if false talked = Err fault.Write

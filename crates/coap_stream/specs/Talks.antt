@@ -45,23 +45,25 @@ use Rattle.coap_stream.specs.Calls.{Call, calls_sent}
 
 -- ---- what is written
 
--- The octets of a message with this code, token and payload, and without options.
+-- Returns the octets of a message with this code, token and payload, and without options.
 abbrev pub saying : ℕ → List ℕ → List ℕ → List ℕ
 saying code token payload =
     stream_spelling (record { code = code; token = token; tail = payload_spelling payload })
 
--- A CSM begins each connection (RFC 8323 section 5.3).
+-- The octets of the CSM that begins each connection (RFC 8323 section 5.3).
 abbrev pub opening : List ℕ
 opening = saying signals.CSM [] []
 
--- An Abort follows a bad message (RFC 8323 section 5.6), and a Release follows the last possible
--- request (RFC 8323 section 5.5). Otherwise nothing more is written.
+-- Returns what is written last. An Abort follows a bad message (RFC 8323 section 5.6), and a
+-- Release follows the last possible request (RFC 8323 section 5.5). Otherwise nothing more is
+-- written.
 abbrev pub farewell : TalkEnd → List ℕ
 farewell (end_as.Refused why) = saying signals.ABORT [] []
 farewell end_as.Spent = saying signals.RELEASE [] []
 farewell _ = []
 
--- The message in a datagram without its type and Message ID (RFC 8323 section 3.2).
+-- Returns the octets of the message in a datagram, without its type and Message ID (RFC 8323
+-- section 3.2).
 abbrev pub carried : Message → List ℕ
 carried m = stream_spelling (record {
   code = m.code;
@@ -73,38 +75,38 @@ abbrev pub carried_in : Result Message Unread → List ℕ
 carried_in (Ok m) = carried m
 carried_in (Err why) = []
 
--- The octets of a datagram, if it is no longer than a datagram may be.
+-- Returns these octets of a datagram, or none if it is longer than a datagram may be.
 abbrev pub carried_of : List ℕ → List ℕ
 carried_of datagram =
     if nat_lt longest_datagram (length datagram) then [] else carried_in (reading datagram)
 
--- The octets of a datagram, if it is for this peer.
+-- Returns these octets of a datagram, or none if it is not for this peer.
 abbrev pub reply_of : Peer → Datagram → List ℕ
 reply_of peer d = if is_same_peer d.0 peer then carried_of d.1 else []
 
--- The replies: the datagrams for this peer, in order.
+-- Returns the replies: the octets of the datagrams for this peer, in order.
 abbrev pub replies_to : Peer → List Datagram → List ℕ
 replies_to peer [] = []
 replies_to peer (d ∷ ds) = reply_of peer d ++ replies_to peer ds
 
 -- ---- one message
 
--- A message, the calls of the seat that it led to, the octets that were written for it, and how
--- many datagrams came out of ticks and were dropped.
+-- A message with the calls of the seat that it led to, and the octets that were written for it. It
+-- also counts the datagrams that came out of ticks and were dropped.
 pub record Exchange : Type 0 where
   pub message : Shown
   pub calls : List Call
   pub written : List ℕ
   pub dropped : ℕ
 
--- The message is answered at once with these octets.
+-- A message that is answered at once with these octets.
 pub record Says (octets : List ℕ) (e : Exchange) : Type 0 where
   pub calls : e.calls ≡ []
   pub written : e.written ≡ octets
   pub dropped : e.dropped ≡ 0
 
--- The seat handles this datagram and does its job at once, and the replies are written. After each
--- 64th request, time passes.
+-- A message for which the seat handles this datagram and does its job at once, and the replies are
+-- written. After each 64th request, time passes.
 pub record Asks (peer : Peer) (number : ℕ) (datagram : List ℕ) (e : Exchange) : Type 0 where
   pub heard : List Call
   pub ticks : List Call
@@ -114,15 +116,15 @@ pub record Asks (peer : Peer) (number : ℕ) (datagram : List ℕ) (e : Exchange
   pub written : e.written ≡ replies_to peer (calls_sent heard)
   pub dropped : e.dropped ≡ length (calls_sent ticks)
 
--- A request, given the reason for which it is answered without a seat, if there is one, and how
--- many requests were handed to the seat before.
+-- States how a request is answered, given how many requests were passed to the seat before. If
+-- there is a reason, it is answered without a seat.
 abbrev pub AnswersRequest : Peer → ℕ → Option Unasked → Exchange → Type 0
 AnswersRequest peer before (Some why) e =
     Says (saying (unasked_code why) e.message.token (unasked_diagnostic why)) e
 AnswersRequest peer before None e =
     Asks peer (before + 1) (spelling (heard_as before e.message)) e
 
--- A message, by its purpose.
+-- States how a message is answered, by its purpose.
 abbrev pub AnswersAs : Peer → ℕ → Meant → Exchange → Type 0
 AnswersAs peer before meant.Passed e = Says [] e
 AnswersAs peer before meant.Ping e = Says (saying signals.PONG e.message.token []) e
@@ -136,7 +138,7 @@ Answers peer before e = AnswersAs peer before (meant_by e.message.code) e
 
 -- ---- all of them, the last first
 
--- How many requests a message hands to the seat.
+-- Returns how many requests a message passes to the seat.
 abbrev pub asked_as : Meant → Option Unasked → ℕ
 asked_as meant.Passed why = 0
 asked_as meant.Ping why = 0
@@ -148,7 +150,7 @@ abbrev pub asked_by : ℕ → Shown → ℕ
 asked_by before message =
     asked_as (meant_by message.code) (unasked_of (heard_as before message))
 
--- How many requests all of them hand to the seat.
+-- Returns how many requests all messages pass to the seat.
 abbrev pub asked_of : List Exchange → ℕ
 asked_of [] = 0
 asked_of (e ∷ earlier) = asked_of earlier + asked_by (asked_of earlier) e.message
@@ -169,26 +171,26 @@ written_of (e ∷ earlier) = written_of earlier ++ e.written
 abbrev pub most_asked : ℕ
 most_asked = 65_536
 
--- The message ends the connection (RFC 8323 sections 5.5 and 5.6).
+-- Returns how the message ends the connection, if it does (RFC 8323 sections 5.5 and 5.6).
 abbrev pub ends_by : Meant → Option TalkEnd
 ends_by meant.Release = Some end_as.Released
 ends_by meant.Abort = Some end_as.Aborted
 ends_by _ = None
 
--- How the conversation ends, given what the message says and whether the last possible request was
--- handed to the seat.
+-- Returns how the conversation ends, given what the message says and whether the last possible
+-- request was passed to the seat.
 abbrev pub end_by : Option TalkEnd → Bool → Option TalkEnd
 end_by (Some end) spent = Some end
 end_by None true = Some end_as.Spent
 end_by None false = None
 
--- How the last of these messages ends the conversation, if it does.
+-- Returns how the last of these messages ends the conversation, if it does.
 abbrev pub ended_by : List Exchange → Option TalkEnd
 ended_by [] = None
 ended_by (e ∷ earlier) =
     end_by (ends_by (meant_by e.message.code)) (asked_of (e ∷ earlier) == most_asked)
 
--- Each message is answered, and none before it ended the conversation.
+-- States that each message is answered, and that none before it ended the conversation.
 abbrev pub AreAnswered : Peer → List Exchange → Type 0
 AreAnswered peer [] = ⊤
 AreAnswered peer (e ∷ earlier) =

@@ -21,7 +21,7 @@ impl<R: time::Clock + Copy> Accept for TcpAccept<R> {
     fn next(&mut self) -> Opened<TcpSource<R>, TcpSink>
         ensures opened { Opens (λ _. None) None None result }
         ensures cause { CountsOpened self.old.faults self.new.faults result }
-        // The peer of a connection is that of no other connection of this door, and of no device.
+        // No other connection of this listener has the peer of a connection, and no device has it.
         ensures peer { tcp.Opens self.old self.new (opened_peer result) }
     {
         match self.open() {

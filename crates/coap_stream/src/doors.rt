@@ -10,7 +10,7 @@ use rd_base::{Peer, Sink, Source};
 pub enum Opened<S, K> {
     /// A connection: its peer, the source of its octets, and a sink to it.
     One(Peer, S, K),
-    /// No connection could be opened, and the door counted the fault.
+    /// No connection could be opened, and the listener counted the fault.
     Failed,
 }
 
@@ -22,7 +22,7 @@ pub trait Accept {
     /// The type to which a connection is written.
     type Out: Sink + Drop;
 
-    /// The peers and the octets of the connections that are still to come, if the door exposes
+    /// The peers and the octets of the connections that are still to come, if the listener exposes
     /// them.
     ghost coming: { Self → Option (List Datagram) };
 

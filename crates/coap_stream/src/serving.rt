@@ -36,7 +36,7 @@ pub(crate) enum StreamsFault {
     Memory,
 }
 
-/// Returns how many requests a conversation handed to the seat, or 0 if a read or a write failed.
+/// Returns how many requests a conversation passed to the seat, or 0 if a read or a write failed.
 fn asked_of(talked: Result<Talked, TalkFault>) -> Result<u64, StreamsFault>
     ensures { result ≡ spec.asked_unless talked }
 {
@@ -48,7 +48,7 @@ fn asked_of(talked: Result<Talked, TalkFault>) -> Result<u64, StreamsFault>
     }
 }
 
-/// Opens the next connection and serves it. Returns how many requests its conversation handed to
+/// Opens the next connection and serves it. Returns how many requests its conversation passed to
 /// the seat.
 fn serve_one<R: Wait + AllocGlobal, A: Accept, C: Clock, G: Gate>(
     rt: &R,
@@ -76,7 +76,7 @@ fn serve_one<R: Wait + AllocGlobal, A: Accept, C: Clock, G: Gate>(
     }
 }
 
-/// Serves `count` connections, one after the other. Returns how many requests were handed to the
+/// Serves `count` connections, one after the other. Returns how many requests were passed to the
 /// seat.
 fn serve_all<R: Wait + AllocGlobal, A: Accept, C: Clock, G: Gate>(
     rt: &R,
@@ -160,8 +160,8 @@ pub fn serve_streams<R: Wait + AllocGlobal, A: Accept, C: Clock, G: Gate, K: Sin
 ) -> StreamsStatus
     requires count { count ≤ 1_000_000 }
     // The seat of a new hall served the connections that were opened, and the status is their
-    // result; or memory ran out before. If the door exposes its connections, and no call of their
-    // sources and sinks fails, the count is what their octets hand to the seat.
+    // result; or memory ran out before. If the listener exposes its connections, and no call of
+    // their sources and sinks fails, the count is what their octets pass to the seat.
     ensures serves { ServesStreams (NeverFail A.In.Source.own A.Out.Sink.own) count
         (clock_seen C.Clock.own clock.old) (clock_seen C.Clock.own clock.new)
         (record { coming = A.coming door.old; faults = A.faults door.old })

@@ -15,7 +15,7 @@ pub enum TalkEnd {
     Aborted,
     /// A message was bad, and was answered by an Abort (RFC 8323 section 5.6).
     Refused(StreamBad),
-    /// 65,536 requests were handed to the seat, which uses up their numbers. The peer was sent a
+    /// 65,536 requests were passed to the seat, which uses up their numbers. The peer was sent a
     /// Release (RFC 8323 section 5.5).
     Spent,
 }
@@ -25,7 +25,7 @@ pub enum TalkEnd {
 pub struct Talked {
     /// How it ended.
     pub end: TalkEnd,
-    /// How many requests were handed to the seat.
+    /// How many requests were passed to the seat.
     pub asked: u64,
     /// How many datagrams came out of ticks and were dropped.
     pub dropped: u64,

@@ -25,7 +25,7 @@ use stream_model::signals::{ABORT, CSM, RELEASE};
 use stream_reader::{Fed, StreamReader};
 use udp_link::Clock;
 
-/// The most requests that one conversation hands to its seat: the number of Message IDs.
+/// The most requests that one conversation passes to its seat: the number of Message IDs.
 const MOST_ASKED: u64 = 65_536;
 
 /// Returns `Spent` if there is no number for one more request.
@@ -39,7 +39,7 @@ fn spent_by(asked: u64) -> Option<TalkEnd>
 }
 
 /// Returns how a message with this code ends the conversation, if it does. `asked` requests have
-/// been handed to the seat by then.
+/// been passed to the seat by then.
 fn end_by(code: u8, asked: u64) -> Option<TalkEnd>
     ensures { result
         ≡ spec.end_by (spec.ends_by (requests.meant_by code)) (asked == spec.most_asked) }
@@ -255,7 +255,7 @@ pub fn converse<R: Wait + AllocGlobal, S: Source, K: Sink, C: Clock, G: Gate>(
         seat.old out.old clock.old)
         (talk_seen K.Sink.own C.Clock.own (source_seen S.Source.own source.new)
         seat.new out.new clock.new) result }
-    // If the source exposes its octets, they determine what was handed to the seat.
+    // If the source exposes its octets, they determine what was passed to the seat.
     ensures counts { IfOk result (λ talked. IfSome (S.left source.old)
         (λ octets. talked.asked ≡ asked_in octets)) }
     ensures few { IfOk result (λ talked. talked.asked ≤ spec.most_asked) }

@@ -1,4 +1,4 @@
--- What a list of requests gives.
+-- What a list of requests returns.
 use Rattle.std.specs.Prelude.{◌≡◌, ◌⊎◌, ℕ, ◌≤◌, true, false, List, [], ◌++◌, Option, Some, None}
 use Rattle.rd_base.specs.Outside.{Rose}
 use Rattle.rd_base.specs.declared.moments.Moment.{Moment}
@@ -27,8 +27,8 @@ use Rattle.commissioner.specs.Happening.{
   KeepsDecided,
 }
 
--- how it ended after what happened: each request was decided; or one was not, and a receive failed
--- or memory ran out. A receive is made only if no request is to begin
+-- States how a list ended after what happened. Each request was decided; or one was not, and a
+-- receive failed or memory ran out. A receive is made only if no request is to begin.
 abbrev pub Ends : List Ask → List Step → Option TellFault → Outside → Outside → Type 0
 Ends asks past None before after =
     (is_unsaid (said_all asks 0 past) ≡ false) × (after ≡ before)
@@ -41,8 +41,8 @@ Ends asks past (Some fault.Starved) before after =
     × (((first_due [] asks 0 past ≡ None) × Unheard asks past before after)
     ⊎ IsLost before after)
 
--- what became of a list of requests over a link and a clock: these steps happened, so it ended, and
--- what became of each request is the verdict of its share
+-- What became of a list of requests over a link and a clock. These steps happened, so the list
+-- ended, and what became of each request is the verdict of its share.
 pub record IsMade
     (asks : List Ask)
     (past : List Step)
@@ -56,7 +56,7 @@ pub record IsMade
   pub said : outcomes ≡ said_all asks 0 (more ++ past)
   pub ends : Ends asks (more ++ past) fault last after
 
--- the lines stand for the undecided requests of a list, of which there is at least one
+-- The lines that stand for the undecided requests of a list, of which there is at least one.
 pub record StandsFor
     (asks : List Ask)
     (past : List Step)
@@ -66,7 +66,7 @@ pub record StandsFor
   pub kept : AreOpen past asks 0 lines outcomes
   pub some : is_unsaid outcomes ≡ true
 
--- whatever list and past the lines stand for, this became of it
+-- States that this became of the list, whatever list and past the lines stand for.
 abbrev pub IsGiven : List Line
     → List (Option Outcome)
     → List (Option Outcome)
@@ -79,7 +79,8 @@ IsGiven lines kept outcomes fault before after =
     → StandsFor asks past lines kept
     → IsMade asks past outcomes fault before after
 
--- it ends by the link only if a receive failed and was counted; otherwise that count stays
+-- States that the count of failed receives rises if the list ends by the link, and does not change
+-- otherwise.
 abbrev pub CountsFault : ℕ → ℕ → Option TellFault → Type 0
 CountsFault before now None = now ≡ before
 CountsFault before now (Some fault.Link) = (before ≤ now) × Rose before now
@@ -87,12 +88,12 @@ CountsFault before now (Some fault.Starved) = now ≡ before
 
 -- ---- a poll
 
--- what happened in a poll: one event came, or none if a fault ended it before
+-- States what happened in a poll: one event came, or none if a fault ended it before.
 abbrev pub IsTurnBy : Option TellFault → List Step → Type 0
 IsTurnBy None more = IsOneTurn more
 IsTurnBy (Some f) more = AllBegan more
 
--- a poll: after one event it goes on or is over, or a fault ends it
+-- States the result of a poll. After one event it continues or is over, or a fault ends it.
 abbrev pub IsPolled : List Ask
     → List Step
     → Polled
@@ -109,12 +110,13 @@ IsPolled asks past polled.Going lines outcomes before after =
 IsPolled asks past (polled.Over fault) lines outcomes before after =
     (made : IsMade asks past outcomes fault before after) × IsTurnBy fault made.more
 
--- `CountsFault` of a poll
+-- States `CountsFault` of a poll.
 abbrev pub CountsPoll : ℕ → ℕ → Polled → Type 0
 CountsPoll before now polled.Going = now ≡ before
 CountsPoll before now (polled.Over fault) = CountsFault before now fault
 
--- what was decided before a poll is still decided after it; if it failed, nothing more is
+-- States that what was decided before a poll is still decided after it. If the poll failed, nothing
+-- more is decided.
 abbrev pub KeepsPolled : Polled → List (Option Outcome) → List (Option Outcome) → Type 0
 KeepsPolled polled.Going old new = KeepsDecided old new
 KeepsPolled (polled.Over None) old new = KeepsDecided old new
@@ -122,17 +124,18 @@ KeepsPolled (polled.Over (Some fault)) old new = new ≡ old
 
 -- ---- the future
 
--- there is a list and a past that the lines stand for
+-- States that there is a list and a past that the lines stand for.
 abbrev pub StandForSome : List Line → List (Option Outcome) → Type 0
 StandForSome lines outcomes =
     (asks : List Ask) × (past : List Step) × StandsFor asks past lines outcomes
 
--- there is a list in progress, and what is stored stands for some list
+-- States that there is a list in progress, and that what is stored stands for some list.
 abbrev pub CanPollFrom : {L C : Type 0} → Option (Going L C) → Type 0
 CanPollFrom None = ⊥
 CanPollFrom (Some going) = StandForSome going.lines.items going.outcomes
 
--- the future can be polled: it has its link and its clock, and what is stored stands for a list
+-- States that the future can be polled: it has its link and its clock, and what is stored stands
+-- for a list.
 abbrev pub CanPoll : {L C : Type 0} → Commission L C → Type 0
 CanPoll c = CanPollFrom c.going
 
@@ -145,7 +148,7 @@ module _
     (times : C → Option (List Moment))
     (words : C → Option (List ℕ))
   where
-    -- what a list in progress gives from this state on
+    -- States what a list in progress returns from this state on.
     abbrev pub GivesFrom : Option (Going L C) → Commissioned L C → Type 0
     GivesFrom None told = ⊥
     GivesFrom (Some going) told =
@@ -167,11 +170,12 @@ module _
     (times : C → Option (List Moment))
     (words : C → Option (List ℕ))
   where
-    -- what the future gives, whatever its lines stand for, and what was counted
+    -- States what the future returns, whatever its lines stand for, and what was counted.
     abbrev pub Gives : Commission L C → Commissioned L C → Type 0
     Gives c told = GivesFrom coming gone recv_faults send_faults times words c.going told
 
--- a list to which nothing has happened: it has the link and the clock, and stands for the requests
+-- States that nothing has happened to a list: it has the link and the clock, and stands for the
+-- requests.
 abbrev pub IsStartedFrom : {L C : Type 0} → L → C → List Ask → Option (Going L C) → Type 0
 IsStartedFrom link clock asks None = ⊥
 IsStartedFrom link clock asks (Some going) =
@@ -179,6 +183,6 @@ IsStartedFrom link clock asks (Some going) =
     × (going.clock ≡ clock)
     × StandsFor asks [] going.lines.items going.outcomes
 
--- a future whose list has just started
+-- States that the list of a future has just started.
 abbrev pub IsStarted : {L C : Type 0} → L → C → List Ask → Commission L C → Type 0
 IsStarted link clock asks c = IsStartedFrom link clock asks c.going

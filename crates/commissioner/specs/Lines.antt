@@ -51,13 +51,13 @@ use Rattle.commissioner.specs.Shares.{
   is_heard,
 }
 
--- the event that a receive makes
+-- Returns the event that a receive makes.
 abbrev pub event_of : Taken → Event
 event_of (taken.Came now peer datagram) = event.Came now peer datagram.now
 event_of (taken.Tick now) = event.Tick now
 
--- a pending request stands for the share of a request; before that begins, the request itself is
--- stored
+-- States that a pending request stands for the share of a request. Before that begins, the request
+-- itself is stored.
 abbrev pub IsStage : Ask → ℕ → Option Share → Option Ask → Option Talking → Type 0
 IsStage ask i None (Some kept) None = (kept ≡ ask) × CanBeSent ask
 IsStage ask i None (Some kept) (Some talk) = ⊥
@@ -67,32 +67,33 @@ IsStage ask i (Some s) None (Some talk) =
 IsStage ask i (Some s) None None = ⊥
 IsStage ask i (Some s) (Some kept) talk = ⊥
 
--- a line stands for the undecided request with an index
+-- A line that stands for the undecided request with an index.
 pub record IsOpen (past : List Step) (ask : Ask) (i : ℕ) (line : Line) : Type 0 where
   pub number : line.number ≡ i
   pub to : line.to ≡ ask.to
   pub outcome : line.outcome ≡ None
   pub stage : IsStage ask i (share ask i past) line.ask line.talk
 
--- a line stands for the decided request with an index
+-- A line that stands for the decided request with an index.
 pub record IsOver (past : List Step) (ask : Ask) (i : ℕ) (line : Line) : Type 0 where
   pub number : line.number ≡ i
   pub outcome : Outcome
   pub kept : line.outcome ≡ Some outcome
   pub said : said ask i past ≡ Some outcome
 
--- a line stands for the request with an index, decided or not
+-- States that a line stands for the request with an index, decided or not.
 abbrev pub IsLine : List Step → Ask → ℕ → Line → Type 0
 IsLine past ask i line = IsOpen past ask i line ⊎ IsOver past ask i line
 
--- ---- a talk begins
+-- ---- a request begins
 
--- the request of a line is to begin: it has not begun, and no line before it is to its directory
+-- Returns whether the request of a line is to begin: it has not begun, and no line before it is to
+-- its directory.
 abbrev pub is_to_begin : List Line → Line → Bool
 is_to_begin before line =
     is_some line.ask && not (list_any (λ other. is_same_peer other.to line.to) before)
 
--- it began at the next moment of the clock, with its next word, and its request was sent
+-- A request that began at the next moment of the clock, with its next word, and was sent.
 pub record Begun (ask : Ask) (old new : Line) (before after : Outside) : Type 0 where
   pub now : Moment
   pub word : ℕ
@@ -123,12 +124,13 @@ pub record Begun (ask : Ask) (old new : Line) (before after : Outside) : Type 0 
         outcome = old.outcome;
       }
 
--- whatever request a line has, it began
+-- States that the request of a line began, whatever request it is.
 abbrev pub IsBegun : Line → Line → Outside → Outside → Type 0
 IsBegun old new before after =
     (ask : Ask) → old.ask ≡ Some ask → Begun ask old new before after
 
--- the clock was read for a moment and a word, and memory ran out before anything was sent
+-- A clock that was read for a moment and a word, after which memory ran out before anything was
+-- sent.
 pub record IsLost (before after : Outside) : Type 0 where
   pub now : Moment
   pub word : ℕ
@@ -139,9 +141,10 @@ pub record IsLost (before after : Outside) : Type 0 where
   pub sends : after.send_faults ≡ before.send_faults
   pub receives : after.recv_faults ≡ before.recv_faults
 
--- ---- an event is handed to a line
+-- ---- an event is passed to a line
 
--- what became of a pending request by an event, if the event belongs to it
+-- States what became of a pending request by an event, if the event belongs to it. Otherwise
+-- nothing did.
 abbrev pub IsTurnedIf : Bool
     → Asked
     → List ℕ
@@ -160,13 +163,14 @@ IsTurnedIf false a octets past e turn.Going talk sent faults sent_after faults_a
     StandsFor a octets past talk × Sends [] sent faults sent_after faults_after
 IsTurnedIf false a octets past e (turn.Over r) talk sent faults sent_after faults_after = ⊥
 
--- an event is a datagram
+-- States that an event is a datagram.
 abbrev pub IsDatagram : Event → Type 0
 IsDatagram (event.Came now peer octets) = ⊤
 IsDatagram (event.Tick now) = ⊥
 
--- The line stands for the request after the event, and what the event causes for it was sent. Out
--- of memory, a datagram that belongs to it was not handled, and nothing was sent for it.
+-- States that the line stands for the request after the event, and that what the event causes for
+-- it was sent. If memory ran out, a datagram that belongs to it was not handled, and nothing was
+-- sent for it.
 abbrev pub IsHanded : Ask
     → ℕ
     → List Step
@@ -187,7 +191,7 @@ IsHanded ask i past e (Err fault.Starved) line sent faults sent_after faults_aft
     × Sends [] sent faults sent_after faults_after
 IsHanded ask i past e (Err fault.Link) line sent faults sent_after faults_after = ⊥
 
--- the result of passing an event is not an end by the link
+-- States that the result of passing an event is not an end by the link.
 abbrev pub IsNoLink : Result Unit TellFault → Type 0
 IsNoLink (Ok x) = ⊤
 IsNoLink (Err fault.Starved) = ⊤

@@ -29,15 +29,15 @@ use Rattle.directory_core.specs.declared.refusals.Refusal.{Refusal}
 use Rattle.directory_core.specs.declared.refusals.Refusal.TheVariants as answer
 use Rattle.directory_core.specs.LinksAgainst.{AreAgainst}
 
--- the records with this one in place of the one with its number
+-- Returns the records with this one in place of the one with its number.
 abbrev pub renewed : Record → List Record → List Record
 renewed r records = with_changed r.number (λ _. r) records
 
--- the records without the one with a number
+-- Returns the records without the one with a number.
 abbrev pub without : ℕ → List Record → List Record
 without number records = filter (λ r. not (is_numbered number r)) records
 
--- a version after an entry at a moment, with these records and this last number
+-- Returns a version after an entry at a moment, with these records and this last number.
 abbrev pub after_entry : Version → ℕ → List Record → ℕ → Version
 after_entry v now records last_number = record {
   records = records;
@@ -48,8 +48,8 @@ after_entry v now records last_number = record {
   swept = v.swept;
 }
 
--- a version after a beginning at a moment: its last number and its count are raised to this number,
--- and one more entry is counted
+-- Returns a version after a beginning at a moment. Its last number and its count are raised to this
+-- number, and one more entry is counted.
 abbrev pub begun : Version → ℕ → ℕ → Version
 begun v now first = record {
   records = v.records;
@@ -60,14 +60,15 @@ begun v now first = record {
   swept = v.swept;
 }
 
--- what holds of a draft that becomes a record
+-- The conditions on a draft that becomes a record.
 pub record IsSound (draft : Draft) : Type 0 where
   pub lasting : (0 < draft.lt) × (draft.lt < 2 ^ 32)
   pub references : list_all has_references draft.items ≡ true
   pub against : AreAgainst draft.base draft.items
   pub base : is_base draft.base ≡ true
 
--- this much text is allowed and one more entry can be counted, or the result is this refusal
+-- States that the result fits this much text and this count of entries. If the text is allowed and
+-- one more entry can be counted, the result is the text; otherwise it is the refusal that says so.
 abbrev pub HasRoom : ℕ → ℕ → Result ℕ Refusal → Type 0
 HasRoom text entries (Ok sum) = (sum ≡ text) × (text ≤ max_text) × (entries < max_entries)
 HasRoom text entries (Err (answer.FullText sum)) = (sum ≡ capped text) × (max_text < text)
@@ -76,7 +77,7 @@ HasRoom text entries (Err answer.Starved) = ⊥
 HasRoom text entries (Err (answer.Gone number)) = ⊥
 HasRoom text entries (Err (answer.FullCount count)) = ⊥
 
--- the same of a version that is made if there is room
+-- States the same of a version, which is made if there is room.
 abbrev pub IsMadeWithRoom : ℕ → ℕ → Version → Result Version Refusal → Type 0
 IsMadeWithRoom text entries new (Ok version) =
     (version ≡ new) × (text ≤ max_text) × (entries < max_entries)
@@ -88,7 +89,7 @@ IsMadeWithRoom text entries new (Err answer.Starved) = ⊤
 IsMadeWithRoom text entries new (Err (answer.Gone number)) = ⊥
 IsMadeWithRoom text entries new (Err (answer.FullCount count)) = ⊥
 
--- one more entry can be counted, or the result is this refusal
+-- States that the result says whether one more entry can be counted.
 abbrev pub HasEntryRoom : ℕ → Result (Unit {0}) Refusal → Type 0
 HasEntryRoom entries (Ok nothing) = entries < max_entries
 HasEntryRoom entries (Err answer.FullEntries) = max_entries ≤ entries

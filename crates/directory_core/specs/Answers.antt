@@ -9,8 +9,9 @@ use Rattle.registration.specs.Weights.{capped}
 use Rattle.directory_core.specs.declared.refusals.Refusal.{Refusal}
 use Rattle.directory_core.specs.declared.refusals.Refusal.TheVariants as answer
 
--- The result is the first refusal of the entry, with the number that it names, how many records are
--- live, or what they would weigh. Running out of memory has no cause in the history.
+-- States that the result is the first refusal of the entry, with what it names: the number, how
+-- many records are live, or what they would weigh. Running out of memory has no cause in the
+-- history.
 abbrev pub IsRefusalOf : ℕ → List Entry → Entry → Refusal → Type 0
 IsRefusalOf first history entry (answer.Gone number) =
     (change_refusal first history entry ≡ Some cause.Registration)

@@ -11,8 +11,8 @@ use Rattle.registration.specs.Drafts.{drafted}
 use Rattle.history_model.specs.declared.entries.Change.TheVariants as kind
 use Rattle.history_model.specs.declared.entries.Entry.{Entry}
 
--- the entry registers this draft at this moment: its parameters and links, with its peer, make the
--- draft
+-- An entry that registers this draft at this moment: its parameters and links, with its peer, make
+-- the draft.
 pub record IsRegistrationOf (now : Moment) (draft : Draft) (entry : Entry) : Type 0 where
   pub params : RegParams
   pub links : List SubmittedLink
@@ -20,26 +20,27 @@ pub record IsRegistrationOf (now : Moment) (draft : Draft) (entry : Entry) : Typ
   pub change : entry.change ≡ kind.Register params links
   pub made : draft ≡ drafted entry.peer params links
 
--- the entry updates the registration with this number by these parameters, at this moment and from
--- this peer
+-- An entry that updates the registration with this number by these parameters, at this moment and
+-- from this peer.
 pub record IsUpdateOf (now : Moment) (number : ℕ) (given : UpdateParams) (peer : Peer)
     (entry : Entry) : Type 0 where
   pub moment : entry.moment ≡ now
   pub source : entry.peer ≡ peer
   pub change : entry.change ≡ kind.Update number given
 
--- the entry gives these links to the registration with this number at this moment, from any peer
+-- An entry that gives these links to the registration with this number at this moment, from any
+-- peer.
 pub record IsReplacementOf (now : Moment) (number : ℕ) (links : List SubmittedLink)
     (entry : Entry) : Type 0 where
   pub moment : entry.moment ≡ now
   pub change : entry.change ≡ kind.Replace number links
 
--- the entry removes the registration with this number at this moment
+-- An entry that removes the registration with this number at this moment.
 pub record IsRemovalOf (now : Moment) (number : ℕ) (entry : Entry) : Type 0 where
   pub moment : entry.moment ≡ now
   pub change : entry.change ≡ kind.Remove number
 
--- the entry begins a run above this number, at this moment
+-- An entry that begins a run above this number, at this moment.
 pub record IsBeginning (now : Moment) (first : ℕ) (entry : Entry) : Type 0 where
   pub moment : entry.moment ≡ now
   pub change : entry.change ≡ kind.Begin first

@@ -6,8 +6,8 @@ use Rattle.history_model.specs.Versions.{Version, VersionStandsFor}
 use Rattle.directory_core.specs.declared.refusals.Refusal.{Refusal}
 use Rattle.directory_core.specs.Answers.{IsRefusalOf}
 
--- an entry after a history: the new version stands for the history with the entry, or the result is
--- its first refusal
+-- The result of an entry after a history. Either it is a version that stands for the history with
+-- the entry, or it is the first refusal of the entry.
 pub record AnswersEntry (first : ℕ) (history : List Entry) (entry : Entry) (swept : ℕ)
     (answer : Result Version Refusal) : Type 0 where
   pub stands : IfOk answer (λ version. VersionStandsFor first (history ++ entry ∷ []) version)
@@ -15,7 +15,7 @@ pub record AnswersEntry (first : ℕ) (history : List Entry) (entry : Entry) (sw
   pub refused : IfErr answer (λ refusal. IsRefusalOf first history entry refusal)
   pub kept : IfOk answer (λ version. version.swept ≡ swept)
 
--- a version with the number of the registration that it added or replaced
+-- Returns a version with the number of the registration that it added or replaced.
 abbrev pub with_number : Result Version Refusal → ℕ → Result (Version × ℕ) Refusal
 with_number (Ok version) number = Ok (version, number)
 with_number (Err refusal) number = Err refusal

@@ -1,10 +1,10 @@
 -- The result of an entry, its refusals, what lapses, and what a sweep leaves (RFC 9176 section 5).
 
--- cursors over carriers that advance alternately
+-- Cursors over carriers that advance alternately.
 pub mod Races
--- a page of a listing while it is written, and the lines of live records (RFC 9176 section 6)
+-- A page of a listing while it is written, and the lines of live records (RFC 9176 section 6).
 pub mod Pages
--- their parts
+-- Their parts.
 pub mod Changes
 pub mod Answers
 pub mod LapseOrder

@@ -7,12 +7,12 @@ use Rattle.history_model.specs.Replay.{numbered}
 use Rattle.history_model.specs.Refusals.{text_of}
 use Rattle.directory_core.specs.declared.counts.Counts.{Counts}
 
--- the number of records, and their weight together
+-- Returns the number of records, and their weight together.
 abbrev pub counts_of : List Record → Counts
 counts_of records = record { live = length records; text = text_of records }
 
--- counts of records that were live at a moment, without one that has lapsed since, if it was live
--- then
+-- Returns the counts of records that were live at a moment, without one that has lapsed since. A
+-- record that was not live then was not counted.
 abbrev pub without_lapse : ℕ → Counts → Option Record → Counts
 without_lapse from counts None = counts
 without_lapse from counts (Some r) =
@@ -20,7 +20,7 @@ without_lapse from counts (Some r) =
     then record { live = counts.live - 1; text = counts.text - weight r }
     else counts
 
--- the counts without the records with these numbers
+-- Returns the counts without the records with these numbers.
 unfoldable pub without_lapses : ℕ → List Record → Counts → List ℕ → Counts
 without_lapses from records counts [] = counts
 without_lapses from records counts (n ∷ numbers) =

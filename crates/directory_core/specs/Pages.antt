@@ -10,24 +10,25 @@ use Rattle.history_model.specs.Replay.{numbered}
 use Rattle.listing.specs.AppendedLines.{appended, shown_lines}
 use Rattle.directory_core.specs.declared.pages.Page.{Page}
 
--- the text of a page after these lines
+-- Returns the text of a page after these lines.
 abbrev pub finished : Page → List (List ℕ) → List ℕ
 finished page lines = appended page.text (shown_lines page.skip page.most lines)
 
--- the lines that a record contributes to a query at a moment: none if it is not live then
+-- Returns the lines that a record contributes to a query at a moment, or none if it is not live
+-- then.
 abbrev pub live_part : Query → ℕ → Record → List (List ℕ)
 live_part query moment r = if is_live_at moment r then part query r else []
 
--- the same of a record, if there is one
+-- Returns the same of a record, if there is one.
 abbrev pub live_part_or_none : Query → ℕ → Option Record → List (List ℕ)
 live_part_or_none query moment None = []
 live_part_or_none query moment (Some r) = live_part query moment r
 
--- the lines that records contribute, one after another
+-- Returns the lines that records contribute, one after another.
 unfoldable pub live_lines : Query → ℕ → List Record → List (List ℕ)
 live_lines query moment records = flat_map (live_part query moment) records
 
--- the lines that the records with these numbers contribute, one after another
+-- Returns the lines that the records with these numbers contribute, one after another.
 unfoldable pub numbered_lines : Query → ℕ → List Record → List ℕ → List (List ℕ)
 numbered_lines query moment records numbers =
     flat_map (λ n. live_part_or_none query moment (numbered n records)) numbers

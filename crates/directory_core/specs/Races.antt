@@ -20,27 +20,27 @@ use Rattle.rd_base.specs.declared.queries.Criterion.{Criterion}
 use Rattle.attribute_index.specs.Entries.{Entry, carriers_of, has_number}
 use Rattle.directory_core.specs.Bounds.{attribute_criteria}
 
--- a cursor: the numbers that it returned, and those that remain
+-- A cursor: the numbers that it returned, and those that remain.
 pub record Run : Type 0 where
   pub given : List ℕ
   pub left : List ℕ
 
--- all its numbers
+-- Returns all numbers of a cursor.
 abbrev pub whole : Run → List ℕ
 whole run = run.given ++ run.left
 
--- a cursor at the first carrier of a criterion
+-- Returns a cursor at the first carrier of a criterion.
 abbrev pub run_of : List Entry → Criterion → Run
 run_of index criterion = record {
   given = [];
   left = carriers_of criterion.name criterion.pattern index;
 }
 
--- the cursors of the criteria that are about attributes
+-- Returns the cursors of the criteria that are about attributes.
 abbrev pub runs_of : List Entry → List Criterion → List Run
 runs_of index criteria = map (run_of index) (attribute_criteria criteria)
 
--- after an advance with this result: one more number was returned, or none was left
+-- States what an advance with this result leaves: one more number was returned, or none was left.
 abbrev pub HasTurned : {E : Type 0} → Run → Run → Result Bool E → Type 0
 HasTurned old new (Ok true) =
     (whole new ≡ whole old)
@@ -49,7 +49,7 @@ HasTurned old new (Ok true) =
 HasTurned old new (Ok false) = (whole new ≡ whole old) × (whole new ≡ new.given)
 HasTurned old new (Err error) = Unit {0}
 
--- the numbers are those of the carriers of one criterion about attributes
+-- The numbers of the carriers of one criterion about attributes.
 pub record AreNumbersOf (index : List Entry) (criteria : List Criterion) (numbers : List ℕ) : Type 0
   where
     pub criterion : Criterion

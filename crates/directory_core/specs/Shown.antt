@@ -1,4 +1,4 @@
--- What holds of the parts of a version.
+-- The conditions on the parts of a version.
 use Rattle.std.specs.Prelude.{◌≡◌, ℕ, ◌+◌, ◌^◌, ◌<◌, ◌≤◌, true, max, List, length, map}
 use Rattle.std.specs.List.{AllByRecursion, list_all}
 use Rattle.rd_base.specs.declared.records.Record.{Record}
@@ -15,12 +15,12 @@ use Rattle.directory_core.specs.LapseOrder.{in_order_of_lapse}
 use Rattle.directory_core.specs.LinksAgainst.{AreAgainst}
 use Rattle.directory_core.specs.NameSlots.{slots_of}
 
--- the moment at which the live records of a version were counted: that of its last entry or of its
--- last sweep, whichever is later
+-- Returns the moment at which the live records of a version were counted. That is the moment of its
+-- last entry or of its last sweep, whichever is later.
 abbrev pub counted_at : Version → ℕ
 counted_at v = max v.at v.swept
 
--- a record that an entry of a version made, and that no sweep of it has dropped
+-- A record that an entry of a version made, and that no sweep of it has dropped.
 pub record IsStored (v : Version) (r : Record) : Type 0 where
   pub numbered : (0 < r.number) × (r.number ≤ v.last_number)
   pub granted : r.granted.0 ≤ v.at
@@ -30,17 +30,17 @@ pub record IsStored (v : Version) (r : Record) : Type 0 where
   pub against : AreAgainst r.base r.items
   pub base : is_base r.base ≡ true
 
--- the lease of a record
+-- Returns the lease of a record.
 abbrev pub lease_of : Record → Lease
 lease_of r = record { lapse = record { 0 = lapse r }; number = r.number }
 
--- the leases of records, in the order in which they lapse
+-- Returns the leases of records, in the order in which they lapse.
 abbrev pub leases_of : List Record → List Lease
 leases_of records = map lease_of (in_order_of_lapse records)
 
--- What a version stores besides its records agrees with them: their leases, and the number and the
--- weight of those that were live when they were counted. Neither these nor the counted entries
--- exceed their limits.
+-- What a version stores besides its records, which agrees with them: their leases, and the number
+-- and the weight of those that were live when they were counted. Neither these nor the counted
+-- entries exceed their limits.
 pub record IsKept (v : Version) (names : List NameSlot) (leases : List Lease) (count sum : ℕ) : Type
     0 where
   pub rising : PairsByRecursion IsBelow v.records

@@ -1,7 +1,7 @@
--- The notice in flight to an observer with one event more, by what that notes: it is formed, sent
--- again, acknowledged, or left as it is. Those of observers that are added or removed, of the notes
--- of a row, and of octets are end theorems, for what keeps the events of a journal: nothing here
--- cites them.
+-- The notification in flight to an observer with one event more, by what that notes: it is built,
+-- retransmitted, acknowledged, or left as it is. Those of observers that are added or removed, of
+-- the notes of a row, and of octets are end theorems, for what keeps the events of a journal:
+-- nothing here cites them.
 use Rattle.std.proofs.Common.{
   ◌≡◌,
   ℕ,
@@ -61,26 +61,26 @@ use Rattle.event_model.proofs.AsideLaws.{notes_aside}
 
 -- ---- words
 
--- a notice that an event forms under a Message ID
+-- a notification that an event builds under a Message ID
 abbrev pub flight_formed : Event → ℕ → Flight
 flight_formed e mid = record { mid = mid; formed = e; again = [] }
 
--- a notice with one event more, which sends it again or not
+-- a notification with one event more, which retransmits it or not
 abbrev pub with_again : Bool → Event → Flight → Flight
 with_again true e f = record { mid = f.mid; formed = f.formed; again = e ∷ f.again }
 with_again false e f = f
 
--- a notice with one event more, which acknowledges it or not
+-- a notification with one event more, which acknowledges it or not
 abbrev pub unless_landed : Bool → Flight → Option Flight
 unless_landed true f = None
 unless_landed false f = Some f
 
--- a notice in flight to a peer with one event more that forms nothing for its observer
+-- a notification in flight to a peer with one event more that builds nothing for its observer
 abbrev pub flight_with : Peer → Event → Flight → Option Flight
 flight_with peer e f =
     unless_landed (is_landing_of peer f.mid e.note) (with_again (is_again_of peer f.mid e.note) e f)
 
--- the note is about notices in flight
+-- the note is about notifications in flight
 abbrev pub about_flights : Note → Bool
 about_flights (note.Formed peer token body mid) = true
 about_flights (note.Again peer mid) = true
@@ -89,7 +89,7 @@ about_flights _ = false
 
 -- ---- one event more
 
--- one that forms a body for the observer: its notice, where it is one
+-- one that builds a body for the observer: its notification, where it is one
 pub flight-formed : (o : Observer) (e : Event) (before : List Event)
     → is_forming_for (name_of o) e.note ≡ true
     → flight o (e ∷ before) ≡ option_map (flight_formed e) (notice_mid e.note)
@@ -101,7 +101,7 @@ flight-formed o e before forms = rw forms (by (notice_mid e.note))
     by None = refl
     by (Some mid) = refl
 
--- one that forms none for it: the notice that was in flight, unless that was acknowledged
+-- one that builds none for it: the notification that was in flight, unless that was acknowledged
 pub flight-unformed : (o : Observer) (e : Event) (before : List Event)
     → is_forming_for (name_of o) e.note ≡ false
     → flight o (e ∷ before) ≡ option_and_then (flight_with o.peer e) (flight o before)
@@ -173,7 +173,7 @@ flight-unformed o e before quiet =
 
 -- ---- by its note
 
--- a notice for the observer, or a body that an answer carries
+-- a notification for the observer, or a body that an answer carries
 pub flight-Formed : (o : Observer) (place moment word : ℕ) (peer : Peer) (token body : List ℕ)
     (mid : Option ℕ) (before : List Event)
     → is_same_request (peer, token) (name_of o) ≡ true
@@ -203,7 +203,7 @@ flight-Formed_other o place moment word peer token body mid before other =
     ∙ none_changed o.peer (event_at place moment word (note.Formed peer token body mid)) (λ m. refl)
     (λ m. refl) (flight o before)
 
--- a notice that is sent again: the one in flight, where it has this peer and Message ID
+-- a notification that is retransmitted: the one in flight, where it has this peer and Message ID
 pub flight-Again : (o : Observer) (place moment word : ℕ) (peer : Peer) (mid : ℕ)
     (before : List Event)
     → flight o (event_at place moment word (note.Again peer mid) ∷ before)
@@ -222,7 +222,7 @@ flight-Again o place moment word peer mid before =
     by None = refl
     by (Some f) = refl
 
--- a notice that is acknowledged: the one in flight, where it has this peer and Message ID
+-- a notification that is acknowledged: the one in flight, where it has this peer and Message ID
 pub flight-Landed : (o : Observer) (place moment word : ℕ) (peer : Peer) (mid : ℕ)
     (before : List Event)
     → flight o (event_at place moment word (note.Landed peer mid) ∷ before)
@@ -271,7 +271,7 @@ pub flight-Unwatched : (o : Observer) (place moment word : ℕ) (peer : Peer) (t
 flight-Unwatched o place moment word peer token before =
     flight-quiet o (event_at place moment word (note.Unwatched peer token)) before refl
 
--- the notes of a row, none of which is about notices in flight
+-- the notes of a row, none of which is about notifications in flight
 pub flight-noted : (o : Observer) (place moment word : ℕ) (notes : List Note) (before : List Event)
     → list_any about_flights notes ≡ false
     → flight o (noted place moment word notes before) ≡ flight o before
@@ -281,11 +281,11 @@ flight-noted o place moment word notes before none =
 
 -- ---- as a message that waits
 
--- a message that is sent again at a moment: it waits from then on, twice as long
+-- a message that is retransmitted at a moment: it waits from then on, twice as long
 abbrev pub resent_at : ℕ → Retransmission → Retransmission
 resent_at moment r = record { sent = moment; wait = r.wait * 2; again = r.again + 1 }
 
--- what waits of a message that one event more sends again
+-- what waits of a message that one event more retransmits
 pub retransmission-again : (first e : Event) (again : List Event)
     → retransmission first (e ∷ again) ≡ resent_at e.moment (retransmission first again)
 retransmission-again first e again =
@@ -302,7 +302,7 @@ retransmission-again first e again =
         (resent_at e.moment (retransmission first again))
     by wait count one two = rw one (rw two refl)
 
--- what waits of a notice that was just formed
+-- what waits of a notification that was just built
 abbrev pub sent_first : OctetsSent → Peer → Event → ℕ → Sent
 sent_first octets peer e mid = record {
   mid = mid;
@@ -324,7 +324,7 @@ notice_sent-formed octets peer e mid = by (first_wait e.word * 2 ^ 0) (omega ari
         }) (sent_first octets peer e mid)
     by wait same = rw same refl
 
--- and of one that is sent again
+-- and of one that is retransmitted
 abbrev pub sent_with : Bool → ℕ → Sent → Sent
 sent_with true moment waits = record {
   mid = waits.mid;
@@ -436,7 +436,7 @@ unfolding waiting_notice
 waiting_notice-quiet octets o e before other =
     ap (option_map (notice_sent octets o.peer)) (flight-quiet o e before other)
 
--- two ways to find the octets of rows that agree on the row that formed the notice
+-- two ways to find the octets of rows that agree on the row that built the notification
 pub waiting_notice-octets : (one two : OctetsSent) (o : Observer) (events : List Event)
     → ((f : Flight)
     → flight o events ≡ Some f

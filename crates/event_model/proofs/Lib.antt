@@ -3,9 +3,9 @@
 -- are aside: AsideLaws, AsideTables (a law for each table). Who is due: TransitionLaws (time and an
 -- entry), DueLaws (in the middle of a step). Observers: ObserverLaws (no two have one name),
 -- AddedObservers and ManyObservers (those that notes add), ObserverEvents (those that stand with
--- one event more). With one event more: notices in flight (FlightLaws), the counters (CounterLaws),
--- challenges (ChallengeLaws: which value is good, too), and what a table of observers shows
--- (StandingLaws). OnLiterals unfolds the definitions, so that examples compute.
+-- one event more). With one event more: notifications in flight (FlightLaws), the counters
+-- (CounterLaws), challenges (ChallengeLaws: which value is good, too), and what a table of
+-- observers shows (StandingLaws). OnLiterals unfolds the definitions, so that examples compute.
 pub mod OnLiterals
 pub mod SameLaws
 pub mod KeptLaws

@@ -126,14 +126,14 @@ pub noted-append : (place moment word : ℕ) (notes more : List Note) (before : 
 noted-append place moment word notes more before =
     fold-append (λ events n. event_at place moment word n ∷ events) before notes more
 
--- a body is formed for an observer only by a note that looks at its listing
+-- a body is built for an observer only by a note that looks at its listing
 pub not_formed : (name : RequestName) (n : Note)
     → is_looking_for name n ≡ false
     → body_formed name n ≡ None
 not_formed name (note.Formed peer token body mid) h = rw h refl
 not_formed name _ h = refl
 
--- where a row looks at no listing of an observer, the body that was last formed is the one before
+-- where a row looks at no listing of an observer, the body that was last built is the one before
 pub last_body_formed-before : (name : RequestName) (place moment word : ℕ) (notes : List Note)
     (before : List Event)
     → list_any (is_looking_for name) notes ≡ false

@@ -109,7 +109,7 @@ with_waits w waits = record {
   waits = waits;
 }
 
--- one whose listing was formed: it is not due, and this body was formed for it last
+-- one whose listing was built: it is not due, and this body was built for it last
 abbrev pub with_body : List ℕ → Option Sent → Watching → Watching
 with_body body waits w = record {
   observer = w.observer;
@@ -143,7 +143,7 @@ watching-Unwatched octets seen place moment word peer token before o =
     (rw (waiting_notice-quiet octets o (event_at place moment word (note.Unwatched peer token))
     before refl) refl)
 
--- a notice that is sent again, or acknowledged
+-- a notification that is retransmitted, or acknowledged
 watching-Again : (octets : OctetsSent) (seen : List Transition) (place moment word : ℕ)
     (peer : Peer) (mid : ℕ) (before : List Event) (o : Observer)
     → watching octets (event_at place moment word (note.Again peer mid) ∷ before) seen o
@@ -280,7 +280,7 @@ changed_each octets seen e before change same each =
     ∙ map_through (watching octets (e ∷ before) seen) change (watching octets before seen) each
     (observers before)
 
--- a body was formed for one
+-- a body was built for one
 pub observers_standing-Formed : (octets : OctetsSent) (seen : List Transition)
     (place moment word : ℕ) (peer : Peer) (token body : List ℕ) (mid : Option ℕ)
     (before : List Event)
@@ -315,7 +315,7 @@ observers_standing-Unchanged octets seen place moment word peer token before low
     (observers-quiet (event_at place moment word (note.Unchanged peer token)) before refl)
     (watching-Unchanged octets seen place moment word peer token before low)
 
--- a notice was sent again
+-- a notification was retransmitted
 pub observers_standing-Again : (octets : OctetsSent) (seen : List Transition)
     (place moment word : ℕ) (peer : Peer) (mid : ℕ) (before : List Event)
     → observers_standing octets (event_at place moment word (note.Again peer mid) ∷ before) seen
@@ -331,7 +331,7 @@ observers_standing-Again octets seen place moment word peer mid before =
     (observers-quiet (event_at place moment word (note.Again peer mid)) before refl)
     (watching-Again octets seen place moment word peer mid before)
 
--- a notice was acknowledged
+-- a notification was acknowledged
 pub observers_standing-Landed : (octets : OctetsSent) (seen : List Transition)
     (place moment word : ℕ) (peer : Peer) (mid : ℕ) (before : List Event)
     → observers_standing octets (event_at place moment word (note.Landed peer mid) ∷ before) seen

@@ -12,15 +12,15 @@ use Rattle.event_model.specs.Flights.{
 use Rattle.exchange_core.specs.declared.resends.Again.{Again}
 use Rattle.exchange_core.specs.declared.resends.Again.TheVariants as again
 
--- the stored timing of a message that one event sent first and others retransmitted, the newest
--- first
+-- The stored timing of a message that one event sent first and others retransmitted, the newest
+-- first.
 pub record Resends (first : Event) (others : List Event) (r : Retransmission) : Type 0 where
   pub sent : r.sent ≡ moment_of_last others first.moment
   pub wait : r.wait ≡ first_wait first.word * 2 ^ length others
   pub again : r.again ≡ length others
 
--- what is due of such a message at a moment: nothing before the deadline, then a retransmission if
--- there were fewer than four, otherwise its end
+-- Returns what is due for such a message at a moment. Nothing is due before the deadline. Then a
+-- retransmission is due if there were fewer than four, otherwise the end of the message.
 unfoldable pub due_at : ℕ → Event → List Event → Again
 due_at now first others =
     if nat_lt now (deadline first others)
@@ -29,8 +29,9 @@ due_at now first others =
     then again.Send
     else again.GaveUp
 
--- the same computed from what is stored of a message: nothing before its timeout expires, then a
--- retransmission if there were fewer than four, otherwise its end
+-- Returns the same, computed from what is stored of a message. Nothing is due before its timeout
+-- expires. Then a retransmission is due if there were fewer than four, otherwise the end of the
+-- message.
 unfoldable pub kept_due : ℕ → Retransmission → Again
 kept_due now r =
     if nat_lt now (r.sent + r.wait)
@@ -39,8 +40,8 @@ kept_due now r =
     then again.Send
     else again.GaveUp
 
--- what is stored of a message after what was due of it at a moment: a retransmission is made then,
--- and doubles the timeout
+-- Returns what is stored of a message after what was due for it at a moment. A retransmission is
+-- sent at that moment, and doubles the timeout.
 abbrev pub kept_after : Again → ℕ → Retransmission → Retransmission
 kept_after again.Send now r = record { sent = now; wait = r.wait * 2; again = r.again + 1 }
 kept_after _ now r = r

@@ -52,7 +52,7 @@ pub trace-HoldsEachOnce : (workers : ℕ) (bytes : List ℕ) → HoldsEachOnce (
 trace-HoldsEachOnce workers bytes =
     journal-HoldsEachOnce (journal workers bytes) (journal-IsJournal workers bytes)
 
--- each lookup answers the listing of the row that formed it
+-- each lookup answers the listing of the row that built it
 -- An end theorem: nothing here cites it.
 pub trace-AnswersAsFormed : (workers : ℕ) (bytes : List ℕ) → AnswersAsFormed (journal workers bytes)
 trace-AnswersAsFormed workers bytes =

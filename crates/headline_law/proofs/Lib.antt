@@ -19,40 +19,40 @@
 --
 -- TagsDecideStates: equal tags mean one state, and blocks of one listing or of one source.
 --   entries: TagStates (the tags of rows of steps). rows: TaggedAnswers (the tags that are read in
--- answers), and the sentence; of a desk it holds of answers that were formed in rows.
+-- answers), and the sentence; of a desk it holds of answers that were built in rows.
 --
 -- ObserversKnow: an observer that is not due knows the listing; of journals of the machine, and of
 -- those of desks. It stands below whole, in observers.
 --
--- AnswersAsFormed: each lookup answers the listing of the row that formed it, and each read of a
+-- AnswersAsFormed: each lookup answers the listing of the row that built it, and each read of a
 -- registration its source.
 --   Below, in sends: BodyAnswers (an answer bears the block of its body that is wanted), PlainSteps
 -- (what refusals, writes and changes send is neither 2.05 nor 2.03),
---   TickSends (what is sent again), ValidSends (2.03); in flights: WaitedPeers and NoticesAgain
+--   TickSends (what is retransmitted), ValidSends (2.03); in flights: WaitedPeers and NoticesAgain
 -- (the first part of a tick).
 --   sends: LookupSends (looks, lookups, reads of a registration, keeps), PlainCommits (commits and
 -- responses), StepOutcomes (one table of what each step but a tick sends);
 --   RowSends and ValidLaw have that 2.03 is sent exactly where a look names the tag.
 --   flights: TickNotices, FreshNotices and TickFolds (one record of what a tick did so far, and
--- each notice more), KnownFlights and TickFlights (the row that formed
---   each notice in flight), FirstBodies (other rows form no notice), CarriedListings (what it is to
--- carry the listing or the source of the row that formed it).
+-- each notification more), KnownFlights and TickFlights (the row that built
+--   each notification in flight), FirstBodies (other rows build no notification), CarriedListings
+-- (what it is to carry the listing or the source of the row that built it).
 --   notes: TickNotes (what a tick keeps is as it was asked).
---   rows: each row carries what was formed as the headline says: RowCarries (looks and plain rows),
+--   rows: each row carries what was built as the headline says: RowCarries (looks and plain rows),
 -- LookupRows (lookups and reads of a registration), KeepRows, TickRows; Validations has what
 --   2.03 carries; and AnswersAsFormed, the sentence.
 --
 -- SendsToWhoAsked: each datagram can be read, fits, and goes to who asked or observes; and what is
--- noted as formed is sent.
+-- noted as built is sent.
 --   Below, in datagrams: FittingReplies (replies that can be read and fit), OwnSends (what each
 -- step but a tick sends), TickedSends (what a tick sends), NotedSends (what
 --   notes say of that), SentRows (rows of steps, one after the other), and DatagramRows (of a desk:
--- that each datagram can be read and fits, and that what is formed is sent).
+-- that each datagram can be read and fits, and that what is built is sent).
 --   datagrams: DatagramLaws, the sentence.
 --
 -- Moments, NothingInvented, KeptAnswers and EchoedFirst, of specs: sentences that are claims of any
 -- journal by themselves; of journals of the machine, and of those of desks.
---   MomentLaws: the moment of a row is the greatest that was handed in so far.
+--   MomentLaws: the moment of a row is the greatest that was passed in so far.
 --   origins: NoteOrigins is the one table of where it comes from what a step notes of admissions,
 -- uploads, fetches and kept answers that are read; AskedRequests has that each request that is
 -- noted is sent; InventionLaws is the sentence. KeptAnswerLaws is the one on kept answers.
@@ -67,7 +67,7 @@
 -- sent what they answer.
 --   whom: Dispatches is one table of what each step but a tick sends (answers, kept answers,
 -- Resets, acknowledgements, requests of fetches), by RunningFetches (which fetches run);
---   TickDispatches has what a tick sends (responses, and requests that are sent again), GoesRows
+--   TickDispatches has what a tick sends (responses, and requests that are retransmitted), GoesRows
 -- lifts both to rows, and WhomLaws is the sentence.
 --
 -- AnsweredAlike: writes are answered once, as their requests want it, and alike where they come

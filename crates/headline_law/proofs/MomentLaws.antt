@@ -1,4 +1,4 @@
--- The moment of a row is the greatest that was handed in so far.
+-- The moment of a row is the greatest that was passed in so far.
 use Rattle.std.proofs.Common.{◌≡◌, max, List, [], ◌∷◌, refl, ap, arith}
 use Rattle.journal_model.specs.declared.rows.Row.{Row}
 use Rattle.journal_model.specs.Journal.{latest}
@@ -9,11 +9,11 @@ use Rattle.journal_model.proofs.EventRows.{AllRows, row_within}
 use Rattle.journal_model.proofs.entries.JournalLaws.{journal-AreRows, desk-AreRows}
 use Rattle.headline_law.specs.Moments.{greatest_handed, Moments}
 
--- a row at the greatest moment that was handed in
+-- a row at the greatest moment that was passed in
 abbrev AtGreatest : List Row → Row → Type 0
 AtGreatest before r = r.moment.0 ≡ greatest_handed (r ∷ before)
 
--- the greatest moment of rows of steps is the greatest that was handed in
+-- the greatest moment of rows of steps is the greatest that was passed in
 record InTime (rows : List Row) : Type 0 where
   each : AllRows AtGreatest rows
   last : latest rows ≡ greatest_handed rows

@@ -229,7 +229,7 @@ stray_notice_falls h =
 
 -- ---- what is noted
 
--- a body is noted as formed, and is not sent
+-- a body is noted as built, and is not sent
 abbrev unsent : Row
 unsent = row_of step.Tick [] false [] (note.Formed (peer 1) (193 ∷ []) [] (Some 0) ∷ [])
 
@@ -242,7 +242,7 @@ unsent_falls h =
     let low = it.among.1.0 in
     absurd (omega (arith, low))
 
--- a body is noted as formed, and another is sent
+-- a body is noted as built, and another is sent
 abbrev other_first : Row
 other_first =
     row_of step.Tick [] false ((peer 1, spelling (with_body 98)) ∷ [])

@@ -63,7 +63,7 @@ shown_to : (to : Peer) (before : List Row)
 unfolding sent_by_it
 shown_to to before h = h.shown (sent_by_it to before) refl
 
--- ---- a GET is sent to a stranger
+-- ---- a GET is sent to a peer that never registered
 
 -- An end theorem: nothing here cites it.
 pub stranger_falls : (to : Peer) → EchoedFirst (asking to ∷ []) → ⊥

@@ -100,7 +100,7 @@ tick_reads_falls key later before h =
     (record { later = later; whole = refl }) (0, (omega arith, refl)) in
     absurd (let no : step.Tick ≡ step.Admit = it.heard in cc)
 
--- ---- a first block is read of a kept answer, and not formed anew: CON 0.01 m=0010 t=c1 [11
+-- ---- a first block is read of a kept answer, and not built anew: CON 0.01 m=0010 t=c1 [11
 -- rd-lookup][11 ep][23 0/0/16]
 
 abbrev first_read : Row

@@ -1,4 +1,4 @@
--- Journals whose rows say another moment than was handed in: they are refused by the sentence on
+-- Journals whose rows say another moment than was passed in: they are refused by the sentence on
 -- moments, whatever the steps send and note.
 use Rattle.std.proofs.Common.{◌≡◌, ℕ, max, false, List, [], ◌∷◌, ◌++◌, refl, arith}
 use Rattle.event_model.specs.declared.notes.Note.{Note}
@@ -10,7 +10,7 @@ use Rattle.journal_model.specs.declared.steps.StepKind.TheVariants as step
 use Rattle.journal_model.specs.declared.rows.Row.{Row}
 use Rattle.headline_law.specs.Moments.{greatest_handed, Moments}
 
--- the row of a step to which a moment is handed in, and which says a moment
+-- the row of a step to which a moment is passed in, and which says a moment
 abbrev pub timed_row : ℕ → ℕ → StepKind → List ℕ → List (Peer × List ℕ) → List Note → Row
 timed_row handed said kind datagram sent notes = record {
   step = record {
@@ -44,7 +44,7 @@ early_repeat_falls datagram later before none h =
     h.greatest before (again datagram) (record { later = later; whole = refl }) in
     absurd (omega (arith, late, none))
 
--- ---- a look to which the moment 10^12 is handed in says 0, and so lists what lapsed long ago
+-- ---- a look to which the moment 10^12 is passed in says 0, and so lists what lapsed long ago
 
 abbrev late_look : List ℕ → List (Peer × List ℕ) → Row
 late_look datagram sent = timed_row 1_000_000_000_000 0 step.Look datagram sent []
@@ -58,7 +58,7 @@ late_look_falls datagram sent later before h =
     h.greatest before (late_look datagram sent) (record { later = later; whole = refl }) in
     absurd (omega (arith, early))
 
--- ---- time goes back: a tick says the moment that was handed in with it, which is below that of
+-- ---- time goes back: a tick says the moment that was passed in with it, which is below that of
 -- the row before
 
 -- An end theorem: nothing here cites it.

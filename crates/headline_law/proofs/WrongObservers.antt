@@ -72,7 +72,7 @@ watcher what = record {
 
 -- ---- what an observer knows
 
--- an observer that is noted as looked at, and for which nothing was formed
+-- an observer that is noted as looked at, and for which nothing was built
 abbrev unformed : Row
 unformed =
     row_of step.Tick [] false []
@@ -224,7 +224,7 @@ watched =
     row_of step.Admit (spelling observing) false ((peer 1, spelling with_observe) ∷ [])
     (note.Watched observes ∷ note.Formed (peer 1) (193 ∷ []) [] None ∷ [])
 
--- a tick drops an observer to whom no notice is in flight
+-- a tick drops an observer to whom no notification is in flight
 abbrev drops : Row
 drops = row_of step.Tick [] false [] (note.Unwatched (peer 1) (193 ∷ []) ∷ [])
 
@@ -244,7 +244,7 @@ drops_falls h =
     by (never_acknowledges it) =
         let none : ◌≡◌ {A = Option Flight} None (Some it.notice) = it.flies in absurd cc
 
--- a tick drops an observer whose notice was sent once
+-- a tick drops an observer whose notification was sent once
 abbrev notified : Row
 notified = row_of step.Tick [] false [] (note.Formed (peer 1) (193 ∷ []) [] (Some 7) ∷ [])
 
@@ -388,7 +388,7 @@ stays_cancelled_falls h =
     }) in
     absurd cc
 
--- RST m=0007: it rejects the notice in flight, and observes on
+-- RST m=0007: it rejects the notification in flight, and observes on
 abbrev stays_rejected : Row
 stays_rejected = row_of step.Admit (spelling (empty_message Rst 7)) false [] []
 

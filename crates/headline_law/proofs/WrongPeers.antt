@@ -57,7 +57,7 @@ alone r = record { row = r; before = [] }
 abbrev asking : Message
 asking = fetch_request 7 (1 ∷ []) None
 
--- a GET to a stranger: no fetch of that peer runs, and none is noted
+-- a GET to a peer of whom no fetch runs, and none is noted
 abbrev asks_stranger : Row
 asks_stranger = row_of step.Tick [] false ((peer 1, spelling asking) ∷ []) []
 
@@ -145,7 +145,7 @@ asks_to_remove_falls h =
 abbrev ping : Message
 ping = empty_message Con 16
 
--- RST m=0010 to a stranger, for a ping of another peer
+-- RST m=0010 to a peer that sent nothing, for a ping of another
 abbrev resets_stranger : Row
 resets_stranger =
     row_of step.Admit (spelling ping) false ((peer 2, spelling (empty_message Rst 16)) ∷ []) []

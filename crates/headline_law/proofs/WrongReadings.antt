@@ -323,9 +323,9 @@ leaves_open_falls later before h =
     refl in
     absurd (let no : ◌≡◌ {A = List Note} [] (note.Failed 0 ∷ []) = it.notes in cc)
 
--- ---- notices in flight
+-- ---- notifications in flight
 
--- a tick notes that a notice was acknowledged: its observer stays, though it never answers
+-- a tick notes that a notification was acknowledged: its observer stays, though it never answers
 -- An end theorem: nothing here cites it.
 pub tick_lands_falls : (datagram : List ℕ) (mid : ℕ) (later before : List Row)
     → ObserversStand
@@ -357,7 +357,7 @@ lands_by_lookup_falls later before h =
     absurd (let no : role.Request ≡ role.Acknowledgement =
     ap (λ (m : Message). role_of m.kind m.code) (sym same) ∙ it.acknowledges in cc)
 
--- a tick notes four times that a notice was sent again, which it never sent
+-- a tick notes four times that a notification was retransmitted, which it never sent
 abbrev gives_up : Row
 gives_up =
     row_of step.Tick [] false []

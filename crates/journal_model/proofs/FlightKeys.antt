@@ -1,5 +1,5 @@
--- Notices in flight: their Message ID and the place of the row that formed them, with one note
--- more.
+-- Notifications in flight: their Message ID and the place of the row that built them, with one
+-- note more.
 use Rattle.std.proofs.Common.{
   ◌≡◌,
   ℕ,
@@ -44,15 +44,15 @@ use Rattle.event_model.proofs.SameLaws.{is_same_request-refl}
 use Rattle.event_model.proofs.NotedLaws.{event_at}
 use Rattle.std.proofs.lemmas.Bool.{or_parts}
 
--- the Message ID of a notice in flight, and the place of the row that formed it
+-- the Message ID of a notification in flight, and the place of the row that built it
 abbrev pub key_of : Flight → ℕ × ℕ
 key_of f = (f.mid, f.formed.place)
 
--- that of the notice in flight to an observer, where there is one
+-- that of the notification in flight to an observer, where there is one
 abbrev pub flight_key : Observer → List Event → Option (ℕ × ℕ)
 flight_key o events = option_map key_of (flight o events)
 
--- a flight that is had after a note which forms nothing for the observer was had before it
+-- a flight that is had after a note which builds nothing for the observer was had before it
 pub key_before : (o : Observer) (e : Event) (before : List Event) (k : ℕ × ℕ)
     → is_forming_for (name_of o) e.note ≡ false
     → flight_key o (e ∷ before) ≡ Some k
@@ -109,7 +109,7 @@ key_before o e before k quiet found =
     formed None h = h
     formed (Some x) h = with_mid x (notice_mid x.note) h
 
--- the note acknowledges a notice
+-- the note acknowledges a notification
 abbrev pub is_landing : Note → Bool
 is_landing (note.Landed peer mid) = true
 is_landing _ = false
@@ -164,7 +164,7 @@ key_same o e before quiet lands = rw quiet (formed (last_event (is_forming_for (
     formed None = refl
     formed (Some x) = with_mid x (notice_mid x.note)
 
--- a note that forms a notice for the observer, or a body in an answer
+-- a note that builds a notification for the observer, or a body in an answer
 pub key_formed : (o : Observer) (place moment word : ℕ) (body : List ℕ) (mid : ℕ)
     (before : List Event)
     → flight_key o
@@ -175,7 +175,7 @@ key_formed o place moment word body mid before = rw (is_same_request-refl (name_
 
 -- ---- notes of a row
 
--- none of them forms anything for the observer
+-- none of them builds anything for the observer
 pub key_before_all : (o : Observer) (place moment word : ℕ) (notes : List Note)
     (before : List Event) (k : ℕ × ℕ)
     → list_any (is_forming_for (name_of o)) notes ≡ false
@@ -203,12 +203,12 @@ key_same_all o place moment word (n ∷ notes) before quiet lands =
     key_same_all o place moment word notes (event_at place moment word n ∷ before) both.1 none.1
     ∙ key_same o (event_at place moment word n) before both.0 none.0
 
--- the note forms a notice
+-- the note builds a notification
 abbrev pub is_notice : Note → Bool
 is_notice (note.Formed peer token body mid) = is_some mid
 is_notice _ = false
 
--- where the last that was formed for the observer is no notice, none is in flight
+-- where the last that was built for the observer is no notification, none is in flight
 pub key_none : (o : Observer) (past : List Event) (e : Event)
     → last_event (is_forming_for (name_of o)) past ≡ Some e
     → is_notice e.note ≡ false

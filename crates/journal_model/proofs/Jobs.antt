@@ -1,5 +1,5 @@
 -- The jobs that workers hold: none is of a datagram that is yet to be heard, and a keep is of the
--- body that the worker's last look formed.
+-- body that the worker's last look built.
 use Rattle.std.proofs.Common.{
   ◌≡◌,
   ℕ,

@@ -3,7 +3,8 @@
 --   StepTable, the one table of what each step notes, and LookupNotes (what is kept, and who
 -- observes, is as it was asked).
 -- Rows: RowEquations (their parts), UnfinishedRowLaws (a row that is being made), EventRows (the
--- row of an event), Jobs (the jobs of workers), SeatLaws (seats), FlightKeys (notices in flight).
+-- row of an event), Jobs (the jobs of workers), SeatLaws (seats), FlightKeys (notifications in
+-- flight).
 -- Messages: MessageSizeLaws (how many octets spell them); in sends: what answers carry and steps
 -- send (BodyAnswers, PlainSteps, ValidSends, TickSends).
 -- Rows of steps, in whatever journal (entries): which steps note an entry and where it comes from

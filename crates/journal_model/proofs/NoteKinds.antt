@@ -36,7 +36,7 @@ of_read (note.Kept peer key body tag) = true
 of_read (note.Used peer key) = true
 of_read _ = false
 
--- of notices, and of requests of fetches, that are sent again
+-- of notifications, and of requests of fetches, that are retransmitted
 abbrev pub of_again : Note → Bool
 of_again (note.Unwatched peer token) = true
 of_again (note.Again peer mid) = true
@@ -110,7 +110,7 @@ read_lookup notes h = are-weaker of_read of_lookup wider notes h
     wider (note.Used peer key) e = refl
     wider _ e = absurd (false≢true e)
 
--- what is sent again is of a tick
+-- what is retransmitted is of a tick
 pub again_tick : (notes : List Note) → are of_again notes ≡ true → are of_tick notes ≡ true
 again_tick notes h = are-weaker of_again of_tick wider notes h
   where

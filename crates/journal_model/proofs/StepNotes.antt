@@ -300,14 +300,14 @@ each_of-notes kind does quiet (x ∷ xs) =
     are-append kind (does x).notes (each_of does xs).notes (quiet x)
     (each_of-notes kind does quiet xs)
 
--- a message is sent again
+-- a message is retransmitted
 sent_again-notes : (kind : Note → Bool) (d : Option (Peer × List ℕ)) (n : Note)
     → kind n ≡ true
     → are kind (sent_again d n).notes ≡ true
 sent_again-notes kind None n fits = and_from (kind n) true fits refl
 sent_again-notes kind (Some d) n fits = and_from (kind n) true fits refl
 
--- notices are sent again
+-- notifications are retransmitted
 pub notices_again-notes : (rows : List Row) (moment : ℕ)
     → are of_again (notices_again rows moment).notes ≡ true
 unfolding notices_again
@@ -326,7 +326,7 @@ notices_again-notes rows moment =
     flying o None = refl
     flying o (Some f) = again _ _ o f
 
--- due observers get notices
+-- due observers get notifications
 pub notices-notes : (t : Ticking) (done : Effects)
     → are of_tick done.notes ≡ true
     → are of_tick (notices t done).notes ≡ true
@@ -355,7 +355,7 @@ notices-notes t done quiet = folded (observers (events_with t done)) done quiet
         (are-append of_tick so_far.notes (noticed_if (is_looked_at t so_far o) t so_far o).notes h
         (looked (is_looked_at t so_far o) so_far o))
 
--- requests of fetches are sent again
+-- requests of fetches are retransmitted
 pub requests_again-notes : (rows : List Row) (moment : ℕ)
     → are of_resent (requests_again rows moment).notes ≡ true
 unfolding requests_again

@@ -37,7 +37,7 @@ now_latest (r ∷ before) = by (is_desk_row r) (now_latest before)
     by true h = omega arith
     by false h = omega (arith, h)
 
--- where no look was later, the moment of a step is the greatest of the one that is handed in and
+-- where no look was later, the moment of a step is the greatest of the one that is passed in and
 -- that of the last row but looks
 pub row_moment-now : (rows : List Row) (s : Step)
     → NoLaterLook s.handed.0 rows

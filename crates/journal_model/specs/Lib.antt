@@ -1,39 +1,39 @@
--- The row of a step, the machine (RFC 7252, RFC 7641, RFC 7959, RFC 9176, this project's
+-- The row of a step, and the machine (RFC 7252, RFC 7641, RFC 7959, RFC 9176, this project's
 -- profile).
 
--- how many octets spell a message, the most octets of a datagram (RFC 7252 sections 3 and 4.6)
+-- How many octets spell a message, and the most octets of a datagram (RFC 7252 sections 3 and 4.6).
 pub mod MessageSizes
--- what is sought, what a look gives (RFC 9176 sections 4.1, 5.3.3 and 6)
+-- What is sought, and what a look gives (RFC 9176 sections 4.1, 5.3.3 and 6).
 pub mod Sought
 pub mod Looks
--- what the links of a body are for, bodies in blocks (RFC 9176 sections 5 and 5.3.3, RFC 7959
--- section 2.5)
+-- The purpose of the links of a body, and bodies in blocks (RFC 9176 sections 5 and 5.3.3, RFC 7959
+-- section 2.5).
 pub mod Changes
 pub mod Registrations
--- seats
+-- Seats.
 pub mod Seats
--- journals of desks, a row that is being made
+-- Journals of desks, and a row that is being made.
 pub mod DeskJournal
 pub mod UnfinishedRow
--- rows within a journal, which row built a body
+-- Rows within a journal, and which row built a body.
 pub mod PlacedRows
 pub mod BodyFormers
--- what the first and the second sentence speak of: asked changes, fetches that are completed,
--- admitted writes; asked listings, messages that carry a block
+-- The parts of the first and the second sentence: requested changes, fetches that are completed,
+-- admitted writes, requested listings, and messages that carry a block.
 pub mod AskedChanges
 pub mod FetchCompletions
 pub mod AdmittedWrites
 pub mod AskedListings
 pub mod CarriedBlocks
--- the headline: its five sentences, a file each, and all of them (RFC 7252, RFC 7641, RFC 7959,
--- RFC 9176, this project's profile)
+-- The headline: its five sentences, a file each, and all of them (RFC 7252, RFC 7641, RFC 7959, RFC
+-- 9176, this project's profile).
 pub mod HoldsEachOnce
 pub mod AnswersAsFormed
 pub mod TagsDecideStates
 pub mod ObserversKnow
 pub mod SentDatagrams
 pub mod Headline
--- journals, the row of each kind of step with its effects, the machine
+-- Journals, the row of each kind of step with its effects, and the machine.
 pub mod Journal
 pub mod Effects
 pub mod Requests

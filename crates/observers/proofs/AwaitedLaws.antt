@@ -1,4 +1,4 @@
--- The peers that notices are in flight to, as the table keeps them apart.
+-- The peers that notifications are in flight to, as the table keeps them apart.
 use Rattle.std.proofs.Common.{
   ◌≡◌,
   ℕ,
@@ -180,7 +180,7 @@ pushed-AreAwaited ws peers w quiet h = record {
   few = subst (λ n. length peers ≤ n) (sym (flights_pushed ws w quiet)) h.few;
 }
 
--- ---- a notice is formed
+-- ---- a notification is built
 
 -- an observer of a peer that is not awaited awaits nothing
 quiet_at : (ws : List Standing) (i : ℕ) (w : Standing)
@@ -296,7 +296,7 @@ noticed-AreAwaited s body ws peers i w there free h =
       few = omega (arith, more, longer, few);
     }
 
--- fewer notices are in flight than there are observers, where one of them awaits nothing
+-- fewer notifications are in flight than there are observers, where one of them awaits nothing
 flights_few : (ws : List Standing) → flights_of ws ≤ length ws
 flights_few [] = omega arith
 flights_few (w ∷ ws) = by (is_some w.flight) (flights_few ws)
@@ -430,7 +430,7 @@ pub gathered-all : (ws : List Standing) (i : ℕ) (peers : List Peer)
 gathered-all ws i peers over h =
     sym (append-nil peers) ∙ (ap (λ xs. peers ++ awaited_of xs) (sym (drop_past ws i over)) ∙ h)
 
--- ---- a notice is formed, as the table does it
+-- ---- a notification is built, as the table does it
 
 got : (ws : List Standing) (i : ℕ) → i < length ws
     → (w : Standing) × (slice_get ws i ≡ Some w)
@@ -438,7 +438,7 @@ got [] i inside = absurd (omega (arith, inside))
 got (x ∷ ws) zero inside = (x, refl)
 got (x ∷ ws) (suc i) inside = got ws i (omega (arith, inside))
 
--- no notice is in flight to the peer of the one with an index
+-- no notification is in flight to the peer of the one with an index
 abbrev pub IsFreeAt : ℕ → List Standing → Type 0
 IsFreeAt i ws = (w : Standing) → slice_get ws i ≡ Some w → is_awaited w.peer ws ≡ false
 

@@ -145,7 +145,7 @@ standing-unwatched octets seen place moment word peer token events =
     ∙ filter_map_each (watching octets events seen)
     (λ x. not (is_same_request (peer, token) (name_of x.observer))) (observers events)
 
--- what was last formed for an observer, as it waits
+-- what was last built for an observer, as it waits
 abbrev pub message_formed : OctetsSent → Event → Peer → ℕ → Sent
 message_formed octets e peer mid = record {
   mid = mid;
@@ -153,7 +153,7 @@ message_formed octets e peer mid = record {
   resend = retransmission e [];
 }
 
--- an observer for which a body was formed
+-- an observer for which a body was built
 abbrev pub formed_for : OctetsSent → Event → RequestName → List ℕ → Option ℕ → Watching → Watching
 formed_for octets e name body mid x =
     if is_same_request name (name_of x.observer)
@@ -257,7 +257,7 @@ standing-unchanged octets seen place moment word peer token events low =
 
 -- ---- flights
 
--- a flight after an event that forms nothing for its observer: an acknowledgement of it ends it,
+-- a flight after an event that builds nothing for its observer: an acknowledgement of it ends it,
 -- and a retransmission of it counts
 abbrev pub flight_next : Peer → Event → Flight → Option Flight
 flight_next peer e f =
@@ -319,7 +319,7 @@ flight-more o e events other = rw other (by (last_event (is_forming_for (name_of
     by None = refl
     by (Some formed) = of formed (notice_mid formed.note)
 
--- a message that was sent again at a moment
+-- a message that was retransmitted at a moment
 abbrev pub sent_again : ℕ → Sent → Sent
 sent_again moment s = record s {
   resend = record { sent = moment; wait = s.resend.wait * 2; again = s.resend.again + 1 };
@@ -329,7 +329,7 @@ sent_again moment s = record s {
 doubled : (first n : ℕ) → first * 2 ^ suc n ≡ first * 2 ^ n * 2
 doubled first n = ap (λ w. first * w) (pow-suc 2 n) ∙ sym (mul_assoc first (2 ^ n) 2)
 
--- an observer whose notice was sent again
+-- an observer whose notification was retransmitted
 abbrev pub again_for : Peer → ℕ → ℕ → Watching → Watching
 again_for peer mid moment x =
     parts x.observer x.due x.last_body (option_map (λ s.
@@ -337,7 +337,7 @@ again_for peer mid moment x =
     then sent_again moment s
     else s) x.waits)
 
--- an observer whose notice was acknowledged
+-- an observer whose notification was acknowledged
 abbrev pub landed_for : Peer → ℕ → Watching → Watching
 landed_for peer mid x =
     parts x.observer x.due x.last_body (option_and_then

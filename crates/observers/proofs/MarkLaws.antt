@@ -181,8 +181,8 @@ is_some_map : {A B : Type 0} (f : A → B) (o : Option A) → is_some (option_ma
 is_some_map f None = refl
 is_some_map f (Some x) = refl
 
--- a notice is in flight to one of the observers of a peer by the table exactly where it is by the
--- events
+-- a notification is in flight to one of the observers of a peer by the table exactly where it is by
+-- the events
 pub awaited-StandsFor : (queries : ℕ → Query) (octets : OctetsSent) (events : List Event)
     (seen : List Transition) (ws : List Standing) (peer : Peer)
     → ObserversStandFor queries octets events seen ws

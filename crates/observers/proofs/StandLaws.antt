@@ -540,7 +540,7 @@ unchanged-StandsFor queries octets events transitions e ws i w there is low h =
     by x true = refl
     by x false = refl
 
--- ---- a notice is formed
+-- ---- a notification is built
 
 message_same : (octets : OctetsSent) (e : Event) (peer : Peer) (s : Sent)
     → s.octets ≡ octets e.place peer s.mid
@@ -931,7 +931,7 @@ due-StandsFor queries octets events transitions now ws i o w h at there =
     (sym (same_at queries octets events transitions ws i o w h at there))
     ∙ due_flight now octets o.peer (flight o events)
 
--- ---- what is not sent again
+-- ---- what is not retransmitted
 
 unsent : (now : ℕ) (w : Standing) → due_of now w.flight ≢ again.Send → timed now w ≡ w
 unsent now w other = ap (λ (o : Option Sent). record w { flight = o }) (by w.flight other)
@@ -954,7 +954,7 @@ unsent-same now (x ∷ ws) zero w there other =
 unsent-same now (x ∷ ws) (suc i) w there other =
     ap (λ rest. x ∷ rest) (unsent-same now ws i w there other)
 
--- what is due of the observer with an index is what is due of its notice
+-- what is due of the observer with an index is what is due of its notification
 pub sends-at : (now : ℕ) (w : Standing) (s : Sent) (due : Again)
     → w.flight ≡ Some s
     → due ≡ due_of now w.flight

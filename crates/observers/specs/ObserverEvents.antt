@@ -41,7 +41,7 @@ use Rattle.exchange_core.specs.declared.resends.Again.TheVariants as again
 use Rattle.exchange_core.specs.Retransmissions.{due_at}
 use Rattle.observers.specs.Standing.{Standing}
 
--- an observer of the table as notes name it, by the query that is watched in each slot
+-- Returns an observer of the table as notes name it, with the query that is watched in its slot.
 abbrev pub observer_of : (ℕ → Query) → Standing → Observer
 observer_of queries w = record {
   peer = w.peer;
@@ -51,7 +51,8 @@ observer_of queries w = record {
   szx = w.szx;
 }
 
--- the observer, whether it is due, its last body and its notification in flight
+-- Returns what the table shows of an observer: the observer, whether it is due, its last body and
+-- its notification in flight.
 abbrev pub shown : (ℕ → Query) → Standing → Watching
 shown queries w = record {
   observer = observer_of queries w;
@@ -60,8 +61,8 @@ shown queries w = record {
   waits = w.flight;
 }
 
--- of two observers of one peer, at most one has a notification in flight (RFC 7252 section 4.7,
--- NSTART)
+-- States that of two observers of one peer, at most one has a notification in flight (RFC 7252
+-- section 4.7, NSTART).
 abbrev pub AwaitsOne : Standing → Standing → Type 0
 AwaitsOne w other =
     is_same_peer other.peer w.peer ≡ true
@@ -73,35 +74,36 @@ abbrev pub EachAwaitsOne : List Standing → Type 0
 EachAwaitsOne [] = Unit {0}
 EachAwaitsOne (w ∷ ws) = AllByRecursion (AwaitsOne w) ws × EachAwaitsOne ws
 
--- By the queries in their slots and by the octets that rows sent, a table stands for events and
--- transitions. It shows their observers, in order, and no peer has two notifications in flight.
+-- The observers that stand for events and transitions, by the queries in their slots and by the
+-- octets that rows sent. They are the observers that these leave, in order, and no peer has two
+-- notifications in flight.
 pub record ObserversStandFor (queries : ℕ → Query) (octets : OctetsSent) (events : List Event)
     (transitions : List Transition) (ws : List Standing) : Type 0 where
   pub standing : observers_standing octets events transitions ≡ map (shown queries) ws
   pub awaited : EachAwaitsOne ws
 
--- a mark of a slot is exact for a transition: of the queries in the slots of these observers, the
--- transition changed the lines of the one in this slot, and of no other
+-- States that a mark of a slot is exact for a transition. For each of these observers, the
+-- transition changed the lines of its query if and only if the observer has this slot.
 abbrev pub IsExactMark : (ℕ → Query) → Transition → ℕ → List Standing → Type 0
 IsExactMark queries t slot ws =
     AllByRecursion (λ w. (w.slot == slot) ≡ is_change_of (queries w.slot) t) ws
 
--- an event came before a place
+-- Returns whether there is an event and it came before a place.
 abbrev pub came_before : ℕ → Option Event → Bool
 came_before place None = false
 came_before place (Some e) = nat_lt e.place place
 
--- the listing of an observer was last looked at before a place
+-- Returns whether the listing of an observer was last looked at before a place.
 abbrev pub was_looked_at_before : ℕ → List Event → Observer → Bool
 was_looked_at_before place events o =
     came_before place (last_event (is_looking_for (name_of o)) events)
 
--- no transition is later than a place
+-- States that no transition is later than a place.
 abbrev pub NoneLater : ℕ → List Transition → Type 0
 NoneLater place transitions = AllByRecursion (λ t. t.place ≤ place) transitions
 
--- what is due of a notification in flight, by the events that built and retransmitted it; nothing
--- if there is none
+-- Returns what is due for a notification in flight, by the events that built and retransmitted it.
+-- Nothing is due if there is none.
 abbrev pub notice_due : ℕ → Option Flight → Again
 notice_due now None = again.Wait
 notice_due now (Some f) = due_at now f.formed f.again

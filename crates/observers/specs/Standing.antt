@@ -28,8 +28,8 @@ use Rattle.exchange_core.specs.declared.resends.Again.{Again}
 use Rattle.exchange_core.specs.declared.resends.Again.TheVariants as again
 use Rattle.exchange_core.specs.Retransmissions.{kept_due, kept_after}
 
--- an observer as the table stores it: who it is, the slot of its query, whether it is due, the body
--- last built for it, and its notification in flight
+-- An observer as the table stores it: who it is, the slot of its query, and whether it is due. It
+-- also has the body last built for it, and its notification in flight.
 pub record Standing : Type 0 where
   pub peer : Peer
   pub token : List ℕ
@@ -40,67 +40,70 @@ pub record Standing : Type 0 where
   pub last : List ℕ
   pub flight : Option Sent
 
--- the observer of this peer and token
+-- Returns whether this is the observer of this peer and token.
 abbrev pub is_named : Peer → List ℕ → Standing → Bool
 is_named peer token w = is_same_request (peer, token) (w.peer, w.token)
 
--- the message has this Message ID
+-- Returns whether there is a message and it has this Message ID.
 abbrev pub is_sent_as : ℕ → Option Sent → Bool
 is_sent_as mid None = false
 is_sent_as mid (Some s) = mid == s.mid
 
--- an observer of this peer, to which a notification with this Message ID is in flight
+-- Returns whether a notification with this Message ID is in flight to this observer, and the
+-- observer is of this peer.
 abbrev pub has_notice : Peer → ℕ → Standing → Bool
 has_notice peer mid w = is_same_peer peer w.peer && is_sent_as mid w.flight
 
--- a notification is in flight to one of the observers of a peer
+-- Returns whether a notification is in flight to one of the observers of a peer.
 abbrev pub is_awaited : Peer → List Standing → Bool
 is_awaited peer ws = list_any (λ w. is_same_peer w.peer peer && is_some w.flight) ws
 
--- the observer is due, and no notification is in flight to its peer (RFC 7252 section 4.7, NSTART)
+-- Returns whether the observer is due, and no notification is in flight to its peer (RFC 7252
+-- section 4.7, NSTART).
 abbrev pub is_ready : List Standing → Standing → Bool
 is_ready ws w = w.due && not (is_awaited w.peer ws)
 
--- the first observer that passes a test, counted from a number on
+-- Returns the number of the first observer that passes a test. The numbers count from `i`.
 abbrev pub first_from : (Standing → Bool) → ℕ → List Standing → Option ℕ
 first_from test i [] = None
 first_from test i (w ∷ ws) = if test w then Some i else first_from test (i + 1) ws
 
--- the first index from a number on whose observer is due and free
+-- Returns the first index, from a number on, of an observer that is due and whose peer has no
+-- notification in flight.
 unfoldable pub next_ready : ℕ → List Standing → Option ℕ
 next_ready from ws = first_from (is_ready ws) from (drop from ws)
 
--- an observer after its slot may have been marked: it is due if its query is watched there
+-- Returns an observer after a slot was marked: it is due if it was due or has that slot.
 abbrev pub marked : ℕ → Standing → Standing
 marked slot w = record w { due = w.due || w.slot == slot }
 
--- an observer after a notification with a body was built for it
+-- Returns an observer after a notification with a body was built for it.
 abbrev pub noticed : Sent → List ℕ → Standing → Standing
 noticed sent body w = record w { due = false; last = body; flight = Some sent }
 
--- an observer after its listing was found unchanged
+-- Returns an observer after its listing was found unchanged.
 abbrev pub seen : Standing → Standing
 seen w = record w { due = false }
 
--- an observer after its notification was acknowledged
+-- Returns an observer after its notification was acknowledged.
 abbrev pub landed : Standing → Standing
 landed w = record w { flight = None }
 
--- what is due of a notification in flight; nothing if there is none
+-- Returns what is due for a notification in flight. Nothing is due if there is none.
 abbrev pub due_of : ℕ → Option Sent → Again
 due_of now None = again.Wait
 due_of now (Some s) = kept_due now s.resend
 
--- the notification after what was due of it
+-- Returns the notification after what was due for it was done.
 abbrev pub kept_of : ℕ → Option Sent → Option Sent
 kept_of now None = None
 kept_of now (Some s) = Some (record s { resend = kept_after (kept_due now s.resend) now s.resend })
 
--- an observer after what was due of its notification
+-- Returns an observer after what was due for its notification was done.
 abbrev pub timed : ℕ → Standing → Standing
 timed now w = record w { flight = kept_of now w.flight }
 
--- the observer with an index changes
+-- Returns the observers after the one with an index was changed.
 abbrev pub changed_at : (Standing → Standing) → ℕ → List Standing → List Standing
 changed_at change i [] = []
 changed_at change zero (w ∷ ws) = change w ∷ ws

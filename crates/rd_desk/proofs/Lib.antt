@@ -17,13 +17,13 @@
 --   A block of a registration (UploadLaws), and a simple one, whose fetch starts beside its
 -- answer (FetchStartLaws); what a step leaves on a board (StagingLaws).
 -- Ticks (ticking): how many observe and are fetched from (BoundLaws), how long the octets are that
--- may be sent again (FittingLaws); notices that are sent again (AgainLaws, observer after
---   observer AgainWalk), requests of fetches that are (RequestWalk); who gets a new notice
--- (NoticeWalk); a plan, from its beginning to its end
---   (PlanLaws; what is as before meanwhile, PlanWay), past those to whose peers a notice is planned
--- (SkipLaws) and with one observer more (PlanSteps; by what is planned for it, PlanCases), and how
--- it is carried out (CarryLaws); that nobody is told anew where nobody is due and free (IdleTicks);
--- what is dropped at the end (EndLaws),
+-- may be retransmitted (FittingLaws); notifications that are retransmitted (AgainLaws, observer
+--   after observer AgainWalk), requests of fetches that are (RequestWalk); who gets a new
+-- notification (NoticeWalk); a plan, from its beginning to its end
+--   (PlanLaws; what is as before meanwhile, PlanWay), past those to whose peers a notification is
+-- planned (SkipLaws) and with one observer more (PlanSteps; by what is planned for it, PlanCases),
+-- and how it is carried out (CarryLaws); that no notification is sent where nobody is due and free
+-- (IdleTicks); what is dropped at the end (EndLaws),
 --   and that the parts are all that a tick does (WholeTick).
 -- What steps send and note in which memory runs out, computed (examples).
 pub mod parts

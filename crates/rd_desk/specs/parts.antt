@@ -5,30 +5,30 @@
 -- - answers to writes, and the purpose of their links: Replies, Purposes
 -- - a write as it is planned, settled and staged on the board: Outcomes, Committing, Laying
 -- - a beginning: Beginnings
--- - the parts of a tick: Noticing, Planning, Resending
+-- - the parts of a tick: Noticing, Planning, Resending.
 
--- a step in progress
+-- A step in progress.
 pub mod UnderWay
--- a write that arrives; a listing that is built and kept, a client that asks to observe (RFC 7252
--- section 4.5, RFC 7959 section 2.4, RFC 7641 section 4.1)
+-- A write that arrives, a listing that is built and kept, and a client that asks to observe (RFC
+-- 7252 section 4.5, RFC 7959 section 2.4, RFC 7641 section 4.1).
 pub mod Hearing
 pub mod Lookups
--- what a response to a fetch does if memory suffices (RFC 9176 section 5.1)
+-- What a response to a fetch does if memory suffices (RFC 9176 section 5.1).
 pub mod Responding
--- how an admitted write is settled or fails, what is planned of it, its answer (RFC 7252 sections
--- 4.2 and 4.5, RFC 9176 section 5)
+-- How an admitted write is settled or fails, what is planned for it, and its answer (RFC 7252
+-- sections 4.2 and 4.5, RFC 9176 section 5).
 pub mod Committing
 pub mod Outcomes
 pub mod Replies
--- the purpose of the links of a body (RFC 9176 sections 5 and 5.3.3)
+-- The purpose of the links of a body (RFC 9176 sections 5 and 5.3.3).
 pub mod Purposes
--- what a part of a step stages on the board
+-- What a part of a step stages on the board.
 pub mod Laying
--- the entry that a beginning makes ready (this project's profile)
+-- The entry that a beginning makes ready (this project's profile).
 pub mod Beginnings
--- what a tick does with a notification in flight (RFC 7641 section 4.5)
+-- What a tick does with a notification in flight (RFC 7641 section 4.5).
 pub mod Noticing
--- what a tick does with the requests of fetches, what it plans of its notifications and how a plan
--- is carried out (RFC 7252 section 4.2, RFC 7641 section 4.2)
+-- What a tick does with the requests of fetches, what it plans for its notifications, and how a
+-- plan is carried out (RFC 7252 section 4.2, RFC 7641 section 4.2).
 pub mod Resending
 pub mod Planning

@@ -3,7 +3,8 @@ use Rattle.std.specs.Prelude.{ℕ, List}
 use Rattle.rd_base.specs.declared.peers.Peer.{Peer}
 use Rattle.event_model.specs.KeptAnswers.{Answer}
 
--- a body to be kept under its tag, with the peer that asked for it, and its datagram
+-- A body to be kept under its tag, with the peer that requested it, and the datagram of the
+-- request.
 pub record Keep : Type 0 where
   pub peer : Peer
   pub datagram : List ℕ

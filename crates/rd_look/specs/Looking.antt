@@ -21,8 +21,9 @@ use Rattle.rd_look.specs.declared.looks.Found.TheVariants as found
 use Rattle.rd_look.specs.declared.looks.Looked.{Looked}
 use Rattle.rd_look.specs.declared.looks.Looked.TheVariants as ended
 
--- The result of a look that found this: 2.03 if the client has it, 4.04 if a registration is not
--- live, and otherwise the body. A listing or source longer than a block is held.
+-- Returns the result of a look that found this: 2.03 if the client has the body, 4.04 if a
+-- registration is not live, and otherwise the body. A listing or source longer than a block is
+-- held.
 abbrev pub look_found : Message → Found → Look
 look_found m (found.Valid current) = answered (still_valid current.0)
 look_found m (found.Links links) =
@@ -31,23 +32,24 @@ look_found m (found.Links links) =
 look_found m (found.OwnLinks octets) = answered (body_reply None None (asked_block m) octets)
 look_found m found.NotLive = answered not_live
 
--- memory ran out
+-- Returns whether memory ran out.
 abbrev pub is_starved_look : Looked → Bool
 is_starved_look ended.Done = false
 is_starved_look (ended.Held job) = false
 is_starved_look ended.Starved = true
 
--- what a look does with this result, or if memory ran out
+-- Returns what a look sends with this result, or if memory ran out.
 abbrev pub look_done : Bool → Step → Message → Look → Effects
 look_done true s m given = without_memory s m
 look_done false s m given = look_sent s m (Some given)
 
--- the body that the look leaves to be kept
+-- Returns the body that the look leaves to be kept, if there is one.
 abbrev pub look_left : Bool → Look → Option Answer
 look_left true given = None
 look_left false given = body_held (Some given)
 
--- the look leaves to the worker this body to keep, which a peer asked for by a datagram, or nothing
+-- States that the look leaves to the worker a job to keep this body, which a peer requested by a
+-- datagram. If there is no body, it leaves no job.
 abbrev pub IsHeld : Peer → List ℕ → Option Answer → Looked → Type 0
 IsHeld peer datagram None ended.Done = Unit {0}
 IsHeld peer datagram None ended.Starved = Unit {0}

@@ -24,30 +24,30 @@ use Rattle.journal_model.specs.Requests.{is_discovery, is_lookup, register}
 use Rattle.rd_request.specs.declared.requests.Refused.{Refused}
 use Rattle.rd_request.specs.declared.requests.Refused.TheVariants as refused
 
--- the path is that of a discovery or of a lookup (RFC 9176 sections 4.1 and 6)
+-- Returns whether the path is that of a discovery or of a lookup (RFC 9176 sections 4.1 and 6).
 abbrev pub seeks_links : Path → Bool
 seeks_links p = is_discovery p || is_lookup p
 
--- the value of Observe begins an observation (RFC 7641 section 2)
+-- Returns whether there is a value of Observe that begins an observation (RFC 7641 section 2).
 abbrev pub begins_observation : Option ℕ → Bool
 begins_observation None = false
 begins_observation (Some value) = value == register
 
--- the answer of a refusal (RFC 7252 section 5.5.2)
+-- Returns the answer of a refusal (RFC 7252 section 5.5.2).
 abbrev pub refused_with : Refused → Reply
 refused_with (refused.Request refusal) = diagnostic (refusal_code refusal) (diagnostic_of refusal)
 refused_with refused.Query = diagnostic codes_of.bad_request (codes "query")
 refused_with refused.Payload = diagnostic codes_of.bad_request (codes "payload")
 
--- the message is refused so by its content alone: for its options first, and for anything else only
--- if none of them is refused (RFC 7252 section 5.4.1)
+-- States that the message is refused so by its content alone. Its options are refused first, and
+-- anything else only if none of them is (RFC 7252 section 5.4.1).
 abbrev pub IsRefusedBy : Refused → Message → Type 0
 IsRefusedBy (refused.Request refusal) m = refusal_of m ≡ Some refusal
 IsRefusedBy refused.Query m = refusal_of m ≡ None
 IsRefusedBy refused.Payload m = refusal_of m ≡ None
 
--- a non-confirmable message with an unrecognized critical option gets no answer (RFC 7252 section
--- 5.4.1)
+-- Returns whether the refusal is of a non-confirmable message with an unrecognized critical option,
+-- which gets no answer (RFC 7252 section 5.4.1).
 abbrev pub is_passed_over : Kind4 → Refused → Bool
 is_passed_over Non (refused.Request (refusal.BadOption number)) = true
 is_passed_over _ _ = false

@@ -20,19 +20,19 @@ use Rattle.rd_request.specs.Accepted.{message_of}
 use Rattle.rd_request.specs.Asking.{refused_with, IsRefusedBy}
 use Rattle.rd_request.specs.WriteRequests.{writes_to_registrations}
 
--- the datagram is the encoding of this message, and the message has this role (RFC 7252 section 4)
+-- A message that the datagram encodes, and that has this role (RFC 7252 section 4).
 pub record IsFor (r : Role) (datagram : List ℕ) (m : Message) : Type 0 where
   pub read : reading datagram ≡ Ok m
   pub spelled : spelling m ≡ datagram
   pub role_is : role_of m.kind m.code ≡ r
 
--- the message is a request that is refused by its content alone (RFC 7252 sections 5.4 and 5.9)
+-- A request that is refused by its content alone (RFC 7252 sections 5.4 and 5.9).
 pub record IsRefusedRequest (datagram : List ℕ) (m : Message) (refused : Refused) : Type 0 where
   pub request : IsFor role.Request datagram m
   pub answer : refusal_of_request m ≡ Some (refused_with refused)
   pub cause : IsRefusedBy refused m
 
--- the datagram is this to the directory
+-- States that the datagram is this to the directory.
 abbrev pub IsIncoming : List ℕ → Incoming → Type 0
 IsIncoming datagram (incoming.Unread fault) = reading datagram ≡ Err fault
 IsIncoming datagram incoming.Nothing = (m : Message) × IsFor role.Ignored datagram m
@@ -57,12 +57,12 @@ IsIncoming datagram (incoming.Write request) =
     IsFor role.Request datagram (message_of request)
     × (writes_to_registrations (message_of request) ≡ true)
 
--- it is a look
+-- Returns whether the datagram is a look.
 abbrev pub looks : Incoming → Bool
 looks (incoming.Look request) = true
 looks _ = false
 
--- it is a write
+-- Returns whether the datagram is a write.
 abbrev pub writes : Incoming → Bool
 writes (incoming.Write request) = true
 writes _ = false

@@ -24,8 +24,8 @@ use Rattle.journal_model.specs.Requests as requests_of
 use Rattle.rd_request.specs.declared.resources.Resource.{Resource}
 use Rattle.rd_request.specs.Resources.{is_at}
 
--- the message with this header and token, whose encoded options are the first `options` octets, and
--- whose payload is the rest
+-- Returns the message with this header and token, whose encoded options are the first `options`
+-- octets, and whose payload is the rest.
 abbrev pub kept_message : Kind4 → ℕ → ℕ → List ℕ → List ℕ → ℕ → Message
 kept_message kind code mid token octets options = record {
   kind = kind;
@@ -36,8 +36,8 @@ kept_message kind code mid token octets options = record {
   payload = drop options octets;
 }
 
--- the message is a request that is not refused by its content alone, and this was read of it: the
--- meaning of its options, its resource, and the blocks that it names (RFC 7252 section 5.10)
+-- A request that is not refused by its content alone, with what was read of it. That is the meaning
+-- of its options, its resource, and the blocks that it names (RFC 7252 section 5.10).
 pub record IsReadAs (m : Message) (path : Path) (observe accept format : Option ℕ)
     (block1 block2 : Option (List ℕ)) (proxy : Bool) (echo : Option (List ℕ)) (resource : Resource)
     (asked sent : Option Block) : Type 0 where

@@ -1,12 +1,12 @@
--- the resources that requests are about, the message of a request that is not refused (RFC 9176
--- sections 4 to 6)
+-- The resources that requests are about, and the message of a request that is not refused (RFC 9176
+-- sections 4 to 6).
 pub mod Resources
 pub mod Accepted
--- what a request asks, and the refusals that it alone decides (RFC 7252 sections 5.4.1 and 5.5.2)
+-- What a request asks, and the refusals that it alone decides (RFC 7252 sections 5.4.1 and 5.5.2).
 pub mod Asking
--- which requests write (RFC 9176 sections 5, 5.1 and 5.3)
+-- Which requests write (RFC 9176 sections 5, 5.1 and 5.3).
 pub mod WriteRequests
--- what a datagram is to the directory (RFC 7252 section 4)
+-- What a datagram is to the directory (RFC 7252 section 4).
 pub mod Incoming
--- the request that a job stores
+-- The request that a job stores.
 pub mod KeptRequests

@@ -98,7 +98,7 @@ AreTurns-row rows s starved turns may e = record {
       now-row (row rows s starved) rows e in omega (arith, m);
 }
 
--- no look is later than a moment that is handed in
+-- no look is later than a moment that is passed in
 pub turns-NoLaterLook : (rows : List Row) (moment : ℕ) → AreTurns rows → NoLaterLook moment rows
 turns-NoLaterLook rows moment turns = omega (arith, turns.in_time)
 

@@ -14,7 +14,7 @@ use Rattle.rd_seat.specs.Calls.{Call, Does, GivesMoment, GivesWord, IsHearing, I
 
 -- ---- what contracts see of a caller
 
--- what a clock shows
+-- What a clock shows.
 pub record ClockSeen : Type 0 where
   pub times : Option (List Moment)
   pub words : Option (List ℕ)
@@ -22,7 +22,7 @@ pub record ClockSeen : Type 0 where
 abbrev pub clock_seen : {T : Type 0} → clocks.Ghosts T → T → ClockSeen
 clock_seen g clock = record { times = g.times clock; words = g.words clock }
 
--- what a caller has
+-- What a caller has.
 pub record CallerSeen : Type 0 where
   pub seat : SeatSeen
   pub clock : ClockSeen
@@ -30,7 +30,7 @@ pub record CallerSeen : Type 0 where
 abbrev pub caller_seen : {C : Type 0} → clocks.Ghosts C → SeatSeen → C → CallerSeen
 caller_seen g seat clock = record { seat = seat; clock = clock_seen g clock }
 
--- what calls did to the seat, with the moments and words that the clock gave
+-- What calls did to the seat, with the moments and words that the clock returned.
 pub record CallsMade {S : Type 0} (told : S → List Datagram) (calls : List (Call S))
     (before after : CallerSeen) : Type 0 where
   pub seat : Chain (λ old c new. Does told old c new) before.seat calls after.seat
@@ -41,18 +41,18 @@ pub record CallsMade {S : Type 0} (told : S → List Datagram) (calls : List (Ca
 
 -- ---- which calls follow
 
--- time passes once
+-- Calls in which time passes once.
 pub record Ticks {S : Type 0} (calls : List (Call S)) : Type 0 where
   pub tick : Call S
   pub alone : calls ≡ tick ∷ []
   pub kind : tick.step.kind ≡ step.Tick
 
--- the job that was left is done, if there was one
+-- States that the calls do the job that was left, if there was one.
 abbrev pub DoesJob : {S : Type 0} → Option Job → List (Call S) → Type 0
 DoesJob None calls = calls ≡ []
 DoesJob (Some j) calls = (c : Call _) × (calls ≡ c ∷ []) × IsOfJob j c.step
 
--- the caller handles a datagram, and does its job at once
+-- Calls in which the caller handles a datagram, and does its job at once.
 pub record Hears {S : Type 0} (peer : Peer) (datagram : List ℕ) (calls : List (Call S))
     : Type 0 where
   pub hear : Call S
@@ -61,7 +61,7 @@ pub record Hears {S : Type 0} (peer : Peer) (datagram : List ℕ) (calls : List 
   pub hearing : IsHearing peer datagram hear
   pub done : DoesJob hear.left job
 
--- time passes, if the flag says so
+-- States that time passes once if the flag says so, and that there is no call otherwise.
 abbrev pub TicksWhere : {S : Type 0} → Bool → List (Call S) → Type 0
 TicksWhere true calls = Ticks calls
 TicksWhere false calls = calls ≡ []

@@ -22,26 +22,26 @@ use Rattle.rd_seat.specs.Seats.{SeatSeen, IsOfHall, MakesStep, LooksAtMet}
 
 -- ---- one call
 
--- A call of the seat: its step, whether it ran out of memory, its output in the caller's own form,
--- and the job that it left to the caller.
+-- A call of the seat: its step, and whether it ran out of memory. It also has its output in the
+-- caller's own form, and the job that it left to the caller.
 pub record Call (S : Type 0) : Type 0 where
   pub step : Step
   pub starved : Bool
   pub sent : S
   pub left : Option machine.Job
 
--- the last row of a journal leaves this to its caller
+-- States that the last row of a journal leaves this job to its caller, or none.
 abbrev pub IsLeftBy : List Row → Option machine.Job → Type 0
 IsLeftBy [] left = ⊥
 IsLeftBy (r ∷ before) left = left ≡ job_left r before
 
--- the job to keep the body that a look leaves
+-- Returns the job to keep the body that a look leaves, if it leaves one.
 abbrev pub job_kept : Option Answer → Step → Option machine.Job
 job_kept None s = None
 job_kept (Some found) s =
     Some (record { kind = step.Keep found.body found.tag; peer = s.peer; datagram = s.datagram })
 
--- The call made a row at a turn of the seat, which still belongs to its hall, and the caller's
+-- A call that made a row at a turn of the seat, which still belongs to its hall. The caller's
 -- output is what the row sent: `told` says which datagrams that is.
 pub record Rowed {S : Type 0} (told : S → List Datagram) (before : SeatSeen) (c : Call S)
     (after : SeatSeen) : Type 0 where
@@ -50,7 +50,7 @@ pub record Rowed {S : Type 0} (told : S → List Datagram) (before : SeatSeen) (
   pub made : MakesStep before c.step c.starved (told c.sent) after
   pub left : IsLeftBy after.seen c.left
 
--- the call was a look, and the caller's output is what the look sent
+-- A call that was a look. The caller's output is what the look sent.
 pub record Viewed {S : Type 0} (told : S → List Datagram) (before : SeatSeen) (c : Call S)
     (after : SeatSeen) : Type 0 where
   pub of_hall : IsOfHall before.hall after
@@ -59,19 +59,19 @@ pub record Viewed {S : Type 0} (told : S → List Datagram) (before : SeatSeen) 
   pub looks : LooksAtMet before c.step c.starved (told c.sent) held after
   pub left : c.left ≡ job_kept held c.step
 
--- what a call did to the seat
+-- States what a call did to the seat: it made a row, or was a look.
 abbrev pub Does : {S : Type 0} → (S → List Datagram) → SeatSeen → Call S → SeatSeen
     → Type 0
 Does told before c after = Rowed told before c after ⊎ Viewed told before c after
 
--- the call handles this datagram
+-- A call that handles this datagram.
 pub record IsHearing {S : Type 0} (peer : Peer) (datagram : List ℕ) (c : Call S)
     : Type 0 where
   pub kind : c.step.kind ≡ hearing datagram
   pub peer_of : c.step.peer ≡ peer
   pub datagram_of : c.step.datagram ≡ datagram
 
--- the step is that of the job
+-- A step that does the job.
 pub record IsOfJob (j : machine.Job) (s : Step) : Type 0 where
   pub kind : s.kind ≡ j.kind
   pub peer : s.peer ≡ j.peer
@@ -79,13 +79,13 @@ pub record IsOfJob (j : machine.Job) (s : Step) : Type 0 where
 
 -- ---- jobs as a caller holds them
 
--- the job that is left
+-- Returns the job that is left, if there is one.
 abbrev pub job_held : SeatHeard → Option Job
 job_held heard.Done = None
 job_held (heard.Held j) = Some j
 job_held heard.Starved = None
 
--- the step that the job is for, if its admission has this place
+-- Returns the step that does the job, if the admission of a write has this place.
 abbrev pub job_at : ℕ → Job → machine.Job
 job_at place (job.Write j) =
     record { kind = step.Commit place; peer = j.peer; datagram = j.datagram }
@@ -95,13 +95,14 @@ job_at place (job.Keep j) = record {
   datagram = j.datagram;
 }
 
--- ---- what the clock gave
+-- ---- what the clock returned
 
--- the call's moment is the one that the clock gave before it
+-- States that the call's moment is the one that the clock returned before it.
 abbrev pub GivesMoment : {S : Type 0} → List Moment → Call S → List Moment → Type 0
 GivesMoment before c now = GivesFirst (record { 0 = 0 }) c.step.handed before now
 
--- a datagram and a tick take a word, which a look does not use; a job takes none
+-- States which words steps take from the clock. A datagram and a tick take a word, which a look
+-- does not use; a job takes none.
 abbrev pub GivesWordTo : StepKind → ℕ → List ℕ → List ℕ → Type 0
 GivesWordTo step.Admit word before now = GivesFirst 0 word before now
 GivesWordTo step.Look word before now = now ≡ but_first before

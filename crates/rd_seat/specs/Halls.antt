@@ -17,13 +17,13 @@ use Rattle.version_board.specs.Ends.{PublisherSeen}
 use Rattle.rd_seat.specs.declared.shared_desk.SharedDesk.{SharedDesk}
 use Rattle.rd_seat.specs.Turns.{IsDeskRow, IsPublished}
 
--- The rows are one history of the hall: each is the row of a step of the desk after those before
--- it, and none is of a look. The registrations are the replay of their entries, which is legal and
--- contains each accepted request once, despite duplicates. An observer that is not due was last
--- given the current listing. Equal tags mean one state. Answers whose bodies were built in these
--- rows are what the headline says, along with all that it says of moments, answers, observers,
--- fetches and kept answers (`WholeDeskHeadline`). The published version stands for the same
--- entries.
+-- The rows of a hall between two turns. They are one history: each is the row of a step of the desk
+-- after those before it, and none is of a look. The registrations are the replay of their entries,
+-- which is legal and contains each accepted request once, despite duplicates. An observer that is
+-- not due was last sent the current listing. Equal tags mean one state. Answers whose bodies were
+-- built in these rows are what the headline says, along with all that it says of moments, answers,
+-- observers, fetches and kept answers (`WholeDeskHeadline`). The published version stands for the
+-- same entries.
 pub record IsHistoryOfHall (rows : List Row) (desk : Shown PublisherSeen) : Type 0 where
   pub journal : IsDeskJournal rows
   pub no_look : AllByRecursion IsDeskRow rows
@@ -31,29 +31,29 @@ pub record IsHistoryOfHall (rows : List Row) (desk : Shown PublisherSeen) : Type
   pub headline : WholeDeskHeadline rows
   pub published : IsPublished (entries rows) desk.board
 
--- The rule of the turn holds of a hall of this many workers, between any two steps on the lock's
--- word and slot. By the ghosts, the desk replays its rows.
+-- States that the rule of the turn holds of a hall of this many workers, between any two steps on
+-- the lock's word and slot. By the ghosts, the desk replays its rows.
 abbrev pub KeptByHall : Ghosts SharedDesk Row (List ℕ) → List ℕ → ℕ
     → State (Option SharedDesk) (View Row (List ℕ)) → Type 0
 KeptByHall g name workers s = Kept g.stands g.number g.label name workers s
 
--- the lock holds the desk, which stands for these rows, which are one history of the hall
+-- The desk that the lock holds. It stands for these rows, which are one history of the hall.
 pub record HoldsHistory (rows : List Row) (s : State (Option SharedDesk) (View Row (List ℕ)))
     : Type 0 where
   pub shared : SharedDesk
   pub home : get_elem? s.homes 0 ≡ some (some (Some shared))
   pub history : IsHistoryOfHall rows shared.desk.value
 
--- If the turn is free, the desk that the lock holds stands for one such history.
+-- States that if the turn is free, the desk that the lock holds stands for such a history.
 abbrev pub HallsHoldHistory : Ghosts SharedDesk Row (List ℕ) → Type 0
 HallsHoldHistory g = (name : List ℕ) (workers : ℕ)
     (s : State (Option SharedDesk) (View Row (List ℕ)))
     → (kept : KeptByHall g name workers s) → kept.held ≡ false → HoldsHistory kept.history s
 
--- At any time a journal is that of the hall's seats. Each row is of one of the workers, whose
--- numbers are below their count. The rows of a worker are exactly what its seat made, in order.
--- Until a seat makes a row, the journal is empty: nothing was done before the seats were handed
--- out, and only seats do anything.
+-- States that at any time a journal is that of the hall's seats. Each row is of one of the workers,
+-- whose numbers are below their count. The rows of a worker are exactly those that its seat made,
+-- in order. Until a seat makes a row, the journal is empty: nothing was done before the seats
+-- existed, and only seats do anything.
 abbrev pub RowsAreOfSeats : Ghosts SharedDesk Row (List ℕ) → Type 0
 RowsAreOfSeats g = (name : List ℕ) (workers : ℕ)
     (s : State (Option SharedDesk) (View Row (List ℕ)))

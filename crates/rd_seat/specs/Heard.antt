@@ -14,13 +14,13 @@ use Rattle.rd_seat.specs.Jobs.{IsOpenJob, LeavesJob, last_place}
 use Rattle.rd_seat.specs.Seats.{SeatSeen}
 use Rattle.rd_seat.specs.Steps.{commit_step, keep_step}
 
--- memory ran out
+-- Returns whether memory ran out.
 abbrev pub is_starved_hearing : SeatHeard → Bool
 is_starved_hearing heard.Done = false
 is_starved_hearing (heard.Held j) = false
 is_starved_hearing heard.Starved = true
 
--- the body that is left to be kept
+-- Returns the body that is left to be kept, if there is one.
 abbrev pub answer_in : Job → Option Answer
 answer_in (job.Write j) = None
 answer_in (job.Keep j) = Some j.answer
@@ -30,7 +30,7 @@ answer_left heard.Done = None
 answer_left (heard.Held j) = answer_in j
 answer_left heard.Starved = None
 
--- the job to keep it belongs to this peer and this datagram; no other job is left
+-- States that the job is to keep a body, and belongs to this peer and this datagram.
 abbrev pub IsKeep : Peer → List ℕ → Job → Type 0
 IsKeep peer datagram (job.Write j) = ⊥
 IsKeep peer datagram (job.Keep j) = (j.peer ≡ peer) × (j.datagram ≡ datagram)
@@ -39,7 +39,7 @@ abbrev pub IsKeepOf : Peer → List ℕ → SeatHeard → Type 0
 IsKeepOf peer datagram (heard.Held j) = IsKeep peer datagram j
 IsKeepOf peer datagram _ = Unit {0}
 
--- the last row leaves this write to the worker, or no job
+-- States that the last row leaves this write to the worker, or no job.
 abbrev pub LeavesAs : Job → List Row → Type 0
 LeavesAs (job.Write j) rows = LeavesJob (admitted.Held j) rows
 LeavesAs (job.Keep j) rows = ⊥
@@ -49,18 +49,18 @@ LeavesWrite heard.Done rows = LeavesJob admitted.Done rows
 LeavesWrite (heard.Held j) rows = LeavesAs j rows
 LeavesWrite heard.Starved rows = LeavesJob admitted.Starved rows
 
--- the admission of a write has this place in what the seat has seen, and is open
+-- States that the admission of a write has this place in what the seat has seen, and is open.
 abbrev pub IsOpenWrite : ℕ → SeatSeen → Job → Type 0
 IsOpenWrite place seat (job.Write j) = IsOpenJob place seat j
 IsOpenWrite place seat (job.Keep j) = Unit {0}
 
--- the job that is left, if any, may be done next: the admission of a write is open, at the place of
--- the last row that the seat has seen
+-- States that the job that is left, if any, may be done next. If it is a write, its admission is
+-- open, at the place of the last row that the seat has seen.
 abbrev pub MayBeDone : SeatHeard → SeatSeen → Type 0
 MayBeDone (heard.Held j) seat = IsOpenWrite (last_place seat.seen) seat j
 MayBeDone _ seat = Unit {0}
 
--- the step that does a job
+-- Returns the step that does a job.
 abbrev pub go_step : ℕ → ℕ → Moment → Job → ℕ → Step
 go_step worker place moment (job.Write j) drawn =
     commit_step worker place moment j.peer j.datagram drawn

@@ -15,15 +15,15 @@ use Rattle.coap_answers.specs.declared.mids.Mids.{Mids}
 use Rattle.version_board.specs.Ends.{LookerSeen, new_looker}
 use Rattle.rd_seat.specs.Seats.{HallSeen, SeatSeen}
 
--- the hall of a lock
+-- Returns the hall of a lock.
 abbrev pub hall_at : {T R L : Type 0} → TurnLock T R L → HallSeen
 hall_at lock = record { id = id_of lock; workers = count_of lock }
 
--- the hall of a pass
+-- Returns the hall of a pass.
 abbrev pub hall_of : {T : Type 0} {g : Ghosts T Row (List ℕ)} → Pass T Row (List ℕ) g → HallSeen
 hall_of pass = record { id = lock_of pass; workers = passes_of pass }
 
--- what a seat with these parts shows
+-- Returns what a seat with these parts shows.
 abbrev pub seat_shown : {T : Type 0} {g : Ghosts T Row (List ℕ)} → Pass T Row (List ℕ) g
     → LookerSeen
     → Mids → Moment → SeatSeen
@@ -37,10 +37,10 @@ seat_shown pass looker mids last = record {
   drawn = mids.drawn;
 }
 
--- The pass does not hold the turn and has the worker's number. Its rows are those of the worker in
--- the journal that it has seen, and each row there is of one of the hall's workers. The looker is
--- of the hall's board and has met all entries that the pass has seen. What it met is no later than
--- the seat's last row or look.
+-- A seat at rest. Its pass does not hold the turn and has the worker's number. The rows of the pass
+-- are those of the worker in the journal that it has seen, and each row there is of one of the
+-- hall's workers. The looker is of the hall's board and has met all entries that the pass has seen.
+-- What it met is no later than the seat's last row or look.
 pub record IsAtRest {T : Type 0} {g : Ghosts T Row (List ℕ)} (pass : Pass T Row (List ℕ) g)
     (looker : LookerSeen) (mids : Mids) (last : Moment) : Type 0 where
   pub idle : is_holding pass ≡ false
@@ -52,15 +52,15 @@ pub record IsAtRest {T : Type 0} {g : Ghosts T Row (List ℕ)} (pass : Pass T Ro
   pub in_time : last_moment looker.seen ≤ last.0
   pub drawn : mids.drawn < 2 ^ 64
 
--- the parts of a new seat: a pass that has seen nothing, and a looker of its lock's board that has
--- seen nothing
+-- The parts of a new seat: a pass that has seen nothing, and a looker of its lock's board that has
+-- seen nothing.
 pub record IsNewSeat {T : Type 0} {g : Ghosts T Row (List ℕ)} (hall : HallSeen) (worker : ℕ)
     (pass : Pass T Row (List ℕ) g) (looker : LookerSeen) : Type 0 where
   pub fresh : IsNew (label_of pass) (passes_of pass) worker pass
   pub of_hall : hall_of pass ≡ hall
   pub unseen : looker ≡ new_looker (label_of pass)
 
--- passes and lookers, each pair of which makes a new seat, numbered from n
+-- States that each pass and looker make a new seat, numbered from `n`.
 abbrev pub AreNewFrom : {T : Type 0} {g : Ghosts T Row (List ℕ)} → HallSeen → ℕ
     → List (Pass T Row (List ℕ) g) → List LookerSeen → Type 0
 AreNewFrom hall n [] [] = Unit {0}

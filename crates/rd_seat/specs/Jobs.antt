@@ -10,14 +10,14 @@ use Rattle.rd_desk.specs.declared.admissions.Admitted.TheVariants as admitted
 use Rattle.rd_seat.specs.Seats.{SeatSeen}
 use Rattle.rd_seat.specs.Steps.{commit_step}
 
--- the seat itself admitted the write of a job, at a place of the journal that it has seen, and
--- nothing there has ended that
+-- The open admission of a job: the seat itself admitted the write, at a place of the journal that
+-- it has seen, and nothing there has ended it.
 pub record IsOpenJob (place : ℕ) (seat : SeatSeen) (j : Write) : Type 0 where
   pub opened : IsOpenFor (commit_step seat.worker place (record { 0 = 0 }) j.peer j.datagram 0)
       place seat.seen
   pub admitted_at : opened.admission.moment.0 ≡ j.admitted
 
--- a row leaves to its worker the job of the write that it admitted
+-- A row that leaves to its worker the job of the write that it admitted.
 pub record IsLeft (j : Write) (r : Row) (before : List Row) : Type 0 where
   pub left : job_left r before ≡ Some (record {
     kind = step.Commit (length before);
@@ -30,18 +30,18 @@ pub record IsLeft (j : Write) (r : Row) (before : List Row) : Type 0 where
     admitted = r.moment.0;
   }
 
--- the last row of a journal leaves this to its worker, or no job
+-- States that the last row of a journal leaves this job to its worker, or none.
 abbrev pub LeavesJob : Admitted → List Row → Type 0
 LeavesJob _ [] = ⊥
 LeavesJob (admitted.Held j) (r ∷ before) = IsLeft j r before
 LeavesJob _ (r ∷ before) = job_left r before ≡ None
 
--- the place of the last row
+-- Returns the place of the last row.
 abbrev pub last_place : List Row → ℕ
 last_place [] = 0
 last_place (r ∷ before) = length before
 
--- the admission of the write, if there is one, is open at the place of that row
+-- States that the admission of the write, if there is one, is open at the place of that row.
 abbrev pub OpensJob : Admitted → SeatSeen → Type 0
 OpensJob (admitted.Held j) seat = IsOpenJob (last_place seat.seen) seat j
 OpensJob _ seat = Unit {0}

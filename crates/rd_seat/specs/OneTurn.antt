@@ -15,14 +15,14 @@ use Rattle.version_board.specs.Ends.{PublisherSeen, LookerSeen}
 use Rattle.rd_seat.specs.Insides.{hall_of}
 use Rattle.rd_seat.specs.Turns.{StandsAtTurn}
 
--- the looker has met what it had met before, or these entries
+-- States that the looker has met what it had met before, or these entries.
 abbrev pub HasMetOnly : List Entry → LookerSeen → LookerSeen → Type 0
 HasMetOnly history before after = (after.seen ≡ before.seen) ⊎ (after.seen ≡ history)
 
 module _ {T : Type 0} {g : Ghosts T Row (List ℕ)} where
   -- The beginning of a turn. The pass holds the turn and has seen the current journal, which
-  -- continues what it had seen with rows of others. The looker has met what is published. Any
-  -- prefix that it had met is a prefix of that, or the other way round.
+  -- continues what it had seen with rows of others. The looker has met what is published. Of that
+  -- and any prefix that it had met, one is a prefix of the other.
   pub record HasBegun (before after : Pass T Row (List ℕ) g) (was looker : LookerSeen)
       (desk : Shown PublisherSeen) : Type 0 where
     pub lock : lock_of after ≡ lock_of before

@@ -12,8 +12,8 @@ use Rattle.journal_model.specs.Seats.{IsSeat}
 use Rattle.rd_seat.specs.Seats.{HallSeen, SeatSeen, seat_of, new_seat}
 use Rattle.rd_seat.specs.Seats.{MakesStep, LooksAtMet}
 
--- the result of one call of a seat: a step at its turn, which made a row; or a look, by a seat that
--- had seen a journal, from a prefix
+-- The result of one call of a seat. It is a step at its turn, which made a row, or a look from a
+-- prefix, by a seat that had seen a journal.
 pub data Call : Type 0 where
   turn : Row → Call
   look : List Row → List Entry → Call
@@ -34,29 +34,29 @@ pub data HasCalled (hall : HallSeen) (worker : ℕ) : List Call → SeatSeen →
       → LooksAtMet before s starved sent held after
       → HasCalled hall worker (look before.seen after.met ∷ calls) after
 
--- the rows that calls made, the latest first
+-- Returns the rows that calls made, the latest first.
 abbrev pub rows_made : List Call → List Row
 rows_made [] = []
 rows_made (turn r ∷ calls) = r ∷ rows_made calls
 rows_made (look seen front ∷ calls) = rows_made calls
 
--- the prefixes from which looks were answered, the latest first
+-- Returns the prefixes from which looks were answered, the latest first.
 abbrev pub fronts_shown : List Call → List (List Entry)
 fronts_shown [] = []
 fronts_shown (turn r ∷ calls) = fronts_shown calls
 fronts_shown (look seen front ∷ calls) = front ∷ fronts_shown calls
 
--- each look's prefix begins with the entries that the seat had seen, and with the prefix of each
--- earlier look
+-- States that each look's prefix begins with the entries that the seat had seen, and with the
+-- prefix of each earlier look.
 abbrev pub FrontsGoOn : List Call → Type 0
 FrontsGoOn [] = Unit {0}
 FrontsGoOn (turn r ∷ calls) = FrontsGoOn calls
 FrontsGoOn (look seen front ∷ calls) = IsFront (entries seen) front
     × AllByRecursion (λ earlier. IsFront earlier front) (fronts_shown calls) × FrontsGoOn calls
 
--- After any calls, a seat is a seat of the journal. Its own rows are those of its worker in what it
--- has seen, each once and in order, and exactly the rows that its calls made. The prefixes of its
--- looks continue what it had seen, and each other.
+-- A seat after any calls, which is a seat of the journal. Its own rows are those of its worker in
+-- what it has seen, each once and in order, and exactly the rows that its calls made. The prefixes
+-- of its looks continue what it had seen, and each other.
 pub record IsSeatAfter (calls : List Call) (seat : SeatSeen) : Type 0 where
   pub shown : List (List Entry)
   pub front : List Entry
@@ -64,7 +64,7 @@ pub record IsSeatAfter (calls : List Call) (seat : SeatSeen) : Type 0 where
   pub rows : seat.mine ≡ rows_made calls
   pub fronts : FrontsGoOn calls
 
--- this holds of each seat, whatever its calls
+-- States that each seat is such a seat, whatever its calls.
 abbrev pub SeatsAreSeats : Type 0
 SeatsAreSeats = (hall : HallSeen) (worker : ℕ) (calls : List Call) (seat : SeatSeen)
     → HasCalled hall worker calls seat → IsSeatAfter calls seat

@@ -11,34 +11,35 @@ use Rattle.rd_seat.specs.Insides.{IsAtRest, hall_of, seat_shown}
 use Rattle.rd_seat.specs.Jobs.{LeavesJob, OpensJob}
 use Rattle.rd_seat.specs.Seats.{SeatSeen, MakesStep, LooksAtMet}
 
--- what the seat of a share shows
+-- Returns what the seat of a share shows.
 abbrev pub share_shown : Share → SeatSeen
 share_shown share = seat_shown share.pass share.looker share.mids share.last
 
--- the share is as it is between two calls
+-- States that the share is as it is between two calls.
 abbrev pub Rests : Share → Type 0
 Rests share = IsAtRest share.pass share.looker share.mids share.last
 
--- the share is of the same hall, is at rest again, and has met all that it had met before
+-- A share that is of the same hall, is at rest again, and has met all that it had met before.
 pub record GoesOnAs (before after : Share) : Type 0 where
   pub hall : hall_of after.pass ≡ hall_of before.pass
   pub rest : Rests after
   pub met : IsFront before.looker.seen after.looker.seen
 
--- the share had a turn, at which it made the row of a step
+-- A share that had a turn, at which it made the row of a step.
 pub record HasTurned (before : Share) (s : Step) (starved : Bool) (sent : List (Peer × List ℕ))
     (after : Share) : Type 0 where
   pub goes_on : GoesOnAs before after
   pub made : MakesStep (share_shown before) s starved sent (share_shown after)
 
--- the row is that of a datagram, and leaves to its worker the job of the write that it admits
+-- A share that made the row of a datagram, which leaves to its worker the job of the write that it
+-- admits.
 pub record HasAdmitted (before : Share) (s : Step) (starved : Bool) (sent : List (Peer × List ℕ))
     (result : Admitted) (after : Share) : Type 0 where
   pub turned : HasTurned before s starved sent after
   pub left : LeavesJob result (seen_of after.pass)
   pub opens : OpensJob result (share_shown after)
 
--- the share looked, from what it has met then
+-- A share that looked from what it has met by then.
 pub record HasLooked (before : Share) (s : Step) (starved : Bool) (sent : List (Peer × List ℕ))
     (held : Option Answer) (after : Share) : Type 0 where
   pub goes_on : GoesOnAs before after

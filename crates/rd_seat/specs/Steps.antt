@@ -9,11 +9,11 @@ use Rattle.journal_model.specs.declared.steps.Step.{Step}
 use Rattle.journal_model.specs.declared.steps.StepKind.TheVariants as step
 use Rattle.rd_look.specs.KeepJobs.{Keep}
 
--- the peer in the step of a tick or a beginning, which have none
+-- The peer in the step of a tick or a beginning, which have none.
 abbrev pub nobody : Peer
 nobody = record { host = host.V4 (0 ∷ 0 ∷ 0 ∷ 0 ∷ []); port = 0 }
 
--- time passes
+-- Returns the step in which time passes.
 abbrev pub tick_step : ℕ → Moment → ℕ → ℕ → Step
 tick_step worker moment word drawn = record {
   kind = step.Tick;
@@ -25,7 +25,7 @@ tick_step worker moment word drawn = record {
   drawn = drawn;
 }
 
--- a run begins above a number
+-- Returns the step in which a run begins above a number.
 abbrev pub begin_step : ℕ → Moment → ℕ → ℕ → Step
 begin_step worker moment first drawn = record {
   kind = step.Begin first;
@@ -37,7 +37,7 @@ begin_step worker moment first drawn = record {
   drawn = drawn;
 }
 
--- a datagram that is not a look is handled
+-- Returns the step in which a datagram that is not a look is handled.
 abbrev pub admit_step : ℕ → Moment → ℕ → Peer → List ℕ → ℕ → Step
 admit_step worker moment word peer datagram drawn = record {
   kind = step.Admit;
@@ -49,7 +49,7 @@ admit_step worker moment word peer datagram drawn = record {
   drawn = drawn;
 }
 
--- a look
+-- Returns the step of a look.
 abbrev pub look_step : ℕ → Moment → ℕ → Peer → List ℕ → ℕ → Step
 look_step worker moment word peer datagram drawn = record {
   kind = step.Look;
@@ -61,7 +61,7 @@ look_step worker moment word peer datagram drawn = record {
   drawn = drawn;
 }
 
--- the write admitted at a place is done
+-- Returns the step in which the write that was admitted at a place is done.
 abbrev pub commit_step : ℕ → ℕ → Moment → Peer → List ℕ → ℕ → Step
 commit_step worker place moment peer datagram drawn = record {
   kind = step.Commit place;
@@ -73,7 +73,7 @@ commit_step worker place moment peer datagram drawn = record {
   drawn = drawn;
 }
 
--- a body is kept
+-- Returns the step in which a body is kept.
 abbrev pub keep_step : ℕ → Moment → Keep → ℕ → Step
 keep_step worker moment job drawn = record {
   kind = step.Keep job.answer.body job.answer.tag;
@@ -85,7 +85,7 @@ keep_step worker moment job drawn = record {
   drawn = drawn;
 }
 
--- an entry that no step made
+-- An entry that no step made.
 abbrev pub no_entry : Entry
 no_entry = record {
   moment = record { 0 = 0 };
@@ -94,7 +94,7 @@ no_entry = record {
   change = change.Remove 0;
 }
 
--- the first of a list of entries
+-- Returns the first of a list of entries, or `no_entry` if there is none.
 abbrev pub first_entry : List Entry → Entry
 first_entry [] = no_entry
 first_entry (entry ∷ more) = entry

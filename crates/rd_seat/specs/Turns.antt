@@ -11,24 +11,24 @@ use Rattle.rd_desk.specs.calls.Shown.{Shown}
 use Rattle.rd_desk.specs.calls.Staging.{staged_after}
 use Rattle.version_board.specs.Ends.{PublisherSeen}
 
--- the row is not of a look
+-- States that the row is not of a look.
 abbrev pub IsDeskRow : Row → Type 0
 IsDeskRow r = is_look r.step.kind ≡ false
 
--- the rows that a desk made at turns: a journal of a desk without looks, in which no moment is
--- later than that of the last row
+-- The rows that a desk made at turns: a journal of a desk without looks, in which no moment is
+-- later than that of the last row.
 pub record AreTurns (rows : List Row) : Type 0 where
   pub journal : IsDeskJournal rows
   pub no_look : AllByRecursion IsDeskRow rows
   pub in_time : latest rows ≤ now rows
 
--- the published version stands for a history
+-- A board whose published version stands for a history.
 pub record IsPublished (history : List Entry) (board : PublisherSeen) : Type 0 where
   pub version : Version
   pub is : board.published ≡ Some version
   pub stands : VersionStandsFor 0 history version
 
--- Between two turns, the desk stands for the journal of desk rows, and its board exposes the
+-- The desk between two turns. It stands for the journal of desk rows, and its board exposes the
 -- entries. The published version stands for them, and nothing is staged.
 pub record StandsAtTurn (rows : List Row) (desk : Shown PublisherSeen) : Type 0 where
   pub turns : AreTurns rows
@@ -37,11 +37,11 @@ pub record StandsAtTurn (rows : List Row) (desk : Shown PublisherSeen) : Type 0 
   pub published : IsPublished (entries rows) desk.board
   pub staged : desk.board.staged ≡ None
 
--- a row makes this entry, or none
+-- States that a row makes this entry, or none.
 abbrev pub MakesAtMost : Entry → Row → Type 0
 MakesAtMost entry r = (entries_of r ≡ []) ⊎ (entries_of r ≡ entry ∷ [])
 
--- After the step of a row, and before its staged version is published, the desk stands for the
+-- The desk after the step of a row, before its staged version is published. It stands for the
 -- journal with the row. The board still exposes the entries before it.
 pub record HasStepped (entry : Entry) (r : Row) (worker : ℕ) (rows : List Row)
     (desk : Shown PublisherSeen) : Type 0 where
@@ -52,7 +52,7 @@ pub record HasStepped (entry : Entry) (r : Row) (worker : ℕ) (rows : List Row)
   pub staged : desk.board.staged ≡ staged_after (entries_of r) desk.tables.version None
   pub most : MakesAtMost entry r
 
--- a board after the staged version was published, if there was one
+-- Returns a board after the staged version was published, if there was one.
 abbrev pub published_with : Option Version → Entry → PublisherSeen → PublisherSeen
 published_with None entry p = p
 published_with (Some version) entry p = record {

@@ -294,7 +294,7 @@ turned_waits a octets past now talk x n e stands = (
       (sends_none x n),
 )
 
--- by one at which the request is sent again
+-- by one at which the request is retransmitted
 pub turned_sends : (a : Asked) (octets : List ℕ) (past : List Event) (now : Moment)
     (talk : Talking) (to : Peer) (bytes : List ℕ) (x y : Option (List Datagram)) (n m : ℕ)
     → is_sent_again a (is_quiet a past) now.0 (sent_again a past) ≡ true

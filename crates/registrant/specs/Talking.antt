@@ -27,8 +27,8 @@ use Rattle.client_model.specs.Verdicts.{is_quiet, last_sent, sent_again, verdict
 use Rattle.registrant.specs.declared.verdicts.TalkAgain.{TalkAgain}
 use Rattle.registrant.specs.declared.verdicts.TalkAgain.TheVariants as again
 
--- a pending request: its octets, when it was first sent, when it is retransmitted, and whether it
--- was acknowledged
+-- A pending request: its octets, when it was first sent, when it is retransmitted, and whether it
+-- was acknowledged.
 pub record Talking : Type 0 where
   pub request : Request
   pub octets : List ℕ
@@ -36,7 +36,8 @@ pub record Talking : Type 0 where
   pub resend : Retransmission
   pub quiet : Bool
 
--- the retransmission state of a request that was retransmitted at these moments, newest first
+-- Returns the retransmission state of a request that was retransmitted at these moments, newest
+-- first.
 abbrev pub resent : Asked → List ℕ → Retransmission
 resent a sent = record {
   sent = last_sent a sent;
@@ -44,7 +45,7 @@ resent a sent = record {
   again = length sent;
 }
 
--- what is stored of a request after these events, newest first
+-- Returns what is stored of a request after these events, newest first.
 abbrev pub talking : Asked → List ℕ → List Event → Talking
 talking a octets past = record {
   request = a.request;
@@ -54,7 +55,7 @@ talking a octets past = record {
   quiet = is_quiet a past;
 }
 
--- a request that is made now
+-- Returns a request as it is made at a moment.
 abbrev pub asked_now : Ask → ℕ → List ℕ → ℕ → ℕ → Asked
 asked_now ask mid token at word = record {
   request = request_of ask mid token;
@@ -62,25 +63,25 @@ asked_now ask mid token at word = record {
   word = word;
 }
 
--- this is stored of a request with these octets after these events, none of which decides it
+-- What is stored of a request with these octets after these events, none of which decides it.
 pub record StandsFor (a : Asked) (octets : List ℕ) (past : List Event)
     (t : Talking) : Type 0 where
   pub kept : t ≡ talking a octets past
   pub undecided : verdict a past ≡ None
 
--- what is due of a request that was not acknowledged
+-- Returns what is due for a request that was not acknowledged.
 abbrev pub again_by : Again → TalkAgain
 again_by due.Wait = again.Wait
 again_by due.Send = again.Send
 again_by due.GaveUp = again.Over outcome.GaveUp
 
--- what is due of a request at a moment
+-- Returns what is due for a request at a moment.
 abbrev pub due_by : Bool → ℕ → Talking → TalkAgain
 due_by true now t =
     if nat_le (t.at + MAX_TRANSMIT_WAIT) now then again.Over outcome.Silent else again.Wait
 due_by false now t = again_by (kept_due now t.resend)
 
--- what is stored of it then
+-- Returns what is stored of a request after what was due for it at a moment.
 abbrev pub kept_by : Bool → ℕ → Talking → Talking
 kept_by true now t = t
 kept_by false now t = record t { resend = kept_after (kept_due now t.resend) now t.resend }

@@ -37,8 +37,8 @@ use Rattle.registrant.specs.Talking.{Talking, StandsFor}
 
 -- ---- a link and a clock
 
--- what a link and a clock expose: the datagrams still to come and those sent, how many receives and
--- sends failed, and the moments and words still to be given
+-- What a link and a clock expose: the datagrams still to come and those sent, and how many receives
+-- and sends failed. Then the moments and words still to come.
 pub record Outside : Type 0 where
   pub coming : Option (List Datagram)
   pub gone : Option (List Datagram)
@@ -47,15 +47,15 @@ pub record Outside : Type 0 where
   pub times : Option (List Moment)
   pub words : Option (List ℕ)
 
--- a moment is the next that the clock gave
+-- States that a moment is the next that the clock returned.
 abbrev pub IsTimed : Moment → Option (List Moment) → Option (List Moment) → Type 0
 IsTimed now before after = WhereTold (GivesFirst (record { 0 = 0 }) now) before after
 
--- a word is the next that the clock gave
+-- States that a word is the next that the clock returned.
 abbrev pub IsSpoken : ℕ → Option (List ℕ) → Option (List ℕ) → Type 0
 IsSpoken word before after = WhereTold (GivesFirst 0 word) before after
 
--- a datagram was sent, or its send failed and was counted
+-- A datagram that was sent, or whose send failed and was counted.
 pub record SendsOne
     (datagram : Datagram)
     (gone : Option (List Datagram))
@@ -67,7 +67,7 @@ pub record SendsOne
   pub adds : WhereTold (AddsLast went datagram) gone gone_after
   pub counts : CountsSent faults faults_after went
 
--- these datagrams were sent in order, except those whose send failed and was counted
+-- States that these datagrams were sent in order, except those whose send failed and was counted.
 abbrev pub Sends : List Datagram
     → Option (List Datagram)
     → ℕ
@@ -84,21 +84,21 @@ Sends (datagram ∷ datagrams) sent faults sent_after faults_after =
 
 -- ---- an event
 
--- the event that a receive makes of the datagrams that are coming: the first of them, or a tick if
--- none is left or if the first is too long, which is lost
+-- States that a receive makes this event of the datagrams that are coming. It is the first of them,
+-- or a tick if none is left or if the first is too long, which is lost.
 abbrev pub TakesEvent : Event → List Datagram → List Datagram → Type 0
 TakesEvent (event.Came now peer octets) before after = before ≡ (peer, octets) ∷ after
 TakesEvent (event.Tick now) before after =
     ((before ≡ []) × (after ≡ []))
     ⊎ ((long : Datagram) × ((MAX_DATAGRAM < length long.1) × (before ≡ long ∷ after)))
 
--- the moment of an event
+-- Returns the moment of an event.
 abbrev pub moment_at : Event → Moment
 moment_at (event.Came now peer octets) = now
 moment_at (event.Tick now) = now
 
--- an event of a request with these octets, after the past events: it comes from what is coming, at
--- the next moment of the clock, and what it causes is sent
+-- An event of a request with these octets, after the past events. It comes from what is coming, at
+-- the next moment of the clock, and what it causes is sent.
 pub record Happens
     (a : Asked)
     (octets : List ℕ)
@@ -113,7 +113,7 @@ pub record Happens
   pub words : Stays before.words after.words
   pub receives : after.recv_faults ≡ before.recv_faults
 
--- a receive failed and was counted, and the clock was read after it
+-- A receive that failed and was counted. The clock was read after it.
 pub record Fails (before after : Outside) : Type 0 where
   pub coming : Stays before.coming after.coming
   pub now : Moment
@@ -124,7 +124,7 @@ pub record Fails (before after : Outside) : Type 0 where
   pub counted : before.recv_faults ≤ after.recv_faults
   pub rose : Rose before.recv_faults after.recv_faults
 
--- a datagram was taken that could not be handled because memory ran out
+-- A datagram that was taken and could not be handled because memory ran out.
 pub record Loses (before after : Outside) : Type 0 where
   pub lost : Datagram
   pub coming : WhereTold (λ old new. old ≡ lost ∷ new) before.coming after.coming
@@ -135,7 +135,7 @@ pub record Loses (before after : Outside) : Type 0 where
   pub words : Stays before.words after.words
   pub receives : after.recv_faults ≡ before.recv_faults
 
--- what a link and a clock expose, from what each exposes
+-- Returns what a link and a clock expose, from what each exposes.
 abbrev pub seen : {L C : Type 0}
     → (L → Option (List Datagram))
     → (L → Option (List Datagram))
@@ -155,7 +155,8 @@ seen coming gone recv_faults send_faults times words link clock = record {
   words = words clock;
 }
 
--- a request ends by the link only if a receive failed and was counted; otherwise that count stays
+-- States that the count of failed receives rises if a request ends by the link, and does not change
+-- otherwise.
 abbrev pub CountsEnd : ℕ → ℕ → Result Outcome TellFault → Type 0
 CountsEnd before now (Ok o) = now ≡ before
 CountsEnd before now (Err fault.Link) = (before ≤ now) × Rose before now
@@ -163,19 +164,20 @@ CountsEnd before now (Err fault.Starved) = now ≡ before
 
 -- ---- a turn
 
--- the same of one receive
+-- States the same of one receive.
 abbrev pub CountsTurn : ℕ → ℕ → Turn → Type 0
 CountsTurn before now turn.Going = now ≡ before
 CountsTurn before now (turn.Over r) = CountsEnd before now r
 
--- the result of an event is not an end by the link
+-- States that the result of an event is not an end by the link.
 abbrev pub IsNoLink : Turn → Type 0
 IsNoLink turn.Going = ⊤
 IsNoLink (turn.Over (Ok o)) = ⊤
 IsNoLink (turn.Over (Err fault.Link)) = ⊥
 IsNoLink (turn.Over (Err fault.Starved)) = ⊤
 
--- a datagram could not be handled, and nothing was sent; a tick does not allocate
+-- States that a datagram could not be handled, and that nothing was sent. A tick does not allocate,
+-- so it is none.
 abbrev pub IsUnheard : Event
     → Option (List Datagram)
     → ℕ
@@ -186,7 +188,7 @@ IsUnheard (event.Came now peer octets) sent faults sent_after faults_after =
     Sends [] sent faults sent_after faults_after
 IsUnheard (event.Tick now) sent faults sent_after faults_after = ⊥
 
--- what became of a request by an event, and what was sent
+-- States what became of a request by an event, and what was sent.
 abbrev pub IsTurned : Asked
     → List ℕ
     → List Event
@@ -208,8 +210,8 @@ IsTurned a octets past e (turn.Over (Err fault.Link)) talk sent faults sent_afte
 IsTurned a octets past e (turn.Over (Err fault.Starved)) talk sent faults sent_after faults_after =
     IsUnheard e sent faults sent_after faults_after
 
--- a receive makes one event, after which nothing is decided or the verdict is; or the receive
--- failed; or the datagram could not be handled
+-- States that a receive made one event, after which nothing is decided or the verdict is. Otherwise
+-- the receive failed, or the datagram could not be handled.
 abbrev pub IsTaken : Asked
     → List ℕ
     → List Event

@@ -442,7 +442,7 @@ resent octets events fs n p now i f y e stands at inside is y_is note_is moment_
     ∙ ap (changed_first (is_of p) (λ x. after_due again.Send now f)) (sym stands.running))))
     refl stands
 
--- what is not sent again is as it was
+-- what is not retransmitted is as it was
 pub not_resent : (now : ℕ) (f : Fetch)
     → due_of now f ≢ again.Send
     → after_due (due_of now f) now f ≡ f

@@ -284,7 +284,7 @@ fetch_of-Gathered octets p place moment word bytes tag events same =
         ≡ with_block bytes tag (fetch_asked octets events p x r)
     changed x r = rw came (rw (first (gathered p events), body (gathered p events)) refl)
 
--- the request was sent again
+-- the request was retransmitted
 pub fetch_of-Resent : (octets : OctetsSent) (p : Peer) (place moment word : ℕ) (events : List Event)
     → is_same_peer p p ≡ true
     → fetch_of octets (event_at place moment word (note.Resent p) ∷ events) p

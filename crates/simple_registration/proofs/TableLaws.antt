@@ -394,7 +394,7 @@ stands-changed octets p x y e events t more no_start as_before others was is cha
       started = counted ∙ (stands.started ∙ sym (started-aside e events no_start));
     }
 
--- its request was sent again
+-- its request was retransmitted
 pub stands-resent : (octets : OctetsSent) (p : Peer) (x : Fetch) (now : ℕ) (e : Event)
     (events : List Event) (t more : Table)
     → e.note ≡ note.Resent p

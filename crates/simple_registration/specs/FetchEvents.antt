@@ -49,38 +49,39 @@ use Rattle.simple_registration.specs.declared.starts.StartFault.TheVariants as f
 use Rattle.simple_registration.specs.Responses.{has_names_of, heard_block, heard_by}
 use Rattle.simple_registration.specs.Table.{Table}
 
--- a table stands for events, and for the octets that rows sent: its fetches are those in progress,
--- and it counts those that started
+-- A table that stands for events and for the octets that rows sent. Its fetches are those in
+-- progress, and it counts those that started.
 pub record FetchesStandFor (octets : OctetsSent) (events : List Event) (t : Table) : Type 0 where
   pub running : t.fetches ≡ fetches_running octets events
   pub started : t.started ≡ fetches_started events
 
--- the reason for which no fetch of a peer starts after these events: one is in progress, or the
--- most allowed are
+-- Returns the reason why no fetch of a peer starts after these events: its fetch is in progress, or
+-- as many fetches are as may be. Returns none if one starts.
 abbrev pub start_refusal : Peer → List Event → Option StartFault
 start_refusal peer events =
     if is_fetching peer events then Some (fault.Fetching peer)
     else if nat_le max_fetches (length (fetches events)) then Some fault.FullFetches
     else None
 
--- a start is refused exactly so, unless memory ran out
+-- States that a start is refused for this reason, and not refused without one, unless memory ran
+-- out.
 abbrev pub IsRefusedAs : Result Ask StartFault → Option StartFault → Type 0
 IsRefusedAs (Ok ask) refusal = refusal ≡ None
 IsRefusedAs (Err fault.Starved) refusal = Unit {0}
 IsRefusedAs (Err f) refusal = refusal ≡ Some f
 
--- a response has the token and the Message ID of a request, if there is one
+-- Returns whether there is a request, and a response has its token and its Message ID.
 abbrev pub has_names_of_request : Message → Option Request → Bool
 has_names_of_request m None = false
 has_names_of_request m (Some request) = has_names_of m request.token request.mid
 
--- a response belongs to the fetch of a peer that is in progress after these events
+-- Returns whether a response belongs to the fetch of a peer that is in progress after these events.
 abbrev pub belongs_after : Peer → Message → List Event → Bool
 belongs_after peer m events =
     is_fetching peer events && has_names_of_request m (request_of (last_request peer events))
 
--- the result of a response to a request of the fetch of a peer after these events, if a further
--- request has this Message ID
+-- Returns the result of a response to a request of the fetch of a peer after these events, if a
+-- further request has this Message ID.
 abbrev pub heard_after : ℕ → Peer → Message → Request → List Event → Heard
 heard_after mid peer m request events =
     heard_by (is_elsewhere (block_in m) (length (collected peer events)))
@@ -88,9 +89,9 @@ heard_after mid peer m request events =
     (heard_block (block_in m) mid peer request.token request.params
     (collected peer events ++ m.payload))
 
--- What is due at a moment of the fetch of a peer, by the event of its last request. Nothing is due
--- before the deadline. Then a retransmission is due, or the end of the fetch if the request was
--- retransmitted the most times allowed or was acknowledged.
+-- Returns what is due at a moment for the fetch of a peer, by the event of its last request.
+-- Nothing is due before the deadline. Then a retransmission is due, or the end of the fetch if the
+-- request was retransmitted the most times allowed or was acknowledged.
 unfoldable pub fetch_due : ℕ → Peer → Event → List Event → Again
 fetch_due now peer e events =
     if nat_le (fetch_deadline peer e events) now

@@ -13,11 +13,11 @@ use Rattle.simple_registration.specs.declared.hearing.Heard.{Heard}
 use Rattle.simple_registration.specs.declared.hearing.Heard.TheVariants as heard
 use Rattle.simple_registration.specs.Running.{sent_first, with_next}
 
--- the octets of the first request of a fetch
+-- Returns the octets of the first request of a fetch.
 abbrev pub first_octets : ℕ → List ℕ → List ℕ
 first_octets mid token = spelling (fetch_request mid token None)
 
--- a fetch that starts at a moment, in a row with a word: nothing is stored yet
+-- Returns a fetch that starts at a moment, in a row with a word: nothing is stored yet.
 abbrev pub fetch_started : ℕ → ℕ → ℕ → Peer → List ℕ → RegParams → Fetch
 fetch_started now word mid peer token params = record {
   peer = peer;
@@ -31,12 +31,12 @@ fetch_started now word mid peer token params = record {
   tag = None;
 }
 
--- the request that starts it
+-- Returns the request that starts a fetch.
 abbrev pub first_ask : ℕ → Peer → List ℕ → Ask
 first_ask mid peer token = record { peer = peer; bytes = first_octets mid token }
 
--- the fetch after a response: if the next block is requested, the block of the response is stored;
--- otherwise nothing changes
+-- States what a response leaves of a fetch. If the next block is requested, the block of the
+-- response is stored; otherwise nothing changes.
 abbrev pub IsLeftBy : Heard → ℕ → ℕ → ℕ → Message → Fetch → Fetch → Type 0
 IsLeftBy (heard.Next ask) now word mid m before after =
     (b : Block) → block_in m ≡ Some b → after ≡ with_next now word mid m b before

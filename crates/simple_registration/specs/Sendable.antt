@@ -18,8 +18,8 @@ pub record IsSendable (mid : ℕ) (octets : List ℕ) : Type 0 where
   pub spelled : octets ≡ spelling (fetch_request mid token block)
   pub fits : length octets ≤ longest_datagram
 
--- the result of a response: the next request can be sent, and the parameters of a whole body are
--- allowed
+-- States that the next request can be sent and the parameters of a whole body are allowed, where
+-- the result has them.
 abbrev pub IsSoundHeard : ℕ → Heard → Type 0
 IsSoundHeard mid (heard.Next ask) = IsSendable mid ask.bytes
 IsSoundHeard mid (heard.Whole params body) = AreAllowed params

@@ -1,6 +1,6 @@
--- peers that stand for connections (RFC 6666)
+-- Peers that stand for connections (RFC 6666).
 pub mod Peers
--- what a door opens
+-- What a listener opens.
 pub mod Doors
--- how long a peer sends no message (RFC 8323 sections 3.3, 5.5 and 5.6)
+-- How long a peer sends no message (RFC 8323 sections 3.3, 5.5 and 5.6).
 pub mod Waiting

@@ -1,5 +1,5 @@
 -- What a desk wants of a step, and of the journal with its row: a journal of the machine each of
--- whose rows was handed in as a desk wants it goes on as one of a desk.
+-- whose rows was passed in as a desk wants it goes on as one of a desk.
 use Rattle.std.proofs.Common.{◌≡◌, Bool, false, List, [], ◌∷◌, refl, sym, ap, subst, ◌∙◌}
 use Rattle.journal_model.specs.declared.steps.Step.{Step}
 use Rattle.journal_model.specs.declared.rows.Row.{Row}
@@ -11,7 +11,7 @@ use Rattle.journal_model.proofs.EventRows.{AllRows}
 use Rattle.journal_model.proofs.RowEquations.{row-step}
 use Rattle.journal_model.proofs.desks.MachineJournals.{journal-IsDeskJournal}
 
--- each row of a journal of a desk was handed in as a desk wants it
+-- each row of a journal of a desk was passed in as a desk wants it
 handed_each : (rows : List Row)
     → IsDeskJournal rows
     → AllRows (λ before r. IsHanded before r.step) rows

@@ -191,7 +191,7 @@ made_machine workers machine stands moment number each = record {
 
 -- ---- the lines
 
--- its version is of no later moment than the greatest that was handed in
+-- its version is of no later moment than the greatest that was passed in
 pub version_in_time : (machine : Machine) (moment : ℕ)
     → IsMachine machine
     → machine.latest.0 ≤ moment

@@ -19,7 +19,7 @@ pub mids_drawn-other : (worker : ℕ) (rows : List Row) (s : Step) (starved : Bo
 unfolding mids_drawn row
 mids_drawn-other worker rows s starved other = rw other refl
 
--- the greatest moment, where the one that is handed in is not below the others
+-- the greatest moment, where the one that is passed in is not below the others
 pub latest-after : (rows : List Row) (s : Step) (starved : Bool)
     → latest rows ≤ s.handed.0
     → latest (row rows s starved ∷ rows) ≡ s.handed.0

@@ -107,7 +107,7 @@ called rows s moment desk worker no_look it = record {
   drawn = it.may.drawn ∙ sym it.worker_at.drawn;
 }
 
--- what is handed in with it is as a desk wants it
+-- what is passed in with it is as a desk wants it
 pub handed : (rows : List Row) (s : Step) (moment : Moment) (desk : Seen) (worker : Worker)
     → s.word ≡ 0
     → MayStep rows s moment desk worker
@@ -118,7 +118,7 @@ handed rows s moment desk worker word it = record {
   word = λ ending. word;
 }
 
--- its row has the moment that is handed in
+-- its row has the moment that is passed in
 moment-is : (rows : List Row) (s : Step) (moment : Moment) (desk : Seen) (worker : Worker)
     → MayStep rows s moment desk worker
     → row_moment rows s ≡ moment.0

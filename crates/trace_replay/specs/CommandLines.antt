@@ -6,12 +6,12 @@ use Rattle.clap.specs.declared.error.Error.{Error}
 use Rattle.clap.specs.declared.error.kind.ErrorKind.TheVariants.{OutOfMemory}
 use Rattle.trace_replay.specs.declared.words.Words.{Words}
 
--- the values that were read are those that are asked for
+-- The values that were read, which are those that were asked for.
 pub record HasValues (asked : Words) (matches : ArgMatches) : Type 0 where
   pub workers : first_value (found_of matches) (codes "workers") ≡ option_map decimal asked.workers
   pub devices : first_value (found_of matches) (codes "make") ≡ option_map decimal asked.devices
 
--- they are read, unless memory runs out
+-- States that the arguments are read, unless memory runs out.
 abbrev pub IsRead : Words → Result ArgMatches Error → Type 0
 IsRead asked (Ok matches) = HasValues asked matches
 IsRead asked (Err error) = kind_of error ≡ OutOfMemory

@@ -5,7 +5,7 @@ use Rattle.trace_text.specs.declared.faults.LineFault.TheVariants as fault
 use Rattle.trace_replay.specs.declared.troubles.Trouble.{Trouble}
 use Rattle.trace_replay.specs.declared.troubles.Trouble.TheVariants as trouble
 
--- why a line was not done that could not be read
+-- Returns the reason why a line that could not be read was not done.
 abbrev pub trouble_of : LineFault → Trouble
 trouble_of fault.Long = trouble.Bad reason.Long
 trouble_of fault.Form = trouble.Bad reason.Form

@@ -17,22 +17,22 @@ use Rattle.std.specs.Prelude.{
   bytes_eq,
 }
 
--- the second step, if the first gave something
+-- Returns the result of the second step, if the first has a result, and otherwise none.
 infixl 10 ◌>>=◌
 abbrev pub ◌>>=◌ : {A B : Type 0} → Option A → (A → Option B) → Option B
 o >>= f = option_and_then f o
 
--- an octet in front of the first of two texts
+-- Returns the two texts with an octet in front of the first.
 abbrev pub onto_first : ℕ → List ℕ × List ℕ → List ℕ × List ℕ
 onto_first b p = (b ∷ p.0, p.1)
 
--- the text before the first separator, and the text after it
+-- Returns the text before the first separator and the text after it, if there is a separator.
 abbrev pub cut : ℕ → List ℕ → Option (List ℕ × List ℕ)
 cut separator [] = None
 cut separator (b ∷ bs) =
     if b == separator then Some ([], bs) else option_map (onto_first b) (cut separator bs)
 
--- what follows a prefix
+-- Returns what follows a prefix, if the text begins with it.
 abbrev pub after_prefix : List ℕ → List ℕ → Option (List ℕ)
 after_prefix prefix text =
     if bytes_eq (take (length prefix) text) prefix then Some (drop (length prefix) text) else None

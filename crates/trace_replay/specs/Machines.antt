@@ -42,8 +42,8 @@ use Rattle.trace_replay.specs.declared.machine.Machine.{Machine}
 use Rattle.trace_replay.specs.declared.troubles.Trouble.{Trouble}
 use Rattle.trace_replay.specs.declared.troubles.Trouble.TheVariants as trouble
 
--- the job that a worker has is one of a journal: its write was admitted at the moment of the row
--- that admitted it
+-- States that the job that a worker has is one of a journal. If it is a write, it was admitted at
+-- the moment of the row that admitted it.
 abbrev pub IsJobOf : List Row → machine_of.Job → Job → Type 0
 IsJobOf rows held (job.Write write) =
     (place : ℕ)
@@ -57,21 +57,21 @@ IsJobOf rows held (job.Keep keep) = held ≡ record {
   datagram = keep.datagram;
 }
 
--- a worker holds the job that it has after a journal, or none
+-- States that a worker holds the job that it has after a journal, or none.
 abbrev pub HoldsJob : List Row → Option machine_of.Job → Option Job → Type 0
 HoldsJob rows None None = ⊤
 HoldsJob rows (Some held) (Some job) = IsJobOf rows held job
 HoldsJob rows _ _ = ⊥
 
--- the worker with a number, after a journal: it has drawn what its rows drew, and holds the job of
--- its last row that is not a tick or a beginning
+-- The worker with a number, after a journal. It has drawn what its rows drew, and holds the job of
+-- its last row that is not a tick or a beginning.
 pub record IsWorkerAt (rows : List Row) (number : ℕ) (worker : Worker) : Type 0 where
   pub worker_is : worker.mids.worker ≡ number
   pub drawn : worker.mids.drawn ≡ mids_drawn number rows
   pub holds : HoldsJob rows (job_of number rows) worker.job
 
--- a machine with this number of workers, after a journal, which is one of the machine and one of a
--- desk
+-- A machine with this number of workers, after a journal, which is one of the machine and one of a
+-- desk.
 pub record IsMachineAt (workers : ℕ) (rows : List Row) (machine : Machine) : Type 0 where
   pub journal : IsJournal rows
   pub desk_journal : IsDeskJournal rows
@@ -81,11 +81,11 @@ pub record IsMachineAt (workers : ℕ) (rows : List Row) (machine : Machine) : T
   pub number : length machine.workers.items ≡ workers
   pub each : (number : ℕ) → IfSome (slice_get machine.workers.items number) (IsWorkerAt rows number)
 
--- a machine stands for some journal
+-- States that a machine stands for some journal.
 abbrev pub IsMachine : Machine → Type 0
 IsMachine machine = (workers : ℕ) × (rows : List Row) × IsMachineAt workers rows machine
 
--- a worker may make a step at a desk, with a moment that is no earlier than any before
+-- A worker that may make a step at a desk, with a moment that is no earlier than any before.
 pub record MayStep (rows : List Row) (s : Step) (now : Moment) (desk : Seen) (worker : Worker) :
     Type 0 where
   pub journal : IsJournal rows
@@ -96,32 +96,34 @@ pub record MayStep (rows : List Row) (s : Step) (now : Moment) (desk : Seen) (wo
   pub stands : StandsFor rows desk
   pub worker_at : IsWorkerAt rows s.worker worker
 
--- a step was made: the desk and the worker are those after its row, and what the row sends was sent
+-- A step that was made. The desk and the worker are those after its row, and what the row sends was
+-- sent.
 pub record Steps (rows : List Row) (s : Step) (desk : Seen) (worker : Worker)
     (sent : List (Peer × List ℕ)) : Type 0 where
   pub stands : StandsFor (row rows s false ∷ rows) desk
   pub worker_at : IsWorkerAt (row rows s false ∷ rows) s.worker worker
   pub sent_is : sent ≡ (row rows s false).sent
 
--- what its last step sent
+-- Returns what the last step of a machine sent.
 abbrev pub sent_of : Machine → List (Peer × List ℕ)
 sent_of machine = machine.sent
 
--- the lines of datagrams that a worker sent, in order
+-- Returns the lines of datagrams that a worker sent, in order.
 abbrev pub lines_sent : ℕ → List (Peer × List ℕ) → List ℕ
 lines_sent worker sent = flat_map (λ d. ended (out_text worker d.0 d.1)) sent
 
--- what a line made a machine send: nothing if it made no step
+-- States what a line made a machine send: nothing if it made no step.
 abbrev pub HasSent : List Row → Option Step → List (Peer × List ℕ) → Type 0
 HasSent rows None sent = sent ≡ []
 HasSent rows (Some s) sent = sent ≡ (row rows s false).sent
 
--- the rows after what a line makes
+-- Returns the rows after the step of a line, or the same rows if it made none.
 abbrev pub rows_with : List Row → Option Step → List Row
 rows_with rows None = rows
 rows_with rows (Some s) = row rows s false ∷ rows
 
--- a machine did a line; or the line is bad, and the machine is as before and sent nothing
+-- States that a machine did a line. Otherwise the line is bad, and the machine is as before and
+-- sent nothing. Nothing is said if memory ran out.
 abbrev pub Performs : ℕ
     → List Row
     → Result (Option Step) Reason
@@ -136,12 +138,12 @@ Performs workers rows (Err why) machine (Err (trouble.Bad said)) =
     (said ≡ why) × IsMachineAt workers rows machine × (sent_of machine ≡ [])
 Performs workers rows _ machine (Err trouble.Starved) = ⊤
 
--- the step that a line made, if any, is one of the worker that it names
+-- States that the step that a line made, if any, is one of the worker that it names.
 abbrev pub IsBy : Option Step → ℕ → Type 0
 IsBy None worker = ⊤
 IsBy (Some s) worker = s.worker ≡ worker
 
--- the same for the text of a line, with the worker that it names
+-- States the same for the text of a line, with the worker that it names.
 abbrev pub PerformsFor : ℕ
     → List Row
     → Result (Option Step) Reason

@@ -30,19 +30,19 @@ use Rattle.trace_replay.specs.Endings.{IsFrontOf, IsWritten}
 use Rattle.trace_replay.specs.Journal.{Journal}
 use Rattle.trace_replay.specs.Machines.{IsMachineAt}
 
--- this number of lines was done, which made these rows, and what the rows sent was counted
+-- The count after this number of lines, which made these rows. What the rows sent was counted.
 pub record IsCountedAt (workers : ℕ) (rows : List Row) (lines : ℕ) (count : Count) : Type 0 where
   pub machine : IsMachineAt workers rows count.machine
   pub lines_are : count.lines ≡ lines
   pub datagrams_are : count.datagrams ≡ length (datagrams rows)
   pub octets_are : count.octets ≡ octets_sent (datagrams rows)
 
--- some lines were done and counted
+-- States that some lines were done and counted.
 abbrev pub IsCounted : Count → Type 0
 IsCounted count =
     (workers : ℕ) × (rows : List Row) × (lines : ℕ) × IsCountedAt workers rows lines count
 
--- a line was done and counted, or is bad
+-- States that a line was done and counted, or is bad, unless memory ran out.
 abbrev pub CountsLine : ℕ → ℕ → Result (List Row) Reason → Count → Result Unit Trouble → Type 0
 CountsLine workers lines (Ok more) count (Ok done) = IsCountedAt workers more (lines + 1) count
 CountsLine workers lines (Err why) count (Ok done) = ⊥
@@ -50,19 +50,20 @@ CountsLine workers lines (Ok more) count (Err (trouble.Bad said)) = ⊥
 CountsLine workers lines (Err why) count (Err (trouble.Bad said)) = said ≡ why
 CountsLine workers lines _ count (Err trouble.Starved) = ⊤
 
--- the lines of a trace were done and counted, or one is bad
+-- States that the lines of a trace were done and counted, or that one is bad, unless memory ran
+-- out.
 abbrev pub CountsLines : ℕ → ℕ → Journal → Count → Result Unit Trouble → Type 0
 CountsLines workers lines journal count (Ok done) =
     (journal.bad ≡ None) × IsCountedAt workers journal.rows lines count
 CountsLines workers lines journal count (Err (trouble.Bad said)) = journal.bad ≡ None → ⊥
 CountsLines workers lines journal count (Err trouble.Starved) = ⊤
 
--- what is written of these rows and of the number of lines that made them
+-- Returns what is written of these rows and of the number of lines that made them.
 abbrev pub summary : ℕ → List Row → List ℕ
 summary lines rows = made_line lines ++ (sent_line (datagrams rows) ++ last_line rows)
 
--- what a sink holds after a generated trace: all that is written of it, or a prefix if the output
--- failed or memory ran out. Nothing is read, and no line is bad
+-- States what a sink holds after a generated trace: all that is written of it, or a prefix if the
+-- output failed or memory ran out. Nothing is read, and no line is bad.
 abbrev pub IsMade : List ℕ → Option (List ℕ) → Option (List ℕ) → Status → Type 0
 IsMade whole before now status.Done = Appends before now whole
 IsMade whole before now status.WriteFault =
@@ -73,8 +74,8 @@ IsMade whole before now status.ReadFault = ⊥
 IsMade whole before now status.Usage = ⊥
 IsMade whole before now (status.Line bad) = ⊥
 
--- what a sink holds after a replay, from what was asked for: of the trace of a source with these
--- octets left, or of a generated trace
+-- States what a sink holds after a replay, from what was asked for: of the trace of a source with
+-- these octets left, or of a generated trace.
 abbrev pub IsWrittenFor : Option ℕ
     → ℕ
     → Option (List ℕ)

@@ -22,18 +22,19 @@ use Rattle.transfers.specs.Uploading.{young_uploads}
 use Rattle.transfers.specs.BlockAnswers.{answer_to}
 use Rattle.transfers.specs.Keeping.{NamedAnswer}
 
--- what a table of transfers shows: its uploads, in the order in which they began, and its kept
--- answers, the latest used first
+-- What a table of transfers shows: its uploads, in the order in which they began, and its kept
+-- answers, the latest used first.
 pub record Table : Type 0 where
   pub uploads : List Upload
   pub answers : List KeptAnswer
 
--- uploads stand for events at a moment: those that are young then are the live ones by the events
+-- Uploads that stand for events at a moment: those that are young then are the live ones by the
+-- events.
 pub record UploadsStandFor (moment : ℕ) (events : List Event) (us : List Upload) : Type 0 where
   pub live : young_uploads moment us ≡ uploads_at moment events
 
--- the answer that was kept last under a name, whether its last use is young or old, with the moment
--- of that use
+-- Returns the answer that was kept last under a name, whether its last use is young or old, with
+-- the moment of that use.
 abbrev pub answer_of : List Event → RequestName → Option KeptAnswer
 answer_of events name =
     option_map (λ answer.
@@ -44,31 +45,31 @@ answer_of events name =
           (last_event (is_use_of name) events);
     }) (last_said (answer_kept name) events)
 
--- kept answers stand for events: they are those of the 64 names that were used last, whether young
--- or old, and each of these has one
+-- Kept answers that stand for events. They are those of the 64 names that were used last, whether
+-- young or old, and each of these names has one.
 pub record AnswersStandFor (events : List Event) (xs : List KeptAnswer) : Type 0 where
   pub kept : map (λ x. Some x) xs ≡ map (answer_of events) (take max_answers (names_used events))
 
--- a table stands for events at a moment
+-- A table that stands for events at a moment: its uploads and its kept answers do.
 pub record TransfersStandFor (moment : ℕ) (events : List Event) (t : Table) : Type 0 where
   pub uploads : UploadsStandFor moment events t.uploads
   pub answers : AnswersStandFor events t.answers
 
--- the answer to a block of the upload of a name after these events
+-- Returns the answer to a block of the upload of a name after these events.
 unfoldable pub block_answer : ℕ → RequestName → Block → List ℕ → List Event → BlockAnswer
 block_answer now name b piece events =
     answer_to b piece (live_upload now name events) (live_uploads now events)
 
--- the note of keeping an answer
+-- Returns the note that an answer is kept.
 abbrev pub kept_note : NamedAnswer → Note
 kept_note a = note.Kept a.name.0 a.name.1 a.answer.body a.answer.tag
 
--- an answer as it is read
+-- Returns an answer as it is read.
 abbrev pub answer_read : Bor (List ℕ) × Tag → Answer
 answer_read r = record { body = r.0.now; tag = r.1.0 }
 
--- after reading a kept answer: if one is found, the table stands for its use too; otherwise it does
--- not change
+-- States what reading a kept answer does. If one is found, the table also stands for its use;
+-- otherwise the table does not change.
 abbrev pub AfterReading : Option Answer → ℕ → Peer → List ℕ → Table → Table → Type 0
 AfterReading None now peer key old new = new ≡ old
 AfterReading (Some answer) now peer key old new =

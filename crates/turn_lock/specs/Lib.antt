@@ -1,9 +1,9 @@
--- histories of a lock, the rule of the turn, its steps
+-- Histories of a lock, the rule of the turn, and its steps.
 pub mod Histories
 pub mod Rule
 pub mod Steps
--- what contracts read of a pass and of a lock
+-- What contracts read of a pass and of a lock.
 pub mod Shown
--- their parts
+-- Their parts.
 pub mod Passes
 pub mod Endings

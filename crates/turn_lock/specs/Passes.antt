@@ -3,11 +3,11 @@ use Rattle.std.specs.Prelude.{◌≡◌, ℕ, Bool, false, cond, List, [], ◌�
 use Rattle.atomic_table.specs.Table.{Me}
 use Rattle.turn_lock.specs.declared.views.View.{View}
 
--- the slots that a pass has: the empty one while it holds the turn, otherwise none
+-- Returns the slots that a pass has: the empty one while it holds the turn, otherwise none.
 abbrev pub slots_of : {T : Type 0} → Bool → List (ℕ × Option T)
 slots_of holding = cond holding ((0, None) ∷ []) []
 
--- a pass that has seen nothing
+-- A pass that has seen nothing.
 pub record IsFresh {T R L : Type 0} (lab : L) (passes number : ℕ)
     (me : Me (Option T) (View R L)) : Type 0 where
   pub number_is : me.0.number ≡ number

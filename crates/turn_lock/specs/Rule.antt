@@ -27,11 +27,12 @@ use Rattle.atomic_table.specs.Table.{State}
 use Rattle.turn_lock.specs.Histories.{Extends, rows_of, AllBelow}
 use Rattle.turn_lock.specs.declared.views.View.{View}
 
--- the word: the length of the history modulo 2^62, and a bit that is set while the turn is held
+-- Returns the word: the length of the history modulo 2^62, and a bit that is set while the turn is
+-- held.
 abbrev pub word_of : ℕ → Bool → ℕ
 word_of n held = 2 * (n % 2 ^ 62) + cond held 1 0
 
--- what the first pass knows
+-- Returns what the first pass knows.
 abbrev pub first_view : {R L : Type 0} → L → ℕ → View R L
 first_view lab passes = record {
   number = 0;
@@ -43,20 +44,21 @@ first_view lab passes = record {
   last = true;
 }
 
--- Each row of a history is of one of `passes` passes. The rows of a pass are its own, in order.
+-- A history whose rows are each of one of `passes` passes. The rows of a pass are its own, in
+-- order.
 pub record IsOfPasses {R L : Type 0} (number : R → ℕ) (passes : ℕ) (views : List (View R L))
     (history : List R) : Type 0 where
   pub below : AllBelow number passes history
   pub own : (id : ℕ) (v : View R L) → get_elem? views id ≡ some v
       → rows_of number id history ≡ v.mine
 
--- each pass of a lock exists, and this holds of what it knows
+-- States that each pass of a lock exists, and that this holds of what it knows.
 abbrev pub OfEachPass : {R L : Type 0} → ℕ → List (View R L) → (View R L → Type 0) → Type 0
 OfEachPass passes views P = (id : ℕ) → id < passes
     → (v : View _ _) × (get_elem? views id ≡ some v) × P v
 
 module _ {T R L : Type 0} (stands : List R → T → Type 0) (number : R → ℕ) (label : T → L) where
-  -- the slot is in the lock, and its value stands for the history and has the lock's label
+  -- A slot in the lock, whose value stands for the history and has the lock's label.
   pub record IsHome (lab : L) (history : List R)
       (homes : List (mathlib.Core.Option.Option (Option T))) : Type 0 where
     pub value : T
@@ -76,7 +78,7 @@ module _ {T R L : Type 0} (stands : List R → T → Type 0) (number : R → ℕ
     --    beginning of the other. One view has seen the whole history.
     pub seen : (id : ℕ) (v : View R L) → get_elem? s.views id ≡ some v → Extends v.seen history
     pub all_seen : (id : ℕ) × (v : View R L) × (get_elem? s.views id ≡ some v) × (v.seen ≡ history)
-    -- 2. The turn is held exactly if a view holds it, and at most one does.
+    -- 2. The turn is held if and only if a view holds it, and at most one does.
     pub holder : held ≡ true
         → (id : ℕ) × (v : View R L) × (get_elem? s.views id ≡ some v) × (v.holding ≡ true)
     pub idle : held ≡ false
@@ -118,7 +120,7 @@ module _ {T R L : Type 0} (stands : List R → T → Type 0) (number : R → ℕ
         → v.last ≡ true
         → id + 1 ≡ length s.views
 
-  -- of what two views have seen, one is an earlier state of the other
+  -- States that of what two views have seen, one is an earlier state of the other.
   abbrev pub SeenInOrder : Type 0
   SeenInOrder =
       (lab : L) (passes : ℕ) (s : State (Option T) (View R L))
@@ -128,8 +130,8 @@ module _ {T R L : Type 0} (stands : List R → T → Type 0) (number : R → ℕ
       → get_elem? s.views j ≡ some w
       → Extends v.seen w.seen ⊎ Extends w.seen v.seen
 
-  -- A history is that of the lock's passes, whatever they do. Until one of them has a row of its
-  -- own, it is empty.
+  -- States that a history is that of the lock's passes, whatever they do. Until one of them has a
+  -- row of its own, it is empty.
   abbrev pub HistoryOfPasses : Type 0
   HistoryOfPasses =
       (lab : L) (passes : ℕ) (s : State (Option T) (View R L))

@@ -1,5 +1,5 @@
--- The six kinds of step. Each changes the view of the seat that makes it, and no other; m is the
--- seat before, n the seat after.
+-- The six kinds of step. Each changes the view of the seat that makes it, and no other; `m` is the
+-- seat before, `n` the seat after.
 use Rattle.std.specs.Prelude.{
   ◌≡◌,
   ℕ,
@@ -21,7 +21,7 @@ use Rattle.turn_lock.specs.Histories.{Extends, rows_of, AllBelow}
 use Rattle.turn_lock.specs.Rule.{word_of}
 use Rattle.turn_lock.specs.declared.views.View.{View}
 
--- the view after another was split off it: it loses its mark
+-- Returns the view after another was split off it: it loses its mark.
 abbrev pub kept_view : {R L : Type 0} → View R L → View R L
 kept_view v = record {
   number = v.number;
@@ -33,7 +33,8 @@ kept_view v = record {
   last = false;
 }
 
--- the view that is split off: the next number, the same history and label, and no row of its own
+-- Returns the view that is split off. It has the next number, the same history and label, and no
+-- row of its own.
 abbrev pub next_view : {R L : Type 0} → View R L → View R L
 next_view v = record {
   number = v.number + 1;
@@ -46,8 +47,8 @@ next_view v = record {
 }
 
 module _ {T R L : Type 0} (stands : List R → T → Type 0) (number : R → ℕ) (label : T → L) where
-  -- Take, on the word, from free to held: the pass holds the turn, has seen the whole history, and
-  -- has the slot, whose value stands for the history.
+  -- A take on the word, from free to held. The pass holds the turn and has seen the whole history.
+  -- It has the slot, whose value stands for the history.
   pub record Took (m n : Me (Option T) (View R L)) (found : ℕ) : Type 0 where
     pub value : T
     pub slot : n.1 ≡ (0, Some value) ∷ []
@@ -63,11 +64,11 @@ module _ {T R L : Type 0} (stands : List R → T → Type 0) (number : R → ℕ
     pub below : AllBelow number n.0.passes n.0.seen
     pub word : found ≡ word_of (length n.0.seen) false
 
-  -- Failed take, on the word: nothing changes.
+  -- States that a take on the word failed: nothing changes.
   abbrev pub DidNotTake : Me (Option T) (View R L) → Me (Option T) (View R L) → Type 0
   DidNotTake m n = n ≡ m
 
-  -- the number that was found shows which of the two it is
+  -- States that a take succeeded or failed, as the number that was found shows.
   abbrev pub Takes : Step (Option T)
       → Me (Option T) (View R L)
       → ℕ
@@ -75,20 +76,20 @@ module _ {T R L : Type 0} (stands : List R → T → Type 0) (number : R → ℕ
       → Type 0
   Takes st m found n = MatchBool (found == st.first) (Took m n found) (DidNotTake m n)
 
-  -- Slot out, by the holder: the value comes out, and the view does not change.
+  -- The slot, taken out by the holder: the value comes out, and the view does not change.
   pub record CameOut (m n : Me (Option T) (View R L)) (value : T) : Type 0 where
     pub before : m.1 ≡ (0, Some value) ∷ []
     pub after : n.1 ≡ (0, None) ∷ []
     pub view : n.0 ≡ m.0
 
-  -- Slot in, by the holder: the value goes in, and the view does not change.
+  -- The slot, put in by the holder: the value goes in, and the view does not change.
   pub record WentIn (m n : Me (Option T) (View R L)) (value : T) : Type 0 where
     pub before : m.1 ≡ (0, None) ∷ []
     pub after : n.1 ≡ (0, Some value) ∷ []
     pub view : n.0 ≡ m.0
 
-  -- the turn may be given back: the pass holds it, and the value in its slot stands for the history
-  -- with one more row, which has the number of the pass
+  -- A pass that may give the turn back. It holds the turn, and the value in its slot stands for the
+  -- history with one more row, which has the number of the pass.
   pub record IsReady (added : R) (m : Me (Option T) (View R L)) : Type 0 where
     pub value : T
     pub slot : m.1 ≡ (0, Some value) ∷ []
@@ -97,7 +98,7 @@ module _ {T R L : Type 0} (stands : List R → T → Type 0) (number : R → ℕ
     pub stands_for : stands (added ∷ m.0.seen) value
     pub label_is : label value ≡ m.0.label
 
-  -- Give, on the word, to one more row and free: the row is added to what was seen and to the
+  -- A give on the word, to one more row and free. The row is added to what was seen and to the
   -- pass's own rows, and the slot goes back into the lock.
   pub record Gave (added : R) (m n : Me (Option T) (View R L)) : Type 0 where
     pub slot : n.1 ≡ []
@@ -118,7 +119,7 @@ module _ {T R L : Type 0} (stands : List R → T → Type 0) (number : R → ℕ
       → Type 0
   Gives picked st m found n = (added : R) × (picked ≡ Some added) × Gave added m n
 
--- Split, while the lock is made: the view is split in two, and nothing else changes.
+-- A split, while the lock is made: the view is split in two, and nothing else changes.
 pub record WasSplit {T R L : Type 0} (m n new : Me (Option T) (View R L)) : Type 0 where
   pub kept : n ≡ (kept_view m.0, m.1)
   pub next : new ≡ (next_view m.0, [])

@@ -1,11 +1,11 @@
--- what a clock returns of its lists, what a list exposes before and after a call, the peer at a
--- socket's address (RFC 768, RFC 4291, this project's profile)
+-- What a clock returns of its lists, what a list exposes before and after a call, and the peer at a
+-- socket's address (RFC 768, RFC 4291, this project's profile).
 pub mod Clocks
 pub mod Told
 pub mod Addresses
--- the results of a receive and a send, and what then holds of a link (RFC 768, this project's
--- profile)
+-- The results of a receive and a send, and what then holds of a link (RFC 768, this project's
+-- profile).
 pub mod Links
--- their parts
+-- Their parts.
 pub mod Plans
 pub mod Orders

@@ -2,7 +2,7 @@
 use Rattle.std.specs.Prelude.{List, [], ◌∷◌, Option, Some, None}
 use Rattle.udp_link.specs.declared.links.LinkCall.{LinkCall}
 
--- the last call, followed by those before it, or none
+-- Returns the last call, followed by those before it, or none.
 abbrev pub order_shown : {S : Type 0} → (S → List LinkCall) → Option (LinkCall × S)
     → List LinkCall
 order_shown shown None = []

@@ -3,10 +3,11 @@ use Rattle.std.specs.Prelude.{◌≡◌, ◌+◌, ◌-◌, ◌^◌, ◌==◌, Bo
 use Rattle.std.specs.List.{list_any}
 use Rattle.udp_link.specs.declared.failures.Plan.{Plan}
 
--- the next call is one of those that fail
+-- Returns whether the next call is one of those that fail.
 abbrev pub is_planned : Plan → Bool
 is_planned plan = list_any (λ n. n == plan.calls) plan.fail
 
--- the same plan after one more call; the count of calls stays at 2^64 - 1 once it has reached that
+-- States that the plan is the same after one more call. The count of calls stays at 2^64 - 1 once
+-- it has reached that.
 abbrev pub Advanced : Plan → Plan → Type 0
 Advanced before now = (now.fail ≡ before.fail) × (now.calls ≡ min (before.calls + 1) (2 ^ 64 - 1))

@@ -4,7 +4,8 @@ use Rattle.version_board.specs.declared.published.Published.{Published}
 use Rattle.version_board.specs.declared.published.Content.{Content}
 use Rattle.version_board.specs.Names.{name_of}
 
--- the name of the board, the version, and the entries that it stands for
+-- Returns a published version as plain data: the name of the board, the version, and the entries
+-- that it stands for.
 abbrev pub content_of : Published → Content
 content_of p = record {
   name = name_of p.front.book;

@@ -6,11 +6,11 @@ use Rattle.rd_base.specs.declared.peers.Host.TheVariants.{V4}
 use Rattle.history_model.specs.declared.entries.Change.TheVariants.{Register}
 use Rattle.history_model.specs.declared.entries.Entry.{Entry}
 
--- its peer
+-- The peer of the registration.
 abbrev pub sample_peer : Peer
 sample_peer = record { host = V4 (192 ∷ 0 ∷ 2 ∷ 10 ∷ []); port = 5683 }
 
--- its parameters; it has no links
+-- The parameters of the registration, which has no links.
 abbrev pub sample_params : RegParams
 sample_params = record {
   name = record { ep = codes "node"; sector = None };
@@ -19,7 +19,7 @@ sample_params = record {
   attrs = [];
 }
 
--- its entry at a moment
+-- Returns the entry of the registration at a moment.
 abbrev pub sample_entry : ℕ → Entry
 sample_entry moment = record {
   moment = record { 0 = moment };

@@ -49,7 +49,7 @@ rd_1 = 0x82 ∷ 0x72 ∷ 0x64 ∷ 0x01 ∷ 0x31 ∷ []
 token : List ℕ → List ℕ
 token rest = 0 ∷ 0 ∷ 0 ∷ 0 ∷ 0 ∷ 0 ∷ 0 ∷ rest
 
--- without any answer a request is sent again at 2000, 6000, 14000 and 30000
+-- without any answer a request is retransmitted at 2000, 6000, 14000 and 30000
 at_deadlines :
     sent_again
     (asked_for purpose.Register)
@@ -158,7 +158,7 @@ other_mid :
 unfolding messages_on_literals verdicts_on_literals asked_for came directory token rd_1
 other_mid = refl
 
--- nor does a stranger's answer
+-- nor does the answer of another peer
 of_a_stranger :
     verdict (asked_for purpose.Register)
     (came 5 stranger (0x68 ∷ 0x41 ∷ 0 ∷ 0 ∷ token (1 ∷ rd_1)) ∷ [])

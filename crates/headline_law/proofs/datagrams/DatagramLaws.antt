@@ -1,5 +1,5 @@
 -- Each datagram that a row sends can be read and fits, to who asked or observes; and what is noted
--- as formed is sent (the sentence SendsToWhoAsked).
+-- as built is sent (the sentence SendsToWhoAsked).
 use Rattle.std.proofs.Common.{
   ◌≡◌,
   ℕ,
@@ -126,7 +126,7 @@ named_of : (o : Option Observer) (asked : Asked)
 named_of None asked h = absurd (let no : None ≡ Some asked = h in cc)
 named_of (Some x) asked h = (x, refl)
 
--- each response is addressed, where each datagram is known and each notice was formed as the
+-- each response is addressed, where each datagram is known and each notification was built as the
 -- headline says
 addressed : (rows : List Row) → AllSent rows → (sent : Sent rows)
     → (sent.here.row.step.kind ≡ step.Tick → shows_links sent ≡ true

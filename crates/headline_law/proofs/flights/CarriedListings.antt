@@ -1,4 +1,4 @@
--- What a tick sends carries the listing of the row that formed it, and what is in flight after it
+-- What a tick sends carries the listing of the row that built it, and what is in flight after it
 -- is known.
 use Rattle.std.proofs.Common.{◌≡◌, ℕ, ◌||◌, Bool, true, false, cond, List, ◌∷◌, Option, Some}
 use Rattle.std.proofs.Common.{option_map, Ok, refl, sym, ap, ap₂, subst, ◌∙◌}
@@ -34,7 +34,7 @@ use Rattle.journal_model.proofs.sends.BodyAnswers.{wanted_by_observer, Bears, be
 use Rattle.rd_base.proofs.lemmas.Among.{Among, all_among, among_all, find_only}
 use Rattle.journal_model.proofs.flights.NoticesAgain.{events_after_again, stood}
 
--- whatever listing a datagram of a row is read to have was formed as the headline says
+-- whatever listing a datagram of a row is read to have was built as the headline says
 abbrev pub Carried : Placed → Peer × List ℕ → Type 0
 Carried here d =
     (m : Message)
@@ -45,7 +45,7 @@ Carried here d =
 
 -- ---- what the worker had seen
 
--- unless a body is repeated, the history at the row that formed it holds all that the worker had
+-- unless a body is repeated, the history at the row that built it holds all that the worker had
 -- seen when it was asked
 pub former_holds_seen : (k : StepKind) (peer : Peer) (mid : ℕ) (here former : Placed)
     → former_at k peer mid here ≡ Some former → repeats_body k peer mid here ≡ false

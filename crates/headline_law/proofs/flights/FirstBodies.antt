@@ -1,5 +1,5 @@
--- What a row that is no tick forms for observers: no notice, and a first body for each that it
--- adds.
+-- What a row that is no tick builds for observers: no notification, and a first body for each that
+-- it adds.
 use Rattle.std.proofs.Common.{◌≡◌, ℕ, true, false, List, ◌∷◌, None, refl, sym, subst, ◌∙◌}
 use Rattle.std.specs.List.{list_any, AllByRecursion}
 use Rattle.std.proofs.lemmas.Bool.{false≢true}
@@ -37,7 +37,8 @@ observing_none P notes none = (
     adds_none (note.Watched o) h = absurd (false≢true (sym h))
     adds_none _ h = tt
 
--- what a row that is no tick forms for observers: no notice, and something for whomever it adds
+-- what a row that is no tick builds for observers: no notification, and something for whomever it
+-- adds
 pub record FormsFirst (notes : List Note) : Type 0 where
   pub none : list_any is_notice notes ≡ false
   pub added : AllByRecursion (OfWatched (λ o. list_any (is_forming_for (name_of o)) notes ≡ true))

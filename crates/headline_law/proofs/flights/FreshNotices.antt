@@ -1,4 +1,4 @@
--- One more notice of a tick: its peer was not waited for, and is from then on.
+-- One more notification of a tick: its peer was not waited for, and is from then on.
 use Rattle.std.proofs.Common.{
   ◌≡◌,
   ◌⊎◌,
@@ -65,7 +65,7 @@ use Rattle.std.proofs.lemmas.Bool.{or_left, or_right}
 use Rattle.rd_base.proofs.lemmas.Numbers.{eqb-refl}
 use Rattle.rd_base.proofs.lemmas.Each.{each_append, each_weaker}
 
--- a new notice, with what is kept of it
+-- a new notification, with what is kept of it
 pub record NewNotice (rows : List Row) (moment word : ℕ) (done : Effects) : Type 0 where
   pub observer : Observer
   pub mid : ℕ
@@ -284,7 +284,7 @@ so_far_noticed rows moment word done new drew it = record {
         (subst (λ p. Waits p (noted (length rows) moment word done.notes (events rows)))
         ((is_same_peer-Decides d.0 new.observer.peer).0 same) (h m e listed)))
 
-    -- the notice was formed for it
+    -- the notification was built for it
     was_noticed : FlightSoFar rows moment word new.observer (with_notice new drew)
     was_noticed = noticed new.mid own_key
         (list_any-append (forms_notice new.observer.peer new.mid) done.notes (notes_of new)

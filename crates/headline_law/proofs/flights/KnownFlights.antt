@@ -1,5 +1,5 @@
--- What is known of each notice in flight: the row that formed it, and that it bears the listing
--- there.
+-- What is known of each notification in flight: the row that built it, and that it bears the
+-- listing there.
 use Rattle.std.proofs.Common.{
   ◌≡◌,
   ℕ,
@@ -40,7 +40,7 @@ use Rattle.journal_model.proofs.notes.LookupNotes.{OfWatched, observers_all}
 use Rattle.journal_model.proofs.FlightKeys.{flight_key, key_before_all, is_notice, key_none}
 use Rattle.rd_base.proofs.lemmas.Among.{all_among}
 
--- the row that formed the notice to an observer under a Message ID, at a place
+-- the row that built the notification to an observer under a Message ID, at a place
 pub record NoticeOf (rows : List Row) (o : Observer) (mid place : ℕ) : Type 0 where
   pub placed : Placed
   pub last : former_of_notice o.peer mid rows ≡ Some placed
@@ -51,7 +51,7 @@ pub record NoticeOf (rows : List Row) (o : Observer) (mid place : ℕ) : Type 0 
       (listing o.query (entries (placed.row ∷ placed.before)) placed.row.moment.0)
       (tag (entries (placed.row ∷ placed.before)) placed.row.moment.0) d.1) placed.row.sent
 
--- whatever notice is in flight to an observer
+-- whatever notification is in flight to an observer
 abbrev pub FlightKnown : List Row → Observer → Type 0
 FlightKnown rows o =
     (mid place : ℕ) → flight_key o (events rows) ≡ Some (mid, place) → NoticeOf rows o mid place
@@ -60,7 +60,7 @@ FlightKnown rows o =
 abbrev pub FlightsKnown : List Row → Type 0
 FlightsKnown rows = AllByRecursion (FlightKnown rows) (observers (events rows))
 
--- after a row that forms no notice to the peer with this Message ID
+-- after a row that builds no notification to the peer with this Message ID
 pub notice_of_row : (rows : List Row) (r : Row) (o : Observer) (mid place : ℕ)
     → list_any (forms_notice o.peer mid) r.notes ≡ false
     → NoticeOf rows o mid place
@@ -75,7 +75,7 @@ notice_of_row rows r o mid place none it = record {
   sent = it.sent;
 }
 
--- notes that form no notice form none to a peer
+-- notes that build no notification build none to a peer
 no_notice_to : (peer : Peer) (mid : ℕ) (notes : List Note)
     → list_any is_notice notes ≡ false
     → list_any (forms_notice peer mid) notes ≡ false
@@ -86,7 +86,7 @@ no_notice_to peer mid notes none = none_pass is_notice (forms_notice peer mid) b
     by (note.Formed p token body (Some m)) h = absurd (false≢true (sym h))
     by _ h = refl
 
--- where a row forms something for an observer, and no notice, none is in flight to it
+-- where a row builds something for an observer, and no notification, none is in flight to it
 none_in_flight : (rows : List Row) (r : Row) (o : Observer)
     → list_any is_notice r.notes ≡ false
     → list_any (is_forming_for (name_of o)) r.notes ≡ true
@@ -106,7 +106,7 @@ none_in_flight rows r o none forms =
     (all_among (λ n. is_notice n ≡ false) found.event.note r.notes
     (each_failing is_notice (λ n. is_notice n ≡ false) (λ n h. h) r.notes none) it.0)
 
--- after a row that forms no notice, and whatever observer it adds is formed for
+-- after a row that builds no notification, and whatever observer it adds is built for
 pub flights_row : (rows : List Row) (r : Row)
     → list_any is_notice r.notes ≡ false
     → AllByRecursion (OfWatched (λ o. list_any (is_forming_for (name_of o)) r.notes ≡ true)) r.notes

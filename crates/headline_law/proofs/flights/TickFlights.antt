@@ -1,4 +1,4 @@
--- After a row of a tick, the notices in flight are known.
+-- After a row of a tick, the notifications in flight are known.
 use Rattle.std.proofs.Common.{
   ◌≡◌,
   ℕ,
@@ -64,7 +64,7 @@ use Rattle.rd_base.proofs.lemmas.Numbers.{eqb-refl}
 use Rattle.rd_base.proofs.lemmas.Each.{each_append, none_pass, each_weaker}
 use Rattle.journal_model.proofs.sends.PlainSteps.{IsPlain}
 
--- where no notice goes to a peer, none goes to it with a Message ID
+-- where no notification goes to a peer, none goes to it with a Message ID
 none_with : (peer : Peer) (mid : ℕ) (notes : List Note)
     → list_any (is_notice_to peer) notes ≡ false
     → list_any (forms_notice peer mid) notes ≡ false
@@ -98,7 +98,7 @@ standing_of rows r t =
     (requests_none changes_observers (λ p. refl) (λ p. refl) t.requests.notes t.resent)
     ∙ t.so_far.stand)
 
--- flights are as after its notices
+-- flights are as after its notifications
 key_of_row : (rows : List Row) (r : Row)
     → (t : TickRow rows r)
     → (o : Observer)
@@ -111,7 +111,7 @@ key_of_row rows r t o =
     (requests_none (is_forming_for (name_of o)) (λ p. refl) (λ p. refl) t.requests.notes t.resent)
     (requests_none is_landing (λ p. refl) (λ p. refl) t.requests.notes t.resent)
 
--- a notice that this row formed
+-- a notification that this row built
 formed_here : (rows : List Row) (r : Row)
     → (t : TickRow rows r)
     → (o : Observer) (mid : ℕ)
@@ -148,7 +148,7 @@ formed_here rows r t o mid noted_so sent = record {
         ∙ or_left (list_any (forms_notice o.peer mid) t.notified.notes)
         (list_any (forms_notice o.peer mid) t.requests.notes) noted_so)
 
--- one that an earlier row formed
+-- one that an earlier row built
 formed_before : (rows : List Row) (r : Row)
     → (t : TickRow rows r)
     → (o : Observer) (mid place : ℕ)

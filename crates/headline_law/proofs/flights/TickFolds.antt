@@ -1,4 +1,4 @@
--- All notices of a tick, one after the other.
+-- All notifications of a tick, one after the other.
 use Rattle.std.proofs.Common.{
   ◌≡◌,
   ◌⊎◌,
@@ -122,7 +122,7 @@ kept_does : (test : Note → Bool)
 kept_does test never true peer key body current = rw (never peer key body current) refl
 kept_does test never false peer key body current = refl
 
--- and is no note of what is sent again
+-- and is no note of what is retransmitted
 kept_again : (rows : List Row) (moment : ℕ) (b : Bool) (peer : Peer) (key body current : List ℕ)
     → AllByRecursion (AgainNoted rows moment) (cond b (note.Kept peer key body current ∷ []) [])
 kept_again rows moment true peer key body current = (tt, tt)
@@ -248,7 +248,7 @@ tick_folds rows moment s (x ∷ left) done known it =
     tick_folds rows moment s left (notice_next (ticking rows moment s) done x) known.1
     (tick_step rows moment s x done known.0.0 known.0.1 it)
 
--- after its notices
+-- after its notifications
 pub tick_notifies : (rows : List Row) (moment : ℕ) (s : Step)
     → ((x : Observer) → Among x (observers (events_after_again rows moment s.word)) → IsAsking x)
     → TickSoFar rows moment s.word (notices (ticking rows moment s) (notices_again rows moment))

@@ -1,4 +1,4 @@
--- What a tick forms: at most one notice for a peer, and none while one is in flight to it.
+-- What a tick builds: at most one notification for a peer, and none while one is in flight to it.
 use Rattle.std.proofs.Common.{
   ◌≡◌,
   ◌⊎◌,
@@ -55,7 +55,7 @@ use Rattle.journal_model.proofs.flights.NoticesAgain.{AgainSent, AgainNoted, eve
 use Rattle.std.proofs.lemmas.Bool.{or_left}
 use Rattle.rd_base.proofs.lemmas.Each.{each_append, each_weaker}
 
--- the note forms a notice to a peer
+-- the note builds a notification to a peer
 abbrev pub is_notice_to : Peer → Note → Bool
 is_notice_to peer (note.Formed p token body mid) = is_some mid && is_same_peer p peer
 is_notice_to peer _ = false
@@ -67,7 +67,7 @@ IsNoticeOf rows moment o octets =
     (tag (entries rows) moment) octets
 
 -- what a tick did so far to an observer that stands: its flight is as before, and where it has one
--- its peer got no notice; or a notice was formed for it
+-- its peer got no notification; or a notification was built for it
 pub data FlightSoFar (rows : List Row) (moment word : ℕ) (o : Observer) (done : Effects) : Type 0
   where
     as_before :
@@ -85,7 +85,7 @@ pub data FlightSoFar (rows : List Row) (moment word : ℕ) (o : Observer) (done 
         done.sent
         → FlightSoFar rows moment word o done
 
--- a new notice: of an observer that stands, whose peer was not waited for
+-- a new notification: of an observer that stands, whose peer was not waited for
 pub record FreshSent (rows : List Row) (moment word : ℕ) (d : Peer × List ℕ) : Type 0 where
   pub observer : Observer
   pub stands : Among observer (observers (events_after_again rows moment word))

@@ -54,7 +54,7 @@ kind_as_asked kind kept watched rows moment (n ∷ notes) fits =
     by (note.Watched o) h = absurd (false≢true (sym (watched o) ∙ h))
     by _ h = tt
 
--- what is sent again
+-- what is retransmitted
 again_notes_as_asked : (rows : List Row) (moment : ℕ)
     → NotesAsAsked rows moment (notices_again rows moment).notes
 again_notes_as_asked rows moment =
@@ -68,7 +68,7 @@ request_notes_as_asked rows moment =
     kind_as_asked of_resent (λ p k b c. refl) (λ o. refl) rows moment
     (requests_again rows moment).notes (requests_again-notes rows moment)
 
--- the notices of a tick
+-- the notifications of a tick
 notice_notes_as_asked : (rows : List Row) (moment : ℕ) (s : Step)
     → AllByRecursion IsAsking (observers (events_after_again rows moment s.word))
     → NotesAsAsked rows moment (notices (ticking rows moment s) (notices_again rows moment)).notes

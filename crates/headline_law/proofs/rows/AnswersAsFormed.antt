@@ -1,4 +1,4 @@
--- Each lookup answers the listing of the history at the row that formed it, in each journal of the
+-- Each lookup answers the listing of the history at the row that built it, in each journal of the
 -- machine.
 use Rattle.std.proofs.Common.{◌≡◌, ℕ, ◌||◌, Bool, true, false, List, [], ◌∷◌, ◌++◌, length, Ok}
 use Rattle.std.proofs.Common.{refl, sym, ap, subst, ◌∙◌}
@@ -63,7 +63,7 @@ use Rattle.headline_law.proofs.rows.KeepRows.{KeepOf, keep_of, keep_row}
 use Rattle.journal_model.proofs.entries.JournalLaws.{entries-none_noted, journal-AreRows}
 use Rattle.journal_model.proofs.entries.JournalLaws.{desk-AreRows}
 
--- what is known of rows: each of them, their observers, and the notices in flight
+-- what is known of rows: each of them, their observers, and the notifications in flight
 record CarriesAll (keeps : Bool) (rows : List Row) : Type 0 where
   each : AllRows (RowCarries keeps) rows
   asking : AllByRecursion IsAsking (observers (events rows))
@@ -278,7 +278,7 @@ carried_by keeps rows all sent listed known =
     ((row_within (RowCarries keeps) rows sent.here.before sent.here.row all.each
     sent.within).carried known) sent.message sent.read parts.0 parts.1
 
--- each answer was formed as the headline says
+-- each answer was built as the headline says
 pub answer_formed : (rows : List Row)
     → IsJournal rows
     → (sent : Sent rows)
@@ -289,7 +289,7 @@ answer_formed rows journal sent listed =
     (rows_carry true rows (journal-AreRows rows journal) (journal_keeps rows journal)) sent listed
     refl
 
--- so was each answer of a desk whose body was formed in a row
+-- so was each answer of a desk whose body was built in a row
 pub desk_answer_formed : (rows : List Row) → IsDeskJournal rows → (sent : Sent rows)
     → shows_links sent ≡ true → is_formed_in_rows sent.here.row.step.kind sent.here ≡ true
     → FormedAs sent.here sent.peer sent.message
@@ -303,7 +303,7 @@ desk-DeskAnswersAsFormed rows journal =
     record { carried = λ sent listed formed. desk_answer_formed rows journal sent listed formed }
 
 -- each lookup answers the listing, and each read of a registration its source, of the history at
--- the row that formed it, and 2.03 is sent exactly where a look names the tag
+-- the row that built it, and 2.03 is sent exactly where a look names the tag
 pub answers_as_formed : (rows : List Row) → IsJournal rows → AnswersAsFormed rows
 answers_as_formed rows journal = record {
   carried = λ sent listed. answer_formed rows journal sent listed;

@@ -1,4 +1,4 @@
--- Rows of lookups and of reads of a registration: what they send was formed as the headline says,
+-- Rows of lookups and of reads of a registration: what they send was built as the headline says,
 -- also where it is read from a kept answer.
 use Rattle.std.proofs.Common.{◌≡◌, ℕ, ◌||◌, Bool, true, false, not, cond, List, [], ◌∷◌}
 use Rattle.std.proofs.Common.{length, Option, Some, None, option_and_then, Ok, refl, sym, ap, subst}
@@ -104,7 +104,7 @@ was_kept moment name past answer e = by (last_said (answer_kept name) past) e
     by None h = absurd (let no_one : None ≡ Some answer = h in cc)
     by (Some a) h = live (is_live_answer moment name past) a h
 
--- a kept answer, with the row that formed it
+-- a kept answer, with the row that built it
 pub record KeptFrom (rows : List Row) (name : RequestName) (answer : Answer) : Type 0 where
   pub former : Placed
   pub formed : former_of_kept name rows ≡ Some former

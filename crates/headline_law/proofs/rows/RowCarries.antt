@@ -1,4 +1,4 @@
--- A row that is no tick: what it sends was formed as the headline says, and so was what it keeps.
+-- A row that is no tick: what it sends was built as the headline says, and so was what it keeps.
 use Rattle.std.proofs.Common.{◌≡◌, ℕ, ◌≤◌, ◌&&◌, ◌||◌, Bool, true, false, not, cond, List, [], ◌∷◌}
 use Rattle.std.proofs.Common.{length, option_map, Some, Result, Ok, Err, refl, sym, ap, ap₂}
 use Rattle.std.proofs.Common.{subst, ◌∙◌}
@@ -51,13 +51,13 @@ use Rattle.headline_law.proofs.sends.StepOutcomes.{is_keeping}
 use Rattle.journal_model.proofs.entries.JournalLaws.{entries-none_noted}
 use Rattle.rd_base.proofs.lemmas.Each.{each_weaker, each_failing, none_pass}
 
--- an answer that is kept at a row: what is found of what its key seeks, at the row that formed it
+-- an answer that is kept at a row: what is found of what its key seeks, at the row that built it
 pub record KeptAsFormed (here : Placed) (key body current : List ℕ) : Type 0 where
   pub former : Placed
   pub formed : former_of_body here.row.step.kind here ≡ Some former
   pub is_kept : KeptAt (entries (former.row ∷ former.before)) former.row.moment.0 key body current
 
--- a note of a row is as it was formed: what is kept is what is found at the row that formed it, and
+-- a note of a row is as it was built: what is kept is what is found at the row that built it, and
 -- an observer asks for its query
 abbrev pub NoteAsFormed : Placed → Note → Type 0
 NoteAsFormed here (note.Kept peer key body current) = KeptAsFormed here key body current
@@ -65,7 +65,7 @@ NoteAsFormed here (note.Watched o) = IsAsking o
 NoteAsFormed here _ = Unit {0}
 
 -- what holds of each row: where the keeps are known to end looks, as in a journal of the machine,
--- of all rows; else of those whose bodies were formed in rows
+-- of all rows; else of those whose bodies were built in rows
 pub record RowCarries (keeps : Bool) (before : List Row) (r : Row) : Type 0 where
   pub carried : (keeps || is_formed_in_rows r.step.kind (record { row = r; before = before })) ≡
       true
@@ -111,7 +111,7 @@ plain_row keeps rows r plain none = record {
 
 -- ---- rows of datagrams that are heard
 
--- the row that formed what a heard datagram is answered with: its own, unless it reads a further
+-- the row that built what a heard datagram is answered with: its own, unless it reads a further
 -- block
 pub heard_former : (k : StepKind) (peer : Peer) (mid : ℕ) (here : Placed) → is_heard k ≡ true
     → former_at k peer mid here ≡ cond (reads_further_block (reading here.row.step.datagram) here)
@@ -148,7 +148,7 @@ asked_in-own peer m sought name read is seeks same_peer same_token =
     (ap₂ (λ p t. (p, t)) (sym same_peer) (sym same_token))
     (rw (is_same_request-refl (peer, m.token)) (ap (option_map (asked_of m)) seeks))
 
--- and what such a row keeps, it formed itself
+-- and what such a row keeps, it built itself
 pub heard_forms_itself : (k : StepKind) (here : Placed)
     → is_heard k ≡ true
     → former_of_body k here ≡ Some here
@@ -177,7 +177,7 @@ reads_none here (Ok m) none =
     by true h = h
     by false h = refl
 
--- so it formed what it answers
+-- so it built what it answers
 formed_now : (here : Placed) (k : StepKind) (peer : Peer) (mid : ℕ) → is_heard k ≡ true
     → list_any reads_kept here.row.notes ≡ false → former_at k peer mid here ≡ Some here
 formed_now here k peer mid hears none =
@@ -218,7 +218,7 @@ now_carried rows r m hears read same_entries none (of_body sought whole seeks is
           (formed_now (record { row = r; before = rows }) r.step.kind d.0 n.mid hears none);
     }
 
--- what a row keeps that forms its own answers
+-- what a row keeps that builds its own answers
 pub own_notes_as_formed : (rows : List Row) (r : Row)
     → former_of_body r.step.kind (record { row = r; before = rows })
     ≡ Some (record { row = r; before = rows })

@@ -40,7 +40,7 @@ use Rattle.journal_model.proofs.entries.JournalLaws.{journal-AreRows, desk-AreRo
 use Rattle.headline_law.proofs.entries.TagStates.{tags_tell}
 use Rattle.headline_law.proofs.rows.AnswersAsFormed.{answer_formed}
 
--- ---- the row that formed a body stands in the journal
+-- ---- the row that built a body stands in the journal
 
 -- a row stands among rows
 abbrev Stands : List Row → Placed → Type 0
@@ -88,7 +88,7 @@ stands_last test (r ∷ before) p e = by (test r) e (λ h. stands_last test befo
         (record { later = []; whole = refl })
     by false h more = stands_more r before p (more h)
 
--- the row that formed what a row kept
+-- the row that built what a row kept
 stands_body : (k : StepKind) (here p : Placed)
     → former_of_body k here ≡ Some p
     → Stands (here.row ∷ here.before) p
@@ -110,7 +110,7 @@ stands_body (step.Begin first) here p e =
     subst (λ (x : Placed). Stands (here.row ∷ here.before) x) (same_Some here p e)
     (stands_newest here)
 
--- the row that formed a kept answer
+-- the row that built a kept answer
 stands_kept : (name : RequestName) (rows : List Row) (p : Placed)
     → former_of_kept name rows ≡ Some p
     → Stands rows p
@@ -125,7 +125,7 @@ stands_kept name rows p e =
     by (Some q) found h =
         stands_through rows q p (stands_last _ rows q found) (stands_body q.row.step.kind q p h)
 
--- the row that formed what a row sends
+-- the row that built what a row sends
 stands_former : (k : StepKind) (peer : Peer) (mid : ℕ) (here p : Placed)
     → former_at k peer mid here ≡ Some p → Stands (here.row ∷ here.before) p
 stands_former k peer mid here p e = by k e
@@ -174,7 +174,7 @@ body-live (source_of number) history other moment late same =
     source-live number history other moment late same
 body-live (own_links query) history other moment late same = refl
 
--- two answers that were formed in rows, with equal tags, of one thing sought
+-- two answers that were built in rows, with equal tags, of one thing sought
 formed_share : (rows : List Row) → AreRows rows → (one other : Sent rows) (sought : Sought)
     → FormedAs one.here one.peer one.message → FormedAs other.here other.peer other.message
     → etags_in one.message ≡ etags_in other.message → sought_of_sent one ≡ Some sought
@@ -263,7 +263,7 @@ journal-TagsDecideStates rows journal = record {
       (answer_formed rows journal other also) same_tags asks_one asks_other;
 }
 
--- of a journal of a desk, so do answers that were formed in rows
+-- of a journal of a desk, so do answers that were built in rows
 pub desk-FormedTagsDecideStates : (rows : List Row)
     → IsDeskJournal rows
     → FormedTagsDecideStates rows

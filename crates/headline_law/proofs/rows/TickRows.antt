@@ -1,5 +1,5 @@
--- A row of a tick: what it sends was formed as the headline says, and the notices in flight after
--- it are known.
+-- A row of a tick: what it sends was built as the headline says, and the notifications in flight
+-- after it are known.
 use Rattle.std.proofs.Common.{
   ◌≡◌,
   ◌⊎◌,
@@ -61,7 +61,7 @@ use Rattle.headline_law.proofs.flights.CarriedListings.{Carried, stood_before, o
 use Rattle.std.proofs.lemmas.Bool.{or_left}
 use Rattle.rd_base.proofs.lemmas.Each.{each_append, each_weaker}
 
--- a row of a tick: notices, and then requests of fetches that are sent again
+-- a row of a tick: notifications, and then requests of fetches that are retransmitted
 pub record TickRow (rows : List Row) (r : Row) : Type 0 where
   pub notified : Effects
   pub requests : Effects
@@ -88,7 +88,7 @@ requests_none test resent ceased notes h = none_of of_resent test never notes h
     never (note.Ceased peer) e = ceased peer
     never _ e = absurd (false≢true e)
 
--- a notice that is sent again
+-- a notification that is retransmitted
 again_carried : (rows : List Row) (r : Row)
     → (t : TickRow rows r)
     → (d : Peer × List ℕ)
@@ -146,7 +146,7 @@ as_row rows r o octets same_entries h =
     IsBodyOf (wanted_by_observer o) (listing o.query history r.moment.0)
     (tag history r.moment.0) octets) (sym same_entries) h
 
--- a new notice
+-- a new notification
 fresh_carried : (rows : List Row) (r : Row)
     → (t : TickRow rows r)
     → (d : Peer × List ℕ)

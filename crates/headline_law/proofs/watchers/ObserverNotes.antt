@@ -224,7 +224,8 @@ pub record Landed (kind : StepKind) (s : Step) (peer : Peer) (mid : ℕ) : Type 
   pub from : peer ≡ s.peer
   pub mid_is : mid ≡ message.mid
 
--- a notice is sent again: the wait for its acknowledgement has ended, and it was not the last
+-- a notification is retransmitted: the wait for its acknowledgement has ended, and it was not the
+-- last
 pub record SentAgain (rows : List Row) (moment : ℕ) (kind : StepKind) (peer : Peer) (mid : ℕ) :
     Type 0 where
   pub ticks : kind ≡ step.Tick
@@ -566,7 +567,7 @@ each_of_noted P does [] all = tt
 each_of_noted P does (x ∷ xs) all =
     each_append P (does x).notes (each_of does xs).notes all.0 (each_of_noted P does xs all.1)
 
--- requests that are sent again say nothing of that
+-- requests that are retransmitted say nothing of that
 requests_aside : (rows : List Row) (moment : ℕ) (s : Step)
     → WatchFacts rows moment step.Tick s (requests_again rows moment).notes
 requests_aside rows moment s =
@@ -633,7 +634,7 @@ again_watches rows moment s =
         again (nat_le (deadline f.formed f.again) moment) (nat_le max_again (length f.again)) o f
         there flies refl refl
 
--- its notices
+-- its notifications
 notice_watches : (rows : List Row) (moment : ℕ) (s : Step) (left : List Observer) (done : Effects)
     → WatchFacts rows moment step.Tick s done.notes
     → WatchFacts rows moment step.Tick s

@@ -1,5 +1,5 @@
--- How an observer does end: where its notice is rejected or never acknowledged, and where its peer
--- cancels.
+-- How an observer does end: where its notification is rejected or never acknowledged, and where its
+-- peer cancels.
 use Rattle.std.proofs.Common.{
   ◌≡◌,
   inl,
@@ -209,7 +209,7 @@ again_ends rows moment o f stands flies over last =
     ≡ true) (sym last)
     (or_left (is_same_request (name_of o) (name_of o)) false (is_same_request-refl (name_of o))))))
 
--- its notices keep what is noted
+-- its notifications keep what is noted
 notices_keep : (test : Note → Bool) (rows : List Row) (moment : ℕ) (s : Step)
     (left : List Observer) (done : Effects)
     → list_any test done.notes ≡ true
@@ -259,7 +259,7 @@ tick_row : (starved : Bool) (rows : List Row) (moment : ℕ) (s : Step)
 unfolding effects
 tick_row starved rows moment s = refl
 
--- one whose notice is rejected does not stand after it
+-- one whose notification is rejected does not stand after it
 pub rejected_gone : (rows before : List Row) (r : Row) (o : Observer)
     → AreRows rows
     → Within rows before r
@@ -282,7 +282,7 @@ rejected_gone rows before r o made within it stands there =
     ∙ reset_ends before r.step it.message o it.notice stands it.peer it.flies it.mid)
     (subst (λ past. Among o (observers past)) (events-row before r) there)
 
--- nor does one whose notice is never acknowledged
+-- nor does one whose notification is never acknowledged
 pub given_up_gone : (rows before : List Row) (r : Row) (o : Observer)
     → AreRows rows
     → Within rows before r

@@ -103,8 +103,8 @@ GoesBy step.Tick before r =
     AllByRecursion (λ (d : Peer × List ℕ). Responds d.1 ⊎ AgainAsked before d) r.sent
 GoesBy kind before r = AreDispatches before r.moment.0 kind r.step r.notes r.sent
 
--- what a row sends; what it settles; and where it notes that it formed a notice, what is found of
--- it is a response
+-- what a row sends; what it settles; and where it notes that it built a notification, what is
+-- found of it is a response
 pub record RowGoes (before : List Row) (r : Row) : Type 0 where
   pub goes : GoesBy r.step.kind before r
   pub settles : SettleFacts r.step.kind r.step r.sent r.notes
@@ -162,7 +162,7 @@ kept_tag rows all moment name found e = last (last_said (answer_kept name) (even
     last None h g = absurd (let no : None ≡ Some found = g in cc)
     last (Some a) h g = living (is_live_answer moment name (events rows)) a h g
 
--- the event that formed a notice in flight
+-- the event that built a notification in flight
 record FormedAt (o : Observer) (past : List Event) (f : Flight) : Type 0 where
   last : last_event (is_forming_for (name_of o)) past ≡ Some f.formed
   mid : notice_mid f.formed.note ≡ Some f.mid
@@ -208,7 +208,7 @@ formed_at o past f e = by (last_event (is_forming_for (name_of o)) past) refl e
     by None last h = absurd (let no : None ≡ Some f = h in cc)
     by (Some x) last h = with_mid x (notice_mid x.note) last refl h
 
--- it forms a notice to the observer's peer
+-- it builds a notification to the observer's peer
 forms_it : (o : Observer) (mid : ℕ) (n : Note)
     → is_forming_for (name_of o) n ≡ true
     → notice_mid n ≡ Some mid
@@ -221,7 +221,7 @@ forms_it o mid (note.Formed p token body (Some m)) h has =
     (subst (λ n. (m == n) ≡ true) (same_Some m mid has) (eqb-refl m))
 forms_it o mid _ h has = absurd (let no : None ≡ Some mid = has in cc)
 
--- so whatever notice is sent again is a response
+-- so whatever notification is retransmitted is a response
 flights_respond : (rows : List Row) → AllRows RowGoes rows → FlightsRespond rows
 flights_respond rows all moment d a =
     let f : FormedAt a.observer (events rows) a.flight_is =
@@ -265,7 +265,7 @@ answer_responds s m reply read good class n e =
 
 -- ---- one row more
 
--- notes that form no notice form none to a peer
+-- notes that build no notification build none to a peer
 no_notice_to : (peer : Peer) (mid : ℕ) (notes : List Note)
     → list_any is_notice notes ≡ false
     → list_any (forms_notice peer mid) notes ≡ false

@@ -1,4 +1,4 @@
--- What ticks send: responses, and requests of running fetches that are sent again.
+-- What ticks send: responses, and requests of running fetches that are retransmitted.
 use Rattle.std.proofs.Common.{
   ◌≡◌,
   ◌⊎◌,
@@ -175,9 +175,9 @@ found_front P test (x ∷ xs) ys d all some found =
     by true good h g more = subst P (same_Some x d g) all.0
     by false bad h g more = more h g
 
--- ---- new notices
+-- ---- new notifications
 
--- what a tick did so far: it sent responses; and each notice that it noted is there
+-- what a tick did so far: it sent responses; and each notification that it noted is there
 record NoticesSent (done : Effects) : Type 0 where
   responds : AllByRecursion (λ (d : Peer × List ℕ). Responds d.1) done.sent
   there : (peer : Peer) (mid : ℕ)
@@ -214,7 +214,7 @@ more_sent done e drew it so_far = record {
         (it.there peer mid
         (subst (λ b. (b || list_any (forms_notice peer mid) e.notes) ≡ true) is h))
 
--- the size of a block that a notice names
+-- the size of a block that a notification names
 shown_usable : (o : Observer) (body : List ℕ)
     → o.szx < reserved_szx
     → szx_of (block_shown o body) < 7
@@ -224,7 +224,7 @@ shown_usable o body low = by (is_long (first_block o) body)
     by true = low
     by false = omega arith
 
--- a notice is a response
+-- a notification is a response
 notice_class : (current : List ℕ) (observe : Option ℕ) (o : Observer) (body : List ℕ)
     → codes_of.is_response_code
     (body_reply (Some current) observe (block_shown o body) body).code
@@ -384,9 +384,9 @@ all_more rows moment s (o ∷ left) done asking it =
     all_more rows moment s left (notice_next (ticking rows moment s) done o) asking.1
     (one_more rows moment s done o asking.0 it)
 
--- ---- what is sent again
+-- ---- what is retransmitted
 
--- the notice in flight to an observer, as its row sent it, is a response
+-- the notification in flight to an observer, as its row sent it, is a response
 abbrev pub FlightsRespond : List Row → Type 0
 FlightsRespond rows =
     (moment : ℕ) (d : Peer × List ℕ) → AgainSent rows moment d → Responds d.1
@@ -448,8 +448,8 @@ asked_again rows moment =
 
 -- ---- a tick
 
--- what a tick sends: responses, and such requests; and where it notes that it formed a notice, what
--- is found of it is a response
+-- what a tick sends: responses, and such requests; and where it notes that it built a
+-- notification, what is found of it is a response
 pub record TickGoes (rows : List Row) (e : Effects) : Type 0 where
   pub sent : AllByRecursion (λ (d : Peer × List ℕ). Responds d.1 ⊎ AgainAsked rows d) e.sent
   pub finds : (peer : Peer) (mid : ℕ) (d : Peer × List ℕ)

@@ -207,7 +207,7 @@ dispatch_fate rows moment kind s notes d all (fetches_block mid token b small as
 abbrev AreFates : List Row → Row → Type 0
 AreFates before r = AllByRecursion Fate r.sent
 
--- what a tick sends again was sent by an earlier row
+-- what a tick retransmits was sent by an earlier row
 record AskedBefore (rows : List Row) (d : Peer × List ℕ) : Type 0 where
   runs : is_fetching d.0 (events rows) ≡ true
   first : Placed

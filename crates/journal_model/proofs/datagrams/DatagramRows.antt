@@ -1,4 +1,4 @@
--- Rows of which each datagram is known: it can be read and fits; and what is noted as formed is
+-- Rows of which each datagram is known: it can be read and fits; and what is noted as built is
 -- sent. So it is in journals of desks.
 use Rattle.std.proofs.Common.{◌≡◌, inl, inr, ℕ, suc, true, List, [], ◌∷◌, Option, sym, subst, arith}
 use Rattle.std.specs.List.{IsAmong}
@@ -68,7 +68,7 @@ sent-fitting rows all it =
     fits_by it.here.row.step.kind it.here.before it.here.row.step (it.peer, it.octets)
     (sent_by rows it.here.before it.here.row (it.peer, it.octets) all it.within it.among)
 
--- a body that is noted as formed is sent
+-- a body that is noted as built is sent
 pub sent-formed : (rows : List Row)
     → AllSent rows
     → (before : List Row) (r : Row) (peer : Peer) (token body : List ℕ) (mid : Option ℕ)
@@ -131,7 +131,7 @@ sent-content rows all it tick responds =
 
 -- what each row of a journal of a desk sends, where each look, commit and keep is made for a
 -- request, and each keep has a tag of eight octets: so it can be read and fits, and what is noted
--- as formed is sent
+-- as built is sent
 pub desk_sent : (rows : List Row) → IsDeskJournal rows → AreForRequests rows → AllSent rows
 desk_sent rows journal requests =
     rows_sent rows (desk-AreRows rows journal)

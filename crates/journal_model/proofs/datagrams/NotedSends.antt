@@ -1,5 +1,5 @@
 -- What notes say of what their row sends: the answer that settles a write is that of its commit; a
--- body that was formed for an observer is sent to it; and a kept answer has a tag of eight octets.
+-- body that was built for an observer is sent to it; and a kept answer has a tag of eight octets.
 use Rattle.std.proofs.Common.{
   ◌≡◌,
   inl,

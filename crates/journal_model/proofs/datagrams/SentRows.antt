@@ -159,7 +159,7 @@ within_through rows before deeper r other outer inner =
 
 -- ---- what is known of the rows before
 
--- what earlier rows sent can be sent again
+-- what earlier rows sent can be retransmitted
 resendable : (rows : List Row) → AllRows RowSent rows → Resendable rows
 resendable rows all place r at =
     let it : AtPlace rows place r = at_place place rows r at in

@@ -1,5 +1,5 @@
 -- What a tick sends: datagrams that can be read and fit; each response among them is a 2.05; and
--- each body that it notes as formed is sent.
+-- each body that it notes as built is sent.
 use Rattle.std.proofs.Common.{
   ◌≡◌,
   ℕ,
@@ -124,7 +124,7 @@ pub record IsTicked (d : Peer × List ℕ) : Type 0 where
 abbrev pub AreTicked : List (Peer × List ℕ) → Type 0
 AreTicked sent = AllByRecursion IsTicked sent
 
--- what an earlier row sent can be sent again by a tick, where it is confirmable
+-- what an earlier row sent can be retransmitted by a tick, where it is confirmable
 abbrev pub IsResendable : Peer × List ℕ → Type 0
 IsResendable d = is_confirmable d.1 ≡ true → IsTicked d
 
@@ -133,7 +133,7 @@ abbrev pub Resendable : List Row → Type 0
 Resendable rows =
     (place : ℕ) (r : Row) → row_at place rows ≡ Some r → AllByRecursion IsResendable r.sent
 
--- ---- what is sent again
+-- ---- what is retransmitted
 
 again_one : (rows : List Row) (place : ℕ) (peer : Peer) (mid : ℕ) (n : Note)
     → Resendable rows
@@ -214,9 +214,9 @@ resent_tells (note.Watched o) h = absurd (false≢true h)
 resent_tells (note.Formed peer token body mid) h = absurd (false≢true h)
 resent_tells _ h = refl
 
--- ---- new notices
+-- ---- new notifications
 
--- the size of a block that a notice names
+-- the size of a block that a notification names
 shown_usable : (o : Observer) (body : List ℕ)
     → o.szx < reserved_szx
     → szx_of (block_shown o body) < 7
@@ -226,7 +226,7 @@ shown_usable o body low = by (is_long (first_block o) body)
     by true = low
     by false = omega arith
 
--- a notice is a 2.05
+-- a notification is a 2.05
 notice_content : (current : List ℕ) (observe : Option ℕ) (o : Observer) (body : List ℕ)
     → ((body_reply (Some current) observe (block_shown o body) body).code == codes_of.content)
     ≡ true
@@ -242,7 +242,7 @@ notice_content current observe o body = by (is_long (first_block o) body)
     by true = refl
     by false = refl
 
--- a notice, as a message
+-- a notification, as a message
 abbrev notice_message : ℕ → List ℕ → Option ℕ → Observer → List ℕ → Message
 notice_message mid current observe o body =
     with_reply Con mid o.token (body_reply (Some current) observe (block_shown o body) body)
@@ -394,7 +394,7 @@ begins rows moment s all = record {
       (notices_again rows moment).notes (notices_again-notes rows moment);
 }
 
--- with its notices
+-- with its notifications
 notified : (rows : List Row) (moment : ℕ) (s : Step)
     → Resendable rows
     → AllByRecursion IsAsking (observers (events_after_again rows moment s.word))

@@ -1,4 +1,4 @@
--- A journal of the machine is one of a desk, where what is handed in with each step is as a desk
+-- A journal of the machine is one of a desk, where what is passed in with each step is as a desk
 -- wants it.
 use Rattle.std.proofs.Common.{
   ◌≡◌,

@@ -1,5 +1,5 @@
--- What a tick sends again: notices of observers that stand, and their peers are waited for from
--- then on.
+-- What a tick retransmits: notifications of observers that stand, and their peers are waited for
+-- from then on.
 use Rattle.std.proofs.Common.{
   ◌≡◌,
   inl,
@@ -96,7 +96,7 @@ each_of_noted P does [] all = tt
 each_of_noted P does (x ∷ xs) all =
     each_append P (does x).notes (each_of does xs).notes all.0 (each_of_noted P does xs all.1)
 
--- a message that is sent again: the notice of an observer, which is noted
+-- a message that is retransmitted: the notification of an observer, which is noted
 pub record AgainSent (rows : List Row) (moment : ℕ) (d : Peer × List ℕ) : Type 0 where
   pub observer : Observer
   pub flight_is : Flight
@@ -106,7 +106,7 @@ pub record AgainSent (rows : List Row) (moment : ℕ) (d : Peer × List ℕ) : T
   pub noted :
       list_any (is_again_of observer.peer flight_is.mid) (notices_again rows moment).notes ≡ true
 
--- the peer of what is sent again
+-- the peer of what is retransmitted
 pub again_peer : (rows : List Row) (moment : ℕ) (d : Peer × List ℕ)
     → (a : AgainSent rows moment d)
     → d.0 ≡ a.observer.peer
@@ -252,7 +252,7 @@ again_notes rows moment =
 
 -- ---- after the first part
 
--- it forms nothing and acknowledges nothing
+-- it builds nothing and acknowledges nothing
 pub again_none : (test : Note → Bool)
     → ((peer : Peer) (token : List ℕ) → test (note.Unwatched peer token) ≡ false)
     → ((peer : Peer) (mid : ℕ) → test (note.Again peer mid) ≡ false)
@@ -279,7 +279,7 @@ again_key rows moment word o =
     (again_none (is_forming_for (name_of o)) (λ p t. refl) (λ p m. refl) rows moment)
     (again_none is_landing (λ p t. refl) (λ p m. refl) rows moment)
 
--- and the peers of what is sent again are waited for
+-- and the peers of what is retransmitted are waited for
 pub again_waits : (rows : List Row) (moment word : ℕ) (o : Observer) (f : Flight)
     → IsAgain rows moment o f
     → Waits o.peer (events_after_again rows moment word)

@@ -1,5 +1,5 @@
--- Who stands after the first part of a tick, and whom it waits for: notices that are sent again
--- keep their observers.
+-- Who stands after the first part of a tick, and whom it waits for: notifications that are
+-- retransmitted keep their observers.
 use Rattle.std.proofs.Common.{
   ◌≡◌,
   ℕ,
@@ -112,7 +112,7 @@ stands_on o place moment word (n ∷ notes) before quiet stands =
 
 -- ---- whom is waited for
 
--- a notice is in flight to an observer of the peer
+-- a notification is in flight to an observer of the peer
 pub record Waits (peer : Peer) (past : List Event) : Type 0 where
   pub observer : Observer
   pub stands : Among observer (observers past)
@@ -139,7 +139,7 @@ flies_key o past = by (flight o past)
 
 -- ---- the first part of a tick
 
--- an observer whose notice is sent again
+-- an observer whose notification is retransmitted
 pub record IsAgain (rows : List Row) (moment : ℕ) (o : Observer) (f : Flight) : Type 0 where
   pub stands : Among o (observers (events rows))
   pub flies : flight o (events rows) ≡ Some f
@@ -150,13 +150,13 @@ pub record IsAgain (rows : List Row) (moment : ℕ) (o : Observer) (f : Flight) 
 abbrev pub again_of : List Row → ℕ → Observer → List Note
 again_of rows moment o = (flight_again rows moment o (flight o (events rows))).notes
 
--- a message that is sent again ends nobody
+-- a message that is retransmitted ends nobody
 again_ends_none : (d : Option (Peer × List ℕ)) (peer : Peer) (mid : ℕ) (name : RequestName)
     → list_any (λ n. is_end_of n name) (sent_again d (note.Again peer mid)).notes ≡ false
 again_ends_none None peer mid name = refl
 again_ends_none (Some d) peer mid name = refl
 
--- an observer whose notice is sent again is not removed
+-- an observer whose notification is retransmitted is not removed
 again_stays : (rows : List Row) (moment : ℕ) (o : Observer) (f : Flight)
     → IsAgain rows moment o f
     → list_any (λ n. is_end_of n (name_of o)) (again_of rows moment o) ≡ false

@@ -54,7 +54,7 @@ use Rattle.journal_model.proofs.observers.ObserverKnowledge.{
   looked_row,
 }
 
--- notes around those that add an observer and form its first listing
+-- notes around those that add an observer and build its first listing
 abbrev pub around : List Note → Observer → List ℕ → List Note → List Note
 around front o body back = front ++ note.Watched o ∷ note.Formed o.peer o.token body None ∷ back
 
@@ -97,7 +97,7 @@ new_looked front back o body =
     by true = refl
     by false = rw (is_same_request-refl (name_of o)) refl
 
--- and the body is formed for it
+-- and the body is built for it
 new_formed : (place moment word : ℕ) (front back : List Note) (o : Observer) (body : List ℕ)
     (past : List Event)
     → list_any is_observing back ≡ false

@@ -1,4 +1,4 @@
--- What an observer knows: when its listing was last looked at, and that the last body formed for it
+-- What an observer knows: when its listing was last looked at, and that the last body built for it
 -- is the listing now unless it is due.
 use Rattle.std.proofs.Common.{
   ◌≡◌,
@@ -186,7 +186,7 @@ known_quiet past rows_seen history more moment later word count notes o known qu
         known.knows (due_since o past rows_seen known.event known.last ∙ h.1)
         ∙ ap (λ body. Some body) (unchanged o.query t h.0)
 
--- after a row that looks at its listing, and formed it or found it unchanged
+-- after a row that looks at its listing, and built it or found it unchanged
 pub known_looked : (past : List Event) (rows_seen : List Transition) (history : List Entry)
     (later word count : ℕ) (notes : List Note) (o : Observer)
     → list_any (is_looking_for (name_of o)) notes ≡ true

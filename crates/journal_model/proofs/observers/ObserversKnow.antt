@@ -1,5 +1,5 @@
--- Of each observer with no notice due: the last body formed for it is the listing now (the sentence
--- ObserversKnow).
+-- Of each observer with no notification due: the last body built for it is the listing now (the
+-- sentence ObserversKnow).
 use Rattle.std.proofs.Common.{
   ◌≡◌,
   ℕ,
@@ -343,7 +343,7 @@ rows-AllKnown (r ∷ before) (added {rows} s starved rest) =
 pub desk-AllKnown : (rows : List Row) → IsDeskJournal rows → AllKnown rows
 desk-AllKnown rows journal = rows-AllKnown rows (desk-AreRows rows journal)
 
--- the last body formed for an observer that is not due is the listing now
+-- the last body built for an observer that is not due is the listing now
 rows-ObserversKnow : (rows : List Row) → AreRows rows → ObserversKnow rows
 rows-ObserversKnow rows all = record {
   last_formed =

@@ -1,6 +1,6 @@
 -- The octets of messages that wait: what earlier rows sent is as before with one row more, so
--- notices in flight and requests of fetches show the same octets. End theorems, for what keeps the
--- observers and the fetches of a journal: nothing here cites them.
+-- notifications in flight and requests of fetches show the same octets. End theorems, for what
+-- keeps the observers and the fetches of a journal: nothing here cites them.
 use Rattle.std.proofs.Common.{
   ◌≡◌,
   ℕ,
@@ -80,9 +80,9 @@ pub octets_sent-own : (rows : List Row) (r : Row) (peer : Peer) (mid : ℕ)
 unfolding octets_sent row_at
 octets_sent-own rows r peer mid = rw (eqb-refl (length rows)) refl
 
--- ---- notices in flight
+-- ---- notifications in flight
 
--- the row that formed a notice in flight stands in the journal
+-- the row that built a notification in flight stands in the journal
 flight_below : (rows : List Row) (o : Observer) (f : Flight)
     → flight o (events rows) ≡ Some f
     → f.formed.place < length rows

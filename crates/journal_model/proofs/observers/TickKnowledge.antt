@@ -88,7 +88,7 @@ use Rattle.journal_model.proofs.observers.ObserverKnowledge.{
 use Rattle.journal_model.proofs.entries.JournalLaws.{entries-none_noted}
 
 -- what notes of a tick do for an observer: nothing, or they look at its listing, and then the last
--- body formed for it is the listing now
+-- body built for it is the listing now
 abbrev pub QuietOrLooked : List Row → ℕ → ℕ → Observer → List Note → Type 0
 QuietOrLooked rows moment word o notes =
     (list_any (is_looking_for (name_of o)) notes ≡ false)
@@ -114,7 +114,7 @@ with_quiet rows moment word o notes more quiet (inr h) = inr (
       ∙ h.1),
 )
 
--- further notes that look at its listing, where the last body formed is then the listing now
+-- further notes that look at its listing, where the last body built is then the listing now
 with_look : (rows : List Row) (moment word : ℕ) (o : Observer) (notes more : List Note)
     → list_any (is_looking_for (name_of o)) more ≡ true
     → last_body_formed (name_of o) (noted (length rows) moment word more
@@ -130,7 +130,7 @@ with_look rows moment word o notes more looks formed = inr (
       ∙ formed,
 )
 
--- a body that equals the last that was formed is the last
+-- a body that equals the last that was built is the last
 formed_same : (last : Option (List ℕ)) (body : List ℕ)
     → is_unchanged last body ≡ true
     → last ≡ Some body
@@ -144,7 +144,7 @@ kept_quiet : (b : Bool) (o x : Observer) (a : Answer)
 kept_quiet true o x a = refl
 kept_quiet false o x a = refl
 
--- what is sent again looks at no listing and adds no observer
+-- what is retransmitted looks at no listing and adds no observer
 notices_again-quiet : (rows : List Row) (moment : ℕ)
     → list_any is_observing (notices_again rows moment).notes ≡ false
 notices_again-quiet rows moment =

@@ -1,5 +1,5 @@
 -- An answer with a body, as it is read: its payload is a block of the body, and its entity tag the
--- one that it was formed with.
+-- one that it was built with.
 use Rattle.std.proofs.Common.{
   ◌≡◌,
   ℕ,
@@ -285,7 +285,7 @@ tagged : (kind : Kind4) (mid : ℕ) (token tag : List ℕ) (observe : Option ℕ
 tagged kind mid token tag observe asked part short =
     values_tag tag _ short (others_none observe (answered_block asked part.1))
 
--- it has none where it was formed with none
+-- it has none where it was built with none
 untagged : (kind : Kind4) (mid : ℕ) (token : List ℕ) (observe : Option ℕ) (asked : Option Block)
     (part : List ℕ × Bool)
     → etags_in (with_reply kind mid token (part_of None observe asked part)) ≡ []
@@ -541,7 +541,7 @@ body_bears kind mid token tag observe asked body small short usable =
     part_bears kind mid tag observe asked token body
     (block_of body (number_of asked) (szx_of asked)) small short usable refl
 
--- a notice bears the first block that its observer wants
+-- a notification bears the first block that its observer wants
 pub notice_bears : (mid : ℕ) (tag : List ℕ) (observe : Option ℕ) (o : Observer) (body : List ℕ)
     → length o.token ≤ longest_token
     → length tag ≡ 8

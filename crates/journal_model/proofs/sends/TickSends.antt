@@ -1,4 +1,4 @@
--- What a tick sends again: requests of fetches, and confirmable messages of earlier rows; so no
+-- What a tick retransmits: requests of fetches, and confirmable messages of earlier rows; so no
 -- tick sends 2.03.
 use Rattle.std.proofs.Common.{
   ◌≡◌,
@@ -91,7 +91,7 @@ use Rattle.journal_model.proofs.sends.ValidSends.{
 use Rattle.rd_base.proofs.lemmas.Each.{each_append}
 use Rattle.rd_base.proofs.lemmas.Among.{find_passes}
 
--- what is found to be sent again
+-- what is found to be retransmitted
 pub record FoundSent (P : Peer × List ℕ → Type 0) (peer : Peer) (mid : ℕ) (d : Peer × List ℕ) : Type
     0 where
   pub holds : P d
@@ -160,7 +160,7 @@ AskedPlain rows =
     → row_at e.place rows ≡ Some r
     → ArePlain r.sent
 
--- so what is sent again of them is neither 2.05 nor 2.03
+-- so what is retransmitted of them is neither 2.05 nor 2.03
 pub requests_plain : (rows : List Row) (moment : ℕ)
     → AskedPlain rows
     → ArePlain (requests_again rows moment).sent
@@ -208,7 +208,7 @@ abbrev pub NoConfirmableValidAt : List Row → Type 0
 NoConfirmableValidAt rows =
     (place : ℕ) (r : Row) → row_at place rows ≡ Some r → NoConfirmableValid r.sent
 
--- so no notice that is sent again has this code
+-- so no notification that is retransmitted has this code
 again_not_valid : (rows : List Row) (moment : ℕ)
     → NoConfirmableValidAt rows
     → NoneValid (notices_again rows moment).sent

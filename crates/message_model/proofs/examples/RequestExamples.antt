@@ -28,7 +28,7 @@ option_is_refused : refusal_of (request get ((9, []) ∷ []) []) ≡ Some (refus
 unfolding messages_on_literals
 option_is_refused = refl
 
--- an elective option of an unknown number is passed over
+-- an elective option of an unknown number is skipped
 option_zero_is_passed_over : first_bad_option ((0, []) ∷ []) ≡ None
 unfolding messages_on_literals
 option_zero_is_passed_over = refl
@@ -142,7 +142,7 @@ unfolding messages_on_literals
 accept_of_read_is_refused = refl
 
 -- a replacement names the format of its links as a registration does; an update is no document, and
--- what it names is passed over
+-- what it names is skipped
 format_of_replacement_is_refused :
     refusal_of
     (request put (to_two (codes "rd") (codes "1") ++ (table.content_format, hex (codes "32")) ∷ [])
@@ -227,14 +227,14 @@ empty_host_is_refused : first_bad_option ((table.uri_host, []) ∷ []) ≡ Some 
 unfolding messages_on_literals
 empty_host_is_refused = refl
 
--- an entity tag of nine bytes is passed over, and the next one is the first
+-- an entity tag of nine bytes is skipped, and the next one is the first
 long_etag_is_passed_over :
     etags_in (request get ((table.etag, replicate 9 1) ∷ (table.etag, hex (codes "aa")) ∷ []) [])
     ≡ hex (codes "aa") ∷ []
 unfolding messages_on_literals
 long_etag_is_passed_over = refl
 
--- Echo has 1 to 40 bytes, and counts once; what does not count is passed over, for it is elective
+-- Echo has 1 to 40 bytes, and counts once; what does not count is skipped, for it is elective
 shortest_echo_counts :
     echo_in (request post ((table.echo, hex (codes "00")) ∷ []) []) ≡ Some (hex (codes "00"))
 unfolding messages_on_literals

@@ -137,11 +137,12 @@ response_notes : starved_notes observed response ≡ []
 unfolding machine_on_literals
 response_notes = refl
 
--- the next tick, when the notice and the request of the fetch have waited
+-- the next tick, when the notification and the request of the fetch have waited
 abbrev tick : Step
 tick = step_of step.Tick 3000 2 0 []
 
--- the notice of type a is sent again, the observer of type b is told, and the request is sent again
+-- the notification of type a is retransmitted, the observer of type b is told, and the request is
+-- retransmitted
 --     CON 2.05 m=1001 t=c1 [4 x0000000000010000][6 x03][12 x28] | <coap://192.0.3.1/x>;rt=a
 --     CON 2.05 m=1002 t=c2 [4 x0000000000020000][6 x04][12 x28] | <coap://192.0.3.1/x>;rt=b
 --     CON 0.01 m=1000 t=0000000000000001 [11 .well-known][11 core]
@@ -154,7 +155,7 @@ tick_sends : map (λ d. d.1) (row observed tick false).sent ≡ map hex (
 unfolding machine_on_literals
 tick_sends = refl
 
--- out of memory, all but the new notice
+-- out of memory, all but the new notification
 starved_tick_sends : starved_sends observed tick ≡ map hex (
     codes "41451001c148000000000001000021036128ff3c636f61703a2f2f3139322e302e332e312f783e3b72743d61"
     ∷ codes "480110000000000000000001bb2e77656c6c2d6b6e6f776e04636f7265"

@@ -83,7 +83,7 @@ no_forming-removals : (waiting : List Observer) → list_any is_forming (removal
 no_forming-removals [] = refl
 no_forming-removals (o ∷ waiting) = no_forming-removals waiting
 
--- their notices landed
+-- their notifications landed
 pub landed_more : (rows : List Row) (s : Step) (starved : Bool) (done : Effects) (x d : Seen)
     (w : Watching) (out : List (Peer × List ℕ)) (mids : Mids) (peer : Peer) (mid : ℕ)
     (waiting : List Observer)

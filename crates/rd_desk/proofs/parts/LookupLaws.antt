@@ -314,7 +314,7 @@ given_kept rows s starved done x d t answers out sent mids_before mids sender m 
     (λ ns. sends s ns (step_of rows s starved done d out mids_before sender of undrawn way)))
     way)
 
--- what was formed is the listing now, to be kept as a test of it says
+-- what was built is the listing now, to be kept as a test of it says
 pub formed_now : (test : Option Block → List ℕ → Bool) (keep : Bool) (asked : Option Block)
     (shown : List ℕ) (l : Listed) (m : Message) (r : Result Formed Starved) (history : List Entry)
     (x d : Seen) (v : Version) (query meant : Query)
@@ -348,7 +348,7 @@ formed_now test keep asked shown l m r history x d v query meant tested block wh
           (whole ∙ ap (λ (a : Answer). a.body) same)));
     })
 
--- what was formed of a further block is what is found now, to be kept where it has that block
+-- what was built of a further block is what is found now, to be kept where it has that block
 pub formed_found : (keep : Bool) (asked : Option Block) (shown : List ℕ) (l : Listed)
     (m : Message) (f : Formed) (history : List Entry) (x d : Seen) (v : Version)
     (found : Option Listed)
@@ -427,7 +427,7 @@ answering-notes : (notes : List Note) (s : Step) (m : Message) (reply : Reply)
 unfolding answering
 answering-notes notes s m reply = refl
 
--- what was formed is given as the answer that it is
+-- what was built is given as the answer that it is
 formed-giving : (keep : Bool) (observe : Option ℕ) (s : Step) (m : Message) (answer : Answer)
     (f : Formed)
     → IsFormed keep answer f
@@ -488,7 +488,7 @@ later_missing rows s m missing none =
     none
     ∙ ap (λ (o : Option Answer). block_of_found s m o) missing)
 
--- what is formed is of what is found, or nothing is
+-- what is built is of what is found, or nothing is
 pub formed_of : (m : Message) (found : Option Answer) (formed : Option Formed) (f : Formed)
     → formed ≡ Some f
     → IsFormedOf m found formed

@@ -229,7 +229,7 @@ no_requests e none = each_failing about_fetches (IsRequestSent e.sent) by e.note
     by (note.Asked peer token mid params number) h = absurd (false≢true (sym h))
     by _ h = tt
 
--- and notes that are not about observers form no body
+-- and notes that are not about observers build no body
 pub no_bodies : (one : Topic) (notes : List Note)
     → differ observers one ≡ true
     → AreAbout one notes

@@ -202,7 +202,7 @@ more_watching rows s starved done e x d w count out sent mids_before mids seen a
     (no_requests e (no_fetches topic.observers e.notes refl alone)) sends
     (subst (λ (y : Seen). UnderWay rows s starved done y out mids_before) (sym seen) way)
 
--- and none is, where no body is formed
+-- and none is, where no body is built
 pub more_unformed : (rows : List Row) (s : Step) (starved : Bool) (done e : Effects) (x d : Seen)
     (w : Watching) (out sent : List (Peer × List ℕ)) (mids_before mids : Mids)
     → x ≡ d

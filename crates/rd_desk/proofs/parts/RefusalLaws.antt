@@ -74,7 +74,7 @@ none_bad m r h other = by (first_bad_option m.options) refl h where
   by None e h = e
   by (Some k) e h = absurd (other k (sym h))
 
--- nothing is answered where it is passed over
+-- nothing is answered where it is skipped
 pub passed_over : (m : Message) (s : Step) (reply : Reply) (kind : Kind4) (why : Refused)
     → IsRefusedBy why m
     → is_passed_over kind why ≡ true

@@ -33,7 +33,7 @@ there_alike : {X Y : Type 0} (f : X → Y) (o : Option X) → is_some (option_ma
 there_alike f None = refl
 there_alike f (Some x) = refl
 
--- a notice waits where one is in flight
+-- a notification waits where one is in flight
 waits : (octets : OctetsSent) (past : List Event) (o : Observer)
     → is_some (waiting_notice octets past o) ≡ is_some (flight o past)
 unfolding waiting_notice

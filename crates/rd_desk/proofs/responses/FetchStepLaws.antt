@@ -1,5 +1,5 @@
 -- The steps of the machine, as a table of fetches answers them: responses, the start of a fetch,
--- and requests that are sent again; and a row more.
+-- and requests that are retransmitted; and a row more.
 use Rattle.std.proofs.Common.{
   ◌≡◌,
   ◌≢◌,
@@ -179,7 +179,7 @@ registering_simply-full past place s m full =
     by false true e g h = rw (e, g) refl
     by false false e g h = absurd cc
 
--- ---- requests that are sent again
+-- ---- requests that are retransmitted
 
 -- a request of a fetch is a confirmable message with its Message ID
 pub request_confirmable : (mid : ℕ) (token : List ℕ) (b : Option Block)

@@ -332,7 +332,7 @@ as_before rows s starved x d t out mids seen kept way =
     subst (λ (y : Seen). UnderWay rows s starved nothing y out mids)
     (sym (ap (λ (u : Table). record x { fetches = u }) kept ∙ seen)) way
 
--- it is passed over
+-- it is skipped
 pub way_passed : (rows : List Row) (s : Step) (starved : Bool) (m : Message) (request : Request)
     (x d : Seen) (t : Table) (out sent : List (Peer × List ℕ)) (mids : Mids)
     → x ≡ d

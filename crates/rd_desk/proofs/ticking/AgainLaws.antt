@@ -1,5 +1,5 @@
--- The first part of a tick: what it does with each notice in flight is what is due of it by the
--- table.
+-- The first part of a tick: what it does with each notification in flight is what is due of it by
+-- the table.
 use Rattle.std.proofs.Common.{
   ◌≡◌,
   ℕ,
@@ -76,7 +76,7 @@ use Rattle.observation.specs.Notices.{sending_again}
 use Rattle.observation.specs.Watching.{Watching, IsConfirmable, WatchingStandsFor}
 use Rattle.rd_desk.specs.parts.Noticing.{again_as, again_done}
 
--- ---- one notice
+-- ---- one notification
 
 -- a message that is confirmable has octets
 some_octets : (mid : ℕ) (octets : List ℕ)
@@ -85,7 +85,7 @@ some_octets : (mid : ℕ) (octets : List ℕ)
 some_octets mid [] h = absurd (false≢true h)
 some_octets mid (a ∷ octets) h = omega arith
 
--- what is due of a notice by the events that formed it and sent it again
+-- what is due of a notification by the events that built it and retransmitted it
 kept_due-flight : (moment : ℕ) (f : Flight) → kept_due moment (retransmission f.formed f.again)
     ≡ cond (nat_le (deadline f.formed f.again) moment)
     (cond (nat_le max_again (length f.again)) again.GaveUp again.Send) again.Wait
@@ -175,7 +175,7 @@ again_one rows moment o x peer token waits fits = by (flight o (events rows)) wa
     by (Some f) is =
         subst (Goal (Some f)) is (flies f (notice_sent (octets_sent rows) o.peer f) (sym is) refl)
 
--- ---- all notices
+-- ---- all notifications
 
 -- The first part of a tick, by the table that stands for the journal when its row begins.
 pub notices_again-StandsFor : (rows : List Row) (s : Step) (starved : Bool) (moment : ℕ)

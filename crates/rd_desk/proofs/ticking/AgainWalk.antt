@@ -1,5 +1,5 @@
--- The first part of a tick, observer after observer: each notice by what is due of it, and then the
--- next.
+-- The first part of a tick, observer after observer: each notification by what is due of it, and
+-- then the next.
 use Rattle.std.proofs.Common.{
   ◌≡◌,
   ℕ,
@@ -109,7 +109,7 @@ got-changed change zero (y ∷ ys) x is =
     let same : y ≡ x = cc in ap (λ (z : Standing). Some (change z)) same
 got-changed change (suc i) (y ∷ ys) x is = got-changed change i ys x is
 
--- ---- one notice
+-- ---- one notification
 
 -- nothing is due
 pub way_waits : (rows : List Row) (s : Step) (starved : Bool) (done : Effects) (d after : Seen)
@@ -125,7 +125,7 @@ way_waits rows s starved done d after out mids moment x due same way =
     (sym (ap (λ (a : Again). joined done (again_as a x x.flight)) (sym due)
     ∙ joined-nothing done)) way)
 
--- it is sent again
+-- it is retransmitted
 pub way_sends : (rows : List Row) (s : Step) (starved : Bool) (done : Effects) (b d : Seen)
     (w : Watching) (out sent_out : List (Peer × List ℕ)) (mids : Mids) (moment : ℕ)
     (x : Standing)
@@ -197,7 +197,7 @@ way_gives_up rows s starved done b d w out mids moment x seen due stands way = b
 
 -- ---- the walk
 
--- the octets of the notice in flight are no longer than a datagram may be
+-- the octets of the notification in flight are no longer than a datagram may be
 abbrev pub IsShort : Standing → Type 0
 IsShort x = (sent : Sent) → x.flight ≡ Some sent → length sent.octets ≤ 1_280
 

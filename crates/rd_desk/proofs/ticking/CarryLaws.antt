@@ -194,7 +194,7 @@ carries_unchanged rows s starved current whole ready b d w out mids from index r
         (ap₂ (λ (p : Peer) (t : List ℕ). noting (note.Unchanged p t ∷ [])) (sym kept.as_kept.peer)
         (sym kept.as_kept.token)) (changes h.done kept.x kept.there k)
 
--- ---- a notice
+-- ---- a notification
 
 -- the answer is kept that goes with it, or none
 keeps : (rows : List Row) (s : Step) (starved : Bool) (done : Effects) (xs : List KeptAnswer)

@@ -1,5 +1,5 @@
--- The octets that a tick may send again are no longer than a datagram may be, after each journal of
--- a desk: they are a request of a fetch, or a notice of an earlier tick.
+-- The octets that a tick may retransmit are no longer than a datagram may be, after each journal of
+-- a desk: they are a request of a fetch, or a notification of an earlier tick.
 use Rattle.std.proofs.Common.{
   ◌≡◌,
   ℕ,
@@ -240,13 +240,13 @@ use Rattle.journal_model.proofs.datagrams.TickedSends.{
 }
 use Rattle.rd_desk.proofs.ticking.BoundLaws.{asking_observers}
 
--- what may be sent again of datagrams
+-- what may be retransmitted of datagrams
 abbrev AreResendable : List (Peer × List ℕ) → Type 0
 AreResendable sent = AllByRecursion IsResendable sent
 
 -- ---- one datagram
 
--- what is not confirmable is not sent again
+-- what is not confirmable is not retransmitted
 never : (peer : Peer) (octets : List ℕ)
     → is_confirmable octets ≡ false
     → IsResendable (peer, octets)
@@ -632,7 +632,7 @@ unread_sends s (unread.Format Non mid) = tt
 unread_sends s (unread.Format Ack mid) = tt
 unread_sends s (unread.Format Rst mid) = tt
 
--- any step, after rows of which what is confirmable may be sent again
+-- any step, after rows of which what is confirmable may be retransmitted
 step_sends : (kind : StepKind) (starved : Bool) (rows : List Row) (moment : ℕ) (s : Step)
     → AllSettledNever (events rows)
     → AreResendable (tick_effects starved rows moment s).sent
@@ -858,7 +858,7 @@ desk_known [] begun = record {
 desk_known (r ∷ before) (made {rows} s starved journal may) =
     row_known before s starved journal (desk_known before journal)
 
--- What may be sent again is no longer than a datagram may be.
+-- What may be retransmitted is no longer than a datagram may be.
 pub short_octets : (rows : List Row)
     → IsDeskJournal rows
     → (place : ℕ) (peer : Peer) (mid : ℕ)

@@ -1,5 +1,5 @@
--- A tick in which, after the notices that are sent again, nobody is due and free: no notice is
--- formed, and no memory is taken.
+-- A tick in which, after the notifications that are retransmitted, nobody is due and free: no
+-- notification is built, and no memory is taken.
 use Rattle.std.proofs.Common.{
   ◌≡◌,
   ℕ,
@@ -39,7 +39,7 @@ use Rattle.rd_desk.specs.parts.UnderWay.{UnderWay}
 use Rattle.rd_desk.proofs.ticking.NoticeWalk.{events-with, notices-end, next-unlooked}
 use Rattle.rd_desk.proofs.ticking.WholeTick.{again_draws}
 
--- what is sent again enters nothing
+-- what is retransmitted enters nothing
 again_silent : (rows : List Row) (s : Step)
     → entries_in (notices_again rows (row_moment rows s)).notes ≡ []
 again_silent rows s =
@@ -47,19 +47,19 @@ again_silent rows s =
     (again_tick (notices_again rows (row_moment rows s)).notes
     (notices_again-notes rows (row_moment rows s)))
 
--- and forms no notice
+-- and builds no notification
 again_few : (rows : List Row) (s : Step)
     → nat_le max_notices (notices_again rows (row_moment rows s)).drew ≡ false
 again_few rows s = ap (nat_le max_notices) (again_draws rows (row_moment rows s))
 
--- who comes next after what is sent again, as the observers of a desk tell it
+-- who comes next after what is retransmitted, as the observers of a desk tell it
 abbrev Tells : Option ℕ → Watching → Type 0
 Tells next w =
     (past : List Row)
     → WatchingStandsFor past w
     → next ≡ next_noticed 0 (events past) (transitions past)
 
--- Where nobody comes next, no notice is formed.
+-- Where nobody comes next, no notification is built.
 pub way_idle : (rows : List Row) (s : Step) (b d : Seen) (out : List (Peer × List ℕ)) (mids : Mids)
     (next : Option ℕ)
     → b ≡ d

@@ -1,4 +1,4 @@
--- The second part of a tick, observer after observer: who is not looked at is passed over, up to
+-- The second part of a tick, observer after observer: who is not looked at is skipped, up to
 -- the next that is due and free.
 use Rattle.std.proofs.Common.{
   ◌≡◌,
@@ -109,7 +109,7 @@ transitions-with rows s starved d desk none =
 
 -- ---- who is looked at
 
--- an observer that is due and free, while the row formed fewer notices than it may
+-- an observer that is due and free, while the row built fewer notifications than it may
 looked_when : (rows : List Row) (s : Step) (starved : Bool) (d : Effects) (o : Observer)
     → is_look s.kind ≡ false
     → entries_in d.notes ≡ []
@@ -124,13 +124,13 @@ looked_when rows s starved d o desk none =
     && not (is_waited_for o.peer past)) (events-with rows s starved d)
     (transitions-with rows s starved d desk none)
 
--- one who is not is passed over
+-- one who is not is skipped
 passed : (t : Ticking) (d : Effects) (o : Observer)
     → is_looked_at t d o ≡ false
     → notice_next t d o ≡ d
 passed t d o fails = ap (λ (b : Bool). joined d (noticed_if b t d o)) fails ∙ joined-nothing d
 
--- as many notices were formed as may be: nobody is looked at any more
+-- as many notifications were built as may be: nobody is looked at any more
 pub full_passes : (t : Ticking) (d : Effects) (os : List Observer)
     → nat_le max_notices d.drew ≡ true
     → fold (notice_next t) d os ≡ d

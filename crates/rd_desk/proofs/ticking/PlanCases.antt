@@ -1,5 +1,5 @@
 -- A plan with one observer more, by what is planned for it: nothing, where its listing is
--- unchanged, and else a notice with its listing.
+-- unchanged, and else a notification with its listing.
 use Rattle.std.proofs.Common.{
   ◌≡◌,
   ℕ,
@@ -159,8 +159,8 @@ or_false : (b : Bool) → b ≡ (b || false)
 or_false true = refl
 or_false false = refl
 
--- it is kept so, asks with a token and a block size that a message may have, and no notice is in
--- flight to its peer; who comes after it is as before
+-- it is kept so, asks with a token and a block size that a message may have, and no notification is
+-- in flight to its peer; who comes after it is as before
 record IsFound (rows : List Row) (s : Step) (starved : Bool) (done : Effects) (ws : List Standing)
     (w : Watching) (index : ℕ) (x : Standing) : Type 0 where
   o : Observer
@@ -171,7 +171,7 @@ record IsFound (rows : List Row) (s : Step) (starved : Bool) (done : Effects) (w
   free : is_awaited x.peer w.observers ≡ false
   later : drop (index + 1) w.observers ≡ drop (index + 1) ws
 
--- whoever observes after notices were sent again asks so
+-- whoever observes after notifications were retransmitted asks so
 asking_again : (rows : List Row) (s : Step) (starved : Bool)
     → IsDeskJournal rows
     → AllByRecursion IsAsking
@@ -387,9 +387,9 @@ planned_unchanged rows s starved current whole first ws given p after from index
         listed rows s starved first index o body way.no_look h.begins says
         (ap (λ (os : List Observer). slice_get os index) (sym h.standing) ∙ found.at)
 
--- ---- it gets a notice
+-- ---- it gets a notification
 
--- a notice is a confirmable message with its Message ID
+-- a notification is a confirmable message with its Message ID
 notice_confirmable : (mid : ℕ) (token : List ℕ) (r : Reply)
     → length token ≤ 8
     → is_confirmable_with mid (spelling (notice_saying mid token r)) ≡ true
@@ -422,7 +422,7 @@ block_as o szx same low =
     ap (λ (n : ℕ). let b : Block = record { num = 0; more = false; szx = n } in Some b)
     (sym (capped o.szx low) ∙ ap (λ (n : ℕ). cond (nat_lt n 6) n 6) same)
 
--- nothing confirmable was sent to a peer to which no notice is in flight
+-- nothing confirmable was sent to a peer to which no notification is in flight
 unsent_to : (peer : Peer) (mid : ℕ) (ws : List Standing) (ds : List (Peer × List ℕ))
     → is_awaited peer ws ≡ false
     → AllByRecursion (λ d. is_awaited d.0 ws ≡ true) ds
@@ -445,7 +445,7 @@ unsent_to peer mid ws (d ∷ ds) free h =
         ∙ h.0)))
     by false e more = more
 
--- a notice is in flight to its peer then, beside those before
+-- a notification is in flight to its peer then, beside those before
 awaited-noticed : (peer : Peer) (sent : Sent) (body : List ℕ) (i : ℕ) (ws : List Standing)
     (x : Standing)
     → slice_get ws i ≡ Some x

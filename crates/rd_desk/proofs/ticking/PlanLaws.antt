@@ -1,5 +1,5 @@
--- A plan, from its beginning to its end: it begins where notices were sent again, and ends where
--- nobody is looked at any more.
+-- A plan, from its beginning to its end: it begins where notifications were retransmitted, and ends
+-- where nobody is looked at any more.
 use Rattle.std.proofs.Common.{
   ◌≡◌,
   ℕ,
@@ -183,7 +183,7 @@ first-none weak strong stronger i (x ∷ xs) h =
     by false e g more =
         ap (λ (b : Bool). cond b (Some i) (first_from strong (i + 1) xs)) (stronger x e) ∙ more g
 
--- whoever is free with more notices planned is free without them
+-- whoever is free with more notifications planned is free without them
 pub free_before : (rows : List Row) (s : Step) (starved : Bool) (current : List ℕ)
     (whole first : Effects) (ws : List Standing) (given : ℕ) (p : Plan) (from : ℕ)
     → (h : PlannedUpTo rows s starved current whole first ws given p from)
@@ -225,7 +225,7 @@ planned_none rows s starved current whole first ws given p from desk few last h 
     below : (n : ℕ) → n < 64 → nat_le 64 n ≡ false
     below n k = grind (arith, nat_tests, k)
 
--- as many notices are planned as may be
+-- as many notifications are planned as may be
 pub planned_full : (rows : List Row) (s : Step) (starved : Bool) (current : List ℕ)
     (whole first : Effects) (ws : List Standing) (given : ℕ) (p : Plan) (from : ℕ)
     → 64 ≤ length p.peers.items

@@ -1,4 +1,4 @@
--- A plan with one observer more: its listing is unchanged, or it gets a notice.
+-- A plan with one observer more: its listing is unchanged, or it gets a notification.
 use Rattle.std.proofs.Common.{
   ◌≡◌,
   ℕ,
@@ -68,7 +68,7 @@ use Rattle.rd_desk.proofs.ticking.AgainWalk.{length-append}
 use Rattle.rd_desk.proofs.ticking.NoticeWalk.{notices-next}
 use Rattle.rd_desk.proofs.ticking.SkipLaws.{planned_next}
 
--- an unchanged listing leaves whom notices are in flight to
+-- an unchanged listing leaves whom notifications are in flight to
 pub awaited-seen : (peer : Peer) (i : ℕ) (ws : List Standing)
     → is_awaited peer (changed_at seen i ws) ≡ is_awaited peer ws
 awaited-seen peer i [] = refl

@@ -37,7 +37,7 @@ use Rattle.coap_answers.specs.declared.mids.Mids.{Mids}
 use Rattle.rd_desk.specs.calls.Desks.{Seen, StandsFor}
 use Rattle.rd_desk.specs.parts.UnderWay.{UnderWay}
 
--- nothing is entered where notices are sent again
+-- nothing is entered where notifications are retransmitted
 pub entries-again : (rows : List Row) (s : Step) (starved : Bool)
     → entries (making rows s starved (notices_again rows (row_moment rows s))) ≡ entries rows
 unfolding entries

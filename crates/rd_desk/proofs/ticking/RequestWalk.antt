@@ -382,7 +382,7 @@ resending_waits rows s starved first b d after out mids i most less one within s
     (fetches_left rows s starved h.done (i + 1))) (sym same)
     (subst (AllByRecursion (IsAsBefore rows s starved h.done)) it.left h.same).1)
 
--- its request is sent again
+-- its request is retransmitted
 pub resending_sends : (rows : List Row) (s : Step) (starved : Bool) (first : Effects) (b d : Seen)
     (t : Table) (out sent : List (Peer × List ℕ)) (mids : Mids) (i most less : ℕ)
     → most ≡ less + 1

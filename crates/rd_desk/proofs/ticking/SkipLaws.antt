@@ -1,5 +1,5 @@
--- A plan, observer after observer: one to whose peer a notice is planned is passed over, and any
--- other that is due and free comes next.
+-- A plan, observer after observer: one to whose peer a notification is planned is skipped, and
+-- any other that is due and free comes next.
 use Rattle.std.proofs.Common.{
   ◌≡◌,
   ℕ,
@@ -153,7 +153,7 @@ first-passes test i j k (y ∷ ys) x h at got =
 
 -- ---- the next after a plan
 
--- the next that is free where nothing was planned is the next, unless a notice to its peer is
+-- the next that is free where nothing was planned is the next, unless a notification to its peer is
 -- planned: then the one after it is
 pub planned_next : (rows : List Row) (s : Step) (starved : Bool) (current : List ℕ)
     (whole first : Effects) (ws : List Standing) (given : ℕ) (p : Plan) (from index : ℕ)
@@ -236,7 +236,7 @@ planned_next rows s starved current whole first ws given p from index x is got h
         same true false = refl
         same false a = refl
 
--- ---- one to whose peer a notice is planned
+-- ---- one to whose peer a notification is planned
 
 -- the same come next from another index on: what is done is the same
 same_fold : (rows : List Row) (s : Step) (starved : Bool) (d : Effects) (from other : ℕ)
@@ -337,7 +337,7 @@ later_done rows s starved current whole done from other (p ∷ ps) kept same h =
   h.3,
 )
 
--- an observer to whose peer a notice is planned is passed over
+-- an observer to whose peer a notification is planned is skipped
 pub planned_skips : (rows : List Row) (s : Step) (starved : Bool) (current : List ℕ)
     (whole first : Effects) (ws : List Standing) (given : ℕ) (p : Plan) (from index : ℕ)
     (x : Standing)

@@ -1,5 +1,5 @@
--- A tick, part after part: what the notices leave for the requests of fetches, how many datagrams
--- go out, and that the parts are all that a tick does.
+-- A tick, part after part: what the notifications leave for the requests of fetches, how many
+-- datagrams go out, and that the parts are all that a tick does.
 use Rattle.std.proofs.Common.{
   ◌≡◌,
   ℕ,
@@ -142,10 +142,10 @@ leaves_fetches rows s starved done none = record {
   };
 }
 
--- ---- how much the notices do
+-- ---- how much the notifications do
 
 -- what the row did so far is not about fetches, and it sent at most so many datagrams beside its
--- new notices, of which there are at most 64
+-- new notifications, of which there are at most 64
 record SoFar (n : ℕ) (d : Effects) : Type 0 where
   aside : list_any about_fetches d.notes ≡ false
   size : length d.sent ≤ n + d.drew
@@ -305,7 +305,7 @@ done_so_far false rows s =
 
 -- ---- the tick
 
--- what the requests of fetches ask of the notices
+-- what the requests of fetches ask of the notifications
 pub notices_leave : (starved : Bool) (rows : List Row) (s : Step)
     → LeavesFetches rows s starved (notices_done starved rows s)
 notices_leave starved rows s =

@@ -46,13 +46,14 @@ use Rattle.journal_model.specs.Writes.{write_effects}
 use Rattle.rd_desk.specs.declared.admissions.Admitted.{Admitted}
 use Rattle.rd_desk.specs.declared.admissions.Admitted.TheVariants as admitted
 
--- memory ran out
+-- Returns whether memory ran out.
 abbrev pub is_starved_admission : Admitted → Bool
 is_starved_admission admitted.Done = false
 is_starved_admission (admitted.Held job) = false
 is_starved_admission admitted.Starved = true
 
--- the worker has the job of the write that the row admits, or no job if the row admits none
+-- States that the worker has the job of the write that the row admits, or no job if the row admits
+-- none.
 abbrev pub IsHeldFor : Admitted → List Note → Step → ℕ → Type 0
 IsHeldFor (admitted.Held job) notes s moment =
     (mid : ℕ)
@@ -61,12 +62,13 @@ IsHeldFor (admitted.Held job) notes s moment =
 IsHeldFor admitted.Done notes s moment = list_any is_admitting notes ≡ false
 IsHeldFor admitted.Starved notes s moment = list_any is_admitting notes ≡ false
 
--- a write allocates if it is admitted, for its job; a duplicate, a challenged write and one for
--- which there is no room do not
+-- Returns whether a write allocates. It does if it is admitted, for its job. A duplicate, a
+-- challenged write and one for which there is no room do not.
 abbrev pub write_takes : List Row → ℕ → Step → Message → Bool
 write_takes rows moment s m = list_any is_admitting (write_effects (events rows) moment s m).notes
 
--- a request to a registration allocates, by its method: a read does
+-- Returns whether a request to a registration allocates, by its method. A read does; a write does
+-- if it is admitted.
 abbrev pub served_on_location_takes : Method → List Row → ℕ → Step → Message → Bool
 served_on_location_takes get rows moment s m = true
 served_on_location_takes post rows moment s m = write_takes rows moment s m
@@ -74,7 +76,7 @@ served_on_location_takes put rows moment s m = write_takes rows moment s m
 served_on_location_takes delete rows moment s m = write_takes rows moment s m
 served_on_location_takes other_method rows moment s m = false
 
--- a request that is not refused allocates, by its path
+-- Returns whether a request that is not refused allocates, by its path.
 abbrev pub served_takes : Path → List Row → ℕ → Step → Message → Bool
 served_takes path.Core rows moment s m = true
 served_takes path.Res rows moment s m = true
@@ -85,16 +87,16 @@ served_takes (path.Location number) rows moment s m =
     served_on_location_takes (method_of m.code) rows moment s m
 served_takes path.Other rows moment s m = false
 
--- a request allocates, unless it is refused by its content alone
+-- Returns whether a request allocates. One that is refused by its content alone does not.
 abbrev pub request_takes : Option Reply → List Row → ℕ → Step → Message → Bool
 request_takes (Some refusal) rows moment s m = false
 request_takes None rows moment s m = served_takes (path_in m) rows moment s m
 
--- a response allocates if it belongs to a fetch
+-- Returns whether a response allocates. It does if it belongs to a fetch.
 abbrev pub response_takes : List Row → Step → Message → Bool
 response_takes rows s m = is_some (fetch_of s m (events rows))
 
--- a message allocates, by its role: an empty message does not
+-- Returns whether a message allocates, by its role. An empty message does not.
 abbrev pub message_takes : Role → List Row → ℕ → Step → Message → Bool
 message_takes role.Ping rows moment s m = false
 message_takes role.Acknowledgement rows moment s m = false
@@ -103,7 +105,7 @@ message_takes role.Request rows moment s m = request_takes (refusal_of_request m
 message_takes role.Response rows moment s m = response_takes rows s m
 message_takes role.Ignored rows moment s m = false
 
--- what is read of a datagram allocates after a journal
+-- Returns whether what is read of a datagram allocates after a journal.
 abbrev pub takes_memory : List Row → ℕ → Step → Result Message Unread → Bool
 takes_memory rows moment s (Err fault) = false
 takes_memory rows moment s (Ok m) = message_takes (role_of m.kind m.code) rows moment s m

@@ -15,8 +15,8 @@ use Rattle.simple_registration.specs.Challenges.{ChallengeTable, ChallengesStand
 use Rattle.observation.specs.Directories.{DirectoryStandsFor}
 use Rattle.observation.specs.Watching.{Watching, WatchingStandsFor}
 
--- its moment, the version of the directory, the tables, and how many Observe values it gave, modulo
--- 2^64
+-- What a desk shows: its moment, the version of the directory, the tables, and how many Observe
+-- values it gave, modulo 2^64.
 pub record Seen : Type 0 where
   pub moment : ℕ
   pub version : Version
@@ -27,8 +27,8 @@ pub record Seen : Type 0 where
   pub challenges : ChallengeTable
   pub observed : ℕ
 
--- a desk stands for a journal: its moment is that of the last row that is not a look, and each
--- table stands for the events
+-- A desk that stands for a journal. Its moment is that of the last row that is not a look, and each
+-- table stands for the events.
 pub record StandsFor (rows : List Row) (d : Seen) : Type 0 where
   pub moment : d.moment ≡ now rows
   pub directory : DirectoryStandsFor rows d.version

@@ -4,11 +4,11 @@ use Rattle.history_model.specs.declared.entries.Entry.{Entry}
 use Rattle.history_model.specs.Versions.{Version, VersionStandsFor}
 use Rattle.rd_desk.specs.calls.Desks.{Seen}
 
--- its tables, and the board on which it stages versions
+-- The tables of a desk, and the board on which it stages versions.
 pub record Shown (B : Type 0) : Type 0 where
   pub tables : Seen
   pub board : B
 
--- if the board exposes its entries, they are those of this version
+-- States that the entries that a board exposes, if it exposes any, are those of this version.
 abbrev pub AreToldOf : Version → Option (List Entry) → Type 0
 AreToldOf version told = IfSome told (λ history. VersionStandsFor 0 history version)

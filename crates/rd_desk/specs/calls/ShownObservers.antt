@@ -8,22 +8,22 @@ use Rattle.journal_model.specs.Journal.{events, transitions}
 use Rattle.observers.specs.Standing as kept
 use Rattle.rd_desk.specs.declared.watchers.Watcher.{Watcher}
 
--- the shown observer is the stored one
+-- A shown observer that is the stored one.
 pub record IsShownAs (x : kept.Standing) (w : Watcher) : Type 0 where
   pub peer : w.peer ≡ x.peer
   pub token : w.token ≡ x.token
   pub due : w.due ≡ x.due
   pub waiting : w.waiting ≡ is_some x.flight
 
--- an observer is shown exactly if one is stored
+-- States that an observer is shown if and only if it is stored, and as it is stored.
 abbrev pub IsShown : Option kept.Standing → Option Watcher → Type 0
 IsShown None None = Unit {0}
 IsShown None (Some w) = ⊥
 IsShown (Some x) None = ⊥
 IsShown (Some x) (Some w) = IsShownAs x w
 
--- the shown observer is this observer after a journal: whether it is due, and whether a
--- notification to it is in flight
+-- A shown observer that is this observer after a journal: whether it is due, and whether a
+-- notification to it is in flight.
 pub record IsObserverAfter (rows : List Row) (o : Observer) (w : Watcher) : Type 0 where
   pub peer : w.peer ≡ o.peer
   pub token : w.token ≡ o.token

@@ -3,7 +3,7 @@ use Rattle.std.specs.Prelude.{Bool, true, false}
 use Rattle.rd_desk.specs.declared.steps.Stepped.{Stepped}
 use Rattle.rd_desk.specs.declared.steps.Stepped.TheVariants as stepped
 
--- memory ran out
+-- Returns whether memory ran out.
 abbrev pub is_starved_step : Stepped → Bool
 is_starved_step stepped.Done = false
 is_starved_step stepped.Starved = true

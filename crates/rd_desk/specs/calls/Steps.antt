@@ -10,8 +10,8 @@ use Rattle.journal_model.specs.UnfinishedRow.{drawing}
 use Rattle.coap_answers.specs.declared.mids.Mids.{Mids}
 use Rattle.rd_desk.specs.calls.Desks.{Seen, StandsFor}
 
--- the call is that of a step: the step has the moment and the Message IDs that are passed in, no
--- look was later, and the desk stands for the journal
+-- The call of a step. The step has the moment and the Message IDs that are passed in, no look was
+-- later, and the desk stands for the journal.
 pub record IsCalled (rows : List Row) (s : Step) (now : Moment) (mids : Mids) (desk : Seen) : Type 0
   where
     pub journal : IsDeskJournal rows
@@ -22,8 +22,8 @@ pub record IsCalled (rows : List Row) (s : Step) (now : Moment) (mids : Mids) (d
     pub worker : s.worker ≡ mids.worker
     pub drawn : s.drawn ≡ mids.drawn
 
--- the step was made: the desk stands for the journal with its row, and the call sent and drew what
--- the row says
+-- A step that was made. The desk stands for the journal with its row, and the call sent and drew
+-- what the row says.
 pub record Made (rows : List Row) (r : Row) (desk : Seen) (out : List (Peer × List ℕ))
     (mids_before mids : Mids) : Type 0 where
   pub stands : StandsFor (r ∷ rows) desk

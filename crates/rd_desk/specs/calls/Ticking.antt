@@ -7,11 +7,12 @@ use Rattle.journal_model.specs.declared.rows.Row.{Row}
 use Rattle.journal_model.specs.Effects.{Effects}
 use Rattle.journal_model.specs.Ticks.{Ticking, ticking, events_with, is_looked_at, notices_again}
 
--- an observer is examined after what a tick did so far
+-- Returns whether an observer is examined after what a tick did so far.
 abbrev pub looks_at_any : Ticking → Effects → Bool
 looks_at_any t done = list_any (is_looked_at t done) (observers (events_with t done))
 
--- a tick allocates if, after its retransmissions of notifications, an observer is due and no
--- notification to its peer is in flight (RFC 7641 section 4.2, RFC 7252 section 4.7)
+-- Returns whether a tick allocates. It does if, after its retransmissions of notifications, an
+-- observer is due and no notification to its peer is in flight (RFC 7641 section 4.2, RFC 7252
+-- section 4.7).
 abbrev pub tick_takes_memory : List Row → ℕ → Step → Bool
 tick_takes_memory rows moment s = looks_at_any (ticking rows moment s) (notices_again rows moment)

@@ -2,7 +2,7 @@
 use Rattle.std.specs.Prelude.{ℕ, List}
 use Rattle.rd_base.specs.declared.peers.Peer.{Peer}
 
--- a write to be done: its sender, its datagram, and the moment of its admission
+-- A write to be done: its sender, its datagram, and the moment of its admission.
 pub record Write : Type 0 where
   pub peer : Peer
   pub datagram : List ℕ

@@ -8,17 +8,18 @@ use Rattle.journal_model.specs.declared.steps.Step.{Step}
 use Rattle.journal_model.specs.Effects as effects
 use Rattle.journal_model.specs.Effects.{Effects, bare, answer, answering}
 
--- the directory answers a request; the answer settles its write, which was admitted at a place
+-- Returns the effects of answering a request, whose answer settles its write. The write was
+-- admitted at a place.
 abbrev pub answering_settled : ℕ → Step → Message → effects.Reply → Effects
 answering_settled place s m reply =
     answering s m reply (note.Settled place (spelling (answer s m reply)) ∷ [])
 
--- the directory answers 5.00 and the write fails: it may come again as a new one (RFC 7252 section
--- 5.9.3.1)
+-- Returns the effects of a write that fails: the directory answers 5.00, and the write may come
+-- again as a new one (RFC 7252 section 5.9.3.1).
 abbrev pub failing : ℕ → Step → Message → Effects
 failing place s m = answering s m (bare codes_of.internal_server_error) (note.Failed place ∷ [])
 
--- a write is done so, or fails if memory ran out
+-- Returns these effects of a write, or those of its failure if memory ran out.
 abbrev pub unless_failing : Bool → ℕ → Step → Message → Effects → Effects
 unless_failing true place s m e = failing place s m
 unless_failing false place s m e = e

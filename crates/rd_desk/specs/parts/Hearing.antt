@@ -22,13 +22,14 @@ use Rattle.rd_desk.specs.declared.admissions.Admitted.TheVariants as admitted
 use Rattle.rd_desk.specs.declared.steps.Stepped.{Stepped}
 use Rattle.rd_desk.specs.declared.steps.Stepped.TheVariants as stepped
 
--- a write that is not refused; out of memory, the answer is 5.00
+-- Returns the effects of a write that is not refused. If memory ran out, the answer is 5.00.
 abbrev pub write_heard : Bool → List Row → Step → Message → Effects
 write_heard true rows s m = without_memory s m
 write_heard false rows s m = write_effects (events rows) (row_moment rows s) s m
 
--- A write that is not admitted (RFC 7252 section 4.5). A duplicate gets the octets of the first
--- answer, or nothing while the write is in progress. A write for which there is no room is refused.
+-- Returns the effects of a write that is not admitted (RFC 7252 section 4.5). A duplicate gets the
+-- octets of the first answer, or nothing while the write is in progress. A write for which there is
+-- no room is refused.
 abbrev pub unadmitted : Keyed → Step → Message → Effects
 unadmitted keyed.Fresh s m = nothing
 unadmitted keyed.InFlight s m = nothing
@@ -36,7 +37,7 @@ unadmitted (keyed.Kept reply) s m = sending s.peer reply
 unadmitted keyed.FullExchanges s m =
     answering s m (diagnostic codes_of.service_unavailable (codes "exchanges")) []
 
--- the result of a datagram that leaves no job
+-- Returns the result of a datagram that leaves no job.
 abbrev pub jobless : Stepped → Admitted
 jobless stepped.Done = admitted.Done
 jobless stepped.Starved = admitted.Starved

@@ -19,8 +19,8 @@ use Rattle.directory_core.specs.Boards.{HasOneMore}
 use Rattle.rd_desk.specs.declared.write.outcomes.Entering.{Entering}
 use Rattle.rd_desk.specs.declared.write.outcomes.Outcome.{Outcome}
 
--- A part of a step found one version and left another, with a board. Either it made one entry and
--- staged the version with it, or it left version and board as they were. In the second case,
+-- A part of a step that found one version and left another, with a board. Either it made one entry
+-- and staged the version with it, or it left version and board as they were. In the second case,
 -- nothing is staged.
 pub record IsLaid (old new : Version) (before after : Option (Option Version))
     (is_staged : Bool) : Type 0 where
@@ -33,20 +33,20 @@ pub record IsLaid (old new : Version) (before after : Option (Option Version))
       → HasOneMore history new
   pub free : entered ≡ false → is_staged ≡ false
 
--- the version of the entry that is ready, or the one staged before if none is
+-- Returns the version of the entry that is ready, or the one staged before if none is.
 abbrev pub version_ready : Option Entering → Option Version → Option Version
 version_ready None before = before
 version_ready (Some e) before = Some (arc_value e.version)
 
--- the outcome has one entry more than a history, if it makes one
+-- States that the outcome has one entry more than a history, if it makes one.
 abbrev pub IsNextOf : List Entry → Outcome → Type 0
 IsNextOf history o = IfSome o.entering (λ e. HasOneMore history (arc_value e.version))
 
--- the version was not swept after its last entry
+-- States that the version was not swept after its last entry.
 abbrev pub IsSweptBefore : Outcome → Type 0
 IsSweptBefore o = IfSome o.entering (λ e. (arc_value e.version).swept ≤ (arc_value e.version).at)
 
--- the outcome leaves the new version: its own, or the old one if it makes no entry
+-- States that the outcome leaves the new version: its own, or the old one if it makes no entry.
 abbrev pub IsLeftBy : Version → Version → Option Entering → Type 0
 IsLeftBy old new None = new ≡ old
 IsLeftBy old new (Some e) = new ≡ arc_value e.version

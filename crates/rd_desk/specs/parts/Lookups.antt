@@ -1,4 +1,4 @@
--- Lookups and reads whose answers depend on the journal: what they allocate, and what they note
+-- Lookups and reads whose answers depend on the journal: whether they allocate, and what they note
 -- (RFC 7959 section 2.4, RFC 7641 sections 3 and 4.1).
 use Rattle.std.specs.Prelude.{
   ◌≡◌,
@@ -45,25 +45,25 @@ use Rattle.observation.specs.declared.joining.Joining.{Joining}
 use Rattle.rd_desk.specs.declared.lookup.listings.Formed.{Formed}
 use Rattle.rd_desk.specs.declared.lookup.listings.Listed.{Listed}
 
--- a listing or a source as an answer
+-- Returns a listing or a source as an answer.
 abbrev pub answer_listed : Listed → Answer
 answer_listed l = record { body = arc_value l.body; tag = l.tag.0 }
 
--- the listing of a query in a history at a moment, under its tag
+-- Returns the listing of a query in a history at a moment, under its tag.
 abbrev pub answer_at : List Entry → ℕ → Query → Answer
 answer_at history moment query = record {
   body = listing query history moment;
   tag = tag history moment;
 }
 
--- what a history at a moment gives to a request, under its tag; none if the registration is not
--- live
+-- Returns what a history at a moment gives to a request, under its tag, or none if the registration
+-- is not live.
 abbrev pub answer_found : List Entry → ℕ → Message → Option Answer
 answer_found history moment m =
     option_and_then (λ sought. answer_for sought history moment) (sought_in m)
 
--- the kept answers are those before, with this answer kept after them at a moment, under a peer and
--- a key
+-- States that the kept answers are those before, with this answer kept after them at a moment,
+-- under a peer and a key.
 abbrev pub AreWith : ℕ → Peer → List ℕ → Answer → List KeptAnswer → List KeptAnswer → Type 0
 AreWith moment peer key answer before after =
     (events : List Event) (place word : ℕ)
@@ -71,13 +71,13 @@ AreWith moment peer key answer before after =
     → AnswersStandFor
     (noted place moment word (note.Kept peer key answer.body answer.tag ∷ []) events) after
 
--- this answer is built, to be kept or not
+-- An answer that is built, to be kept or not.
 pub record IsFormed (keep : Bool) (answer : Answer) (f : Formed) : Type 0 where
   pub listed : answer_listed f.listed ≡ answer
   pub kept : is_some f.ready ≡ keep
 
--- the result for a later block: the answer found, to be kept if it has that block, or nothing if
--- nothing is found
+-- States the result for a later block: the answer found, to be kept if it has that block, or
+-- nothing if nothing is found.
 abbrev pub IsFormedOf : Message → Option Answer → Option Formed → Type 0
 IsFormedOf m None None = Unit {0}
 IsFormedOf m None (Some f) = ⊥
@@ -85,27 +85,27 @@ IsFormedOf m (Some answer) None = ⊥
 IsFormedOf m (Some answer) (Some f) =
     IsFormed (has_asked_block (asked_block m) answer.body) answer f
 
--- the kept answers that are ready are those before, with this answer after them
+-- States that the kept answers that are ready are those before, with this answer after them.
 abbrev pub IsReadied : ℕ → Peer → List ℕ → List KeptAnswer → Formed → Type 0
 IsReadied moment peer key before f =
     IfSome f.ready (AreWith moment peer key (answer_listed f.listed) before)
 
--- what is noted of an answer, if it is kept
+-- Returns the note that an answer is kept, if it is kept.
 abbrev pub kept_if : Bool → Step → Message → Answer → List Note
 kept_if true s m answer = note.Kept s.peer (key_in m) answer.body answer.tag ∷ []
 kept_if false s m answer = []
 
--- the requested block of an answer is sent, and the answer is kept or not
+-- Returns the effects of sending the requested block of an answer, which is kept or not.
 abbrev pub giving : Bool → Option ℕ → Step → Message → Answer → Effects
 giving keep observe s m answer =
     answering s m (body_reply (Some answer.tag) observe (asked_block m) answer.body)
     (kept_if keep s m answer)
 
--- the next Observe value, if one is given
+-- Returns the next Observe value, if one is sent.
 abbrev pub value_given : Bool → List Event → Option ℕ
 value_given added events = if added then Some (observe_value events) else None
 
--- the client that asks to observe, by its request, and the body of the answer
+-- A client that asks to observe, by its request, and the body of the answer.
 pub record IsJoining (peer : Peer) (m : Message) (octets : List ℕ) (j : Joining) : Type 0 where
   pub peer_is : j.peer ≡ peer
   pub token : j.token ≡ m.token
@@ -113,7 +113,8 @@ pub record IsJoining (peer : Peer) (m : Message) (octets : List ℕ) (j : Joinin
   pub szx : j.szx ≡ szx_of (asked_block m)
   pub body : arc_value j.body ≡ octets
 
--- a later block of the answer kept under a peer and a key was sent, which is a use of it
+-- A later block that was sent, of the answer kept under a peer and a key. Sending it is a use of
+-- the answer.
 pub record IsUsed (at moment : ℕ) (peer : Peer) (key : List ℕ) (m : Message) (events : List Event)
     (after : Table) (out sent : List (Peer × List ℕ)) (mids_before mids : Mids) : Type 0 where
   pub answer : Answer
@@ -127,12 +128,13 @@ pub record IsUsed (at moment : ℕ) (peer : Peer) (key : List ℕ) (m : Message)
       → e.moment ≡ moment
       → TransfersStandFor at (e ∷ events) after
 
--- a later block of what a request seeks; out of memory, the answer is 5.00
+-- Returns the effects of a request for a later block. If memory ran out, the answer is 5.00.
 abbrev pub later_heard : Bool → List Row → Step → Message → Effects
 later_heard true rows s m = without_memory s m
 later_heard false rows s m = later_block rows (row_moment rows s) s m
 
--- a lookup whose answer depends on the journal; out of memory, the answer is 5.00
+-- Returns the effects of a lookup whose answer depends on the journal. If memory ran out, the
+-- answer is 5.00.
 abbrev pub lookup_heard : Bool → List Row → Step → Message → Effects
 lookup_heard true rows s m = without_memory s m
 lookup_heard false rows s m = lookup_effects rows (row_moment rows s) s m

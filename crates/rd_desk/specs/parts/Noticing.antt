@@ -9,18 +9,18 @@ use Rattle.journal_model.specs.Effects.{Effects, nothing, noting}
 use Rattle.observers.specs.Standing.{Standing, due_of}
 use Rattle.observation.specs.Notices.{sending_again}
 
--- what a tick does with the notification in flight to an observer, by what is due of it: nothing, a
--- retransmission, or the removal of the observer (RFC 7641 section 4.5)
+-- Returns what a tick does with the notification in flight to an observer, by what is due for it:
+-- nothing, a retransmission, or the removal of the observer (RFC 7641 section 4.5).
 abbrev pub again_as : Again → Standing → Option Sent → Effects
 again_as again.Send x (Some sent) = sending_again x sent
 again_as again.GaveUp x (Some sent) = noting (note.Unwatched x.peer x.token ∷ [])
 again_as _ x flight = nothing
 
--- the same at a moment
+-- Returns the same at a moment.
 abbrev pub again_done : ℕ → Standing → Effects
 again_done now x = again_as (due_of now x.flight) x x.flight
 
--- the index of the next observer, after one that stays or is removed
+-- Returns the index of the next observer, after one that stays (`true`) or is removed (`false`).
 abbrev pub index_after : Bool → ℕ → ℕ
 index_after true index = index + 1
 index_after false index = index

@@ -1,4 +1,4 @@
--- What a tick plans of its notifications before anything changes, and how it carries out the plan
+-- What a tick plans for its notifications before anything changes, and how it carries out the plan
 -- (RFC 7641 sections 1.3 and 4.2).
 use Rattle.std.specs.Prelude.{
   ◌≡◌,
@@ -70,29 +70,30 @@ use Rattle.rd_desk.specs.parts.UnderWay.{UnderWay}
 
 -- ---- one notification
 
--- the block that an observer gets, by the exponent of the size that it requested: the first, of a
--- size that exists (RFC 7959 section 2.2)
+-- Returns the block that an observer gets, by the exponent of the size that it requested. It is the
+-- first block, of a size that exists (RFC 7959 section 2.2).
 abbrev pub block_of_notice : ℕ → Option Block
 block_of_notice szx = Some (record { num = 0; more = false; szx = if nat_lt szx 6 then szx else 6 })
 
--- the block that a notification names: the first, if its body is longer than that
+-- Returns the block that a notification names: the first, if its body is longer than that, and
+-- otherwise none.
 abbrev pub block_named : ℕ → List ℕ → Option Block
 block_named szx body = if is_long (block_of_notice szx) body then block_of_notice szx else None
 
--- the octets of a notification to an observer, with a body
+-- Returns the octets of a notification to an observer, with a body.
 abbrev pub notice_spelled : Standing → List ℕ → ℕ → ℕ → List ℕ → List ℕ
 notice_spelled x current mid observe body =
     spelling (notice_saying mid x.token
     (body_reply (Some current) (Some observe) (block_named x.szx body) body))
 
--- the answer that is kept of it, if its body is longer than the block
+-- Returns the answer that is kept of a notification, if its body is longer than the block.
 abbrev pub kept_by : Standing → List ℕ → List ℕ → List NamedAnswer
 kept_by x body current =
     if is_long (block_of_notice x.szx) body
     then record { name = (x.peer, x.key); answer = record { body = body; tag = current } } ∷ []
     else []
 
--- a notification to an observer is added to a plan
+-- A notification to an observer that is added to a plan.
 pub record AddsNotice (x : Standing) (now word : ℕ) (current body : List ℕ) (mid observe : ℕ)
     (sent : Sent) (before after : Plan) : Type 0 where
   pub mid_is : sent.mid ≡ mid
@@ -107,7 +108,8 @@ pub record AddsNotice (x : Standing) (now word : ℕ) (current body : List ℕ) 
 
 -- ---- carrying out a plan
 
--- a notification with a body is built for an observer: it is sent and noted, and draws a Message ID
+-- Returns the effects of building a notification with a body for an observer. It is sent and noted,
+-- and draws a Message ID.
 abbrev pub forming_for : Observer → List ℕ → Sent → Effects
 forming_for o body sent = record {
   sent = (o.peer, sent.octets) ∷ [];
@@ -115,32 +117,33 @@ forming_for o body sent = record {
   drew = 1;
 }
 
--- the answer that is kept of a notification to an observer
+-- Returns the answer that is kept of a notification to an observer, if its body is longer than the
+-- block.
 abbrev pub kept_of : Observer → List ℕ → List ℕ → List NamedAnswer
 kept_of o body current =
     if is_long (first_block o) body
     then record { name = (o.peer, o.key); answer = record { body = body; tag = current } } ∷ []
     else []
 
--- the note of keeping it
+-- Returns the effects of keeping that answer, which is noted.
 abbrev pub keeping_noted : List NamedAnswer → Effects
 keeping_noted [] = noting []
 keeping_noted (a ∷ more) = noting (note.Kept a.name.0 a.name.1 a.answer.body a.answer.tag ∷ [])
 
--- what is done for an observer as planned, if listings have this tag
+-- Returns what is done for an observer as planned, if listings have this tag.
 abbrev pub planned_done : List ℕ → Observer → Planned → Effects
 planned_done current o planned.Unchanged = noting (note.Unchanged o.peer o.token ∷ [])
 planned_done current o (planned.Noticed sent body) =
     joined (forming_for o (arc_value body) sent)
     (keeping_noted (kept_of o (arc_value body) current))
 
--- the answers that are kept then
+-- Returns the answers that are kept when this is done.
 abbrev pub planned_kept : List ℕ → Observer → Planned → List NamedAnswer
 planned_kept current o planned.Unchanged = []
 planned_kept current o (planned.Noticed sent body) = kept_of o (arc_value body) current
 
--- A notification may be sent to an observer in a row that did this so far. The row has not sent a
--- confirmable message with its Message ID to that peer. The notification is confirmable, its
+-- A notification that may be sent to an observer in a row that did this so far. The row has not
+-- sent a confirmable message with its Message ID to that peer. The notification is confirmable, its
 -- timeout starts in this row, and it is no longer than a datagram may be.
 pub record MayBeSent (rows : List Row) (s : Step) (done : Effects) (o : Observer) (sent : Sent) :
     Type 0 where
@@ -153,13 +156,13 @@ pub record MayBeSent (rows : List Row) (s : Step) (done : Effects) (o : Observer
       → Resends first [] sent.resend
   pub short : length sent.octets ≤ 1_280
 
--- the same of what is planned
+-- States the same of what is planned.
 abbrev pub MayBeDone : List Row → Step → Effects → Observer → Planned → Type 0
 MayBeDone rows s done o planned.Unchanged = Unit {0}
 MayBeDone rows s done o (planned.Noticed sent body) = MayBeSent rows s done o sent
 
--- the next observer from an index on that is due and free, after what the row did so far; and what
--- is planned may be done for it
+-- The next observer from an index on that is due and has no notification in flight, after what the
+-- row did so far. What is planned may be done for it.
 pub record IsNext (rows : List Row) (s : Step) (starved : Bool) (done : Effects) (from : ℕ)
     (p : Planned) : Type 0 where
   pub index : ℕ
@@ -172,8 +175,8 @@ pub record IsNext (rows : List Row) (s : Step) (starved : Bool) (done : Effects)
   pub may : MayBeDone rows s done observer p
   pub room : length done.sent < 1_152
 
--- the planned items, one after the other, are all that a row does after what it did so far; and
--- these answers are kept
+-- States that the planned items, one after the other, are all that a row does after what it did so
+-- far, and that these answers are kept.
 abbrev pub AreDone : List Row
     → Step
     → Bool
@@ -192,7 +195,7 @@ AreDone rows s starved current whole done from (p ∷ ps) kept =
     × AreDone rows s starved current whole (joined done (planned_done current it.observer p))
     (it.index + 1) ps later
 
--- A plan is made up to an observer, after the retransmissions of notifications. It would leave
+-- A plan that is made up to an observer, after the retransmissions of notifications. It would leave
 -- these observers, which stand for the journal with the row so far and are the same clients as
 -- before. The plan's notifications are to these peers, and the observers from this index on are
 -- unchanged.
@@ -226,12 +229,12 @@ pub record PlannedUpTo (rows : List Row) (s : Step) (starved : Bool) (current : 
       → AreDone rows s starved current whole done from more later
       → AreDone rows s starved current whole first 0 (p.items.items ++ more) (p.kept.items ++ later)
 
--- a desk with these kept answers
+-- Returns a desk with these kept answers.
 abbrev pub with_answers : List KeptAnswer → Seen → Seen
 with_answers xs d = record d { transfers = record { uploads = d.transfers.uploads; answers = xs } }
 
--- A plan is carried out up to an observer: with kept answers that become those that are ready, the
--- desk stands for the journal with the row so far.
+-- A plan that is carried out up to an observer. With kept answers that become those that are ready,
+-- the desk stands for the journal with the row so far.
 pub record CarryingOut (rows : List Row) (s : Step) (starved : Bool) (current : List ℕ)
     (whole : Effects) (ready : List KeptAnswer) (desk : Seen) (out : List (Peer × List ℕ))
     (mids : Mids) (from : ℕ) (ps : List Planned) : Type 0 where
@@ -242,8 +245,8 @@ pub record CarryingOut (rows : List Row) (s : Step) (starved : Bool) (current : 
   pub plan : AreDone rows s starved current whole done from ps kept
   pub becomes : kept_each (row_moment rows s) kept answers ≡ ready
 
--- what a row does with notifications: retransmissions, then new ones; out of memory, only the
--- retransmissions
+-- Returns what a row does with notifications: retransmissions, then new ones. If memory ran out, it
+-- does only the retransmissions.
 abbrev pub notices_done : Bool → List Row → Step → Effects
 notices_done true rows s = notices_again rows (row_moment rows s)
 notices_done false rows s =

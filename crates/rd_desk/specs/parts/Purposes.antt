@@ -9,13 +9,14 @@ use Rattle.journal_model.specs.Changes as changes
 use Rattle.rd_desk.specs.declared.write.asked.Purpose.{Purpose}
 use Rattle.rd_desk.specs.declared.write.asked.Purpose.TheVariants as purpose
 
--- a registration with the parameters of the request, or a replacement of the links of the
--- registration with a number
+-- Returns a registration with the parameters of the request, or a replacement of the links of the
+-- registration with a number.
 abbrev pub purpose_of : Purpose → Message → changes.Purpose
 purpose_of purpose.Register m = changes.to_register (registration_values (queries_in m))
 purpose_of (purpose.Replace number) m = changes.to_replace number
 
--- the query options of a registration are not refused; those of a replacement are ignored
+-- Returns whether the query options of a registration are not refused. Those of a replacement are
+-- ignored.
 abbrev pub has_good_params : Purpose → Message → Bool
 has_good_params purpose.Register m = is_none (fault_of reading.Register (queries_in m))
 has_good_params (purpose.Replace number) m = true

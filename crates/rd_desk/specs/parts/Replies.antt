@@ -5,7 +5,7 @@ use Rattle.coap_answers.specs.declared.replies.Reply.{Reply}
 use Rattle.coap_answers.specs.Replies.{reply_said}
 use Rattle.rd_desk.specs.declared.write.replies.ShortReply.{ShortReply}
 
--- the answer as a reply: without tag, Observe value, format and Block2
+-- Returns the answer as a reply, without tag, Observe value, format and Block2.
 abbrev pub as_reply : ShortReply → Reply
 as_reply r = record {
   code = r.code;
@@ -18,6 +18,6 @@ as_reply r = record {
   payload = r.diagnostic;
 }
 
--- what the answer says
+-- Returns what the answer says.
 abbrev pub short_said : ShortReply → effects.Reply
 short_said r = reply_said (as_reply r)

@@ -18,8 +18,8 @@ use Rattle.coap_answers.specs.Outboxes.{most_datagrams}
 use Rattle.rd_desk.specs.calls.Desks.{Seen}
 use Rattle.rd_desk.specs.parts.UnderWay.{UnderWay}
 
--- the fetch with a peer is as it was before the current row: its last request is the same, and the
--- same is due of it
+-- The fetch of a peer that is as it was before the current row: its last request is the same, and
+-- the same is due for it.
 pub record IsAsBefore (rows : List Row) (s : Step) (starved : Bool) (done : Effects) (peer : Peer) :
     Type 0 where
   pub request :
@@ -28,24 +28,24 @@ pub record IsAsBefore (rows : List Row) (s : Step) (starved : Bool) (done : Effe
       → fetch_due (row_moment rows s) peer e (events (making rows s starved done))
       ≡ fetch_due (row_moment rows s) peer e (events rows)
 
--- what the row did so far leaves all fetches unchanged
+-- What the row did so far, if it leaves all fetches unchanged.
 pub record LeavesFetches (rows : List Row) (s : Step) (starved : Bool) (done : Effects) : Type 0
   where
     pub running : fetches (events (making rows s starved done)) ≡ fetches (events rows)
     pub same : (peer : Peer) → IsAsBefore rows s starved done peer
 
--- the fetches from an index on
+-- Returns the fetches from an index on.
 abbrev pub fetches_left : List Row → Step → Bool → Effects → ℕ → List Peer
 fetches_left rows s starved done index = drop index (fetches (events (making rows s starved done)))
 
--- what a tick does with the fetch of a peer
+-- Returns what a tick does with the fetch of a peer.
 abbrev pub request_done : List Row → Step → Peer → Effects
 request_done rows s peer =
     fetch_again rows (row_moment rows s) peer (last_request peer (events rows))
 
--- After what the row did first, the requests of the fetches before an index are done. The remaining
--- fetches come next, at most `most`. Each is as it was before the row, and the outbox has room for
--- a request to each.
+-- A tick that has done the requests of the fetches before an index, after what the row did first.
+-- The remaining fetches come next, at most `most`. Each is as it was before the row, and the outbox
+-- has room for a request to each.
 pub record Resending (rows : List Row) (s : Step) (starved : Bool) (first : Effects) (desk : Seen)
     (out : List (Peer × List ℕ)) (mids : Mids) (index most : ℕ) : Type 0 where
   pub done : Effects

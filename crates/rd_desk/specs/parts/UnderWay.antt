@@ -12,9 +12,9 @@ use Rattle.coap_answers.specs.declared.mids.Mids.{Mids}
 use Rattle.coap_answers.specs.Sendings.{AreRequestsSent}
 use Rattle.rd_desk.specs.calls.Desks.{Seen, StandsFor}
 
--- The step is in progress after a journal of a desk. The desk stands for the journal with a row
--- that did this so far, and the outbox and the Message IDs agree with it. The row sent the requests
--- of fetches that it noted.
+-- A step in progress after a journal of a desk. The desk stands for the journal with a row that did
+-- this so far, and the outbox and the Message IDs agree with it. The row sent the requests of
+-- fetches that it noted.
 pub record UnderWay (rows : List Row) (s : Step) (starved : Bool) (done : Effects) (desk : Seen)
     (out : List (Peer × List ℕ)) (mids : Mids) : Type 0 where
   pub journal : IsDeskJournal rows

@@ -12,11 +12,11 @@ use Rattle.rd_server.specs.declared.serving.statuses.ServeStatus.TheVariants as 
 
 -- ---- sums
 
--- nothing is counted
+-- The counts of a worker that has counted nothing.
 abbrev pub none_served : Served
 none_served = record { heard = 0; sent = 0; lost = 0; too_long = 0; starved = 0 }
 
--- the sums of two counts
+-- Returns the sums of two counts.
 abbrev pub both_served : Served → Served → Served
 both_served a b = record {
   heard = a.heard + b.heard;
@@ -26,7 +26,7 @@ both_served a b = record {
   starved = a.starved + b.starved;
 }
 
--- the sums of two counts, or the first fault that applies: memory precedes a link
+-- Returns the sums of two counts, or the first fault that applies: memory precedes a link.
 abbrev pub join : Result Served ServeFault → Result Served ServeFault → Result Served ServeFault
 join (Ok a) (Ok b) = Ok (both_served a b)
 join (Ok a) (Err f) = Err f
@@ -34,25 +34,25 @@ join (Err f) (Ok b) = Err f
 join (Err fault.Memory) (Err g) = Err fault.Memory
 join (Err fault.Link) (Err g) = Err g
 
--- the same, for those of more ends
+-- Returns the same, after the outcomes of more ends.
 abbrev pub joined_after : Result Served ServeFault → List (Result Served ServeFault)
     → Result Served ServeFault
 joined_after so_far [] = so_far
 joined_after so_far (o ∷ more) = joined_after (join so_far o) more
 
--- the sums of all, if all were served
+-- Returns the sums of all ends, if all were served.
 abbrev pub joined : List (Result Served ServeFault) → Result Served ServeFault
 joined outcomes = joined_after (Ok none_served) outcomes
 
 -- ---- what is written
 
--- the line of the sums
+-- Returns the line of the sums.
 abbrev pub served_line : Served → List ℕ
 served_line s = codes "served " ++ (decimal s.heard ++ (codes " " ++ (decimal s.sent
     ++ (codes " " ++ (decimal s.lost ++ codes "\n")))))
 
--- How a server ends, from the outcomes of its workers: what it wrote, and that the count of the
--- output's faults rose exactly if the line was not written whole.
+-- States how a server ends, from the outcomes of its workers. It says what the server wrote, and
+-- that the count of the output's faults rose if and only if the line was not written whole.
 abbrev pub Concludes : Result Served ServeFault → Option (List ℕ) → Option (List ℕ) → ℕ → ℕ
     → ServeStatus → Type 0
 Concludes (Ok sums) old new faults faults_then status.Done =

@@ -30,19 +30,19 @@ use Rattle.trace_replay.specs.Fields.{◌>>=◌}
 use Rattle.trace_replay.specs.Options.{words_after}
 use Rattle.trace_replay.specs.Words.{IsWithin, count_of, number_found, once}
 
--- the last port of UDP (RFC 768)
+-- The last port of UDP (RFC 768).
 abbrev pub max_port : ℕ
 max_port = 65_535
 
--- the maximum number of receives of a worker
+-- The maximum number of receives of a worker.
 abbrev pub max_turns : ℕ
 max_turns = 1_000_000_000_000
 
--- the maximum number of connections over TCP
+-- The maximum number of connections over TCP.
 abbrev pub max_streams : ℕ
 max_streams = 1_000_000
 
--- the option that a text names
+-- Returns the option that a text names, if it names one.
 abbrev pub option_of : List ℕ → Option ServeOption
 option_of text =
     if bytes_eq text (codes "--port") then Some serve_option.Port
@@ -53,11 +53,11 @@ option_of text =
 abbrev pub is_option : List ℕ → Bool
 is_option text = is_some (option_of text)
 
--- nothing is asked for
+-- What is asked for without arguments: nothing.
 abbrev pub nothing_asked : ServeAsked
 nothing_asked = record { port = None; workers = None; turns = None; tcp = None }
 
--- what is asked for with one option and its value more, each given at most once
+-- Returns what is asked for with one option and its value more, each given at most once.
 abbrev pub given_to : Option ServeOption → List ℕ → ServeAsked → Option ServeAsked
 given_to None value asked = None
 given_to (Some serve_option.Port) value asked = option_map
@@ -76,8 +76,8 @@ given_to (Some serve_option.Tcp) value asked = option_map
 abbrev pub given : List ℕ → List ℕ → ServeAsked → Option ServeAsked
 given name value asked = given_to (option_of name) value asked
 
--- what is asked for, with defaults for what is not given: CoAP's own port (RFC 7252 section 12.6),
--- four workers, and as many receives as possible
+-- Returns what is asked for, with defaults for what is not given. These are CoAP's own port (RFC
+-- 7252 section 12.6), four workers, and as many receives as possible.
 abbrev pub plan_of : ServeAsked → ServePlan
 plan_of asked = record {
   port = unwrap_or asked.port 5683;
@@ -86,19 +86,19 @@ plan_of asked = record {
   tcp = asked.tcp;
 }
 
--- more than a port is given alongside connections over TCP
+-- Returns whether more than a port is given alongside connections over TCP.
 abbrev pub is_mixed : ServeAsked → Bool
 is_mixed asked = is_some asked.tcp && (is_some asked.workers || is_some asked.turns)
 
--- the plan, unless the options exclude one another
+-- Returns the plan, unless the options exclude one another.
 abbrev pub plan_by : ServeAsked → Option ServePlan
 plan_by asked = if is_mixed asked then None else Some (plan_of asked)
 
--- what arguments ask for, if they are those of the program
+-- Returns what arguments ask for, if they are those of the program.
 abbrev pub plan_said : List (List ℕ) → Option ServePlan
 plan_said words = words_after is_option given (Some nothing_asked) words >>= plan_by
 
--- the numbers of a plan
+-- A plan whose numbers are within their limits.
 pub record IsPlan (plan : ServePlan) : Type 0 where
   pub some_port : 1 ≤ plan.port
   pub last_port : plan.port ≤ max_port
@@ -108,7 +108,8 @@ pub record IsPlan (plan : ServePlan) : Type 0 where
   pub most_turns : plan.turns ≤ max_turns
   pub tcp : IsWithin max_streams plan.tcp
 
--- what the arguments were read as; arguments of the program are not read only if memory runs out
+-- States what the arguments were read as. Arguments of the program are not read only if memory runs
+-- out.
 abbrev pub IsPlanRead : Option ServePlan → Result ServePlan WordsFault → Type 0
 IsPlanRead None (Err fault.Usage) = ⊤
 IsPlanRead (Some plan) (Ok read) = read ≡ plan
@@ -117,24 +118,25 @@ IsPlanRead _ _ = ⊥
 
 -- ---- as clap reads it
 
--- a plan as arguments, in one order, each option joined with its value; the number of connections
--- over TCP, which has no default, is read before
+-- Returns a plan as arguments, in one order, each option joined with its value. The number of
+-- connections over TCP, which has no default, is read before.
 abbrev pub words_of : ServePlan → List (List ℕ)
 words_of plan = (codes "--port=" ++ decimal plan.port)
     ∷ (codes "--workers=" ++ decimal plan.workers) ∷ (codes "--turns=" ++ decimal plan.turns) ∷ []
 
--- the values that were read are those of the plan
+-- The values that were read, which are those of the plan.
 pub record HasPlan (plan : ServePlan) (matches : ArgMatches) : Type 0 where
   pub port : first_value (found_of matches) (codes "port") ≡ Some (decimal plan.port)
   pub workers : first_value (found_of matches) (codes "workers") ≡ Some (decimal plan.workers)
   pub turns : first_value (found_of matches) (codes "turns") ≡ Some (decimal plan.turns)
 
--- the arguments of a plan are read, unless memory runs out
+-- States that the arguments of a plan are read, unless memory runs out.
 abbrev pub ReadsPlan : ServePlan → Result ArgMatches Error → Type 0
 ReadsPlan plan (Ok matches) = HasPlan plan matches
 ReadsPlan plan (Err error) = kind_of error ≡ OutOfMemory
 
--- the plan whose numbers were found, with this number of connections over TCP
+-- Returns the plan whose numbers were found, with this number of connections over TCP, if all were
+-- found.
 abbrev pub plan_found : Option ℕ → ArgMatches → Option ServePlan
 plan_found tcp matches = number_found max_port (codes "port") matches
     >>= (λ port. number_found max_workers (codes "workers") matches

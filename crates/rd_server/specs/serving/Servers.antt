@@ -16,36 +16,36 @@ use Rattle.rd_server.specs.serving.Workers.{WorkerSeen, link_seen, worker_seen}
 use Rattle.rd_server.specs.serving.Service.{Serves, CountsTold}
 use Rattle.rd_server.specs.serving.Endings.{none_served, both_served, served_line}
 
--- an end that was given a seat or none, and has not been served
+-- Returns an end that has a seat or none, and has not been served.
 abbrev pub seated : {L C : Type 0} → End L C → Option SeatSeen → End L C
 seated end seat =
     record { link = end.link; clock = end.clock; seat = seat; outcome = Err fault.Memory }
 
--- an end without a seat, which was not served
+-- An end without a seat, which was not served.
 pub record IsUnserved {L C : Type 0} (end : End L C) : Type 0 where
   pub seat : end.seat ≡ None
   pub outcome : end.outcome ≡ Err fault.Memory
 
--- each seat that an end has is one of this hall
+-- States that each seat that an end has is one of this hall.
 abbrev pub AreOfHall : {L C : Type 0} → HallSeen → List (End L C) → Type 0
 AreOfHall hall ends = All (λ end. IfSome end.seat (λ seat. seat.hall ≡ hall)) ends
 
--- Each end has the new seat of its number, in a hall that has as many workers as there are ends.
--- Its link and its clock are as they were.
+-- The ends with the new seats of their numbers, in a hall that has as many workers as there are
+-- ends. The link and the clock of each are as they were.
 pub record AreSeated {L C : Type 0} (hall : HallSeen) (old new : List (End L C)) : Type 0 where
   pub workers : hall.workers ≡ length old
   pub each : (worker : ℕ) (d : End L C) → worker < length old
       → slice_index_or new worker d
       ≡ seated (slice_index_or old worker d) (Some (new_seat hall worker))
 
--- each end has its link and its clock as they were, and no seat
+-- The ends that keep their links and clocks as they were, and have no seat.
 pub record AreLeft {L C : Type 0} (old new : List (End L C)) : Type 0 where
   pub unserved : All IsUnserved new
   pub each : (worker : ℕ) (d : End L C) → worker < length old
       → slice_index_or new worker d ≡ seated (slice_index_or old worker d) None
 
 module _ {L C : Type 0} (l : links.Ghosts L) (c : clocks.Ghosts C) where
-  -- a worker with this seat, and the link and the clock of an end
+  -- Returns a worker with this seat, and the link and the clock of an end.
   abbrev pub end_seen : SeatSeen → End L C → WorkerSeen
   end_seen seat end = worker_seen l c seat end.link end.clock
 
@@ -67,8 +67,8 @@ module _ {L C : Type 0} (l : links.Ghosts L) (c : clocks.Ghosts C) where
     pub called : (worker : ℕ) (earlier : List runs.Call) → HasCalled hall worker earlier before
         → (calls : List runs.Call) × HasCalled hall worker (calls ++ earlier) serves.seat
 
-  -- Each end that has a seat served by it. An end without a seat was not served, and its link and
-  -- its clock are as they were.
+  -- States that each end that has a seat served by it. An end without a seat was not served, and
+  -- its link and its clock are as they were.
   abbrev pub EachGoesOn : ℕ → HallSeen → List (End L C) → List (End L C) → Type 0
   EachGoesOn number hall old new = (worker : ℕ) (d : End L C) → worker < length old
       → IfSome (slice_index_or old worker d).seat (λ before. EndGoesOn number hall before
@@ -85,22 +85,22 @@ module _ {L C : Type 0} (l : links.Ghosts L) (c : clocks.Ghosts C) where
     pub calls : List runs.Call
     pub is_seat : IsSeatAfter calls serves.seat
 
-  -- each end was served so
+  -- States that each end was served so.
   abbrev pub EachServed : ℕ → HallSeen → List (End L C) → List (End L C) → Type 0
   EachServed number hall old new = (worker : ℕ) (d : End L C) → worker < length old
       → EndServed number hall worker (slice_index_or old worker d) (slice_index_or new worker d)
 
-  -- The ends of a server: all were served in one hall, which has as many workers as there are ends;
-  -- or no hall was made, and no link and no clock was used.
+  -- States what became of the ends of a server. All were served in one hall, which has as many
+  -- workers as there are ends; or no hall was made, and no link and no clock was used.
   abbrev pub AreServed : ℕ → List (End L C) → List (End L C) → ServeStatus → Type 0
   AreServed number old new result = ((hall : HallSeen)
       × (hall.workers ≡ length old) × EachServed number hall old new)
       ⊎ (AreLeft old new × (result ≡ status.Memory))
 
 module _ {L C : Type 0} (l : links.Ghosts L) where
-  -- The sums of all ends, in order, added to those of the ends before. Each end was served to the
-  -- end. If its link exposes its datagrams, its counts are how many were taken that are not too
-  -- long, and by how many those that are gone grew.
+  -- States that these are the sums of all ends, in order, added to those of the ends before. Each
+  -- end was served to the end. If its link exposes its datagrams, its counts are how many were
+  -- taken that are not too long, and by how many those that are gone grew.
   abbrev pub AddUp : Served → List (End L C) → List (End L C) → Served → Type 0
   AddUp before [] [] sums = sums ≡ before
   AddUp before (old ∷ olds) (new ∷ news) sums = (one : Served)
@@ -109,7 +109,7 @@ module _ {L C : Type 0} (l : links.Ghosts L) where
       × AddUp (both_served before one) olds news sums
   AddUp before _ _ sums = ⊥
 
-  -- if the line is written, its sums are those of all ends
+  -- States that the sums are those of all ends, if the line is written.
   abbrev pub PrintsSums : List (End L C) → List (End L C) → Option (List ℕ) → Option (List ℕ)
       → ServeStatus → Type 0
   PrintsSums olds news before now status.Done = (sums : Served)

@@ -1,4 +1,4 @@
--- What a worker has, its seat, its link and its clock, and what calls do with them.
+-- What a worker has: its seat, its link and its clock, and what calls do with them.
 use Rattle.std.specs.Prelude.{◌≡◌, ℕ, ◌+◌, ◌-◌, ◌^◌, ◌≤◌, ◌<◌, List, ◌++◌, Option}
 use Rattle.udp_link.specs.Links.{Datagram}
 use Rattle.udp_link.specs.Told.{WhereTold, Stays}
@@ -14,7 +14,7 @@ use Rattle.rd_server.specs.serving.Calls.{Call, Does, calls_went, calls_lost, ca
 
 -- ---- what is seen of them
 
--- what a link exposes
+-- What a link exposes.
 pub record LinkSeen : Type 0 where
   pub coming : Option (List Datagram)
   pub gone : Option (List Datagram)
@@ -31,7 +31,7 @@ link_seen g link = record {
   send_faults = g.send_faults link;
 }
 
--- what a worker has
+-- What a worker has.
 pub record WorkerSeen : Type 0 where
   pub seat : SeatSeen
   pub link : LinkSeen
@@ -44,20 +44,20 @@ worker_seen l c seat link clock =
 
 -- ---- what is done with them
 
--- these datagrams were sent, after those that had been sent
+-- States that these datagrams were sent, after those that had been sent.
 abbrev pub Goes : List Datagram → Option (List Datagram) → Option (List Datagram) → Type 0
 Goes went before now = WhereTold (λ old new. new ≡ old ++ went) before now
 
--- these calls of a link were made, after those that had been made
+-- States that these calls of a link were made, after those that had been made.
 abbrev pub Orders : List LinkCall → Option (List LinkCall) → Option (List LinkCall) → Type 0
 Orders made before now = WhereTold (λ old new. new ≡ made ++ old) before now
 
--- a count of faults rose by this number at least, unless it has the greatest value of 64 bits
+-- A count of faults that rose by this number at least, unless it has the greatest value of 64 bits.
 pub record RisesBy (n before now : ℕ) : Type 0 where
   pub kept : before ≤ now
   pub rose : now < 2 ^ 64 - 1 → before + n ≤ now
 
--- what was sent over a link
+-- What was sent over a link.
 pub record Sends (sendings : List Sending) (before after : LinkSeen) : Type 0 where
   pub gone : Goes (all_went sendings) before.gone after.gone
   pub order : Orders (sendings_order sendings) before.order after.order
@@ -66,7 +66,7 @@ pub record Sends (sendings : List Sending) (before after : LinkSeen) : Type 0 wh
   pub received : after.recv_faults ≡ before.recv_faults
 
 -- What calls of the seat did: to the seat, over the link, which received nothing meanwhile, and
--- with what the clock gave.
+-- with what the clock returned.
 pub record CallsMade (calls : List Call) (before after : WorkerSeen) : Type 0 where
   pub seat : Chain Does before.seat calls after.seat
   pub gone : Goes (calls_went calls) before.link.gone after.link.gone

@@ -54,7 +54,7 @@ not_due_by_other_change : due_after (observing ++ registering_other) ≡ false �
 unfolding output_on_literals
 not_due_by_other_change = refl
 
--- the notice is sent at 1350; then a look comes long after the lapse, and a tick
+-- the notification is sent at 1350; then a look comes long after the lapse, and a tick
 abbrev noticed : List (List ℕ)
 noticed = observing ++ (registering ++ codes "tick 0 1350" ∷ [])
 
@@ -68,7 +68,7 @@ due_by_time :
 unfolding output_on_literals
 due_by_time = refl
 
--- ---- after the notice: links are replaced, and a registration is read
+-- ---- after the notification: links are replaced, and a registration is read
 
 -- the device replaces its link by another: CON 0.03 m=0003 t=a3 [11 rd][11 1] | </t>
 due_by_replacement :

@@ -112,7 +112,7 @@ refused_while_fetching : output 1 (lines (
 unfolding output_on_literals
 refused_while_fetching = refl
 
--- the request is sent again four times, and then the fetch ends
+-- the request is retransmitted four times, and then the fetch ends
 --     in 0 999 192.0.2.10:5683, word 7: CON 0.02 m=0004 t=e1 [11 .well-known][11 rd][15 ep=s1]
 --     in 0 1000 192.0.2.10:5683: CON 0.02 m=0005 t=e1 [11 .well-known][11 rd][15 ep=s1][252
 -- x0000000700000000]

@@ -5,8 +5,8 @@ use Rattle.trace_model.specs.Output.{output}
 use Rattle.trace_model.proofs.OnLiterals.{output_on_literals}
 use Rattle.trace_model.proofs.OutputLines.{lines, writes}
 
--- an observer gets a notice of a change and of a lapse, and none where the listing changed and
--- changed back
+-- an observer gets a notification of a change and of a lapse, and none where the listing changed
+-- and changed back
 --     in 0 1000 192.0.2.30:40000: CON 0.01 m=0010 t=c1 [6 x][11 rd-lookup][11 res][15 rt=light-lux]
 --     in 0 1100 192.0.2.20:61616: CON 0.02 m=0001 t=d1 [11 rd][15 ep=other] | </p>;rt="pump"
 --     go 0 1100
@@ -67,7 +67,7 @@ observed : output 1 (lines (
 unfolding output_on_literals
 observed = refl
 
--- a notice is sent again four times, and then its observer is removed
+-- a notification is retransmitted four times, and then its observer is removed
 --     in 0 1000 192.0.2.30:40000: CON 0.01 m=0010 t=c1 [6 x][11 rd-lookup][11 res][15 rt=light-lux]
 --     in 0 1100 192.0.2.20:61616: CON 0.02 m=0001 t=d1 [11 rd][15 ep=other] | </p>;rt="pump"
 --     go 0 1100
@@ -200,7 +200,7 @@ observation_ended : output 1 (lines (
 unfolding output_on_literals
 observation_ended = refl
 
--- a change that the page does not show: no notice, and the observer is due no more
+-- a change that the page does not show: no notification, and the observer is due no more
 --     in 0 1000 192.0.2.30:40000: CON 0.01 m=0010 t=c1 [6 x][11 rd-lookup][11 res][15
 -- rt=light-lux][15 count=1]
 --     in 0 1001 192.0.2.10:5683: CON 0.02 m=0001 t=a1 [11 rd][12 x28][15 ep=node1][15 lt=600] |
@@ -241,7 +241,7 @@ page_unchanged : output 1 (lines (
 unfolding output_on_literals
 page_unchanged = refl
 
--- two observers of one peer get their notices one after the other
+-- two observers of one peer get their notifications one after the other
 --     in 0 1000 192.0.2.30:40000: CON 0.01 m=0010 t=c1 [6 x][11 rd-lookup][11 res][15 rt=light-lux]
 --     in 0 1000 192.0.2.30:40000: CON 0.01 m=0011 t=c2 [6 x][11 rd-lookup][11 res][15
 -- rt=temperature]

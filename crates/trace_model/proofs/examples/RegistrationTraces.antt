@@ -333,7 +333,7 @@ two_workers_race : output 2 (lines (
 unfolding output_on_literals
 two_workers_race = refl
 
--- a moment below the greatest is lifted to it
+-- a moment below the greatest is raised to it
 --     in 0 5000 192.0.2.10:5683: CON 0.02 m=0001 t=a1 [11 rd][12 x28][15 ep=node1][15 lt=600] |
 -- </temp>;rt="temperature";ct=0,</light>;rt="light-lux";if="sensor"
 --     go 0 3000

@@ -167,7 +167,7 @@ unfolding output_on_literals
 refused_replacement = refl
 
 -- links that replace others come in blocks; after the last one the upload is gone; its query
--- options are passed over, and count in its name
+-- options are skipped, and count in its name
 --     in 0 1000 192.0.2.10:5683: CON 0.02 m=0001 t=a1 [11 rd][12 x28][15 ep=node1][15 lt=600] |
 -- </temp>;rt="temperature";ct=0,</light>;rt="light-lux";if="sensor"
 --     go 0 1005
@@ -295,7 +295,7 @@ blocks_of_one_source : output 1 (lines (
 unfolding output_on_literals
 blocks_of_one_source = refl
 
--- a further block for a peer that has no kept answer is formed now, and kept
+-- a further block for a peer that has no kept answer is built now, and kept
 --     in 0 1000 192.0.2.10:5683: CON 0.02 m=0001 t=a1 [11 rd][12 x28][15 ep=node1][15 lt=600] |
 -- </temp>;rt="temperature";ct=0,</light>;rt="light-lux";if="sensor"
 --     go 0 1005

@@ -85,8 +85,8 @@ not_confirmable_by_steps : step_by_step 2 (
 unfolding output_on_literals
 not_confirmable_by_steps = refl
 
--- a lookup is observed, another link is registered, and then one that is looked up: a notice is
--- sent
+-- a lookup is observed, another link is registered, and then one that is looked up: a notification
+-- is sent
 --     in 0 1000 192.0.2.30:40000: CON 0.01 m=0010 t=c1 [6 x][11 rd-lookup][11 res][15 rt=light-lux]
 --         out 0 192.0.2.30:40000: ACK 2.05 m=0010 t=c1 [4 x0000000000000000][6 x01][12 x28]
 --     in 0 1100 192.0.2.20:61616: CON 0.02 m=0001 t=d1 [11 rd][15 ep=other] | </p>;rt="pump"
@@ -127,8 +127,8 @@ noticed_writes =
     ∷ [])
     ∷ []
 
--- the notice is acknowledged, and so is that of the lapse; then a link is registered and removed
--- again
+-- the notification is acknowledged, and so is that of the lapse; then a link is registered and
+-- removed again
 --     in 0 1401 192.0.2.30:40000: ACK 0.00 m=0000
 --     tick 0 601300
 --         out 0 192.0.2.30:40000: CON 2.05 m=0001 t=c1 [4 x0000000000020001][6 x03][12 x28]
@@ -180,7 +180,8 @@ not_due_after_the_tick :
 unfolding output_on_literals
 not_due_after_the_tick = refl
 
--- the notice is never acknowledged: it is sent again four times, and then the observer is removed
+-- the notification is never acknowledged: it is retransmitted four times, and then the observer is
+-- removed
 --     tick 0 3400
 --         out 0 192.0.2.30:40000: CON 2.05 m=0000 t=c1 [4 x0000000000020000][6 x02][12 x28] |
 -- <coap://192.0.2.10/light>;rt="light-lux";if="sensor"
@@ -311,7 +312,7 @@ both_due : due_after both_change ≡ true ∷ true ∷ []
 unfolding output_on_literals
 both_due = refl
 
--- one tick sends one notice, and the tick after its acknowledgement the other
+-- one tick sends one notification, and the tick after its acknowledgement the other
 --     tick 0 1002
 --         out 0 192.0.2.30:40000: CON 2.05 m=0000 t=c1 [4 x0000000000010000][6 x03][12 x28] |
 -- <coap://192.0.2.10/light>;rt="light-lux";if="sensor"
@@ -396,7 +397,7 @@ fetched_by_steps : step_by_step 1 (asked ++ (half_fetched ++ (
 unfolding output_on_literals
 fetched_by_steps = refl
 
--- no answer comes: the request is sent again four times, and then the fetch ends
+-- no answer comes: the request is retransmitted four times, and then the fetch ends
 --     tick 0 3000
 --         out 0 192.0.2.10:5683: CON 0.01 m=0000 t=0000000000000001 [11 .well-known][11 core]
 --     tick 0 7000

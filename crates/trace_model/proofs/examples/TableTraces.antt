@@ -110,7 +110,7 @@ old_answer : answers_after (keeping ++ codes "tick 0 248000" ∷ []) ≡ []
 unfolding output_on_literals
 old_answer = refl
 
--- ---- notices in flight
+-- ---- notifications in flight
 
 -- what waits for each observer
 abbrev notices_after : List (List ℕ) → List (Option Retransmission)
@@ -127,8 +127,8 @@ observing =
     ∷ codes "go 0 900"
     ∷ []
 
--- a notice that was sent at 1000 and waits for 3000, and one that was sent at 2000 and waits for
--- 2000, are not the same
+-- a notification that was sent at 1000 and waits for 3000, and one that was sent at 2000 and waits
+-- for 2000, are not the same
 long_wait :
     notices_after (observing ++ codes "tick 0 1000 1000" ∷ codes "tick 0 2000" ∷ [])
     ≡ Some (record { sent = 1_000; wait = 3_000; again = 0 }) ∷ []
@@ -141,7 +141,7 @@ short_wait :
 unfolding output_on_literals
 short_wait = refl
 
--- both are sent again at 4000, and then they wait until 10000 and until 8000
+-- both are retransmitted at 4000, and then they wait until 10000 and until 8000
 long_again :
     notices_after
     (observing ++ codes "tick 0 1000 1000" ∷ codes "tick 0 2000" ∷ codes "tick 0 4000" ∷ [])
@@ -188,7 +188,7 @@ acknowledged :
 unfolding output_on_literals
 acknowledged = refl
 
--- so at 93000 one is sent again, and the other ends
+-- so at 93000 one is retransmitted, and the other ends
 sent_again :
     fetches_after (fetching ++ codes "tick 0 93000" ∷ [])
     ≡ (record { sent = 93_000; wait = 32_000; again = 4 }, false) ∷ []

@@ -1,4 +1,4 @@
--- The moments so far may be handed in.
+-- The moments so far may be passed in.
 use Rattle.std.specs.List.{All}
 use Rattle.udp_link.specs.Clocks.{IsHandedIn}
 use Rattle.commissioner_tests.proofs.ends.clock_of.Given as goal

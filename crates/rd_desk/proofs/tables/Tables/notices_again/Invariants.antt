@@ -7,7 +7,7 @@ use Rattle.rd_desk.specs.parts.UnderWay.{UnderWay}
 use Rattle.rd_desk.proofs.ticking.AgainWalk.{AgainUpTo}
 use Rattle.rd_desk.proofs.tables.Tables.notices_again.Given as goal
 
--- the notices of the observers before the index are done with
+-- the notifications of the observers before the index are done with
 abbrev pub invariant-observers : goal.invariant-observers
 invariant-observers l =
     (rows : List Row) (s : Step) (starved : Bool) (mids : Mids)
