@@ -3,7 +3,8 @@ use Rattle.ref_resolve.specs.ComponentsOfParts.{components_of}
 use Rattle.ref_resolve.proofs.KnownReferences.{whole_text, no_query, no_fragment, read_known}
 use Rattle.ref_resolve.proofs.references.parts_without_query.Goals as goal
 
-pub apart_without_query-requires-clause-hierarchy : goal.apart_without_query-requires-clause-hierarchy
+pub apart_without_query-requires-clause-hierarchy :
+    goal.apart_without_query-requires-clause-hierarchy
 apart_without_query-requires-clause-hierarchy c = whole_text c.args.text.now c.requires
 
 pub apart_without_query-requires-clause-query : goal.apart_without_query-requires-clause-query

@@ -9,8 +9,9 @@ read_links-requires-clause-room c =
 
 pub returns-in_ok-builder-in-Ok : goal.returns-in_ok-builder-in-Ok
 returns-in_ok-builder-in-Ok c =
-    body_reads c.parts_without_query-base.result c.args.base.now c.args.body.now c.in-Ok.links c.read_links.result
-    c.in-Ok.ensures.ok c.parts_without_query-base.ensures c.read_links.ensures
+    body_reads c.parts_without_query-base.result c.args.base.now c.args.body.now c.in-Ok.links
+    c.read_links.result c.in-Ok.ensures.ok c.parts_without_query-base.ensures
+    c.read_links.ensures
 
 pub returns-in-Err : goal.returns-in-Err
 returns-in-Err c =
