@@ -84,33 +84,19 @@ pub(crate) fn next_row<'a, L: Ledger>(
     Some(row)
 }
 
-/// An equal value: that of a row which has an equal one, where one does, so that records that carry
-/// a long value share its texts. `Starved`: out of memory.
-fn shared_value(rows: &Rows, value: Value) -> Result<Value, Starved>
-    ensures { IfOk result (λ shared. shared ≡ value) }
+/// An equal row, whose value is that of a row that is there already, where one has an equal value:
+/// so records that carry a long value share its texts. `Starved`: out of memory.
+fn shared_row(rows: &Rows, row: Row) -> Result<Row, Starved>
+    ensures { IfOk result (λ shared. shared ≡ row) }
 {
-    if value.texts().is_none() {
-        return Ok(value);
-    }
+    let Row { value, number } = row;
     let first = Row { value, number: 0 };
     let mut left = rows.range(&first);
-    match next_row::<Brand>(Blank::new(1), &mut left) {
-        Some(row) if row.value == first.value => row.value.share(),
-        _ => Ok(first.value),
-    }
-}
-
-/// The row of a value and a number, as it is edited. `Starved`: out of memory.
-fn row_to_edit(rows: &Rows, value: Value, number: u64, edit: Edit) -> Result<Row, Starved>
-    ensures { IfOk result (λ row. row ≡ record { value = value; number = number }) }
-{
-    match edit {
-        Edit::Put => {
-            let value = shared_value(rows, value)?;
-            Ok(Row { value, number })
-        }
-        Edit::Take => Ok(Row { value, number }),
-    }
+    let value = match next_row::<Brand>(Blank::new(1), &mut left) {
+        Some(row) if row.value == first.value => row.value.share()?,
+        _ => first.value,
+    };
+    Ok(Row { value, number })
 }
 
 /// These rows after an edit of a row. `Starved`: out of memory.
@@ -124,6 +110,28 @@ fn edited_row(rows: Rows, row: &Row, edit: Edit) -> Result<Rows, Starved>
     rows.changed(row, edit)
 }
 
+/// These rows after an edit of a row whose value is kept in texts. `Starved`: out of memory.
+#[inline(never)]
+fn edited_long(rows: Rows, row: Row, edit: Edit) -> Result<Rows, Starved>
+    requires { IsAscending row_cmp rows }
+    ensures entries { IfOk result
+        (λ after. (e : Entry) → has_entry (entries_of_rows after) e
+        ≡ is_after edit (has_entry (entries_of_rows rows) e) (is_same e (entry_of row))) }
+    ensures ascends { IfOk result (λ after. IsAscending row_cmp after) }
+{
+    match edit {
+        Edit::Put => {
+            let row = shared_row(&rows, row)?;
+            let after = edited_row(rows, &row, Edit::Put)?;
+            Ok(after)
+        }
+        Edit::Take => {
+            let after = edited_row(rows, &row, Edit::Take)?;
+            Ok(after)
+        }
+    }
+}
+
 /// These rows, in which the record with this number carries this value too, or carries it no
 /// longer. `Starved`: out of memory.
 fn edited_value(rows: Rows, value: Value, number: u64, edit: Edit) -> Result<Rows, Starved>
@@ -134,7 +142,10 @@ fn edited_value(rows: Rows, value: Value, number: u64, edit: Edit) -> Result<Row
         (is_same e (record { name = value.0; value = value.1; number = number }))) }
     ensures ascends { IfOk result (λ after. IsAscending row_cmp after) }
 {
-    let row = row_to_edit(&rows, value, number, edit)?;
+    let row = Row { value, number };
+    if row.value.texts().is_some() {
+        return edited_long(rows, row, edit);
+    }
     edited_row(rows, &row, edit)
 }
 

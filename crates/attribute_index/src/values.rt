@@ -120,9 +120,10 @@ impl Value {
         }
     }
 
-    /// How it is ordered: as its abbreviation, and by its texts where the abbreviations are equal
-    /// and leave some of them out.
-    fn order(&self, other: &Value) -> Ordering
+    /// How it is ordered, where it is kept in texts: as its abbreviation, and by the texts where
+    /// the abbreviations are equal and leave some of them out.
+    #[inline(never)]
+    fn order_by_texts(&self, other: &Value) -> Ordering
         ensures { result ≡ value_cmp self.now other.now }
     {
         match self.abbreviation().cmp(other.abbreviation()) {
@@ -137,6 +138,16 @@ impl Value {
             }
             order => order,
         }
+    }
+
+    /// How it is ordered: as its abbreviation, where that spells the whole of it.
+    fn order(&self, other: &Value) -> Ordering
+        ensures { result ≡ value_cmp self.now other.now }
+    {
+        if self.texts().is_some() {
+            return self.order_by_texts(other);
+        }
+        self.abbreviation().cmp(other.abbreviation())
     }
 }
 

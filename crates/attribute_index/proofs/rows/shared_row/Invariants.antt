@@ -1,4 +1,4 @@
-use Rattle.attribute_index.proofs.rows.shared_value.Given as goal
+use Rattle.attribute_index.proofs.rows.shared_row.Given as goal
 
 abbrev pub ghosts-next_row : goal.ghosts-next_row
 ghosts-next_row a = record { name = a.blank.name; parts = a.blank.parts }
