@@ -16,7 +16,7 @@ observers-preserved c =
     elim c.match-slot_to_mark.branch [
       | in-Some w ↦
           subst (λ ws. Walked c.args.watches.now c.args.observers.now ws (c.observers.index + 1))
-          (sym (w.observers-is ∙ w.mark.ensures))
+          (sym (w.observers-is ∙ w.mark.ensures.marked))
           (walked-marked c.args.watches.now c.args.observers.now c.observers.observers
           c.observers.index w.in-Some.slot inside w.in-Some.ensures.marked
           w.in-Some.ensures.own c.observers.invariant)

@@ -28,4 +28,4 @@ returns c = λ workers rows at.
     (λ first history stands. c.live_count-live.ensures first history
     (subst (VersionStandsFor first history)
     (sym (c.deref-2.ensures ∙ c.version-version.ensures.value)) stands))
-    c.watchers-observers.ensures))
+    c.watchers-observers.ensures.kept))
