@@ -1,0 +1,4 @@
+pub mod Lists
+pub mod Printing
+pub mod Endings
+pub mod Sendable
