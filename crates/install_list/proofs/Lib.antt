@@ -1,6 +1,10 @@
--- Fronts: fronts of texts. ReportLaws: what is said of a status. EndLaws: which count
--- it says that rose.
-pub mod Fronts
+-- TextFronts: fronts of texts. ReportLaws: what is said of a status. SendLaws: which asks can be
+-- sent. ListLaws: lines of a text, read one after the other. LineLaws: what a line asks for.
+-- PutLaws: lines that were written. EndLaws: which status an ending has, and which count rose.
+pub mod TextFronts
 pub mod ReportLaws
-pub mod EndLaws
 pub mod SendLaws
+pub mod ListLaws
+pub mod LineLaws
+pub mod PutLaws
+pub mod EndLaws

@@ -27,8 +27,9 @@ use Rattle.std.proofs.KnownBytes.{Appends-trans}
 use Rattle.rd_base.specs.Outside.{Rose}
 use Rattle.std.specs.Io.KnownBytes.{Appends}
 use Rattle.install_list.specs.declared.statuses.InstallStatus.{InstallStatus}
-use Rattle.install_list.specs.Endings.{Says, IsFrontOf, IsReported, status_text}
-use Rattle.install_list.proofs.Fronts.{front_self, front_trans, front_take, front_behind}
+use Rattle.install_list.specs.Endings.{Says, IsReported, status_text}
+use Rattle.install_list.specs.Printing.{IsFrontOf}
+use Rattle.install_list.proofs.TextFronts.{front_self, front_trans, front_take, front_behind}
 
 -- texts one after the other
 abbrev pub joined : List (Bor (List ℕ)) → List ℕ

@@ -6,9 +6,14 @@ use Rattle.std.specs.Prelude.{
   ◌≤◌,
   List,
   [],
+  ◌∷◌,
   ◌++◌,
+  map,
   codes,
   decimal,
+  Bool,
+  true,
+  false,
   Option,
   Some,
   None,
@@ -16,7 +21,6 @@ use Rattle.std.specs.Prelude.{
   Ok,
   Err,
   ⊤,
-  ⊥,
 }
 use Rattle.std.specs.Io.KnownBytes.{Appends}
 use Rattle.rd_base.specs.Outside.{Rose}
@@ -30,6 +34,11 @@ use Rattle.install_list.specs.declared.fronts.PutFault.{PutFault}
 use Rattle.install_list.specs.declared.fronts.PutFault.TheVariants as put
 use Rattle.install_list.specs.declared.statuses.InstallStatus.{InstallStatus}
 use Rattle.install_list.specs.declared.statuses.InstallStatus.TheVariants as status
+use Rattle.install_list.specs.declared.entries.Entry.{Entry}
+use Rattle.install_list.specs.declared.words.Verb.{Verb}
+use Rattle.install_list.specs.declared.words.Verb.TheVariants as verb
+use Rattle.install_list.specs.Lists.{FirstBad}
+use Rattle.install_list.specs.Printing.{IsFrontOf, Puts, Cuts}
 
 -- the exit status of the program
 abbrev pub code_of : InstallStatus → ℕ
@@ -66,10 +75,6 @@ status_text status.Unread = codes "read failed\n"
 status_text (status.Line n why) = line_text n why
 status_text status.Memory = codes "memory\n"
 status_text status.Link = codes "link failed\n"
-
--- a text is the beginning of another
-abbrev pub IsFrontOf : List ℕ → List ℕ → Type 0
-IsFrontOf front whole = (rest : List ℕ) × (whole ≡ front ++ rest)
 
 -- a text was said, or a front of it where a fault was counted
 pub record Says
@@ -125,13 +130,6 @@ CountsList before now (Err stop.Starved) = now ≡ before
 CountsList before now (Err (stop.Bad n why)) = now ≡ before
 CountsList before now (Ok x) = now ≡ before
 
--- the source is not at fault
-abbrev pub IsRead : {A : Type 0} → Result A ListFault → Type 0
-IsRead (Err stop.Unread) = ⊥
-IsRead (Err stop.Starved) = ⊤
-IsRead (Err (stop.Bad n why)) = ⊤
-IsRead (Ok x) = ⊤
-
 -- the status of asks that were not all made
 abbrev pub tell_status : TellFault → InstallStatus
 tell_status tell.Link = status.Link
@@ -162,37 +160,173 @@ abbrev pub WritesTurn : ℕ → ℕ → Option InstallStatus → Type 0
 WritesTurn before now None = now ≡ before
 WritesTurn before now (Some s) = CountsWrites before now s
 
--- the status of asks that were all decided
-abbrev pub IsWhole : InstallStatus → Type 0
-IsWhole status.Done = ⊤
-IsWhole status.Undone = ⊤
-IsWhole _ = ⊥
-
 -- the status of asks that were made, or not
 abbrev pub IsMaking : InstallStatus → Type 0
+IsMaking status.Done = ⊤
+IsMaking status.Undone = ⊤
+IsMaking status.Link = ⊤
+IsMaking status.Write = ⊤
+IsMaking status.Memory = ⊤
+IsMaking status.Usage = ⊥
 IsMaking status.Unread = ⊥
 IsMaking (status.Line n why) = ⊥
-IsMaking status.Usage = ⊥
-IsMaking _ = ⊤
 
--- the status of asks that were not all made
+-- the status of a poll that ended all
+abbrev pub IsPolled : Option InstallStatus → Type 0
+IsPolled None = ⊤
+IsPolled (Some status.Link) = ⊤
+IsPolled (Some status.Memory) = ⊤
+IsPolled (Some status.Write) = ⊥
+IsPolled (Some status.Done) = ⊥
+IsPolled (Some status.Undone) = ⊥
+IsPolled (Some status.Usage) = ⊥
+IsPolled (Some status.Unread) = ⊥
+IsPolled (Some (status.Line n why)) = ⊥
+
+-- the status of lines that were all written
+abbrev pub whole_status : Bool → InstallStatus
+whole_status false = status.Done
+whole_status true = status.Undone
+
+-- the same of a turn in which no line was to be written
+abbrev pub IsRest : Option InstallStatus → List ℕ → Bool → Type 0
+IsRest None left is = ⊤
+IsRest (Some status.Done) left is = (left ≡ []) × (is ≡ false)
+IsRest (Some status.Undone) left is = (left ≡ []) × (is ≡ true)
+IsRest (Some status.Link) left is = ⊤
+IsRest (Some status.Memory) left is = ⊤
+IsRest (Some status.Write) left is = ⊥
+IsRest (Some status.Usage) left is = ⊥
+IsRest (Some status.Unread) left is = ⊥
+IsRest (Some (status.Line n why)) left is = ⊥
+
+-- ---- what was written
+
+-- the line of an ask was written, or a front of it
+abbrev pub IsPut : {A : Type 0}
+    → Result A PutFault
+    → List ℕ
+    → Option (List ℕ)
+    → Option (List ℕ)
+    → Type 0
+IsPut (Ok x) line holds now = Appends holds now line
+IsPut (Err f) line holds now = (text : List ℕ) × IsFrontOf text line × Appends holds now text
+
+-- the lines of the next asks were written, or a front of them
+abbrev pub IsNext : {A : Type 0}
+    → Result A PutFault
+    → Verb
+    → List ℕ
+    → List ℕ
+    → Bool
+    → Bool
+    → Option (List ℕ)
+    → Option (List ℕ)
+    → Type 0
+IsNext (Ok x) v left more was is holds now = Puts v left more was is holds now
+IsNext (Err f) v left more was is holds now = Cuts v left holds now
+
+-- What was written of asks that were left. Where it is done each has its line, in the order of the
+-- list, and each was done; where it is not, each has its line, and one was not done. Otherwise a
+-- front of the lines was written.
+abbrev pub Ends : Verb
+    → InstallStatus
+    → List ℕ
+    → Bool
+    → Option (List ℕ)
+    → Option (List ℕ)
+    → Type 0
+Ends v status.Done left was holds now = Puts v left [] was false holds now
+Ends v status.Undone left was holds now = Puts v left [] was true holds now
+Ends v status.Link left was holds now = Cuts v left holds now
+Ends v status.Write left was holds now = Cuts v left holds now
+Ends v status.Memory left was holds now = Cuts v left holds now
+Ends v status.Usage left was holds now = ⊥
+Ends v status.Unread left was holds now = ⊥
+Ends v (status.Line n why) left was holds now = ⊥
+
+-- the same of a turn
+abbrev pub IsTurned : Verb
+    → Option InstallStatus
+    → List ℕ
+    → List ℕ
+    → Bool
+    → Bool
+    → Option (List ℕ)
+    → Option (List ℕ)
+    → Type 0
+IsTurned v None left more was is holds now = Puts v left more was is holds now
+IsTurned v (Some s) left more was is holds now = Ends v s left was holds now
+
+-- the status of asks that are kept, which end by a fault alone
 abbrev pub IsHalted : InstallStatus → Type 0
 IsHalted status.Link = ⊤
 IsHalted status.Memory = ⊤
 IsHalted status.Write = ⊤
-IsHalted _ = ⊥
-
--- the same of a turn
-abbrev pub IsTurned : Option InstallStatus → Type 0
-IsTurned None = ⊤
-IsTurned (Some s) = IsMaking s
+IsHalted status.Done = ⊥
+IsHalted status.Undone = ⊥
+IsHalted status.Usage = ⊥
+IsHalted status.Unread = ⊥
+IsHalted (status.Line n why) = ⊥
 
 abbrev pub IsKept : Option InstallStatus → Type 0
 IsKept None = ⊤
 IsKept (Some s) = IsHalted s
 
-abbrev pub IsPolled : Option InstallStatus → Type 0
-IsPolled None = ⊤
-IsPolled (Some status.Link) = ⊤
-IsPolled (Some status.Memory) = ⊤
-IsPolled (Some _) = ⊥
+-- what was written of the asks of lines with these numbers
+abbrev pub KeepsOn : List ℕ → InstallStatus → Option (List ℕ) → Option (List ℕ) → Type 0
+KeepsOn [] s holds now = Ends verb.Keep s [] false holds now
+KeepsOn (n ∷ numbers) s holds now = IsHalted s
+
+abbrev pub Writes : Verb
+    → List ℕ
+    → InstallStatus
+    → Option (List ℕ)
+    → Option (List ℕ)
+    → Type 0
+Writes verb.Register numbers s holds now = Ends verb.Register s numbers false holds now
+Writes verb.Refresh numbers s holds now = Ends verb.Refresh s numbers false holds now
+Writes verb.Remove numbers s holds now = Ends verb.Remove s numbers false holds now
+Writes verb.Keep numbers s holds now = KeepsOn numbers s holds now
+
+-- the numbers of the lines that ask for something
+abbrev pub numbered : List Entry → List ℕ
+numbered entries = map (λ entry. entry.number) entries
+
+-- what was written of a list that was read, or is bad
+abbrev pub IsWritten : Verb
+    → Result (List Entry) FirstBad
+    → InstallStatus
+    → Option (List ℕ)
+    → Option (List ℕ)
+    → Type 0
+IsWritten v (Err first) s holds now = now ≡ holds
+IsWritten v (Ok entries) status.Unread holds now = now ≡ holds
+IsWritten v (Ok entries) s holds now = Writes v (numbered entries) s holds now
+
+-- where a line is bad, no other line is named and nothing is done; where none is, none is named
+abbrev pub EndsBy : Result (List Entry) FirstBad → InstallStatus → Type 0
+EndsBy (Err first) (status.Line n why) = first ≡ record { line = n; why = why }
+EndsBy (Err first) status.Done = ⊥
+EndsBy (Err first) status.Undone = ⊥
+EndsBy (Err first) status.Link = ⊥
+EndsBy (Err first) status.Write = ⊥
+EndsBy (Err first) status.Usage = ⊥
+EndsBy (Err first) status.Unread = ⊤
+EndsBy (Err first) status.Memory = ⊤
+EndsBy (Ok entries) (status.Line n why) = ⊥
+EndsBy (Ok entries) s = ⊤
+
+-- the statuses at which nothing was sent, since the list was not read whole, or is bad
+abbrev pub IsUnsent : InstallStatus → Type 0 → Type 0
+IsUnsent status.Unread untouched = untouched
+IsUnsent (status.Line n why) untouched = untouched
+IsUnsent s untouched = ⊤
+
+-- the statuses at which the source is at its end
+abbrev pub IsAllRead : InstallStatus → Type 0 → Type 0
+IsAllRead status.Done ended = ended
+IsAllRead status.Undone ended = ended
+IsAllRead status.Link ended = ended
+IsAllRead status.Write ended = ended
+IsAllRead s ended = ⊤

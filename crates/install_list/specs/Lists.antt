@@ -37,7 +37,6 @@ use Rattle.std.specs.Prelude.{
   Ok,
   Err,
   ⊤,
-  ⊥,
   bytes_eq,
   if◌then◌else◌,
 }
@@ -56,6 +55,7 @@ use Rattle.client_model.specs.declared.asks.Ask.{Ask}
 use Rattle.client_model.specs.declared.asks.AskBad.{AskBad}
 use Rattle.client_model.specs.declared.asks.AskBad.TheVariants as none
 use Rattle.client_model.specs.declared.outcomes.Location.{Location}
+use Rattle.client_model.specs.Requests.{CanBeSent}
 use Rattle.client_model.specs.Asks.{registration, refresh, removal}
 use Rattle.install_list.specs.declared.entries.Entry.{Entry}
 use Rattle.install_list.specs.declared.entries.Then.{Then}
@@ -174,11 +174,14 @@ abbrev pub reached_by : Option Host → Result Ask LineBad → Result Ask LineBa
 reached_by from (Ok ask) = reached from ask
 reached_by from (Err why) = Err why
 
--- the ask that registers links at the directory that a URI names
-unfoldable pub registered : Option Host → List ℕ → List ℕ → Result Ask LineBad
-registered from uri links =
-    if is_utf8 (quoted uri) then reached_by from (made (registration (quoted uri) links))
-    else Err bad.Ask
+-- the ask that registers links at the directory that a URI without brackets names
+unfoldable pub asked_at : Option Host → List ℕ → List ℕ → Result Ask LineBad
+asked_at from uri links =
+    if is_utf8 uri then reached_by from (made (registration uri links)) else Err bad.Ask
+
+-- the same of a URI as an installer writes it
+abbrev pub registered : Option Host → List ℕ → List ℕ → Result Ask LineBad
+registered from uri links = asked_at from (quoted uri) links
 
 -- the ask of a line `URI LINKS`
 abbrev pub named_by : Option Host → List ℕ → Option (List ℕ) → Result Ask LineBad
@@ -193,9 +196,12 @@ named from line = named_by from (parts_of line).0 (links_of (trimmed (parts_of l
 abbrev pub is_base : Opt → Bool
 is_base option = option.0 == table.uri_query && bytes_eq (take 5 option.1) (codes "base=")
 
+abbrev pub has_base : Ask → Bool
+has_base ask = list_any is_base ask.options
+
 abbrev pub if_based : Result Ask LineBad → Result Ask LineBad
 if_based (Err why) = Err why
-if_based (Ok ask) = if list_any is_base ask.options then Ok ask else Err bad.Base
+if_based (Ok ask) = if has_base ask then Ok ask else Err bad.Base
 
 -- the ask of a line that registers
 abbrev pub registering : Option Host → List ℕ → Result Ask LineBad
@@ -212,13 +218,19 @@ path_of options = map (λ option. option.1) (filter is_segment options)
 abbrev pub is_query : Opt → Bool
 is_query option = option.0 == table.uri_query
 
--- the location that an ask has in its path: it has no query, and each segment is text
+abbrev pub has_query : Ask → Bool
+has_query ask = list_any is_query ask.options
+
+-- texts, each of which is UTF-8
+abbrev pub are_texts : List (List ℕ) → Bool
+are_texts texts = list_all is_utf8 texts
+
+-- the location that an ask has in its path: each segment is text, there is one, and it has no query
 unfoldable pub located : Ask → Result Location LineBad
 located ask =
-    if not (list_all is_utf8 (path_of ask.options))
-    || (length (path_of ask.options) == 0
-    || list_any is_query ask.options)
-    then Err bad.Ask
+    if not (are_texts (path_of ask.options)) then Err bad.Ask
+    else if length (path_of ask.options) == 0 then Err bad.Ask
+    else if has_query ask then Err bad.Ask
     else Ok (record { to = ask.to; path = path_of ask.options })
 
 abbrev pub located_by : Result Ask LineBad → Result Location LineBad
@@ -233,6 +245,13 @@ location_of from line = located_by (registered from (last_word line) [])
 abbrev pub ask_at : (Location → Result Ask AskBad) → Result Location LineBad → Result Ask LineBad
 ask_at of (Err why) = Err why
 ask_at of (Ok location) = made (of location)
+
+-- the ask of a line that refreshes, and of one that removes what stands at its location
+abbrev pub refreshing : Option Host → List ℕ → Result Ask LineBad
+refreshing from line = ask_at refresh (location_of from line)
+
+abbrev pub removing : Option Host → List ℕ → Result Ask LineBad
+removing from line = ask_at removal (location_of from line)
 
 -- ---- what is done behind an ask
 
@@ -250,12 +269,13 @@ lifetime_from lifetime (option ∷ options) =
     lifetime_from (unwrap_or (lifetime_in option) lifetime) options
 
 -- half of it in milliseconds, at least a second
-abbrev pub at_least_two : ℕ → ℕ
-at_least_two n = if nat_le 2 n then n else 2
+abbrev pub half_by : ℕ → ℕ
+half_by lifetime = if nat_lt lifetime 2 then 1000 else lifetime * 500
 
 abbrev pub half_of : Ask → ℕ
-half_of ask = at_least_two (lifetime_from LIFETIME ask.options) * 500
+half_of ask = half_by (lifetime_from LIFETIME ask.options)
 
+-- an ask with what is done behind it
 abbrev pub with : Then → Result Ask LineBad → Result (Ask × Then) LineBad
 with behind (Err why) = Err why
 with behind (Ok ask) = Ok (ask, behind)
@@ -264,18 +284,33 @@ abbrev pub kept : Result Ask LineBad → Result (Ask × Then) LineBad
 kept (Err why) = Err why
 kept (Ok ask) = Ok (ask, next.Keeps (half_of ask))
 
--- the ask of a line that removes: that of its location, or that which tells where what it names
--- stands
-abbrev pub removing_by : Bool → Option Host → List ℕ → Result (Ask × Then) LineBad
-removing_by true from line = with next.Removes (named from line)
-removing_by false from line = with next.Ends (ask_at removal (location_of from line))
+abbrev pub registering_entry : Option Host → List ℕ → Result (Ask × Then) LineBad
+registering_entry from line = with next.Ends (registering from line)
+
+abbrev pub refreshing_entry : Option Host → List ℕ → Result (Ask × Then) LineBad
+refreshing_entry from line = with next.Ends (refreshing from line)
+
+abbrev pub removing_at : Option Host → List ℕ → Result (Ask × Then) LineBad
+removing_at from line = with next.Ends (removing from line)
+
+abbrev pub removing_named : Option Host → List ℕ → Result (Ask × Then) LineBad
+removing_named from line = with next.Removes (named from line)
+
+abbrev pub keeping_entry : Option Host → List ℕ → Result (Ask × Then) LineBad
+keeping_entry from line = kept (registering from line)
+
+-- the ask of a line that removes: that of its location, or that which registers what it names, whose
+-- answer says where it stands
+abbrev pub removing_entry : Option Host → List ℕ → Result (Ask × Then) LineBad
+removing_entry from line =
+    if is_named line then removing_named from line else removing_at from line
 
 -- the ask of a line that is not passed over
 abbrev pub asked_by : Verb → Option Host → List ℕ → Result (Ask × Then) LineBad
-asked_by verb.Register from line = with next.Ends (registering from line)
-asked_by verb.Refresh from line = with next.Ends (ask_at refresh (location_of from line))
-asked_by verb.Remove from line = removing_by (is_named line) from line
-asked_by verb.Keep from line = kept (registering from line)
+asked_by verb.Register from line = registering_entry from line
+asked_by verb.Refresh from line = refreshing_entry from line
+asked_by verb.Remove from line = removing_entry from line
+asked_by verb.Keep from line = keeping_entry from line
 
 abbrev pub asked : Order → List ℕ → Result (Ask × Then) LineBad
 asked order line = asked_by order.verb order.from line
@@ -346,8 +381,72 @@ IsLinks (Err (unread.Bad bad.Family)) expected = ⊥
 IsLinks (Err (unread.Bad bad.Base)) expected = ⊥
 IsLinks (Err unread.Starved) expected = ⊤
 
+-- a segment that was copied is the octets, which are text
+abbrev pub IsSegment : Result (List ℕ) LineFault → List ℕ → Type 0
+IsSegment (Ok segment) octets = (segment ≡ octets) × (is_utf8 octets ≡ true)
+IsSegment (Err (unread.Bad bad.Ask)) octets = is_utf8 octets ≡ false
+IsSegment (Err (unread.Bad bad.Many)) octets = ⊥
+IsSegment (Err (unread.Bad bad.Form)) octets = ⊥
+IsSegment (Err (unread.Bad bad.Zone)) octets = ⊥
+IsSegment (Err (unread.Bad bad.Family)) octets = ⊥
+IsSegment (Err (unread.Bad bad.Base)) octets = ⊥
+IsSegment (Err unread.Starved) octets = ⊤
+
+-- the same of texts that were appended
+abbrev pub IsPushed : {A : Type 0}
+    → Result A LineFault
+    → List (List ℕ)
+    → List (List ℕ)
+    → List (List ℕ)
+    → Type 0
+IsPushed (Ok x) texts before after = (after ≡ before ++ texts) × (are_texts texts ≡ true)
+IsPushed (Err (unread.Bad bad.Ask)) texts before after = are_texts texts ≡ false
+IsPushed (Err (unread.Bad bad.Many)) texts before after = ⊥
+IsPushed (Err (unread.Bad bad.Form)) texts before after = ⊥
+IsPushed (Err (unread.Bad bad.Zone)) texts before after = ⊥
+IsPushed (Err (unread.Bad bad.Family)) texts before after = ⊥
+IsPushed (Err (unread.Bad bad.Base)) texts before after = ⊥
+IsPushed (Err unread.Starved) texts before after = ⊤
+
+-- the same of all segments among options
+abbrev pub IsPath : Result (List (List ℕ)) LineFault → List Opt → Type 0
+IsPath (Ok path) options = (path ≡ path_of options) × (are_texts (path_of options) ≡ true)
+IsPath (Err (unread.Bad bad.Ask)) options = are_texts (path_of options) ≡ false
+IsPath (Err (unread.Bad bad.Many)) options = ⊥
+IsPath (Err (unread.Bad bad.Form)) options = ⊥
+IsPath (Err (unread.Bad bad.Zone)) options = ⊥
+IsPath (Err (unread.Bad bad.Family)) options = ⊥
+IsPath (Err (unread.Bad bad.Base)) options = ⊥
+IsPath (Err unread.Starved) options = ⊤
+
+-- what a line asks for can be sent
+abbrev pub CanEntry : Entry → Type 0
+CanEntry entry = CanBeSent entry.ask
+
+abbrev pub IsSendable : Option Entry → Type 0
+IsSendable None = ⊤
+IsSendable (Some entry) = CanEntry entry
+
 abbrev pub IsListed : Result (List Entry) ListFault → Result (List Entry) FirstBad → Type 0
 IsListed (Ok entries) expected = expected ≡ Ok entries
 IsListed (Err (stop.Bad n why)) expected = expected ≡ Err (record { line = n; why = why })
 IsListed (Err stop.Unread) expected = ⊥
 IsListed (Err stop.Starved) expected = ⊤
+
+-- the asks of a source that was read, or why they were not
+abbrev pub IsRead : Result (List Entry) ListFault → Result (List Entry) FirstBad → Type 0
+IsRead (Ok entries) expected = expected ≡ Ok entries
+IsRead (Err (stop.Bad n why)) expected = expected ≡ Err (record { line = n; why = why })
+IsRead (Err stop.Unread) expected = ⊤
+IsRead (Err stop.Starved) expected = ⊤
+
+-- no line is bad of what could not be read
+abbrev pub IsUnread : ListFault → Type 0
+IsUnread stop.Unread = ⊤
+IsUnread stop.Starved = ⊤
+IsUnread (stop.Bad n why) = ⊥
+
+-- what is there
+abbrev pub items_of : Option Entry → List Entry
+items_of None = []
+items_of (Some entry) = entry ∷ []

@@ -24,9 +24,11 @@ use Rattle.std.specs.Prelude.{
   flat_map,
   codes,
   decimal,
+  Option,
   if◌then◌else◌,
 }
 use Rattle.std.specs.List.{list_any}
+use Rattle.std.specs.Io.KnownBytes.{Appends}
 use Rattle.rd_base.specs.declared.peers.Peer.{Peer}
 use Rattle.rd_base.specs.Bases.{base_of}
 use Rattle.install_list.specs.declared.ends.End.{End}
@@ -58,9 +60,12 @@ escaped c = if is_plain c then c ∷ [] else 37 ∷ digit (c / 16) ∷ digit (c 
 abbrev pub segment_text : List ℕ → List ℕ
 segment_text segment = 47 ∷ flat_map escaped segment
 
+abbrev pub path_text : List (List ℕ) → List ℕ
+path_text path = flat_map segment_text path
+
 -- the URI of a registration at a directory
 abbrev pub location_text : Peer → List (List ℕ) → List ℕ
-location_text to path = base_of to ++ flat_map segment_text path
+location_text to path = base_of to ++ path_text path
 
 -- a code by its class and its detail, in two digits (RFC 7252 section 3)
 unfoldable pub code_text : ℕ → List ℕ
@@ -79,12 +84,14 @@ abbrev pub reason_behind : List ℕ → List ℕ
 reason_behind [] = []
 reason_behind (c ∷ cs) = 32 ∷ c ∷ cs
 
+abbrev pub refusal_text : ℕ → List ℕ → List ℕ
+refusal_text code reason = codes "refused " ++ (code_text code ++ reason_behind reason)
+
 -- what became of an ask
 abbrev pub end_text : Verb → Peer → End → List ℕ
 end_text v to (end.Created path) = codes "created " ++ location_text to path
 end_text v to end.Done = done_text v
-end_text v to (end.Refused code reason) =
-    codes "refused " ++ (code_text code ++ reason_behind reason)
+end_text v to (end.Refused code reason) = refusal_text code reason
 end_text v to end.Reset = codes "reset"
 end_text v to end.GaveUp = codes "gave up"
 end_text v to end.Silent = codes "silent"
@@ -100,8 +107,11 @@ line_text v n to e = decimal n ++ (32 ∷ (end_text v to e ++ 10 ∷ []))
 abbrev pub Report : Type 0
 Report = ℕ × Outcome
 
+abbrev pub outcome_text : Verb → ℕ → Outcome → List ℕ
+outcome_text v n outcome = line_text v n outcome.to outcome.end
+
 abbrev pub report_text : Verb → Report → List ℕ
-report_text v report = line_text v report.0 report.1.to report.1.end
+report_text v report = outcome_text v report.0 report.1
 
 -- the lines of reports
 abbrev pub reports_text : Verb → List Report → List ℕ
@@ -121,6 +131,41 @@ is_done end.GaveUp = false
 is_done end.Silent = false
 is_done end.Unreached = false
 
+abbrev pub is_failed : Report → Bool
+is_failed report = not (is_done report.1.end)
+
 -- one of them was not done
 abbrev pub is_undone : List Report → Bool
-is_undone reports = list_any (λ report. not (is_done report.1.end)) reports
+is_undone reports = list_any is_failed reports
+
+-- ---- what was written
+
+-- a text is the beginning of another
+abbrev pub IsFrontOf : List ℕ → List ℕ → Type 0
+IsFrontOf front whole = (rest : List ℕ) × (whole ≡ front ++ rest)
+
+-- lines of reports were written one after the other. Their numbers are the first of those that were
+-- left, and others are left now. `was` and `is` say whether something was not done before, and now
+abbrev pub Puts : Verb
+    → List ℕ
+    → List ℕ
+    → Bool
+    → Bool
+    → Option (List ℕ)
+    → Option (List ℕ)
+    → Type 0
+Puts v left more was is holds now =
+    (reports : List Report)
+    × (left ≡ numbers_of reports ++ more)
+    × (is ≡ (was || is_undone reports))
+    × Appends holds now (reports_text v reports)
+
+-- a front of such lines was written
+abbrev pub Cuts : Verb → List ℕ → Option (List ℕ) → Option (List ℕ) → Type 0
+Cuts v left holds now =
+    (reports : List Report)
+    × (rest : List ℕ)
+    × (text : List ℕ)
+    × (left ≡ numbers_of reports ++ rest)
+    × IsFrontOf text (reports_text v reports)
+    × Appends holds now text

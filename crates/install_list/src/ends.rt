@@ -1,4 +1,6 @@
 //! What became of an ask.
+ghost use Rattle.std.specs.Prelude.{◌≡◌};
+
 use rd_base::{Bytes, Texts};
 
 /// What became of an ask.
@@ -38,9 +40,18 @@ pub(crate) enum Kind {
 }
 
 impl End {
+    ghost use Rattle.install_list.specs.Printing.{is_done};
+
     /// Returns whether what was asked for was done.
-    pub(crate) fn is_done(&self) -> bool {
-        matches!(self, End::Created(_) | End::Done)
+    pub(crate) fn is_done(&self) -> bool
+        ensures { result ≡ is_done self.now }
+    {
+        match self {
+            End::Created(_) => true,
+            End::Done => true,
+            End::Refused(_, _) => false,
+            End::Reset | End::GaveUp | End::Silent | End::Unreached => false,
+        }
     }
 
     /// Returns whether a registration was made.

@@ -1,9 +1,10 @@
 //! A list of devices, from its octets to the lines of what became of each and a status.
-ghost use Rattle.std.specs.Prelude.{◌≡◌, ◌≢◌};
+ghost use Rattle.std.specs.Prelude.{◌≡◌, ◌≢◌, IfSome, drop};
 ghost use Rattle.std.specs.List.{All};
-ghost use Rattle.client_model.specs.Requests.{CanBeSent};
 ghost use Rattle.install_list.specs.declared.statuses.InstallStatus.TheVariants as status;
+ghost use Rattle.std.specs.Io.KnownBytes.{IsAtEnd};
 ghost use Rattle.install_list.specs.Endings as ends;
+ghost use Rattle.install_list.specs.Lists.{CanEntry, listed};
 
 use crate::entries::Entry;
 use crate::fronts::{Front, make_front};
@@ -28,6 +29,90 @@ fn list_status(fault: ListFault) -> InstallStatus
     }
 }
 
+/// Makes the asks of a list that are kept.
+fn make_kept<R, K, L, C>(
+    rt: &R,
+    making: &mut Making,
+    numbers: Vec<u64>,
+    out: &mut K,
+    link: &mut L,
+    clock: &mut C,
+) -> InstallStatus
+where
+    R: Wait + AllocGlobal,
+    K: Sink,
+    L: Link,
+    C: Clock,
+    ensures receives { ends.CountsReceives (L.recv_faults link.old) (L.recv_faults link.new)
+        result }
+    ensures writes { ends.CountsWrites (K.faults out.old) (K.faults out.new) result }
+    ensures written { ends.KeepsOn numbers.items result (K.holds out.old) (K.holds out.new) }
+{
+    if numbers.is_empty() {
+        return InstallStatus::Done;
+    }
+    make_changes(rt, making, numbers.as_slice(), out, link, clock)
+}
+
+/// Makes the asks of a list once.
+fn make_once<R, K, L, C>(
+    rt: &R,
+    making: &mut Making,
+    front: Front,
+    out: &mut K,
+    link: &mut L,
+    clock: &mut C,
+) -> InstallStatus
+where
+    R: Wait + AllocGlobal,
+    K: Sink,
+    L: Link,
+    C: Clock,
+    ensures receives { ends.CountsReceives (L.recv_faults link.old) (L.recv_faults link.new)
+        result }
+    ensures writes { ends.CountsWrites (K.faults out.old) (K.faults out.new) result }
+    ensures written { ends.Ends front.verb result (drop front.written front.numbers.items)
+        front.is_undone (K.holds out.old) (K.holds out.new) }
+{
+    let mut front = front;
+    make_front(rt, making, &mut front, out, link, clock)
+}
+
+/// Makes the asks of a list by their directories.
+fn make_listed<R, K, L, C>(
+    rt: &R,
+    verb: Verb,
+    listed: Listed,
+    out: &mut K,
+    link: &mut L,
+    clock: &mut C,
+) -> InstallStatus
+where
+    R: Wait + AllocGlobal,
+    K: Sink,
+    L: Link,
+    C: Clock,
+    ensures receives { ends.CountsReceives (L.recv_faults link.old) (L.recv_faults link.new)
+        result }
+    ensures writes { ends.CountsWrites (K.faults out.old) (K.faults out.new) result }
+    ensures written { ends.Writes verb listed.numbers.items result (K.holds out.old)
+        (K.holds out.new) }
+{
+    let Listed {
+        numbers,
+        directories,
+    } = listed;
+    let Ok(mut making) = Making::of(rt.alloc(), clock, numbers.len(), directories) else {
+        return InstallStatus::Memory;
+    };
+    match verb {
+        Verb::Keep => make_kept(rt, &mut making, numbers, out, link, clock),
+        Verb::Register | Verb::Refresh | Verb::Remove => {
+            make_once(rt, &mut making, Front::of(verb, numbers), out, link, clock)
+        }
+    }
+}
+
 /// Makes the asks of a list.
 fn make_asks<R, K, L, C>(
     rt: &R,
@@ -42,27 +127,17 @@ where
     K: Sink,
     L: Link,
     C: Clock,
-    requires { All (λ e. CanBeSent e.ask) entries }
+    requires { All CanEntry entries }
     ensures receives { ends.CountsReceives (L.recv_faults link.old) (L.recv_faults link.new)
         result }
     ensures writes { ends.CountsWrites (K.faults out.old) (K.faults out.new) result }
-    ensures made { ends.IsMaking result }
+    ensures written { ends.Writes verb (ends.numbered entries) result (K.holds out.old)
+        (K.holds out.new) }
 {
     let Ok(listed) = Listed::of(rt.alloc(), entries) else {
         return InstallStatus::Memory;
     };
-    let Listed {
-        numbers,
-        directories,
-    } = listed;
-    let Ok(mut making) = Making::of(rt.alloc(), clock, numbers.len(), directories) else {
-        return InstallStatus::Memory;
-    };
-    if verb == Verb::Keep && !numbers.is_empty() {
-        return make_changes(rt, &mut making, numbers.as_slice(), out, link, clock);
-    }
-    let mut front = Front::of(verb, numbers);
-    make_front(rt, &mut making, &mut front, out, link, clock)
+    make_listed(rt, verb, listed, out, link, clock)
 }
 
 /// Does what an order wants, but for what is said of its status.
@@ -85,6 +160,11 @@ where
     ensures receives { ends.CountsReceives (L.recv_faults link.old) (L.recv_faults link.new)
         result }
     ensures no_usage { result ≢ status.Usage }
+    ensures lines { IfSome (S.left source.old) (λ bytes. ends.EndsBy (listed order bytes) result) }
+    ensures unsent { ends.IsUnsent result ((link.new ≡ link.old) × (clock.new ≡ clock.old)) }
+    ensures written { IfSome (S.left source.old) (λ bytes. ends.IsWritten order.verb
+        (listed order bytes) result (K.holds out.old) (K.holds out.new)) }
+    ensures all_read { ends.IsAllRead result (IsAtEnd (S.left source.new)) }
 {
     match entries_of(rt.alloc(), order, source) {
         Ok(entries) => make_asks(rt, order.verb, entries, out, link, clock),
@@ -115,6 +195,11 @@ where
     ensures receives { ends.CountsReceives (L.recv_faults link.old) (L.recv_faults link.new)
         result }
     ensures no_usage { result ≢ status.Usage }
+    ensures lines { IfSome (S.left source.old) (λ bytes. ends.EndsBy (listed order bytes) result) }
+    ensures unsent { ends.IsUnsent result ((link.new ≡ link.old) × (clock.new ≡ clock.old)) }
+    ensures written { IfSome (S.left source.old) (λ bytes. ends.IsWritten order.verb
+        (listed order bytes) result (K.holds out.old) (K.holds out.new)) }
+    ensures all_read { ends.IsAllRead result (IsAtEnd (S.left source.new)) }
     ensures said { ends.IsReported (E.holds err.old) (E.holds err.new) (E.faults err.old)
         (E.faults err.new) result }
 {

@@ -1,4 +1,5 @@
 //! An ask of a list, and how often it was made.
+ghost use Rattle.std.specs.Prelude.{IfOk};
 ghost use Rattle.client_model.specs.Requests.{CanBeSent};
 
 use crate::ends::{End, Kind};
@@ -121,7 +122,7 @@ impl Item {
 
     /// Goes on with the ask of a location.
     fn go_on(&mut self, ask: Result<Ask, AskBad>, located: Located) -> Result<Located, Starved>
-        requires { Rattle.std.specs.Prelude.IfOk ask CanBeSent }
+        requires { IfOk ask CanBeSent }
     {
         self.echoed = None;
         match ask {

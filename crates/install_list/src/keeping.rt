@@ -58,7 +58,7 @@ fn turn<K: Sink, L: Link, C: Clock>(
     requires { MAX_DATAGRAM ≤ length room.old }
     ensures receives { ends.CountsTurn (L.recv_faults link.old) (L.recv_faults link.new) result }
     ensures writes { ends.WritesTurn (K.faults out.old) (K.faults out.new) result }
-    ensures making { ends.IsKept result }
+    ensures kept { ends.IsKept result }
 {
     match put_change(alloc, numbers, &mut making.outcomes, out) {
         Ok(true) => None,
@@ -84,7 +84,7 @@ where
     ensures receives { ends.CountsReceives (L.recv_faults link.old) (L.recv_faults link.new)
         result }
     ensures writes { ends.CountsWrites (K.faults out.old) (K.faults out.new) result }
-    ensures made { ends.IsMaking result }
+    ensures made { ends.IsHalted result }
 {
     let mut room = [0u8; MAX_DATAGRAM];
     'turns: for _ in rt.forever() {

@@ -1,8 +1,12 @@
 //! A whole list: the lines of a text, each read, and the directories of which their asks are made.
-ghost use Rattle.std.specs.Prelude.{◌≡◌, ◌<◌, ◌≢◌, [], length, IfOk};
+ghost use Rattle.std.specs.Prelude.{◌≡◌, ◌<◌, ◌≢◌, ◌∷◌, ◌++◌, [], length};
+ghost use Rattle.std.specs.Prelude.{IfOk, IfErr, OnOk, IfSome};
 ghost use Rattle.std.specs.List.{All};
-ghost use Rattle.client_model.specs.Requests.{CanBeSent};
+ghost use Rattle.std.specs.Io.KnownBytes.{Consumes, IsAtEnd};
+ghost use Rattle.line_model.specs.Texts.{lines_of};
 ghost use Rattle.install_list.specs.Endings as ends;
+ghost use Rattle.install_list.specs.Lists as lists;
+ghost use Rattle.install_list.specs.Lists.{CanEntry, IsListed, IsRead, IsUnread, items_of};
 
 use crate::directories::Directory;
 use crate::entries::Entry;
@@ -37,7 +41,8 @@ pub(crate) struct Listed {
 /// it.
 fn first_line(text: &[u8]) -> (&[u8], &[u8])
     requires { text.now ≢ [] }
-    ensures { length result.1.now < length text.now }
+    ensures lines { lines_of text.now ≡ result.0.now ∷ lines_of result.1.now }
+    ensures shorter { length result.1.now < length text.now }
 {
     match offset_of(b'\n', text) {
         Some(at) => (&text[..at], &text[at + 1..]),
@@ -45,17 +50,20 @@ fn first_line(text: &[u8]) -> (&[u8], &[u8])
     }
 }
 
-/// Appends an entry, where there is one.
-fn push_entry(entries: &mut List<Entry>, entry: Option<Entry>) -> Result<(), Starved> {
+/// Appends what a line asks for, if it asks for something.
+fn push_entry(entries: &mut List<Entry>, entry: Option<Entry>) -> Result<(), Starved>
+    ensures ok { OnOk result (entries.new ≡ entries.old ++ items_of entry) }
+{
     match entry {
         Some(entry) => entries.push(entry),
         None => Ok(()),
     }
 }
 
-/// Reads the lines of a text.
+/// Reads what the lines of a text ask for.
 pub(crate) fn list_read(alloc: Global, order: Order, text: &[u8]) -> Result<List<Entry>, ListFault>
-    ensures sent { IfOk result (All (λ e. CanBeSent e.ask)) }
+    ensures exact { IsListed result (lists.listed order text.now) }
+    ensures sent { IfOk result (All CanEntry) }
 {
     let mut entries = List::new(alloc);
     let mut left = text;
@@ -82,7 +90,10 @@ pub(crate) fn list_read(alloc: Global, order: Order, text: &[u8]) -> Result<List
 
 /// Reads all octets of a source.
 pub(crate) fn text_read<S: Source>(alloc: Global, source: &mut S) -> Result<Bytes, ListFault>
+    ensures read { IfOk result (λ text. Consumes (S.left source.old) (S.left source.new) text
+        × IsAtEnd (S.left source.new)) }
     ensures counts { ends.CountsList (S.faults source.old) (S.faults source.new) result }
+    ensures stops { IfErr result IsUnread }
 {
     let mut text = Bytes::new(alloc);
     let mut buffer = [0u8; 4096];
@@ -107,7 +118,9 @@ pub(crate) fn entries_of<S: Source>(
     order: Order,
     source: &mut S,
 ) -> Result<List<Entry>, ListFault>
-    ensures sent { IfOk result (All (λ e. CanBeSent e.ask)) }
+    ensures read { IfSome (S.left source.old) (λ bytes. IsRead result (lists.listed order bytes)) }
+    ensures sent { IfOk result (All CanEntry) }
+    ensures all { IfOk result (λ entries. IsAtEnd (S.left source.new)) }
     ensures counts { ends.CountsList (S.faults source.old) (S.faults source.new) result }
 {
     match text_read(alloc, source) {
@@ -118,7 +131,9 @@ pub(crate) fn entries_of<S: Source>(
 
 impl Listed {
     /// Returns the place of the directory at an address, which is appended where there is none.
-    fn place_of(&mut self, alloc: Global, to: Peer) -> Result<usize, Starved> {
+    fn place_of(&mut self, alloc: Global, to: Peer) -> Result<usize, Starved>
+        ensures { self.new.numbers ≡ self.old.numbers }
+    {
         let place = self
             .directories
             .as_slice()
@@ -131,34 +146,46 @@ impl Listed {
         Ok(self.directories.len() - 1)
     }
 
-    /// Appends an entry to those of its directory.
-    fn push(&mut self, alloc: Global, entry: Entry) -> Result<(), Starved>
-        requires { CanBeSent entry.ask }
+    /// Appends an ask to those of its directory.
+    fn push_item(&mut self, alloc: Global, to: Peer, item: Item) -> Result<(), Starved>
+        ensures { self.new.numbers ≡ self.old.numbers }
     {
-        let Entry { number, ask, then } = entry;
-        let place = self.place_of(alloc, ask.to)?;
-        let item = Item::of(self.numbers.len(), ask, then);
-        self.numbers.push(number)?;
+        let place = self.place_of(alloc, to)?;
         if let Some(directory) = self.directories.get_mut(place) {
             directory.items.push(item)?;
         }
         Ok(())
     }
 
-    /// Parts entries by their directories.
+    /// Appends what a line asks for.
+    fn push(&mut self, alloc: Global, entry: Entry) -> Result<(), Starved>
+        requires { CanEntry entry }
+        ensures { OnOk result (self.new.numbers.items
+            ≡ self.old.numbers.items ++ entry.number ∷ []) }
+    {
+        let Entry { number, ask, then } = entry;
+        let to = ask.to;
+        let item = Item::of(self.numbers.len(), ask, then);
+        self.push_item(alloc, to, item)?;
+        self.numbers.push(number)?;
+        Ok(())
+    }
+
+    /// Parts what lines ask for by their directories.
     ///
     /// # Errors
     ///
     /// `Starved`: out of memory.
     pub(crate) fn of(alloc: Global, entries: List<Entry>) -> Result<Listed, Starved>
-        requires { All (λ e. CanBeSent e.ask) entries }
+        requires { All CanEntry entries }
+        ensures { IfOk result (λ listed. listed.numbers.items ≡ ends.numbered entries) }
     {
-        let mut entries = entries;
+        let mut left = entries;
         let mut listed = Listed {
             numbers: Vec::new(alloc),
             directories: Vec::new(alloc),
         };
-        'entries: while let Some(entry) = entries.take_first() {
+        'entries: while let Some(entry) = left.take_first() {
             listed.push(alloc, entry)?;
         }
         Ok(listed)

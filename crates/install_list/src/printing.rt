@@ -1,5 +1,6 @@
 //! What became of an ask, as a line of output.
-ghost use Rattle.std.specs.Prelude.{◌<◌};
+ghost use Rattle.std.specs.Prelude.{◌≡◌, ◌<◌, ◌++◌, OnOk, IfOk, decimal};
+ghost use Rattle.install_list.specs.Printing as printing;
 
 use crate::Verb;
 use crate::ends::End;
@@ -10,16 +11,19 @@ use std::alloc::Global;
 /// The digits that a number of 64 bits has at most.
 const DIGITS: usize = 20;
 
-/// Adds the digits of a number.
-fn push_number(into: &mut Bytes, number: u64) -> Result<(), Starved> {
+/// Appends the digits of a number.
+fn push_number(into: &mut Bytes, number: u64) -> Result<(), Starved>
+    ensures { OnOk result (into.new ≡ into.old ++ decimal number) }
+{
     let mut digits = [0u8; DIGITS];
     let start = write_digits(number, &mut digits, DIGITS);
     into.append(&digits[start..])
 }
 
-/// A hexadecimal digit of upper case.
+/// Returns a hexadecimal digit of upper case.
 fn digit(value: u8) -> u8
     requires { value < 16 }
+    ensures { result ≡ printing.digit value }
 {
     if value < 10 {
         return b'0' + value;
@@ -27,67 +31,104 @@ fn digit(value: u8) -> u8
     b'A' + (value - 10)
 }
 
-/// Whether an octet stands for itself in a path (RFC 3986 section 2.3).
-fn is_plain(octet: u8) -> bool {
+/// Returns whether an octet stands for itself in a path (RFC 3986 section 2.3).
+fn is_plain(octet: u8) -> bool
+    ensures { result ≡ printing.is_plain octet }
+{
     octet.is_ascii_alphanumeric() || matches!(octet, b'-' | b'.' | b'_' | b'~')
 }
 
-/// Adds a segment with the slash before it.
-fn push_segment(into: &mut Bytes, segment: &[u8]) -> Result<(), Starved> {
+/// Appends an octet of a segment.
+fn push_octet(into: &mut Bytes, octet: u8) -> Result<(), Starved>
+    ensures { OnOk result (into.new ≡ into.old ++ printing.escaped octet) }
+{
+    if is_plain(octet) {
+        return into.push(octet);
+    }
+    into.append(&[b'%', digit(octet / 16), digit(octet % 16)])
+}
+
+/// Appends a segment with the slash before it.
+fn push_segment(into: &mut Bytes, segment: &[u8]) -> Result<(), Starved>
+    ensures { OnOk result (into.new ≡ into.old ++ printing.segment_text segment.now) }
+{
     into.push(b'/')?;
     'octets: for octet in segment {
-        if is_plain(*octet) {
-            into.push(*octet)?;
-        } else {
-            into.append(&[b'%', digit(*octet / 16), digit(*octet % 16)])?;
-        }
+        push_octet(into, *octet)?;
     }
     Ok(())
 }
 
-/// Adds the URI of a registration.
-fn push_location(alloc: Global, into: &mut Bytes, to: &Peer, path: &Texts) -> Result<(), Starved> {
-    into.append(base_of(alloc, to)?.as_bytes())?;
+/// Appends a path.
+fn push_path(into: &mut Bytes, path: &Texts) -> Result<(), Starved>
+    ensures { OnOk result (into.new ≡ into.old ++ printing.path_text path.now) }
+{
     'segments: for segment in path.as_slice() {
         push_segment(into, segment.as_bytes())?;
     }
     Ok(())
 }
 
-/// Adds a code, as `4.04` (RFC 7252 section 3).
-fn push_code(into: &mut Bytes, code: u8) -> Result<(), Starved> {
+/// Appends the URI of a registration.
+fn push_location(alloc: Global, into: &mut Bytes, to: &Peer, path: &Texts) -> Result<(), Starved>
+    ensures { OnOk result (into.new ≡ into.old ++ printing.location_text to.now path.now) }
+{
+    let base = base_of(alloc, to)?;
+    into.append(base.as_bytes())?;
+    push_path(into, path)
+}
+
+/// Appends a code, as `4.04` (RFC 7252 section 3).
+#[tactic(auto, unfolding(crate::specs::Printing::code_text))]
+fn push_code(into: &mut Bytes, code: u8) -> Result<(), Starved>
+    ensures { OnOk result (into.new ≡ into.old ++ printing.code_text code) }
+{
     let (class, detail) = (code / 32, code % 32);
     into.append(&[b'0' + class, b'.', b'0' + detail / 10, b'0' + detail % 10])
 }
 
-/// What a refresh or a removal is called that was made.
-fn done_word(verb: Verb) -> &'static [u8] {
+/// Returns what is said of what was done without a location.
+fn done_word(verb: Verb) -> &'static [u8]
+    ensures { result.now ≡ printing.done_text verb }
+{
     match verb {
         Verb::Register => b"registered",
-        Verb::Refresh | Verb::Keep => b"refreshed",
+        Verb::Refresh => b"refreshed",
         Verb::Remove => b"removed",
+        Verb::Keep => b"refreshed",
     }
 }
 
-/// Adds a refusal with its reason.
-fn push_refusal(into: &mut Bytes, code: u8, reason: &Bytes) -> Result<(), Starved> {
+/// Appends a reason with the space before it, where there is one.
+fn push_reason(into: &mut Bytes, reason: &[u8]) -> Result<(), Starved>
+    ensures { OnOk result (into.new ≡ into.old ++ printing.reason_behind reason.now) }
+{
+    if reason.is_empty() {
+        return Ok(());
+    }
+    into.push(b' ')?;
+    into.append(reason)
+}
+
+/// Appends a refusal with its reason.
+fn push_refusal(into: &mut Bytes, code: u8, reason: &Bytes) -> Result<(), Starved>
+    ensures { OnOk result (into.new ≡ into.old ++ printing.refusal_text code reason.now) }
+{
     into.append(b"refused ")?;
     push_code(into, code)?;
-    if !reason.is_empty() {
-        into.push(b' ')?;
-        into.append(reason.as_slice())?;
-    }
-    Ok(())
+    push_reason(into, reason.as_slice())
 }
 
-/// Adds what became of an ask.
+/// Appends what became of an ask.
 fn push_end(
     alloc: Global,
     into: &mut Bytes,
     verb: Verb,
     to: &Peer,
     end: &End,
-) -> Result<(), Starved> {
+) -> Result<(), Starved>
+    ensures { OnOk result (into.new ≡ into.old ++ printing.end_text verb to.now end.now) }
+{
     match end {
         End::Created(path) => {
             into.append(b"created ")?;
@@ -102,18 +143,20 @@ fn push_end(
     }
 }
 
-/// The line of what became of an ask, by the number of its line in the list.
+/// Returns the line of what became of an ask, by the number of its line in the list.
 ///
 /// # Errors
 ///
-/// Out of memory.
+/// `Starved`: out of memory.
 pub(crate) fn end_line(
     alloc: Global,
     verb: Verb,
     number: u64,
     to: &Peer,
     end: &End,
-) -> Result<Bytes, Starved> {
+) -> Result<Bytes, Starved>
+    ensures { IfOk result (λ line. line ≡ printing.line_text verb number to.now end.now) }
+{
     let mut line = Bytes::new(alloc);
     push_number(&mut line, number)?;
     line.push(b' ')?;

@@ -59,6 +59,15 @@ fn host_of(alloc: Global, text: &str) -> Result<Option<Host>, Starved> {
     }
 }
 
+/// Returns the address from which all is sent, or none for the one that stands for any of both
+/// families.
+fn from_of(host: Host) -> Option<Host> {
+    if host == Host::V6([0; 8]) {
+        return None;
+    }
+    Some(host)
+}
+
 /// Returns the order with an address from which all is sent.
 fn order_from(alloc: Global, address: &str, verb: &str) -> Result<Option<Order>, Starved> {
     let Some(verb) = verb_of(verb) else {
@@ -67,7 +76,7 @@ fn order_from(alloc: Global, address: &str, verb: &str) -> Result<Option<Order>,
     match host_of(alloc, address)? {
         Some(host) => Ok(Some(Order {
             verb,
-            from: Some(host),
+            from: from_of(host),
         })),
         None => Ok(None),
     }

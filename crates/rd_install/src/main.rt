@@ -74,17 +74,31 @@ fn listener_at(rt: &HostRuntime, host: Host) -> Option<Listener> {
     Listener::bind(rt, rt.alloc(), Peer { host, port: 0 }).ok()
 }
 
-/// The socket from which all is sent: at the address that an order names, or at all addresses of
-/// the machine, of both families where it has IPv6.
-fn listener_of(rt: &HostRuntime, from: Option<Host>) -> Result<Listener, Ending> {
-    let listener = match from {
-        Some(host) => listener_at(rt, host),
-        None => match listener_at(rt, Host::V6([0; 8])) {
-            Some(listener) => Some(listener),
-            None => listener_at(rt, Host::V4([0; 4])),
-        },
+/// A socket at all addresses of the machine, of both families where it has IPv6, with the address
+/// that stands for those of the one family where it has not.
+fn listener_at_all(rt: &HostRuntime) -> (Option<Listener>, Option<Host>) {
+    match listener_at(rt, Host::V6([0; 8])) {
+        Some(listener) => (Some(listener), None),
+        None => {
+            let any = Host::V4([0; 4]);
+            (listener_at(rt, any), Some(any))
+        }
+    }
+}
+
+/// The socket from which all is sent, with its address, where it is of one family.
+fn listener_of(
+    rt: &HostRuntime,
+    from: Option<Host>,
+) -> Result<(Listener, Option<Host>), Ending> {
+    let (listener, from) = match from {
+        Some(host) => (listener_at(rt, host), from),
+        None => listener_at_all(rt),
     };
-    listener.ok_or(Ending::Socket)
+    match listener {
+        Some(listener) => Ok((listener, from)),
+        None => Err(Ending::Socket),
+    }
 }
 
 /// What the link and the clock of the program stand on.
@@ -116,9 +130,8 @@ fn ends_over<'a>(rt: &'a HostRuntime, ground: &'a Ground) -> Result<Ends<'a>, En
     Ok((link, clock))
 }
 
-/// What the link and the clock of an order stand on.
-fn ground_of(rt: &HostRuntime, order: Order) -> Result<Ground, Ending> {
-    let listener = listener_of(rt, order.from)?;
+/// What the link and the clock over a socket stand on.
+fn ground_of(rt: &HostRuntime, listener: Listener) -> Result<Ground, Ending> {
     let Ok(origin) = Origin::read(rt) else {
         return Err(Ending::Socket);
     };
@@ -169,10 +182,15 @@ fn main(rt: HostRuntime) -> ExitCode {
         Ok(order) => order,
         Err(ending) => return exit(&rt, ending),
     };
-    let ground = match ground_of(&rt, order) {
+    let (listener, from) = match listener_of(&rt, order.from) {
+        Ok(opened) => opened,
+        Err(ending) => return exit(&rt, ending),
+    };
+    let ground = match ground_of(&rt, listener) {
         Ok(ground) => ground,
         Err(ending) => return exit(&rt, ending),
     };
+    let order = Order { from, ..order };
     let (link, clock) = match ends_over(&rt, &ground) {
         Ok(ends) => ends,
         Err(ending) => return exit(&rt, ending),

@@ -13,7 +13,7 @@ use Rattle.std.proofs.Common.{
   append-nil,
   take-append-drop,
 }
-use Rattle.install_list.specs.Endings.{IsFrontOf}
+use Rattle.install_list.specs.Printing.{IsFrontOf}
 
 pub front_self : (xs : List ℕ) → IsFrontOf xs xs
 front_self xs = ([], sym (append-nil xs))
