@@ -6,6 +6,7 @@ RFC 8516 and man/rd_install.1. Where two directories are asked side by side, the
 number registrations is open, so the script compares the set of numbers.
 """
 
+import contextlib
 import re
 import shlex
 import socket
@@ -29,7 +30,7 @@ TOO_MANY, UNAVAILABLE, BAD_REQUEST, MAX_AGE = 0x9D, 0xA3, 0x80, 14
 
 # Seconds: how long a run of rd_install may take, how long one that gives up may take (RFC 7252
 # section 4.8.2), and the lifetime of what is kept.
-RUN_LIMIT = 30
+RUN_LIMIT = 200
 GIVES_UP = 110
 LIFETIME = 4
 
@@ -140,8 +141,12 @@ def began(run, words: list[str], lines: list[str]) -> subprocess.Popen:
     process = subprocess.Popen([run.beside("rd_install"), *words], stdin=subprocess.PIPE,
                                stdout=subprocess.PIPE, stderr=subprocess.STDOUT, cwd=run.folder)
     run.started.append(process)
-    process.stdin.write("\n".join(lines).encode() + b"\n")
-    process.stdin.close()
+    # It may have ended before it read.
+    with contextlib.suppress(BrokenPipeError):
+        process.stdin.write("\n".join(lines).encode() + b"\n")
+        process.stdin.flush()
+    with contextlib.suppress(BrokenPipeError):
+        process.stdin.close()
     process.stdin = None
     return process
 
@@ -254,7 +259,7 @@ def listing(run, place: int) -> list[str]:
     """The listing of a kept device, by the number that the directory gave it."""
     words = run.words([], f"/rd-lookup/ep?ep=dev{place}&count=1", "")
     number = re.search(r"</rd/(\d+)>", run.output(words))
-    return [content(f'</rd/{number[1] if number else "none"}>;lt={LIFETIME};'
+    return [content(f'</rd/{number[1] if number else "none"}>;'
                     f'base="coap://[2001:db8::{place:x}]";ep="dev{place}";rt="core.rd-ep"')]
 
 

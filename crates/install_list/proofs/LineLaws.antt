@@ -131,36 +131,37 @@ word_last text e = ap last_of (one_field text e)
 
 -- ---- paths
 
+all_more : (b : Bool) (x : List ℕ) (xs ys : List (List ℕ))
+    → is_utf8 x ≡ b
+    → are_texts (xs ++ ys) ≡ (are_texts xs && are_texts ys)
+    → are_texts ((x ∷ xs) ++ ys) ≡ (are_texts (x ∷ xs) && are_texts ys)
+all_more true x xs ys e more = rw e more
+all_more false x xs ys e more = rw e refl
+
 all_both : (xs ys : List (List ℕ)) → are_texts (xs ++ ys) ≡ (are_texts xs && are_texts ys)
 all_both [] ys = refl
-all_both (x ∷ xs) ys = by (is_utf8 x) refl
-  where
-    by : (b : Bool)
-        → is_utf8 x ≡ b
-        → are_texts ((x ∷ xs) ++ ys) ≡ (are_texts (x ∷ xs) && are_texts ys)
-    by true e = rw e (all_both xs ys)
-    by false e = rw e refl
+all_both (x ∷ xs) ys = all_more (is_utf8 x) x xs ys refl (all_both xs ys)
 
 -- a segment that was copied was appended, or why it was not
-pub pushed_one : {A : Type 0} (x : A) (segment octets : List ℕ) (before after : List (List ℕ))
+pub pushed_one : (A : Type 0) (x : A) (segment octets : List ℕ) (before after : List (List ℕ))
     → IsSegment (Ok segment) octets
     → after ≡ before ++ segment ∷ []
     → IsPushed {A = A} (Ok x) (octets ∷ []) before after
-pushed_one x segment octets before after is added = (
+pushed_one A x segment octets before after is added = (
   added ∙ ap (λ (s : List ℕ). before ++ s ∷ []) is.0,
   rw is.1 refl,
 )
 
-pub pushed_none : {A : Type 0} (f : LineFault) (octets : List ℕ) (before after : List (List ℕ))
+pub pushed_none : (A : Type 0) (f : LineFault) (octets : List ℕ) (before after : List (List ℕ))
     → IsSegment (Err f) octets
     → IsPushed {A = A} (Err f) (octets ∷ []) before after
-pushed_none (unread.Bad bad.Ask) octets before after is = rw is refl
-pushed_none (unread.Bad bad.Many) octets before after is = absurd is
-pushed_none (unread.Bad bad.Form) octets before after is = absurd is
-pushed_none (unread.Bad bad.Zone) octets before after is = absurd is
-pushed_none (unread.Bad bad.Family) octets before after is = absurd is
-pushed_none (unread.Bad bad.Base) octets before after is = absurd is
-pushed_none unread.Starved octets before after is = tt
+pushed_none A (unread.Bad bad.Ask) octets before after is = rw is refl
+pushed_none A (unread.Bad bad.Many) octets before after is = absurd is
+pushed_none A (unread.Bad bad.Form) octets before after is = absurd is
+pushed_none A (unread.Bad bad.Zone) octets before after is = absurd is
+pushed_none A (unread.Bad bad.Family) octets before after is = absurd is
+pushed_none A (unread.Bad bad.Base) octets before after is = absurd is
+pushed_none A unread.Starved octets before after is = tt
 
 path_here : (option : Opt) (more : List Opt)
     → is_segment option ≡ true
@@ -173,10 +174,10 @@ path_past : (option : Opt) (more : List Opt)
 path_past option more e = rw e refl
 
 -- an option that is no segment
-pub option_past : {A : Type 0} (x : A) (option : Opt) (path : List (List ℕ))
+pub option_past : (A : Type 0) (x : A) (option : Opt) (path : List (List ℕ))
     → is_segment option ≡ false
     → IsPushed {A = A} (Ok x) (path_of (option ∷ [])) path path
-option_past x option path e =
+option_past A x option path e =
     let none = path_past option [] e in (
       sym (append-nil path) ∙ ap (λ (l : List (List ℕ)). path ++ l) (sym none),
       ap are_texts none,

@@ -14,9 +14,6 @@ use Rattle.std.proofs.Common.{
   Option,
   Some,
   None,
-  Result,
-  Ok,
-  Err,
   refl,
   sym,
   ap,
@@ -37,8 +34,6 @@ use Rattle.std.specs.Slice.{IsItemAt}
 use Rattle.std.specs.Io.KnownBytes.{Appends}
 use Rattle.std.proofs.KnownBytes.{Appends-nil, Appends-trans}
 use Rattle.std.proofs.lemmas.Grind.{flat_map-append}
-use Rattle.install_list.specs.declared.fronts.PutFault.{PutFault}
-use Rattle.install_list.specs.declared.fronts.PutFault.TheVariants as put
 use Rattle.install_list.specs.declared.making.Outcome.{Outcome}
 use Rattle.install_list.specs.declared.statuses.InstallStatus.{InstallStatus}
 use Rattle.install_list.specs.declared.statuses.InstallStatus.TheVariants as status
@@ -56,7 +51,7 @@ use Rattle.install_list.specs.Printing.{
   Puts,
   Cuts,
 }
-use Rattle.install_list.specs.Endings.{IsNext, IsRest, IsTurned, Ends, put_status}
+use Rattle.install_list.specs.Endings.{IsRest, IsTurned, Ends}
 use Rattle.install_list.proofs.TextFronts.{front_self, front_behind}
 
 -- ---- lists
@@ -80,10 +75,6 @@ any_both p (x ∷ xs) ys =
     ap (λ (b : Bool). p x || b) (any_both p xs ys) ∙ or_both (p x) (list_any p xs) (list_any p ys)
 
 -- ---- lines that were written
-
-pub puts_none : (v : Verb) (left : List ℕ) (was : Bool) (holds : Option (List ℕ))
-    → Puts v left left was was holds holds
-puts_none v left was holds = ([], refl, sym (or_false was), Appends-nil holds)
 
 pub puts_one : (v : Verb) (left more : List ℕ) (was is : Bool) (holds now : Option (List ℕ))
     (n : ℕ) (o : Outcome)
@@ -163,11 +154,6 @@ puts_cut v left mid was half holds between now first second = (
 
 -- ---- a turn
 
--- the next line was not there
-pub next_none : (v : Verb) (left : List ℕ) (was : Bool) (holds : Option (List ℕ))
-    → Puts v left left was was holds holds
-next_none v left was holds = puts_none v left was holds
-
 -- behind lines that were written
 pub then_ends : (v : Verb) (left mid : List ℕ) (was half : Bool)
     (holds between now : Option (List ℕ)) (s : InstallStatus)
@@ -217,14 +203,6 @@ rest_turned v (Some status.Usage) left more was is holds now first h = absurd h
 rest_turned v (Some status.Unread) left more was is holds now first h = absurd h
 rest_turned v (Some (status.Line n why)) left more was is holds now first h = absurd h
 
--- a line was not written
-pub cut_ends : (v : Verb) (f : PutFault) (left : List ℕ) (was : Bool)
-    (holds now : Option (List ℕ))
-    → Cuts v left holds now
-    → Ends v (put_status f) left was holds now
-cut_ends v put.Unwritten left was holds now cut = cut
-cut_ends v put.Starved left was holds now cut = cut
-
 -- ---- the next number
 
 -- what stands at an index is the first of what is left
@@ -236,3 +214,17 @@ at_cons xs k r x item e =
     let own = subst (λ (o : Option (Bor ℕ)). IsItemAt xs k o) e item in
     rw (add-one k)
     (drop-cons xs k x.now own.3.0 ∙ ap (λ (y : ℕ). y ∷ drop (suc k) xs) (sym own.1))
+
+-- the same where a number is passed
+pub left_next : (xs ys zs : List ℕ) (k j n : ℕ)
+    → drop k xs ≡ n ∷ drop (k + 1) xs
+    → xs ≡ ys
+    → zs ≡ ys
+    → j ≡ k + 1
+    → drop k ys ≡ n ∷ drop j zs
+left_next xs ys zs k j n cut e f g =
+    let here : drop k ys ≡ n ∷ drop (k + 1) ys =
+    subst (λ (l : List ℕ). drop k l ≡ n ∷ drop (k + 1) l) e cut in
+    here
+    ∙ ap (λ (l : List ℕ). n ∷ drop (k + 1) l) (sym f)
+    ∙ ap (λ (m : ℕ). n ∷ drop m zs) (sym g)

@@ -131,10 +131,10 @@ impl Front {
         let Some(outcome) = outcome_at(outcomes, self.written) else {
             return Ok(false);
         };
-        let number = match self.numbers.as_slice().get(self.written) {
-            Some(number) => *number,
-            None => return Ok(false),
+        let Some(number) = self.numbers.as_slice().get(self.written) else {
+            return Ok(false);
         };
+        let number = *number;
         match self.put(alloc, number, outcome, out) {
             Ok(()) => Ok(true),
             Err(fault) => Err(fault),

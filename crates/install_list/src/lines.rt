@@ -322,6 +322,7 @@ fn segment_read(alloc: Global, octets: &[u8]) -> Result<Text, LineFault>
 }
 
 /// Appends a segment to a path.
+#[tactic(auto, using(crate::proofs::LineLaws::pushed_one, crate::proofs::LineLaws::pushed_none))]
 fn push_segment(alloc: Global, path: &mut Texts, octets: &[u8]) -> Result<(), LineFault>
     ensures { IsPushed result (octets.now ∷ []) path.old path.new }
 {
@@ -335,6 +336,7 @@ fn push_segment(alloc: Global, path: &mut Texts, octets: &[u8]) -> Result<(), Li
 }
 
 /// Appends the segment that an option is, if it is one.
+#[tactic(auto, using(crate::proofs::LineLaws::option_past, crate::proofs::LineLaws::option_here))]
 fn push_option(alloc: Global, path: &mut Texts, option: &(u32, Bytes)) -> Result<(), LineFault>
     ensures { IsPushed result (lists.path_of (option.now ∷ [])) path.old path.new }
 {
@@ -370,7 +372,7 @@ fn has_query(ask: &Ask) -> bool
 }
 
 /// Returns the location that an ask has in its path.
-#[tactic(auto, unfolding(crate::specs::Lists::located))]
+#[tactic(auto, using(crate::proofs::LineLaws::located_fault), unfolding(crate::specs::Lists::located))]
 fn located(alloc: Global, ask: &Ask) -> Result<Location, LineFault>
     ensures { IsJudged result (lists.located ask.now) }
 {

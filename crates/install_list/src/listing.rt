@@ -186,7 +186,10 @@ impl Listed {
             directories: Vec::new(alloc),
         };
         'entries: while let Some(entry) = left.take_first() {
-            listed.push(alloc, entry)?;
+            match listed.push(alloc, entry) {
+                Ok(()) => {}
+                Err(Starved) => return Err(Starved),
+            }
         }
         Ok(listed)
     }
