@@ -1,4 +1,8 @@
 //! What the words of the command line want.
+ghost use Rattle.std.specs.Prelude.{◌≡◌, Some, IfOk, map};
+ghost use Rattle.std.specs.String.{string_bytes};
+ghost use Rattle.install_list.specs.Words as spec;
+
 use rd_base::{Bytes, Host, Starved, peer_read_ascii};
 use std::alloc::Global;
 
@@ -25,26 +29,37 @@ pub struct Order {
 }
 
 /// Returns the verb that a word names.
-fn verb_of(word: &str) -> Option<Verb> {
-    match word {
-        "register" => Some(Verb::Register),
-        "refresh" => Some(Verb::Refresh),
-        "remove" => Some(Verb::Remove),
-        "keep" => Some(Verb::Keep),
-        _ => None,
+#[tactic(auto, unfolding(crate::specs::Words::verb_of))]
+fn verb_of(word: &[u8]) -> Option<Verb>
+    ensures { result ≡ spec.verb_of word.now }
+{
+    if word == b"register".as_slice() {
+        return Some(Verb::Register);
     }
+    if word == b"refresh".as_slice() {
+        return Some(Verb::Refresh);
+    }
+    if word == b"remove".as_slice() {
+        return Some(Verb::Remove);
+    }
+    if word == b"keep".as_slice() {
+        return Some(Verb::Keep);
+    }
+    None
 }
 
 /// Reads an address that stands between two other texts (RFC 5952).
 fn host_between(
     alloc: Global,
-    before: &[u8],
-    text: &str,
-    after: &[u8],
-) -> Result<Option<Host>, Starved> {
-    let mut whole = Bytes::copy_of(alloc, before)?;
-    whole.append(text.as_bytes())?;
-    whole.append(after)?;
+    front: &[u8],
+    text: &[u8],
+    end: &[u8],
+) -> Result<Option<Host>, Starved>
+    ensures { IfOk result (λ host. host ≡ spec.host_between front.now text.now end.now) }
+{
+    let mut whole = Bytes::copy_of(alloc, front)?;
+    whole.append(text)?;
+    whole.append(end)?;
     match peer_read_ascii(whole.as_slice()) {
         Ok(peer) => Ok(Some(peer.host)),
         Err(_) => Ok(None),
@@ -52,32 +67,75 @@ fn host_between(
 }
 
 /// Reads an address (RFC 5952).
-fn host_of(alloc: Global, text: &str) -> Result<Option<Host>, Starved> {
+fn host_of(alloc: Global, text: &[u8]) -> Result<Option<Host>, Starved>
+    ensures { IfOk result (λ host. host ≡ spec.host_of text.now) }
+{
     match host_between(alloc, b"", text, b":1")? {
         Some(host) => Ok(Some(host)),
         None => host_between(alloc, b"[", text, b"]:1"),
     }
 }
 
-/// Returns the address from which all is sent, or none for the one that stands for any of both
-/// families.
-fn from_of(host: Host) -> Option<Host> {
-    if host == Host::V6([0; 8]) {
+/// Returns whether an address stands for any of both families (RFC 4291 section 2.5.2).
+#[tactic(auto, unfolding(crate::specs::Words::is_any))]
+fn is_any(host: Host) -> bool
+    ensures { result ≡ spec.is_any host }
+{
+    match host {
+        Host::V4(_) => false,
+        Host::V6(groups) => groups.as_slice() == [0u16; 8].as_slice(),
+    }
+}
+
+/// Returns the address from which all is sent, or none for the one that stands for any.
+fn from_of(host: Host) -> Option<Host>
+    ensures { result ≡ spec.from_of host }
+{
+    if is_any(host) {
         return None;
     }
     Some(host)
 }
 
-/// Returns the order with an address from which all is sent.
-fn order_from(alloc: Global, address: &str, verb: &str) -> Result<Option<Order>, Starved> {
-    let Some(verb) = verb_of(verb) else {
-        return Ok(None);
-    };
+/// Returns the order of a verb.
+fn order_any(word: &[u8]) -> Option<Order>
+    ensures { result ≡ spec.order_any (spec.verb_of word.now) }
+{
+    match verb_of(word) {
+        Some(verb) => Some(Order { verb, from: None }),
+        None => None,
+    }
+}
+
+/// Returns the order of a verb with an address from which all is sent.
+fn order_from(alloc: Global, address: &[u8], verb: Verb) -> Result<Option<Order>, Starved>
+    ensures { IfOk result (λ order. order
+        ≡ spec.order_from (Some verb) (spec.host_of address.now)) }
+{
     match host_of(alloc, address)? {
         Some(host) => Ok(Some(Order {
             verb,
             from: from_of(host),
         })),
+        None => Ok(None),
+    }
+}
+
+/// Returns the order of an option, its value and a verb.
+#[tactic(auto, unfolding(crate::specs::Words::order_by))]
+fn order_by(
+    alloc: Global,
+    option: &[u8],
+    address: &[u8],
+    word: &[u8],
+) -> Result<Option<Order>, Starved>
+    ensures { IfOk result (λ order. order ≡ spec.order_by option.now address.now word.now) }
+{
+    if option != b"--from".as_slice() {
+        return Ok(None);
+    }
+    match verb_of(word) {
+        Some(verb) => order_from(alloc, address, verb),
         None => Ok(None),
     }
 }
@@ -88,14 +146,18 @@ fn order_from(alloc: Global, address: &str, verb: &str) -> Result<Option<Order>,
 /// # Errors
 ///
 /// `Starved`: out of memory.
-pub fn order_of(alloc: Global, words: &[String]) -> Result<Option<Order>, Starved> {
+pub fn order_of(alloc: Global, words: &[String]) -> Result<Option<Order>, Starved>
+    ensures { IfOk result (λ order. order ≡ spec.order_of (map string_bytes words.now)) }
+{
     match words {
-        [verb] => match verb_of(verb.as_str()) {
-            Some(verb) => Ok(Some(Order { verb, from: None })),
-            None => Ok(None),
-        },
-        [option, address, verb] if option.as_str() == "--from" => {
-            order_from(alloc, address.as_str(), verb.as_str())
+        [word] => Ok(order_any(word.as_bytes())),
+        [option, address, word] => {
+            order_by(
+                alloc,
+                option.as_bytes(),
+                address.as_bytes(),
+                word.as_bytes(),
+            )
         }
         _ => Ok(None),
     }
