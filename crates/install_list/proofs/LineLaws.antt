@@ -1,31 +1,5 @@
 -- What a line asks for.
-use Rattle.std.proofs.Common.{
-  ◌≡◌,
-  ℕ,
-  Bool,
-  false,
-  true,
-  not,
-  List,
-  [],
-  ◌∷◌,
-  ◌++◌,
-  map,
-  Option,
-  Some,
-  None,
-  Result,
-  Ok,
-  Err,
-  refl,
-  sym,
-  ap,
-  subst,
-  ◌∙◌,
-  append_assoc,
-  append-nil,
-}
-use Rattle.std.specs.List.{list_all}
+use Rattle.std.proofs.Common.{◌≡◌, ℕ, Bool, false, true, List, [], ◌∷◌, ◌++◌, Option, Some, None, Result, Ok, Err, refl, sym, ap, subst, ◌∙◌, append_assoc, append-nil}
 use Rattle.std.specs.Prelude.{◌==◌, ◌&&◌, ◌+◌, position, take, drop}
 use Rattle.std.specs.Str.{is_utf8, IsUtf8}
 use Rattle.std.proofs.lemmas.Bool.{false_from_ne_true}
@@ -33,7 +7,6 @@ use Rattle.std.proofs.lemmas.Str.{IsUtf8-from_is_utf8, is_utf8-from_IsUtf8}
 use Rattle.line_model.specs.Lines.{space, fields}
 use Rattle.trace_text.proofs.FieldCuts.{one_field, first_field}
 use Rattle.message_model.specs.Message.{Opt}
-use Rattle.message_model.specs.OptionTable as table
 use Rattle.rd_base.specs.declared.peers.Host.{Host}
 use Rattle.client_model.specs.declared.asks.Ask.{Ask}
 use Rattle.client_model.specs.Asks.{registration}

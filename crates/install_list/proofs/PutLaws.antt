@@ -28,7 +28,7 @@ use Rattle.std.proofs.Common.{
   Bor,
   drop,
 }
-use Rattle.std.specs.Prelude.{map, flat_map}
+use Rattle.std.specs.Prelude.{map}
 use Rattle.std.specs.List.{list_any}
 use Rattle.std.specs.Slice.{IsItemAt}
 use Rattle.std.specs.Io.KnownBytes.{Appends}

@@ -20,7 +20,7 @@ use Rattle.std.proofs.Common.{
   refl,
   arith,
 }
-use Rattle.std.proofs.lemmas.Bool.{le-leb, eqb-true, eq-eqb}
+use Rattle.std.proofs.lemmas.Bool.{le-leb, eqb-true}
 use Rattle.message_model.specs.declared.messages.TheConstants.{MAX_MESSAGE_SIZE}
 use Rattle.message_model.specs.Codes as codes_of
 use Rattle.message_model.specs.Message.{Opt, last_number, longest_value}

@@ -1,45 +1,6 @@
 -- A list of devices as an installer writes it: what each line asks for, and the first line that is
 -- bad.
-use Rattle.std.specs.Prelude.{
-  ◌≡◌,
-  ℕ,
-  ◌+◌,
-  ◌*◌,
-  ◌-◌,
-  ◌/◌,
-  ◌==◌,
-  ◌&&◌,
-  ◌||◌,
-  Bool,
-  true,
-  false,
-  not,
-  nat_lt,
-  nat_le,
-  List,
-  [],
-  ◌∷◌,
-  ◌++◌,
-  length,
-  map,
-  flat_map,
-  codes,
-  take,
-  drop,
-  position,
-  slice_index,
-  Option,
-  Some,
-  None,
-  is_some,
-  unwrap_or,
-  Result,
-  Ok,
-  Err,
-  ⊤,
-  bytes_eq,
-  if◌then◌else◌,
-}
+use Rattle.std.specs.Prelude.{◌≡◌, ℕ, ◌+◌, ◌*◌, ◌-◌, ◌/◌, ◌==◌, ◌&&◌, ◌||◌, Bool, true, false, not, nat_lt, List, [], ◌∷◌, ◌++◌, length, map, flat_map, codes, take, drop, position, slice_index, Option, Some, None, is_some, unwrap_or, Result, Ok, Err, ⊤, bytes_eq, if◌then◌else◌}
 use Rattle.std.specs.List.{list_any, list_all, filter, prefix_len, suffix_len}
 use Rattle.std.specs.Str.{is_utf8}
 use Rattle.std.specs.Char.{is_ascii_whitespace}

@@ -1,5 +1,3 @@
-use Rattle.std.proofs.Common.{ℕ, List, sym, ap, ◌∙◌}
-use Rattle.client_model.specs.Asks.{registration}
 use Rattle.install_list.proofs.LineLaws.{text_other, text_asked}
 use Rattle.install_list.proofs.lines.ask_read.Goals as goal
 

@@ -1,4 +1,4 @@
-use Rattle.std.proofs.Common.{◌≤◌, ◌∙◌, ◌+◌, ap, sym, drop, length, arith}
+use Rattle.std.proofs.Common.{◌∙◌, ◌+◌, ap, sym, drop, length, arith}
 use Rattle.std.proofs.lemmas.List.{length-drop, take_all}
 use Rattle.install_list.specs.Lists.{last_word}
 use Rattle.install_list.proofs.LineLaws.{word_next, word_last}
