@@ -41,7 +41,8 @@ impl Ending {
     fn text(self) -> &'static str {
         match self {
             Ending::Said(_) => "",
-            Ending::Usage => "usage: rd_install [--from ADDRESS] register|refresh|remove|keep < LIST\n",
+            Ending::Usage =>
+                "usage: rd_install [--from ADDRESS] register|refresh|remove|keep < LIST\n",
             Ending::Memory => "memory\n",
             Ending::Socket => "socket\n",
         }
@@ -87,10 +88,7 @@ fn listener_at_all(rt: &HostRuntime) -> (Option<Listener>, Option<Host>) {
 }
 
 /// The socket from which all is sent, with its address, where it is of one family.
-fn listener_of(
-    rt: &HostRuntime,
-    from: Option<Host>,
-) -> Result<(Listener, Option<Host>), Ending> {
+fn listener_of(rt: &HostRuntime, from: Option<Host>) -> Result<(Listener, Option<Host>), Ending> {
     let (listener, from) = match from {
         Some(host) => (listener_at(rt, host), from),
         None => listener_at_all(rt),
