@@ -7,7 +7,7 @@
 # examples` runs all stored cases, the examples among them, `make bench` measures what calls, a
 # replay and the server cost, `make test` is the gate, `make edits` tries all edits that the prover
 # must refuse, those that the gate leaves out among them.
-PROGRAMS = rd_serve rd_host rd_replay rd_show rd_capture rd_commission rd_rows
+PROGRAMS = rd_serve rd_host rd_replay rd_show rd_capture rd_commission rd_install rd_rows
 
 # The numbers of workers with which `make clients` runs the server.
 WORKERS = 1 4
@@ -57,7 +57,8 @@ build-%:
 		rt run -- $$(cat args 2>/dev/null) < $$input > /dev/null
 	@cp crates/$*/out/$* bin/ && echo "bin/$*"
 
-clients: build-rd_serve build-rd_commission build-rd_host build-rd_capture build-rd_replay
+clients: build-rd_serve build-rd_commission build-rd_host build-rd_install build-rd_capture \
+		build-rd_replay
 	@python3 clients/run.py $(WORKERS:%=--workers %) bin/rd_serve
 
 hostile: build-rd_serve build-rd_host build-rd_commission build-rd_replay build-rd_show

@@ -3,7 +3,8 @@
 
 For each number of workers rd_serve is started on a free port of 127.0.0.1 and driven by libcoap's
 coap-client, case after case (clients/cases.py). Then it is driven over TCP (clients/streams.py),
-rd_host is ended and started again (clients/restarts.py), and a recording of rd_host is replayed
+rd_host is ended and started again (clients/restarts.py), rd_install registers, refreshes, keeps and
+removes lists of devices (clients/installs.py), and a recording of rd_host is replayed
 (clients/recordings.py). Each case prints one line: whether it passed, what it shows, and the
 command as it can be typed; it is run with `-v 7` besides, over UDP, by which the client shows each
 datagram. --answers shows what came, too. The last line counts the cases. What is wanted of each was
@@ -26,6 +27,7 @@ import time
 from pathlib import Path
 
 import cases
+import installs
 import messages
 import recordings
 import restarts
@@ -39,7 +41,7 @@ RELAY = Path(__file__).resolve().parent.parent / "hostile" / "relay.py"
 SEEN = "127.0.0.2"
 
 # The programs that are run beside the server.
-OTHERS = ["rd_commission", "rd_host", "rd_capture", "rd_replay"]
+OTHERS = ["rd_commission", "rd_host", "rd_install", "rd_capture", "rd_replay"]
 
 # Seconds: how long one run of a client may take, how long something that comes by itself is
 # waited for, how long nothing is to come, and how long the server may take to begin or to end.
@@ -429,7 +431,7 @@ def main():
     for workers in words.workers or [1, 4]:
         failed += run_all(str(program), workers, words)
     if not words.fault:
-        for run_cases in (streams.run, restarts.run, recordings.run):
+        for run_cases in (streams.run, restarts.run, installs.run, recordings.run):
             failed += run_all(str(program), 1, words, run_cases)
     sys.exit(failed > 0)
 

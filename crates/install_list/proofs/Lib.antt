@@ -1,0 +1,10 @@
+-- TextFronts: fronts of texts. ReportLaws: what is said of a status. SendLaws: which asks can be
+-- sent. ListLaws: lines of a text, read one after the other. LineLaws: what a line asks for.
+-- PutLaws: lines that were written. EndLaws: which status an ending has, and which count rose.
+pub mod TextFronts
+pub mod ReportLaws
+pub mod SendLaws
+pub mod ListLaws
+pub mod LineLaws
+pub mod PutLaws
+pub mod EndLaws

@@ -1,0 +1,7 @@
+use Rattle.install_list.specs.Endings.{numbered}
+use Rattle.install_list.proofs.EndLaws.{writes_starved}
+use Rattle.install_list.proofs.installing.make_asks.Goals as goal
+
+pub returns-in_default-clause-written : goal.returns-in_default-clause-written
+returns-in_default-clause-written g c =
+    writes_starved c.args.verb (numbered c.args.entries) (g.K.Sink.holds c.args.out.now)

@@ -1,0 +1,13 @@
+use Rattle.std.proofs.Common.{◌≡◌, ◌≤◌, length}
+use Rattle.install_list.specs.Lists.{lifetime_from}
+use Rattle.install_list.proofs.lines.lifetime_of.Given as goal
+
+-- what is left ends as all options do
+abbrev pub invariant-options : goal.invariant-options
+invariant-options l = record {
+  same : lifetime_from 90000 l.options ≡ lifetime_from l.lifetime l.left;
+  within : l.lifetime ≤ 4294967295;
+}
+
+abbrev pub decreases-options : goal.decreases-options
+decreases-options l = length l.left

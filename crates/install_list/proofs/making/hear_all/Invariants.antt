@@ -1,0 +1,6 @@
+use Rattle.std.proofs.Common.{◌≡◌}
+use Rattle.install_list.proofs.making.hear_all.Given as goal
+
+-- no receive failed
+abbrev pub invariant-directories : goal.invariant-directories
+invariant-directories g l = g.L.Link.recv_faults l.link ≡ g.L.Link.recv_faults l.fn.link
