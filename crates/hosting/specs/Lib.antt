@@ -1,4 +1,10 @@
 pub mod Words
+pub mod Widths
+pub mod Networks
+pub mod Askings
+pub mod Shares
+pub mod ShareLogs
+pub mod Refusals
 pub mod Mapped
 pub mod Routes
 pub mod Times

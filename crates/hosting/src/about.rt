@@ -5,7 +5,7 @@ use crate::wanted::Wanted;
 const HELP: &str = "\
 Serves a CoRE Resource Directory over UDP at addresses of this machine, without DTLS
 
-Usage: rd_host --listen ADDRESS:PORT [--listen ADDRESS:PORT]... [--workers N] [--turns T] [--begin N]
+Usage: rd_host --listen ADDRESS:PORT [--listen ADDRESS:PORT]... [OPTIONS]
 
 Options:
       --listen <ADDRESS:PORT>  An address to listen at, as 192.0.2.1:5683 or [2001:db8::1]:5683
@@ -13,6 +13,13 @@ Options:
       --turns <T>              How many receives each worker makes [default: 10^12]
       --begin <N>              Above which number locations and entity tags count, at most 10^14
                                [default: the milliseconds since 1970 at the start]
+      --allow <NETWORK>        Whose datagrams are heard, as 192.0.2.0/24 or 2001:db8::/32
+                               [default: all]
+      --share <N>              How many writes a source may send in 247 s, 0 for any number
+                               [default: 1024]
+      --trust <NETWORK>        Who has no share
+      --criteria <N>           How many query options a lookup may have, 0 for any number
+                               [default: 16]
   -h, --help                   Print help
   -V, --version                Print version
 ";

@@ -10,12 +10,14 @@ mod endings;
 
 use endings::Ending;
 use hosting::{
-    Crew, Failure, HostClock, HostLink, HostPlan, Listener, Origin, Routes, Wanted, read_words,
+    Crew, Failure, Guard, GuardedLink, HostClock, HostLink, HostPlan, Listener, Origin, Routes,
+    Wanted, read_words,
 };
 use rd_base::{Starved, StdSink};
 use rd_desk::Stepped;
 use rd_seat::{Hall, OpenGate};
 use rd_server::{End, ServeStatus, given_words, make_hall, serve_seats};
+use std::alloc::Global;
 use std::hash::RandomState;
 use std::io::Write;
 use std::process::ExitCode;
@@ -23,11 +25,19 @@ use std::sync::{Mutex, Wait};
 use std::thread::Threads;
 use udp_link::{Clock, Link};
 
-/// The end of one worker.
-type HostEnd<'a> = End<HostLink<'a, HostRuntime>, HostClock<'a, HostRuntime>>;
+/// What one worker has: its link, the clock by which its guard counts, and its own clock.
+#[derive(Drop)]
+struct Post<L, C> {
+    link: L,
+    reading: C,
+    clock: C,
+}
 
-/// The ends of the server: the workers of all addresses.
-type Ends<'a> = Vec<HostEnd<'a>>;
+/// What one worker has of this machine.
+type HostPost<'a> = Post<HostLink<'a, HostRuntime>, HostClock<'a, HostRuntime>>;
+
+/// The ends of workers whose links a guard keeps.
+type GuardedEnds<'a, R, L, C> = Vec<End<GuardedLink<'a, R, L, C>, C>>;
 
 /// What the words of the command line want.
 fn wanted(rt: &HostRuntime) -> Result<Wanted, Ending>
@@ -61,6 +71,8 @@ struct Shared {
     routes: Mutex<Routes>,
     /// How many of their links began, and why they end.
     crew: Crew,
+    /// What they keep from the directory.
+    guard: Guard,
     /// From when on their clocks count.
     origin: Origin,
 }
@@ -82,35 +94,70 @@ fn shared_of(rt: &HostRuntime, plan: &HostPlan) -> Result<Shared, Ending>
         listeners,
         routes,
         crew: Crew::of(plan.ends() as u64),
+        guard: Guard::of(rt, rt.alloc(), plan)?,
         origin,
     })
 }
 
-/// The end of a worker, which receives at the address of the listener `own`.
-fn end_over<'a>(rt: &'a HostRuntime, shared: &'a Shared, own: usize) -> Result<HostEnd<'a>, Ending>
+/// What a worker has that receives at the address of the listener `own`.
+fn post_over<'a>(
+    rt: &'a HostRuntime,
+    shared: &'a Shared,
+    own: usize,
+) -> Result<HostPost<'a>, Ending>
     requires { own < vec_len shared.now.listeners }
 {
     let Shared {
         listeners,
         routes,
         crew,
+        guard: _,
         origin,
     } = shared;
     let link = HostLink::over(rt, rt.alloc(), routes, crew, listeners.as_slice(), own)?;
     let Ok(clock) = HostClock::seeded(rt, origin) else {
         return Err(Failure::Keys.into());
     };
-    Ok(End::of(link, clock))
+    Ok(Post {
+        link,
+        reading: HostClock::of(rt, origin, [0; 32]),
+        clock,
+    })
 }
 
-/// So many ends, of which the addresses have equally many.
-fn ends_over<'a>(rt: &'a HostRuntime, shared: &'a Shared, number: usize) -> Result<Ends<'a>, Ending>
+/// What so many workers have, of whom the addresses have equally many.
+fn posts_over<'a>(
+    rt: &'a HostRuntime,
+    shared: &'a Shared,
+    number: usize,
+) -> Result<Vec<HostPost<'a>>, Ending>
     requires { 1 ≤ vec_len shared.now.listeners }
-    ensures { IfOk result (λ ends. vec_len ends ≡ number) }
+    ensures { IfOk result (λ posts. vec_len posts ≡ number) }
 {
-    let mut ends = Vec::with_capacity(rt.alloc(), number)?;
-    'ends: for k in 0..number {
-        ends.push_reserved(end_over(rt, shared, k % shared.listeners.len())?);
+    let mut posts = Vec::with_capacity(rt.alloc(), number)?;
+    'posts: for k in 0..number {
+        posts.push_reserved(post_over(rt, shared, k % shared.listeners.len())?);
+    }
+    Ok(posts)
+}
+
+/// The ends of these workers, whose links the guard keeps.
+fn guarded<'a, R, L: Drop, C: Drop>(
+    rt: &'a R,
+    alloc: Global,
+    guard: &'a Guard,
+    posts: Vec<Post<L, C>>,
+) -> Result<GuardedEnds<'a, R, L, C>, Starved>
+    ensures { IfOk result (λ ends. vec_len ends ≡ vec_len posts) }
+{
+    let mut ends = Vec::with_capacity(alloc, posts.len())?;
+    'posts: for post in posts {
+        let Post {
+            link,
+            reading,
+            clock,
+        } = post;
+        ends.push_reserved(End::of(GuardedLink::over(rt, guard, link, reading), clock));
     }
     Ok(ends)
 }
@@ -186,6 +233,30 @@ fn serve_above<R: Threads + Wait + Sync + AllocGlobal, L: Link + Send, C: Clock 
     Ok(serve_seats(handles, hall, ends, &OpenGate, plan.turns, &mut out))
 }
 
+/// Serves as [`serve_above`] does, behind the guard.
+///
+/// # Errors
+///
+/// Out of memory before the ends were served.
+fn serve_guarded<
+    R: Threads + Wait + Sync + AllocGlobal,
+    L: Link + Send + Drop,
+    C: Clock + Send + Drop,
+>(
+    rt: &HostRuntime,
+    handles: &R,
+    guard: &Guard,
+    posts: Vec<Post<L, C>>,
+    plan: &HostPlan,
+    first: u64,
+) -> Result<ServeStatus, Starved>
+    requires posts { (1 ≤ vec_len posts) × (vec_len posts ≤ 16) }
+    requires turns { plan.now.turns ≤ 10 ^ 12 }
+{
+    let mut ends = guarded(handles, rt.alloc(), guard, posts)?;
+    serve_above(rt, handles, &mut ends, plan, first)
+}
+
 fn main(rt: HostRuntime) -> ExitCode {
     let plan = match plan_of(&rt) {
         Ok(plan) => plan,
@@ -195,12 +266,12 @@ fn main(rt: HostRuntime) -> ExitCode {
         Ok(shared) => shared,
         Err(ending) => return ending.exit(&rt),
     };
-    let mut ends = match ends_over(&rt, &shared, plan.ends()) {
-        Ok(ends) => ends,
+    let posts = match posts_over(&rt, &shared, plan.ends()) {
+        Ok(posts) => posts,
         Err(ending) => return ending.exit(&rt),
     };
     let first = plan.begin.unwrap_or(shared.origin.begin());
-    match serve_above(&rt, &rt, &mut ends, &plan, first) {
+    match serve_guarded(&rt, &rt, &shared.guard, posts, &plan, first) {
         Ok(status) => Ending::of(status, &shared.crew).exit(&rt),
         Err(starved) => Ending::from(starved).exit(&rt),
     }

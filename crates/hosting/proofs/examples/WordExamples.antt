@@ -30,6 +30,10 @@ one : wanted_of (codes "--listen" ∷ codes "192.0.2.1:5683" ∷ [])
       workers = 4;
       turns = 1_000_000_000_000;
       begin = None;
+      allow = [];
+      trust = [];
+      share = 1024;
+      criteria = 16;
     }))
 unfolding on_literals
 one = refl
@@ -37,7 +41,16 @@ one = refl
 -- two, both spellings, and as many workers as they may have
 two : wanted_of (codes "--workers=8" ∷ codes "--listen=[2001:db8::1]:61616" ∷ codes "--turns"
     ∷ codes "1" ∷ codes "--listen" ∷ codes "192.0.2.1:5683" ∷ [])
-    ≡ Some (wanted.Serve (record { listen = outer ∷ inner ∷ []; workers = 8; turns = 1; begin = None }))
+    ≡ Some (wanted.Serve (record {
+      listen = outer ∷ inner ∷ [];
+      workers = 8;
+      turns = 1;
+      begin = None;
+      allow = [];
+      trust = [];
+      share = 1024;
+      criteria = 16;
+    }))
 unfolding on_literals
 two = refl
 
@@ -97,13 +110,28 @@ plan_at addresses =
       workers = None;
       turns = Some 7;
       begin = Some 9;
+      allow = [];
+      trust = [];
+      share = Some 0;
+      criteria = Some 7;
     })
 
-sixteen : plan_at 16
-    ≡ Some (record { listen = replicate 16 inner; workers = 1; turns = 7; begin = Some 9 })
+abbrev planned : ℕ → ℕ → HostPlan
+planned addresses workers = record {
+  listen = replicate addresses inner;
+  workers = workers;
+  turns = 7;
+  begin = Some 9;
+  allow = [];
+  trust = [];
+  share = 0;
+  criteria = 7;
+}
+
+sixteen : plan_at 16 ≡ Some (planned 16 1)
 sixteen = refl
 
-five : plan_at 5 ≡ Some (record { listen = replicate 5 inner; workers = 3; turns = 7; begin = Some 9 })
+five : plan_at 5 ≡ Some (planned 5 3)
 five = refl
 
 seventeen : plan_at 17 ≡ None
