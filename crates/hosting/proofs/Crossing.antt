@@ -14,6 +14,9 @@ use Rattle.hosting.specs.contracts.shares.Share as Share
 use Rattle.hosting.specs.contracts.guards.Shares as Shares
 use Rattle.hosting.specs.contracts.guards.Guard as Guard
 use Rattle.hosting.specs.contracts.guarded_links.GuardedLink as GuardedLink
+use Rattle.hosting.specs.contracts.counts.Counts as Counts
+use Rattle.hosting.specs.contracts.counted_links.Teller as Teller
+use Rattle.hosting.specs.contracts.counted_links.CountedLink as CountedLink
 
 log_send : IsSend (ShareLog.the_field).row
 log_send = search rules
@@ -40,7 +43,19 @@ shares_send = search (sendable, share_send) depth 20
 guard_sync : IsSync (Guard.the_field).row
 guard_sync = search (sendable, std.crosses, shares_send) depth 20
 
+counts_sync : IsSync (Counts.the_field).row
+counts_sync = search (sendable, std.crosses) depth 20
+
 -- a guarded link may, where the link over which it stands and its clock may
 pub guarded_send : (κ : NamedLft) (R L C : RattleType) → IsSync R → IsSend L → IsSend C
     → IsSend (GuardedLink.the_row κ R L C)
-guarded_send κ R L C r l c = search (sendable, guard_sync) depth 20
+guarded_send κ R L C r l c = search (sendable, guard_sync, counts_sync) depth 20
+
+teller_send : (κ : NamedLft) (C W : RattleType) → IsSend C → IsSend W
+    → IsSend (Teller.the_field κ C W).row
+teller_send κ C W c w = search (sendable, std.crosses, counts_sync) depth 20
+
+-- a counted link may, where the link over which it stands, its clock and its output may
+pub counted_send : (κ : NamedLft) (L C W : RattleType) → IsSend L → IsSend C → IsSend W
+    → IsSend (CountedLink.the_row κ L C W)
+counted_send κ L C W l c w = search (sendable, std.crosses, teller_send κ C W c w) depth 20

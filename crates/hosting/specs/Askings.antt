@@ -1,5 +1,5 @@
 -- What a request asks of a directory that all senders share, by its message alone.
-use Rattle.std.specs.Prelude.{ℕ, Bool, false, ◌&&◌, List, [], ◌∷◌, Option, Some, None, ◌==◌}
+use Rattle.std.specs.Prelude.{ℕ, Bool, false, ◌&&◌, ◌||◌, List, [], ◌∷◌, Option, Some, None, ◌==◌}
 use Rattle.std.specs.Prelude.{codes, bytes_eq, count_by, nat_le, nat_lt, if◌then◌else◌}
 use Rattle.std.specs.List.{list_all, list_any}
 use Rattle.message_model.specs.declared.messages.Role.{Role}
@@ -37,6 +37,18 @@ observes options =
     list_any (λ option. option.0 == table.observe && list_all (λ octet. octet == 0) option.1)
     options
 
+-- a number above 0 in the value of a Block option (RFC 7959 section 2.2)
+abbrev pub is_later : List ℕ → Bool
+is_later (a ∷ []) = nat_le 16 a
+is_later (a ∷ b ∷ []) = nat_le 1 a || nat_le 16 b
+is_later (a ∷ b ∷ c ∷ []) = nat_le 1 a || (nat_le 1 b || nat_le 16 c)
+is_later _ = false
+
+-- a later block of an answer is asked for (RFC 7959 section 2.4)
+abbrev pub goes_on : List Opt → Bool
+goes_on options =
+    list_any (λ option. option.0 == table.block2 && is_later option.1) options
+
 -- how many query options it has (RFC 7252 section 5.10.1)
 abbrev pub query_count : List Opt → ℕ
 query_count options = count_by (λ option. option.0 == table.uri_query) options
@@ -49,10 +61,16 @@ write_class code options =
     else (if code == post && has_segment (codes ".well-known") options then class.Begin
     else class.Write)
 
+-- A lookup counts once, by its first block (RFC 9176 section 6).
+abbrev pub get_class : List Opt → Option Class
+get_class options =
+    if observes options then Some class.Observation
+    else (if goes_on options then None
+    else (if has_segment (codes "rd-lookup") options then Some class.Lookup else None))
+
 abbrev pub method_class : ℕ → List Opt → Option Class
 method_class code options =
-    if code == get then (if observes options then Some class.Observation else None)
-    else Some (write_class code options)
+    if code == get then get_class options else Some (write_class code options)
 
 abbrev pub class_by : Role → ℕ → List Opt → Option Class
 class_by role.Request code options = method_class code options
@@ -62,7 +80,7 @@ class_by role.Reset code options = None
 class_by role.Response code options = None
 class_by role.Ignored code options = None
 
--- what a share counts a message as; nothing of what is no request, or asks for nothing that lasts
+-- what a share counts a message as; nothing of what is no request, and no other GET
 abbrev pub class_of : Message → Option Class
 class_of m = class_by (role_of m.kind m.code) m.code m.options
 

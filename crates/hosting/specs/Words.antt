@@ -5,9 +5,11 @@ use Rattle.std.specs.Prelude.{◌++◌, length, codes}
 use Rattle.std.specs.Prelude.{Option, Some, None, Result, Ok, Err, option_and_then, option_map}
 use Rattle.std.specs.Prelude.{IfSome, bytes_eq, drop, is_some, min, nat_le, position, take}
 use Rattle.std.specs.Prelude.{unwrap_or}
-use Rattle.std.specs.Prelude.{◌&&◌, ◌||◌, ◌==◌, ⊤, if◌then◌else◌}
-use Rattle.rd_base.specs.Peers.{peer_of}
+use Rattle.std.specs.Prelude.{◌&&◌, ◌||◌, ◌==◌, ⊤, true, false, if◌then◌else◌}
+use Rattle.rd_base.specs.declared.peers.Host.TheVariants as host
+use Rattle.rd_base.specs.declared.peers.Peer.{Peer}
 use Rattle.line_model.specs.Numbers.{number_of}
+use Rattle.hosting.specs.Addresses.{address_of}
 use Rattle.hosting.specs.Networks.{network_of}
 use Rattle.hosting.specs.declared.options.OptionName.{OptionName}
 use Rattle.hosting.specs.declared.options.OptionName.TheVariants as option_name
@@ -39,6 +41,10 @@ max_share = 4096
 abbrev pub default_share : ℕ
 default_share = 1024
 
+-- the greatest share of a source, in lookups; there is none where it is not said
+abbrev pub max_lookups : ℕ
+max_lookups = 65_535
+
 -- the greatest limit of query options of a lookup, and what it is where it is not said
 abbrev pub max_criteria : ℕ
 max_criteria = 768
@@ -62,7 +68,8 @@ guard_name_of word =
     if bytes_eq word (codes "--allow") then Some option_name.Allow
     else (if bytes_eq word (codes "--trust") then Some option_name.Trust
     else (if bytes_eq word (codes "--share") then Some option_name.Share
-    else (if bytes_eq word (codes "--criteria") then Some option_name.Criteria else None)))
+    else (if bytes_eq word (codes "--criteria") then Some option_name.Criteria
+    else (if bytes_eq word (codes "--lookups") then Some option_name.Lookups else None))))
 
 -- the option that a word names
 abbrev pub name_of : List ℕ → Option OptionName
@@ -73,10 +80,10 @@ name_of word =
     else (if bytes_eq word (codes "--begin") then Some option_name.Begin
     else guard_name_of word)))
 
--- An option with its value: an address as it is printed (RFC 5952), with a port from 1 on, a
--- network, or a number from 1 to its limit; of the guard, from 0.
+-- An option with its value: an address with a port from 1 on, a network, or a number from 1 to its
+-- limit; of the guard, from 0.
 abbrev pub option_of : OptionName → List ℕ → Option HostOption
-option_of option_name.Listen value = option_map (λ p. host_option.Listen p) (peer_of value)
+option_of option_name.Listen value = option_map (λ p. host_option.Listen p) (address_of value)
 option_of option_name.Workers value =
     option_map (λ n. host_option.Workers n) (count_of max_ends value)
 option_of option_name.Turns value =
@@ -89,6 +96,9 @@ option_of option_name.Share value =
     option_map (λ n. host_option.Share n) (number_of max_share value)
 option_of option_name.Criteria value =
     option_map (λ n. host_option.Criteria n) (number_of max_criteria value)
+option_of option_name.Lookups value =
+    option_map (λ n. host_option.Lookups n) (number_of max_lookups value)
+option_of option_name.Quiet value = None
 
 -- what stands before the first `=`, and what stands after it
 abbrev pub cut : List ℕ → Option (List ℕ × List ℕ)
@@ -99,13 +109,14 @@ abbrev pub named : Option OptionName → List ℕ → Option HostOption
 named None value = None
 named (Some name) value = option_of name value
 
--- an option in one word, in which its name and its value are joined
+-- an option in one word: one with no value, or its name and its value joined
 abbrev pub of_parts : Option (List ℕ × List ℕ) → Option HostOption
 of_parts None = None
 of_parts (Some parts) = named (name_of parts.0) parts.1
 
 abbrev pub joined : List ℕ → Option HostOption
-joined word = of_parts (cut word)
+joined word =
+    if bytes_eq word (codes "--quiet") then Some host_option.Quiet else of_parts (cut word)
 
 -- an option before others, where each is one
 abbrev pub before : Option HostOption → Option (List HostOption) → Option (List HostOption)
@@ -138,6 +149,8 @@ nothing_asked = record {
   trust = [];
   share = None;
   criteria = None;
+  lookups = None;
+  quiet = false;
 }
 
 -- a number that is said once at most
@@ -163,6 +176,10 @@ asked_with asked (host_option.Share n) =
     option_map (λ said. record asked { share = Some said }) (once asked.share n)
 asked_with asked (host_option.Criteria n) =
     option_map (λ said. record asked { criteria = Some said }) (once asked.criteria n)
+asked_with asked (host_option.Lookups n) =
+    option_map (λ said. record asked { lookups = Some said }) (once asked.lookups n)
+asked_with asked host_option.Quiet =
+    if asked.quiet then None else Some (record asked { quiet = true })
 
 -- all options, in order
 unfoldable pub asked_from : Option HostAsked → List HostOption → Option HostAsked
@@ -197,14 +214,27 @@ plan_with asked workers =
       trust = asked.trust;
       share = unwrap_or asked.share default_share;
       criteria = unwrap_or asked.criteria default_criteria;
+      lookups = unwrap_or asked.lookups 0;
+      quiet = asked.quiet;
     }) else None
+
+-- where it listens if that is not said: at the port of RFC 7252 section 12.6 of loopback
+abbrev pub default_listen : List Peer
+default_listen =
+    record { host = host.V6 (0 ∷ 0 ∷ 0 ∷ 0 ∷ 0 ∷ 0 ∷ 0 ∷ 1 ∷ []); port = 5683 }
+    ∷ record { host = host.V4 (127 ∷ 0 ∷ 0 ∷ 1 ∷ []); port = 5683 } ∷ []
+
+abbrev pub settled : HostAsked → HostAsked
+settled asked =
+    if nat_le 1 (length asked.listen) then asked else record asked { listen = default_listen }
 
 abbrev pub plan_of : HostAsked → Option HostPlan
 plan_of asked = plan_with asked (unwrap_or asked.workers (default_each (length asked.listen)))
 
 -- what words ask to be served, where they are those of the program
 abbrev pub plan_said : List (List ℕ) → Option HostPlan
-plan_said words = option_and_then plan_of (asked_by nothing_asked words)
+plan_said words =
+    option_and_then (λ asked. plan_of (settled asked)) (asked_by nothing_asked words)
 
 -- a question about the program is one word that stands alone
 abbrev pub question_in : List ℕ → Option Wanted
@@ -246,6 +276,8 @@ IsOption (host_option.Allow network) = ⊤
 IsOption (host_option.Trust network) = ⊤
 IsOption (host_option.Share n) = n ≤ max_share
 IsOption (host_option.Criteria n) = n ≤ max_criteria
+IsOption (host_option.Lookups n) = n ≤ max_lookups
+IsOption host_option.Quiet = ⊤
 
 pub record IsAsked (asked : HostAsked) : Type 0 where
   pub workers : IfSome asked.workers (IsCount max_ends)
@@ -253,6 +285,7 @@ pub record IsAsked (asked : HostAsked) : Type 0 where
   pub begin : IfSome asked.begin (IsCount max_begin)
   pub share : IfSome asked.share (λ n. n ≤ max_share)
   pub criteria : IfSome asked.criteria (λ n. n ≤ max_criteria)
+  pub lookups : IfSome asked.lookups (λ n. n ≤ max_lookups)
 
 -- the numbers of a plan
 pub record IsPlan (plan : HostPlan) : Type 0 where
@@ -264,6 +297,7 @@ pub record IsPlan (plan : HostPlan) : Type 0 where
   pub begin : IfSome plan.begin (IsCount max_begin)
   pub share : plan.share ≤ max_share
   pub criteria : plan.criteria ≤ max_criteria
+  pub lookups : plan.lookups ≤ max_lookups
 
 abbrev pub IsWanted : Wanted → Type 0
 IsWanted wanted.Help = ⊤

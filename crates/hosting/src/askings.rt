@@ -7,7 +7,7 @@ ghost use Rattle.hosting.specs.Askings as spec;
 
 use coap_message::{OptionsIter, Role, View, options_of, role_of};
 use message_model::codes::{GET, POST};
-use message_model::options::{BLOCK1, OBSERVE, URI_PATH, URI_QUERY};
+use message_model::options::{BLOCK1, BLOCK2, OBSERVE, URI_PATH, URI_QUERY};
 
 /// What a share counts a request as.
 #[derive(Clone, Copy, Debug, PartialEq, Eq, Hash)]
@@ -19,6 +19,8 @@ pub enum Class {
     Begin,
     /// A request for an observation (RFC 7641 section 2).
     Observation,
+    /// A lookup (RFC 9176 section 6), but no later block of one.
+    Lookup,
 }
 
 /// Whether a segment of a path is among options.
@@ -86,6 +88,31 @@ fn observes(options: OptionsIter<'_>) -> bool
     false
 }
 
+/// Whether the value of a Block option says a number above 0.
+fn is_later(value: &[u8]) -> bool
+    ensures { result ≡ spec.is_later value.now }
+{
+    match value {
+        [a] => 16 <= *a,
+        [a, b] => 1 <= *a || 16 <= *b,
+        [a, b, c] => 1 <= *a || (1 <= *b || 16 <= *c),
+        _ => false,
+    }
+}
+
+/// Whether options ask for a later block of an answer.
+fn goes_on(options: OptionsIter<'_>) -> bool
+    ensures { result ≡ spec.goes_on (options_left options.entry) }
+{
+    let mut left = options;
+    'options: while let Some(option) = left.next() {
+        if option.number == BLOCK2 && is_later(option.value) {
+            return true;
+        }
+    }
+    false
+}
+
 /// Whether there are more query options than so many.
 fn has_more_queries(options: OptionsIter<'_>, most: usize) -> bool
     ensures { result ≡ nat_lt most (spec.query_count (options_left options.entry)) }
@@ -116,7 +143,23 @@ fn write_class(view: &View<'_>) -> Class
     Class::Write
 }
 
-/// What a share counts a message as, where it is a request that asks for something that lasts.
+/// What a share counts a GET as, if it counts it.
+fn get_class(view: &View<'_>) -> Option<Class>
+    ensures { result ≡ spec.get_class (message_in view.now).options }
+{
+    if observes(options_of(view)) {
+        return Some(Class::Observation);
+    }
+    if goes_on(options_of(view)) {
+        return None;
+    }
+    if has_segment(options_of(view), b"rd-lookup") {
+        return Some(Class::Lookup);
+    }
+    None
+}
+
+/// What a share counts a message as, where it is a request that a share counts.
 pub(crate) fn class_of(view: &View<'_>) -> Option<Class>
     ensures { result ≡ spec.class_of (message_in view.now) }
 {
@@ -126,10 +169,7 @@ pub(crate) fn class_of(view: &View<'_>) -> Option<Class>
     if view.code != GET {
         return Some(write_class(view));
     }
-    if observes(options_of(view)) {
-        return Some(Class::Observation);
-    }
-    None
+    get_class(view)
 }
 
 /// Whether a message is a lookup with more query options than so many.

@@ -5,9 +5,10 @@ ghost use Rattle.udp_link.specs.declared.links.TheConstants.{MAX_DATAGRAM};
 ghost use Rattle.udp_link.specs.Told.{WhereTold};
 ghost use Rattle.hosting.specs.Refusals.{AnswersAtMost, AnswersOne, TellsSame, most_of};
 
+use crate::counts::{Counts, Event};
 use crate::guards::Guard;
 use crate::refusals::answer;
-use coap_message::view;
+use coap_message::{Kind4, view};
 use rd_base::Peer;
 use std::sync::Wait;
 use udp_link::{Came, Clock, Link, Went};
@@ -18,6 +19,8 @@ use udp_link::{Came, Clock, Link, Went};
 pub struct GuardedLink<'a, R, L, C> {
     rt: &'a R,
     guard: &'a Guard,
+    /// Where it counts what it drops, if anywhere.
+    counts: Option<&'a Counts>,
     link: L,
     clock: C,
     /// Whether the guard lets all pass.
@@ -27,19 +30,36 @@ pub struct GuardedLink<'a, R, L, C> {
 }
 
 impl<'a, R, L, C> GuardedLink<'a, R, L, C> {
-    /// A link over `link` with a guard, which reads `clock`, of which no call failed yet.
-    pub fn over(rt: &'a R, guard: &'a Guard, link: L, clock: C) -> GuardedLink<'a, R, L, C>
+    /// A link over `link` with a guard, which reads `clock`, of which no call failed yet. What it
+    /// drops is counted by `counts`, if there are any.
+    pub fn over(
+        rt: &'a R,
+        guard: &'a Guard,
+        counts: Option<&'a Counts>,
+        link: L,
+        clock: C,
+    ) -> GuardedLink<'a, R, L, C>
         ensures received { result.recv_faults ≡ 0 }
         ensures sent { result.send_faults ≡ 0 }
     {
         GuardedLink {
             rt,
             guard,
+            counts,
             link,
             clock,
             open: guard.is_open(),
             recv_faults: 0,
             send_faults: 0,
+        }
+    }
+}
+
+impl<R, L, C> GuardedLink<'_, R, L, C> {
+    /// Counts a datagram that is dropped.
+    fn count_drop(&self) {
+        if let Some(counts) = self.counts {
+            counts.add(Event::Dropped);
         }
     }
 }
@@ -56,6 +76,7 @@ impl<R: Wait, L: Link, C: Clock> GuardedLink<'_, R, L, C> {
         ensures sent { self.new.send_faults ≡ self.old.send_faults }
     {
         if !self.guard.hears(peer.host) {
+            self.count_drop();
             return false;
         }
         let Ok(view) = view(octets) else {
@@ -64,6 +85,9 @@ impl<R: Wait, L: Link, C: Clock> GuardedLink<'_, R, L, C> {
         let Some(why) = self.guard.refusal(self.rt, &mut self.clock, peer, &view) else {
             return true;
         };
+        if view.kind != Kind4::Con {
+            self.count_drop();
+        }
         answer(&mut self.link, peer, &view, why);
         false
     }

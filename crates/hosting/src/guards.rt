@@ -24,12 +24,13 @@ const MOST_BEGINNINGS: u16 = 16;
 /// How many requests for observations a source may send in a window.
 const MOST_OBSERVATIONS: u16 = 64;
 
-/// The shares of a server, one for each class.
+/// The shares of a server, one for each class that has one.
 #[derive(Drop)]
 struct Shares {
-    writes: Share,
-    beginnings: Share,
-    observations: Share,
+    writes: Option<Share>,
+    beginnings: Option<Share>,
+    observations: Option<Share>,
+    lookups: Option<Share>,
 }
 
 impl Shares {
@@ -39,8 +40,12 @@ impl Shares {
             Class::Write => &mut self.writes,
             Class::Begin => &mut self.beginnings,
             Class::Observation => &mut self.observations,
+            Class::Lookup => &mut self.lookups,
         };
-        share.hear(source, told) != Heard::Past
+        match share {
+            Some(share) => share.hear(source, told) != Heard::Past,
+            None => true,
+        }
     }
 }
 
@@ -53,34 +58,40 @@ pub struct Guard {
     trust: List<Network>,
     /// How many query options a lookup may have, where there is a limit.
     criteria: Option<u16>,
-    shares: Option<Mutex<Shares>>,
+    /// Whether what lasts has shares.
+    has_shares: bool,
+    /// Whether lookups have a share.
+    has_lookups: bool,
+    shares: Mutex<Shares>,
 }
 
-/// A share of so many requests.
-fn share_of<R: RandomSource>(rt: &R, alloc: Global, bound: u16) -> Result<Share, Starved> {
+/// A share of so many requests; none where that is 0.
+fn share_of<R: RandomSource>(rt: &R, alloc: Global, bound: u16) -> Result<Option<Share>, Starved> {
+    if bound == 0 {
+        return Ok(None);
+    }
     let Ok(keys) = RandomState::new(rt) else {
         return Err(Starved);
     };
     let Ok(other_keys) = RandomState::new(rt) else {
         return Err(Starved);
     };
-    Share::new(alloc, bound, keys, other_keys)
+    Ok(Some(Share::new(alloc, bound, keys, other_keys)?))
 }
 
-/// The shares where a source may send so many writes; none where that is 0.
-fn shares_of<R: RandomSource>(
-    rt: &R,
-    alloc: Global,
-    writes: u16,
-) -> Result<Option<Mutex<Shares>>, Starved> {
-    if writes == 0 {
-        return Ok(None);
-    }
-    Ok(Some(Mutex::new(Shares {
-        writes: share_of(rt, alloc, writes)?,
-        beginnings: share_of(rt, alloc, MOST_BEGINNINGS)?,
-        observations: share_of(rt, alloc, MOST_OBSERVATIONS)?,
-    })))
+/// The shares of a plan. Where writes have none, what lasts has none.
+fn shares_of<R: RandomSource>(rt: &R, alloc: Global, plan: &HostPlan) -> Result<Shares, Starved> {
+    let (beginnings, observations) = if plan.share == 0 {
+        (0, 0)
+    } else {
+        (MOST_BEGINNINGS, MOST_OBSERVATIONS)
+    };
+    Ok(Shares {
+        writes: share_of(rt, alloc, plan.share)?,
+        beginnings: share_of(rt, alloc, beginnings)?,
+        observations: share_of(rt, alloc, observations)?,
+        lookups: share_of(rt, alloc, plan.lookups)?,
+    })
 }
 
 /// A limit, where there is one: 0 is none.
@@ -113,8 +124,8 @@ fn told_of(window: u64, peer: Peer, view: &View<'_>) -> Told {
 
 impl Guard {
     /// The guard of a plan: it hears datagrams of the networks of `allow` alone, of all where there
-    /// is none; has a share for each source that is not in `trust`; and lets lookups pass that have
-    /// no more than so many query options.
+    /// is none. It has a share for each source that is not in `trust`. It lets lookups pass that
+    /// have no more than so many query options.
     ///
     /// # Errors
     ///
@@ -124,13 +135,23 @@ impl Guard {
             allow: plan.allow.clone()?,
             trust: plan.trust.clone()?,
             criteria: limit_of(plan.criteria),
-            shares: shares_of(rt, alloc, plan.share)?,
+            has_shares: plan.share > 0,
+            has_lookups: plan.lookups > 0,
+            shares: Mutex::new(shares_of(rt, alloc, plan)?),
         })
     }
 
     /// Whether it lets all datagrams pass.
     pub(crate) fn is_open(&self) -> bool {
-        self.allow.is_empty() && self.criteria.is_none() && self.shares.is_none()
+        self.allow.is_empty() && self.criteria.is_none() && !self.has_shares && !self.has_lookups
+    }
+
+    /// Whether requests of a class have a share.
+    fn has_share(&self, class: Class) -> bool {
+        match class {
+            Class::Write | Class::Begin | Class::Observation => self.has_shares,
+            Class::Lookup => self.has_lookups,
+        }
     }
 
     /// Whether datagrams of an address are heard.
@@ -148,14 +169,17 @@ impl Guard {
     ) -> Option<Refused>
         ensures { (most : ℕ) → IfSome result (IsWhy (message_in view.now) most) }
     {
-        let shares = self.shares.as_ref()?;
         let class = class_of(view)?;
-        if is_in_any(peer.host, self.trust.as_slice()) {
+        if !self.has_share(class) || is_in_any(peer.host, self.trust.as_slice()) {
             return None;
         }
         let now: Moment = clock.now();
         let told = told_of(window_at(now), peer, view);
-        if shares.lock(rt).admits(class, source_of(peer.host), &told) {
+        if self
+            .shares
+            .lock(rt)
+            .admits(class, source_of(peer.host), &told)
+        {
             return None;
         }
         Some(Refused::TooMany(seconds_left(now)))

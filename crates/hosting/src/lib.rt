@@ -3,8 +3,12 @@
 #![tactic(auto)]
 
 mod about;
+mod addresses;
 mod askings;
+mod counted_links;
+mod counts;
 mod crews;
+mod deeds;
 mod failures;
 mod guarded_links;
 mod guards;
@@ -26,6 +30,8 @@ mod watches;
 mod word_faults;
 
 pub use askings::Class;
+pub use counted_links::{CountedLink, Teller};
+pub use counts::Counts;
 pub use crews::{Crew, Trouble};
 pub use failures::Failure;
 pub use guarded_links::GuardedLink;

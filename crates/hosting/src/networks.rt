@@ -67,7 +67,7 @@ impl Network {
 }
 
 /// The address that a text names, in any spelling.
-fn host_read(text: &[u8]) -> Option<Host>
+pub(crate) fn host_read(text: &[u8]) -> Option<Host>
     ensures { result ≡ spec.host_of text.now }
 {
     if let Ok(address) = Ipv4Addr::parse_ascii(text) {

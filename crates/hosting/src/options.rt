@@ -5,9 +5,10 @@ ghost use Rattle.std.specs.String.{string_bytes};
 ghost use Rattle.hosting.specs.Words as spec;
 ghost use Rattle.hosting.specs.Words.{Begins, IsCount, IsOption};
 
+use crate::addresses::address_read;
 use crate::networks::network_read;
 use crate::prefixes::Network;
-use rd_base::{Peer, PeerBad, peer_read_ascii};
+use rd_base::Peer;
 use trace_text::{number_read, offset_of};
 
 /// The most ends of a server, over all its addresses.
@@ -21,6 +22,9 @@ pub(crate) const MAX_BEGIN: u64 = 100_000_000_000_000;
 
 /// The greatest share, in writes: as many as the directory remembers of all.
 pub(crate) const MAX_SHARE: u64 = 4096;
+
+/// The greatest share in lookups.
+pub(crate) const MAX_LOOKUPS: u64 = 65_535;
 
 /// The greatest limit of query options: as many as fit a datagram.
 pub(crate) const MAX_CRITERIA: u64 = 768;
@@ -44,6 +48,10 @@ pub(crate) enum OptionName {
     Share,
     /// `--criteria`: how many query options a lookup may have.
     Criteria,
+    /// `--lookups`: how many lookups each source may send in a window.
+    Lookups,
+    /// `--quiet`: that it says no line while it serves.
+    Quiet,
 }
 
 /// An option with its value.
@@ -65,6 +73,10 @@ pub(crate) enum HostOption {
     Share(u16),
     /// How many query options a lookup may have.
     Criteria(u16),
+    /// How many lookups each source may send in a window.
+    Lookups(u16),
+    /// It says no line while it serves.
+    Quiet,
 }
 
 /// The option of the guard that a word names.
@@ -82,6 +94,9 @@ fn guard_name_of(word: &[u8]) -> Option<OptionName>
     }
     if word == b"--criteria".as_slice() {
         return Some(OptionName::Criteria);
+    }
+    if word == b"--lookups".as_slice() {
+        return Some(OptionName::Lookups);
     }
     None
 }
@@ -122,10 +137,8 @@ fn address_of(value: &[u8]) -> Option<HostOption>
     ensures value { result ≡ spec.option_of OptionName.Listen value.now }
     ensures within { IfSome result IsOption }
 {
-    match peer_read_ascii(value) {
-        Ok(address) => Some(HostOption::Listen(address)),
-        Err(PeerBad) => None,
-    }
+    let address = address_read(value)?;
+    Some(HostOption::Listen(address))
 }
 
 /// An option with its value, where it takes such a value.
@@ -144,6 +157,8 @@ fn option_of(name: OptionName, value: &[u8]) -> Option<HostOption>
         OptionName::Criteria => {
             Some(HostOption::Criteria(number_read(MAX_CRITERIA, value)? as u16))
         }
+        OptionName::Lookups => Some(HostOption::Lookups(number_read(MAX_LOOKUPS, value)? as u16)),
+        OptionName::Quiet => None,
     }
 }
 
@@ -157,11 +172,14 @@ fn cut(text: &[u8]) -> Option<(&[u8], &[u8])>
     }
 }
 
-/// An option in one word, in which its name and its value are joined.
+/// An option in one word, which has no value, or in which its name and its value are joined.
 fn joined(word: &[u8]) -> Option<HostOption>
     ensures value { result ≡ spec.joined word.now }
     ensures within { IfSome result IsOption }
 {
+    if word == b"--quiet".as_slice() {
+        return Some(HostOption::Quiet);
+    }
     let (name, value) = cut(word)?;
     option_of(name_of(name)?, value)
 }

@@ -7,7 +7,7 @@ ghost use Rattle.hosting.specs.Words.{IsAsked, IsOption, IsPlan, IsRead, IsWante
 use crate::options::{HostOption, MAX_ENDS, MAX_TURNS, first_option};
 use crate::prefixes::Network;
 use crate::wanted::{HostFault, Wanted};
-use rd_base::{List, Peer};
+use rd_base::{Host, List, Peer};
 use std::alloc::Global;
 
 /// The share of a source where it is not said, in writes.
@@ -15,6 +15,21 @@ const DEFAULT_SHARE: u16 = 1024;
 
 /// How many query options a lookup may have where that is not said.
 const DEFAULT_CRITERIA: u16 = 16;
+
+/// The port of CoAP (RFC 7252 section 12.6).
+const PORT: u16 = 5683;
+
+/// Where it listens if that is not said.
+const LOOPBACK_V6: Peer = Peer {
+    host: Host::V6([0, 0, 0, 0, 0, 0, 0, 1]),
+    port: PORT,
+};
+
+/// The same, in the other family.
+const LOOPBACK_V4: Peer = Peer {
+    host: Host::V4([127, 0, 0, 1]),
+    port: PORT,
+};
 
 /// What the words of `rd_host` ask to be served.
 #[derive(Debug, Drop)]
@@ -35,6 +50,10 @@ pub struct HostPlan {
     pub share: u16,
     /// How many query options a lookup may have, at most 768; 0 for any number.
     pub criteria: u16,
+    /// How many lookups each source may send in a window; 0 for any number.
+    pub lookups: u16,
+    /// That it says no line while it serves.
+    pub quiet: bool,
 }
 
 impl HostPlan {
@@ -69,6 +88,10 @@ pub(crate) struct HostAsked {
     pub(crate) share: Option<u16>,
     /// How many query options a lookup may have, where it is said.
     pub(crate) criteria: Option<u16>,
+    /// How many lookups each source may send, where it is said.
+    pub(crate) lookups: Option<u16>,
+    /// That it says no line while it serves.
+    pub(crate) quiet: bool,
 }
 
 impl HostAsked {
@@ -85,6 +108,8 @@ impl HostAsked {
             trust: List::new(alloc),
             share: None,
             criteria: None,
+            lookups: None,
+            quiet: false,
         }
     }
 
@@ -207,6 +232,37 @@ impl HostAsked {
         })
     }
 
+    /// With how many lookups each source may send, where it was not said.
+    fn with_lookups(self, lookups: u16) -> Result<HostAsked, HostFault>
+        requires asked { IsAsked self }
+        requires option { IsOption (HostOption.Lookups lookups) }
+        ensures read { IsRead (spec.asked_with self (HostOption.Lookups lookups)) result }
+        ensures within { IfOk result IsAsked }
+    {
+        if self.lookups.is_some() {
+            return Err(HostFault::Usage);
+        }
+        Ok(HostAsked {
+            lookups: Some(lookups),
+            ..self
+        })
+    }
+
+    /// With no lines while it serves, where that was not said.
+    fn with_quiet(self) -> Result<HostAsked, HostFault>
+        requires { IsAsked self }
+        ensures read { IsRead (spec.asked_with self HostOption.Quiet) result }
+        ensures within { IfOk result IsAsked }
+    {
+        if self.quiet {
+            return Err(HostFault::Usage);
+        }
+        Ok(HostAsked {
+            quiet: true,
+            ..self
+        })
+    }
+
     /// With an option more.
     pub(crate) fn with(self, option: HostOption) -> Result<HostAsked, HostFault>
         requires asked { IsAsked self }
@@ -223,7 +279,25 @@ impl HostAsked {
             HostOption::Trust(network) => self.with_trusted(network),
             HostOption::Share(share) => self.with_share(share),
             HostOption::Criteria(criteria) => self.with_criteria(criteria),
+            HostOption::Lookups(lookups) => self.with_lookups(lookups),
+            HostOption::Quiet => self.with_quiet(),
         }
+    }
+
+    /// With the addresses of loopback, where none is said.
+    fn settled(self) -> Result<HostAsked, HostFault>
+        requires { IsAsked self }
+        ensures read { IsRead (Some (spec.settled self)) result }
+        ensures within { IfOk result IsAsked }
+    {
+        if !self.listen.is_empty() {
+            return Ok(self);
+        }
+        let mut asked = self;
+        if asked.listen.push(LOOPBACK_V6).is_err() || asked.listen.push(LOOPBACK_V4).is_err() {
+            return Err(HostFault::Starved);
+        }
+        Ok(asked)
     }
 
     /// The plan, with what is said by default; none where there is no address, or are too many
@@ -251,6 +325,8 @@ impl HostAsked {
             trust: self.trust,
             share: self.share.unwrap_or(DEFAULT_SHARE),
             criteria: self.criteria.unwrap_or(DEFAULT_CRITERIA),
+            lookups: self.lookups.unwrap_or(0),
+            quiet: self.quiet,
         })
     }
 }
@@ -294,11 +370,12 @@ fn question_of(words: &[String]) -> Option<Wanted>
     None
 }
 
-/// What the words of `rd_host` want: `--listen` with an address and its port, once at least;
+/// What the words of `rd_host` want: `--listen` with an address and its port, any number of times;
 /// `--workers` with a number from 1 on, by which there are 16 ends at most, `--turns` with one from
-/// 1 to 10^12, `--begin` with one from 1 to 10^14, `--share` with one up to 4,096 and `--criteria`
-/// with one up to 768, these once at most; `--allow` and `--trust` with a network; in any order, as
-/// two words or joined by `=`; or a question about the program alone.
+/// 1 to 10^12, `--begin` with one from 1 to 10^14, `--share` with one up to 4,096, `--criteria` with
+/// one up to 768, `--lookups` with one up to 65,535, and `--quiet` with nothing, these once at most;
+/// `--allow` and `--trust` with a network; in any order, as two words or joined by `=`; or a
+/// question about the program alone.
 ///
 /// `Usage`: they are others. `Starved`: out of memory.
 pub fn host_words(alloc: Global, words: &[String]) -> Result<Wanted, HostFault>
@@ -309,6 +386,10 @@ pub fn host_words(alloc: Global, words: &[String]) -> Result<Wanted, HostFault>
         return Ok(question);
     }
     let asked = match words_ask(alloc, words) {
+        Ok(asked) => asked,
+        Err(fault) => return Err(fault),
+    };
+    let asked = match asked.settled() {
         Ok(asked) => asked,
         Err(fault) => return Err(fault),
     };

@@ -11,7 +11,7 @@ use rd_base::Peer;
 use udp_link::Link;
 
 /// 4.29 Too Many Requests (RFC 8516 section 3).
-const TOO_MANY: u8 = (4 << 5) | 29;
+pub(crate) const TOO_MANY: u8 = (4 << 5) | 29;
 
 /// Max-Age (RFC 7252 section 5.10.5).
 const MAX_AGE: u32 = 14;

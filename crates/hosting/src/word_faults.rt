@@ -4,8 +4,8 @@ ghost use Rattle.hosting.specs.Words.{IsWanted};
 
 use crate::failures::Failure;
 use crate::options::{
-    HostOption, MAX_BEGIN, MAX_CRITERIA, MAX_ENDS, MAX_SHARE, MAX_TURNS, OptionName, first_option,
-    name_of,
+    HostOption, MAX_BEGIN, MAX_CRITERIA, MAX_ENDS, MAX_LOOKUPS, MAX_SHARE, MAX_TURNS, OptionName,
+    first_option, name_of,
 };
 use crate::plans::{HostAsked, host_words};
 use crate::wanted::{HostFault, Wanted};
@@ -23,6 +23,8 @@ fn name_text(name: OptionName) -> &'static str {
         OptionName::Trust => "--trust",
         OptionName::Share => "--share",
         OptionName::Criteria => "--criteria",
+        OptionName::Lookups => "--lookups",
+        OptionName::Quiet => "--quiet",
     }
 }
 
@@ -37,6 +39,8 @@ fn option_name(option: &HostOption) -> OptionName {
         HostOption::Trust(_) => OptionName::Trust,
         HostOption::Share(_) => OptionName::Share,
         HostOption::Criteria(_) => OptionName::Criteria,
+        HostOption::Lookups(_) => OptionName::Lookups,
+        HostOption::Quiet => OptionName::Quiet,
     }
 }
 
@@ -81,6 +85,8 @@ fn wrong_value(alloc: Global, name: OptionName, value: &str) -> Result<String, S
         OptionName::Allow | OptionName::Trust => wrong_network(alloc, text, value),
         OptionName::Share => wrong_number(alloc, text, value, 0, MAX_SHARE),
         OptionName::Criteria => wrong_number(alloc, text, value, 0, MAX_CRITERIA),
+        OptionName::Lookups => wrong_number(alloc, text, value, 0, MAX_LOOKUPS),
+        OptionName::Quiet => Ok(format!(in alloc; "{text}: it has no value")?),
     }
 }
 
@@ -110,13 +116,7 @@ fn wrong_word(alloc: Global, word: &str, rest: &[String]) -> Result<String, Star
 
 /// What is wrong about options of which each is one of the program.
 fn wrong_plan(alloc: Global, asked: &HostAsked) -> Result<String, Starved> {
-    let addresses = asked.listen.len();
-    if addresses == 0 {
-        return Ok(String::from_str(
-            alloc,
-            "--listen: no address is given; give one as 192.0.2.1:5683 or [2001:db8::1]:5683",
-        )?);
-    }
+    let addresses = asked.listen.len().max(1);
     let workers = asked.workers.unwrap_or(1);
     Ok(format!(in alloc;
         "--workers: {workers} for each of {addresses} addresses are more than {MAX_ENDS} in all"

@@ -10,34 +10,37 @@ mod endings;
 
 use endings::Ending;
 use hosting::{
-    Crew, Failure, Guard, GuardedLink, HostClock, HostLink, HostPlan, Listener, Origin, Routes,
-    Wanted, read_words,
+    CountedLink, Counts, Crew, Failure, Guard, GuardedLink, HostClock, HostLink, HostPlan, Listener,
+    Origin, Routes, Teller, Wanted, read_words,
 };
-use rd_base::{Starved, StdSink};
+use rd_base::{Peer, Starved, StdSink};
 use rd_desk::Stepped;
 use rd_seat::{Hall, OpenGate};
 use rd_server::{End, ServeStatus, given_words, make_hall, serve_seats};
 use std::alloc::Global;
 use std::hash::RandomState;
-use std::io::Write;
+use std::io::{Stderr, Write};
 use std::process::ExitCode;
 use std::sync::{Mutex, Wait};
 use std::thread::Threads;
 use udp_link::{Clock, Link};
 
-/// What one worker has: its link, the clock by which its guard counts, and its own clock.
+/// What one worker has: its link, where it says what was counted and the clock by which it does, the
+/// clock by which its guard counts, and its own clock.
 #[derive(Drop)]
-struct Post<L, C> {
+struct Post<L, C, W> {
     link: L,
+    out: W,
+    telling: C,
     reading: C,
     clock: C,
 }
 
 /// What one worker has of this machine.
-type HostPost<'a> = Post<HostLink<'a, HostRuntime>, HostClock<'a, HostRuntime>>;
+type HostPost<'a> = Post<HostLink<'a, HostRuntime>, HostClock<'a, HostRuntime>, Stderr>;
 
-/// The ends of workers whose links a guard keeps.
-type GuardedEnds<'a, R, L, C> = Vec<End<GuardedLink<'a, R, L, C>, C>>;
+/// The ends of workers whose links a guard keeps, and whose datagrams are counted.
+type GuardedEnds<'a, R, L, C, W> = Vec<End<GuardedLink<'a, R, CountedLink<'a, L, C, W>, C>, C>>;
 
 /// What the words of the command line want.
 fn wanted(rt: &HostRuntime) -> Result<Wanted, Ending>
@@ -47,17 +50,34 @@ fn wanted(rt: &HostRuntime) -> Result<Wanted, Ending>
     Ok(read_words(rt.alloc(), words.as_slice())?)
 }
 
-/// A socket at each address.
-fn listeners_at(rt: &HostRuntime, plan: &HostPlan) -> Result<Vec<Listener>, Ending>
-    ensures { IfOk result (λ listeners. vec_len listeners ≡ length plan.now.listen) }
-{
-    let addresses = plan.listen.as_slice();
-    let mut listeners = Vec::with_capacity(rt.alloc(), addresses.len())?;
-    'addresses: for address in addresses {
-        match Listener::bind(rt, rt.alloc(), *address) {
-            Ok(listener) => listeners.push_reserved(listener),
-            Err(fault) => return Err(Failure::Socket(*address, fault).into()),
+/// A socket at an address; none where the machine has no IPv6, which it says on standard error.
+fn listener_at(rt: &HostRuntime, address: Peer) -> Result<Option<Listener>, Ending> {
+    match Listener::bind(rt, rt.alloc(), address) {
+        Ok(listener) => Ok(Some(listener)),
+        Err(fault) => {
+            let failure = Failure::Socket(address, fault);
+            if !failure.is_for_want_of_v6() {
+                return Err(failure.into());
+            }
+            let line = failure.left_out(rt.alloc())?;
+            let _ = rt.stderr().write_all(line.as_bytes());
+            Ok(None)
         }
+    }
+}
+
+/// A socket at each address, but for those of IPv6 where the machine has none.
+fn listeners_at(rt: &HostRuntime, plan: &HostPlan) -> Result<Vec<Listener>, Ending>
+    ensures { IfOk result (λ listeners. 1 ≤ vec_len listeners) }
+{
+    let mut listeners = Vec::new(rt.alloc());
+    'addresses: for address in plan.listen.as_slice() {
+        if let Some(listener) = listener_at(rt, *address)? {
+            listeners.push(listener)?;
+        }
+    }
+    if listeners.is_empty() {
+        return Err(Failure::NoAddress.into());
     }
     Ok(listeners)
 }
@@ -73,14 +93,24 @@ struct Shared {
     crew: Crew,
     /// What they keep from the directory.
     guard: Guard,
+    /// What they count, if they do.
+    counts: Option<Counts>,
     /// From when on their clocks count.
     origin: Origin,
+}
+
+/// What the links of a server of a plan count, if they do.
+fn counts_of(rt: &HostRuntime, plan: &HostPlan) -> Result<Option<Counts>, Starved> {
+    if plan.quiet {
+        return Ok(None);
+    }
+    Ok(Some(Counts::new(rt.alloc())?))
 }
 
 /// What the workers of a server of a plan share.
 fn shared_of(rt: &HostRuntime, plan: &HostPlan) -> Result<Shared, Ending>
     requires { IsPlan plan.now }
-    ensures { IfOk result (λ shared. vec_len shared.listeners ≡ length plan.now.listen) }
+    ensures { IfOk result (λ shared. 1 ≤ vec_len shared.listeners) }
 {
     let Ok(origin) = Origin::read(rt) else {
         return Err(Failure::Clock.into());
@@ -95,6 +125,7 @@ fn shared_of(rt: &HostRuntime, plan: &HostPlan) -> Result<Shared, Ending>
         routes,
         crew: Crew::of(plan.ends() as u64),
         guard: Guard::of(rt, rt.alloc(), plan)?,
+        counts: counts_of(rt, plan)?,
         origin,
     })
 }
@@ -111,8 +142,8 @@ fn post_over<'a>(
         listeners,
         routes,
         crew,
-        guard: _,
         origin,
+        ..
     } = shared;
     let link = HostLink::over(rt, rt.alloc(), routes, crew, listeners.as_slice(), own)?;
     let Ok(clock) = HostClock::seeded(rt, origin) else {
@@ -120,6 +151,8 @@ fn post_over<'a>(
     };
     Ok(Post {
         link,
+        out: rt.stderr(),
+        telling: HostClock::of(rt, origin, [0; 32]),
         reading: HostClock::of(rt, origin, [0; 32]),
         clock,
     })
@@ -141,23 +174,39 @@ fn posts_over<'a>(
     Ok(posts)
 }
 
-/// The ends of these workers, whose links the guard keeps.
-fn guarded<'a, R, L: Drop, C: Drop>(
+/// What counts the datagrams of a link, if they are counted.
+fn teller_of<'a, C: Drop, W: Drop>(
+    counts: Option<&'a Counts>,
+    alloc: Global,
+    clock: C,
+    out: W,
+) -> Option<Teller<'a, C, W>> {
+    let counts = counts?;
+    Some(Teller::of(counts, alloc, clock, out))
+}
+
+/// The ends of these workers, whose links the guard keeps and whose datagrams are counted.
+fn guarded<'a, R, L: Drop, C: Drop, W: Drop>(
     rt: &'a R,
     alloc: Global,
-    guard: &'a Guard,
-    posts: Vec<Post<L, C>>,
-) -> Result<GuardedEnds<'a, R, L, C>, Starved>
+    shared: &'a Shared,
+    posts: Vec<Post<L, C, W>>,
+) -> Result<GuardedEnds<'a, R, L, C, W>, Starved>
     ensures { IfOk result (λ ends. vec_len ends ≡ vec_len posts) }
 {
+    let counts = shared.counts.as_ref();
     let mut ends = Vec::with_capacity(alloc, posts.len())?;
     'posts: for post in posts {
         let Post {
             link,
+            out,
+            telling,
             reading,
             clock,
         } = post;
-        ends.push_reserved(End::of(GuardedLink::over(rt, guard, link, reading), clock));
+        let link = CountedLink::over(link, teller_of(counts, alloc, telling, out));
+        let link = GuardedLink::over(rt, &shared.guard, counts, link, reading);
+        ends.push_reserved(End::of(link, clock));
     }
     Ok(ends)
 }
@@ -233,7 +282,7 @@ fn serve_above<R: Threads + Wait + Sync + AllocGlobal, L: Link + Send, C: Clock 
     Ok(serve_seats(handles, hall, ends, &OpenGate, plan.turns, &mut out))
 }
 
-/// Serves as [`serve_above`] does, behind the guard.
+/// Serves as [`serve_above`] does, behind the guard, and counts what passes.
 ///
 /// # Errors
 ///
@@ -242,18 +291,19 @@ fn serve_guarded<
     R: Threads + Wait + Sync + AllocGlobal,
     L: Link + Send + Drop,
     C: Clock + Send + Drop,
+    W: Write + Send + Drop,
 >(
     rt: &HostRuntime,
     handles: &R,
-    guard: &Guard,
-    posts: Vec<Post<L, C>>,
+    shared: &Shared,
+    posts: Vec<Post<L, C, W>>,
     plan: &HostPlan,
     first: u64,
 ) -> Result<ServeStatus, Starved>
     requires posts { (1 ≤ vec_len posts) × (vec_len posts ≤ 16) }
     requires turns { plan.now.turns ≤ 10 ^ 12 }
 {
-    let mut ends = guarded(handles, rt.alloc(), guard, posts)?;
+    let mut ends = guarded(handles, rt.alloc(), shared, posts)?;
     serve_above(rt, handles, &mut ends, plan, first)
 }
 
@@ -271,7 +321,7 @@ fn main(rt: HostRuntime) -> ExitCode {
         Err(ending) => return ending.exit(&rt),
     };
     let first = plan.begin.unwrap_or(shared.origin.begin());
-    match serve_guarded(&rt, &rt, &shared.guard, posts, &plan, first) {
+    match serve_guarded(&rt, &rt, &shared, posts, &plan, first) {
         Ok(status) => Ending::of(status, &shared.crew).exit(&rt),
         Err(starved) => Ending::from(starved).exit(&rt),
     }

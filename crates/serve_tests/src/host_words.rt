@@ -24,12 +24,16 @@ const WORDS: &str = "\
 4 1000000000000 127.0.0.1:1 share 0 criteria 0 | --listen=127.0.0.1:1 --share=0 --criteria 0
 4 1000000000000 127.0.0.1:1 share 4096 criteria 768 | --listen=127.0.0.1:1 --share=4096 \
 --criteria=768
+1 1000000000000 [::1]:5683 127.0.0.1:5683 | --workers=1
+4 1000000000000 [::1]:5683 127.0.0.1:5683 |
+4 1000000000000 [::1]:5683 127.0.0.1:5683 above 1 | --begin=1
+4 1000000000000 [::1]:5683 127.0.0.1:5683 quiet | --quiet
+4 1000000000000 [::1]:5683 | --listen=[0:0::1]:5683
+4 1000000000000 [2001:db8::1]:1 | --listen=[2001:0DB8:0:0:0:0:0:1]:1
 help | --help
 help | -h
 version | --version
 version | -V
-refused |
-refused | --workers=1
 refused | --listen=0.0.0.0:5683 --listen=[::]:5684 --workers=9
 refused | --listen=127.0.0.1:1 --workers=17
 refused | --listen=127.0.0.1:1 --workers=0
@@ -41,7 +45,6 @@ refused | --listen=127.0.0.1:1 --turns=1 --turns=1
 refused | --listen=127.0.0.1:1 --begin=0
 refused | --listen=127.0.0.1:1 --begin=100000000000001
 refused | --listen=127.0.0.1:1 --begin=1 --begin=1
-refused | --begin=1
 refused | --listen=127.0.0.1:1 --begin
 refused | --listen=127.0.0.1:0
 refused | --listen=127.0.0.1:65536
@@ -49,7 +52,12 @@ refused | --listen=127.0.0.1
 refused | --listen=:5683
 refused | --listen=localhost:5683
 refused | --listen=::1:5683
-refused | --listen=[0:0::1]:5683
+refused | --listen=[127.0.0.1]:5683
+refused | --listen=[::1:5683
+refused | --listen=[::1]5683
+refused | --listen=[::1]:05683
+refused | --listen=127.0.0.1:1 --quiet --quiet
+refused | --quiet=1
 refused | --listen=[fe80::1%eth0]:5683
 refused | --listen=127.0.0.1:1 --allow=10.0.0.0/33
 refused | --listen=127.0.0.1:1 --allow=10.0.0/8
@@ -77,6 +85,7 @@ fn told(alloc: Global, plan: &HostPlan) -> Result<String, Fail> {
         trust,
         share,
         criteria,
+        quiet,
     } = plan;
     let mut text = format!(in alloc; "{workers} {turns}")?;
     for address in listen.as_slice() {
@@ -94,6 +103,9 @@ fn told(alloc: Global, plan: &HostPlan) -> Result<String, Fail> {
     }
     if (*share, *criteria) != (1024, 16) {
         write!(text, " share {share} criteria {criteria}")?;
+    }
+    if *quiet {
+        text.push_str(" quiet")?;
     }
     Ok(text)
 }
