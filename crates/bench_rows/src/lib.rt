@@ -1,4 +1,4 @@
-//! Rows of measured times: a call that is made on samples of growing sizes, and what it takes.
+//! Rows of measured times: a call on samples of growing sizes, and how long it takes.
 #![tactic(auto)]
 
 mod rows;

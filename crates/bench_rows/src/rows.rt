@@ -1,17 +1,17 @@
-//! The rows that are printed: a call that is made on samples of growing sizes, and what it takes.
+//! The rows that are printed: a call on samples of growing sizes, and how long it takes.
 
 use rd_base::Starved;
 use std::alloc::{AllocError, AllocFailed, Global};
 use std::io;
 use std::time::Instant;
 
-/// How many rounds are timed at each size, of which the least counts.
+/// The number of rounds that are timed at each size. The fastest counts.
 const ROUNDS: u64 = 5;
 
 /// Why a measurement ends early.
 #[derive(Debug, Drop)]
 pub enum Trouble {
-    /// Out of memory.
+    /// Memory ran out.
     Starved,
     /// The clock or a socket failed, a stream could not be written, or a call refused its input.
     Outside,
@@ -41,31 +41,39 @@ impl From<io::Error> for Trouble {
     }
 }
 
-/// What a call is made on.
+/// A sample on which a call is measured.
 pub trait Sample: Drop {
-    /// How many calls a round makes.
+    /// The number of calls in a round.
     const CALLS: u64;
 
-    /// The sample of a size.
+    /// Creates a sample of this size.
+    ///
+    /// # Errors
+    ///
+    /// `Starved` if memory runs out; `Outside` if the sample cannot be made for another reason.
     fn make(alloc: Global, size: u64) -> Result<Self, Trouble>;
 
-    /// A round of calls; what they counted.
+    /// Makes a round of calls. Returns what they counted.
+    ///
+    /// # Errors
+    ///
+    /// `Starved` if memory runs out; `Outside` if a call fails for another reason.
     fn round(&mut self) -> Result<u64, Trouble>;
 }
 
-/// What a call takes on samples of growing sizes.
+/// How long a call takes on samples of growing sizes.
 #[derive(Drop)]
 pub struct Row {
-    /// What is printed of the sizes so far.
+    /// The text of the sizes so far.
     line: String,
     /// The time of a call at the first size, in nanoseconds.
     first: Option<u64>,
-    /// What the calls counted.
+    /// The sum of what the calls counted.
     counted: u64,
 }
 
 impl Row {
-    /// No size yet.
+    /// Creates a row without sizes.
     pub fn new(alloc: Global) -> Row {
         Row {
             line: String::new(alloc),
@@ -74,7 +82,7 @@ impl Row {
         }
     }
 
-    /// The time of a call in the fastest of several rounds, in nanoseconds.
+    /// Returns the time of a call in the fastest of several rounds, in nanoseconds.
     fn least_time<F: FnMut() -> Result<u64, Trouble>>(
         &mut self,
         rt: &HostRuntime,
@@ -94,7 +102,17 @@ impl Row {
         Ok(least.checked_div(calls).unwrap_or(0))
     }
 
-    /// Rounds of calls on one more sample are timed. A round answers what its calls counted.
+    /// Times rounds of calls on one more sample. Each call of `round` makes `calls` calls, and
+    /// returns what they counted.
+    ///
+    /// # Requires
+    ///
+    /// `round` can be called any number of times.
+    ///
+    /// # Errors
+    ///
+    /// `Starved` if memory runs out; `Outside` if the clock fails. An error of `round` is passed
+    /// on.
     pub fn add<F: FnMut() -> Result<u64, Trouble>>(
         &mut self,
         rt: &HostRuntime,
@@ -116,8 +134,12 @@ impl Row {
         Ok(())
     }
 
-    /// The times go to standard error under the name of the call, and what was counted to standard
-    /// output.
+    /// Prints the times to standard error under the name of the call, and what was counted to
+    /// standard output.
+    ///
+    /// # Errors
+    ///
+    /// `Outside` if a stream cannot be written.
     pub fn print(self, rt: &HostRuntime, name: &str) -> Result<(), Trouble> {
         eprintln!(rt; "{name}{}", self.line)?;
         println!(rt; "{name} counted {}", self.counted)?;
@@ -126,6 +148,11 @@ impl Row {
 }
 
 /// Measures a call on samples of these sizes, and prints its row.
+///
+/// # Errors
+///
+/// `Starved` if memory runs out; `Outside` if the clock fails or a stream cannot be written. An
+/// error of the sample is passed on.
 pub fn measure<S: Sample>(rt: &HostRuntime, name: &str, sizes: &[u64]) -> Result<(), Trouble> {
     let mut row = Row::new(rt.alloc());
     for size in sizes {

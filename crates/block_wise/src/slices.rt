@@ -4,8 +4,11 @@ ghost use Rattle.std.specs.Prelude.{◌≡◌, ◌≤◌, ◌<◌, IfSome};
 ghost use Rattle.std.specs.Option.{option_map};
 ghost use Rattle.message_model.specs.Blocks as blocks;
 
-/// The size of a block with this exponent, in octets (RFC 7959 section 2.2). The exponent is not 7,
-/// which is reserved.
+/// Returns the size of a block with this exponent, in octets (RFC 7959 section 2.2).
+///
+/// # Requires
+///
+/// The exponent is below 7, which is reserved.
 pub fn block_size(szx: u8) -> usize
     requires { szx < blocks.reserved_szx }
     ensures value { result ≡ blocks.block_size szx }
@@ -14,7 +17,7 @@ pub fn block_size(szx: u8) -> usize
     1usize << (szx + 4)
 }
 
-/// The block with this number, and whether more follow (RFC 7959 section 2.2).
+/// Returns the block with this number, and whether more follow (RFC 7959 section 2.2).
 #[tactic(auto, unfolding(message_model::specs::Blocks::block_of))]
 fn block_of(body: &[u8], num: u32, szx: u8) -> Option<(&[u8], bool)>
     requires { szx < blocks.reserved_szx }
@@ -32,11 +35,15 @@ fn block_of(body: &[u8], num: u32, szx: u8) -> Option<(&[u8], bool)>
     Some((rest, false))
 }
 
-/// The block of a body with this number and size exponent, and whether more follow (RFC 7959
-/// section 2.2).
+/// Returns the block of a body with this number and size exponent, and whether more follow (RFC
+/// 7959 section 2.2).
 ///
-/// None exactly where the number is above 0 and the block begins at the end of the body or past it:
-/// number 0 is a block of any body, the empty one too. The exponent is not 7, which is reserved.
+/// Returns `None` if the number is above 0 and the block would begin at the end of the body or
+/// after it. Every body has a block of number 0, the empty body too.
+///
+/// # Requires
+///
+/// The exponent is below 7, which is reserved.
 pub fn slice_of(body: &[u8], num: u32, szx: u8) -> Option<(&[u8], bool)>
     requires { szx < blocks.reserved_szx }
     ensures block { option_map (λ x. (x.0.now, x.1)) result ≡ blocks.block_of body.now num szx }

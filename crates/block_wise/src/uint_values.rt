@@ -3,7 +3,11 @@
 ghost use Rattle.std.specs.Prelude.{◌≡◌, ◌+◌, ◌≤◌, ◌<◌, ◌^◌, [], ◌∷◌, ◌++◌, length, take};
 ghost use Rattle.message_model.specs.Numbers as numbers;
 
-/// The number that at most three octets give, the most significant first (RFC 7252 section 3.2).
+/// Returns the number that octets encode, the most significant octet first (RFC 7252 section 3.2).
+///
+/// # Requires
+///
+/// There are at most three octets.
 pub fn uint_of(value: &[u8]) -> u32
     requires { length value.now ≤ 3 }
     ensures value { result ≡ numbers.uint_of value.now }
@@ -18,7 +22,7 @@ pub fn uint_of(value: &[u8]) -> u32
     }
 }
 
-/// One octet after those that are there.
+/// Puts one octet after those that are there, and returns the offset after it.
 fn put_byte(octets: &mut [u8], at: usize, byte: u8) -> usize
     requires { at < length octets.old }
     ensures end { result ≡ at + 1 }
@@ -28,7 +32,8 @@ fn put_byte(octets: &mut [u8], at: usize, byte: u8) -> usize
     at + 1
 }
 
-/// The fewest octets that give a number, at the front (RFC 7252 section 3.2).
+/// Puts the fewest octets that encode a number at the beginning, and returns how many these are
+/// (RFC 7252 section 3.2).
 #[tactic(auto, unfolding(message_model::specs::Numbers::uint_bytes))]
 pub(crate) fn put_uint(octets: &mut [u8], n: u32) -> usize
     requires room { 3 ≤ length octets.old }
@@ -51,8 +56,12 @@ pub(crate) fn put_uint(octets: &mut [u8], n: u32) -> usize
     put_byte(octets, second, (n % 256) as u8)
 }
 
-/// Puts a number as the value of an option, in the fewest octets (RFC 7252 section 3.2), and gives
-/// how many these are: none for 0. [`uint_of`] reads it back.
+/// Puts a number as the value of an option, in the fewest octets, and returns how many these are
+/// (RFC 7252 section 3.2).
+///
+/// The number 0 has no octets. [`uint_of`] reads the number back.
+///
+/// # Requires
 ///
 /// The number is below 2^24, as those of Observe, Content-Format and the Block options are.
 pub fn uint_write(n: u32, into: &mut [u8; 3]) -> usize

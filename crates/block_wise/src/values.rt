@@ -1,4 +1,4 @@
-//! Values of Block options.
+//! The values of Block options.
 
 ghost use Rattle.std.specs.Prelude.{◌≡◌, ◌≤◌, ◌<◌, length, take, Some, None, IfOk, OnErr};
 ghost use Rattle.message_model.specs.Numbers as numbers;
@@ -7,14 +7,21 @@ ghost use Rattle.message_model.specs.Blocks as blocks;
 use crate::uint_values::{put_uint, uint_of};
 use message_model::Block;
 
-/// The last three bits of the value are 7, which is reserved (RFC 7959 section 2.2).
+/// The error of a value with the size exponent 7, which is reserved (RFC 7959 section 2.2).
 #[derive(Clone, Copy, Debug, PartialEq, Eq)]
 pub struct Szx7;
 
-/// The block that the value of a Block option says (RFC 7959 section 2.2): 20 bits of number, one
-/// that says whether more follow, three of size exponent. The value has at most three octets.
+/// Returns the block that the value of a Block option encodes (RFC 7959 section 2.2).
 ///
-/// `Szx7`: the exponent is the reserved 7.
+/// The value has 20 bits of number, one that says whether more follow, and three of size exponent.
+///
+/// # Requires
+///
+/// The value has at most three octets.
+///
+/// # Errors
+///
+/// `Szx7` if the exponent is the reserved 7.
 #[tactic(auto, unfolding(message_model::specs::Blocks::block_read))]
 pub fn block_read(value: &[u8]) -> Result<Block, Szx7>
     requires { length value.now ≤ 3 }
@@ -35,7 +42,7 @@ pub fn block_read(value: &[u8]) -> Result<Block, Szx7>
     })
 }
 
-/// The bit that says whether more blocks follow (RFC 7959 section 2.2).
+/// Returns the bit that says whether more blocks follow (RFC 7959 section 2.2).
 fn more_bit(more: bool) -> u32
     ensures value { result ≡ blocks.more_bit more }
     ensures few { result < 2 }
@@ -43,8 +50,12 @@ fn more_bit(more: bool) -> u32
     if more { 1 } else { 0 }
 }
 
-/// Puts the value of a Block option that says this block, in the fewest octets (RFC 7959 section
-/// 2.2), and gives how many these are. [`block_read`] reads it back.
+/// Puts the value of a Block option that encodes this block, in the fewest octets, and returns how
+/// many these are (RFC 7959 section 2.2).
+///
+/// [`block_read`] reads the block back.
+///
+/// # Requires
 ///
 /// The number is below 2^20, and the exponent below the reserved 7.
 #[tactic(auto, unfolding(message_model::specs::Blocks::block_value))]

@@ -1,4 +1,4 @@
-//! The blocks of captures that have packets in them (draft-ietf-opsawg-pcapng section 4).
+//! The blocks of captures that contain packets (draft-ietf-opsawg-pcapng section 4).
 
 use crate::numbers::{ByteOrder, joined, number16_at, number32_at, octets_at};
 
@@ -17,7 +17,7 @@ const SIMPLE_PACKET: u32 = 3;
 /// The type of an enhanced packet block.
 const ENHANCED_PACKET: u32 = 6;
 
-/// What a block is.
+/// The kind of a block.
 #[derive(Clone, Copy, Debug, PartialEq, Eq)]
 pub(crate) enum Block {
     /// A section header block.
@@ -30,12 +30,12 @@ pub(crate) enum Block {
     SimplePacket,
     /// An enhanced packet block.
     EnhancedPacket,
-    /// A block that is passed over.
+    /// A block that is skipped.
     Other,
 }
 
 impl Block {
-    /// What a block of this type is.
+    /// Returns the kind of a block of this type.
     pub(crate) fn of(number: u32) -> Block {
         match number {
             SECTION_HEADER => Block::Section,
@@ -53,13 +53,13 @@ impl Block {
 pub(crate) struct BlockPacket<'p> {
     /// The number of its interface.
     pub interface: u32,
-    /// When it was captured, in ticks of the interface.
+    /// The time at which it was captured, in ticks of the interface.
     pub ticks: u64,
     /// Its octets.
     pub frame: &'p [u8],
 }
 
-/// The packet behind the number of its interface. None: it is cut.
+/// Returns the packet after the number of its interface, or `None` if it is cut.
 fn timed_packet(order: ByteOrder, interface: u32, octets: &[u8]) -> Option<BlockPacket<'_>> {
     let (high, rest) = number32_at(order, octets)?;
     let (low, rest) = number32_at(order, rest)?;
@@ -73,21 +73,21 @@ fn timed_packet(order: ByteOrder, interface: u32, octets: &[u8]) -> Option<Block
     })
 }
 
-/// The packet of an enhanced packet block (section 4.3). None: it is cut.
+/// Returns the packet of an enhanced packet block (section 4.3), or `None` if it is cut.
 pub(crate) fn enhanced_packet(order: ByteOrder, block: &[u8]) -> Option<BlockPacket<'_>> {
     let (interface, rest) = number32_at(order, block)?;
     timed_packet(order, interface, rest)
 }
 
-/// The packet of a packet block (appendix A). None: it is cut.
+/// Returns the packet of a packet block (appendix A), or `None` if it is cut.
 pub(crate) fn obsolete_packet(order: ByteOrder, block: &[u8]) -> Option<BlockPacket<'_>> {
     let (interface, rest) = number16_at(order, block)?;
     let (_, rest) = number16_at(order, rest)?;
     timed_packet(order, u32::from(interface), rest)
 }
 
-/// The octets of the packet of a simple packet block, of which at most so many were captured, or
-/// all where that is 0 (section 4.4). None: they are cut.
+/// Returns the octets of the packet of a simple packet block (section 4.4), or `None` if they are
+/// cut. At most `snap_length` of them were captured, or all if that is 0.
 pub(crate) fn simple_frame(order: ByteOrder, snap_length: u32, block: &[u8]) -> Option<&[u8]> {
     let (original, rest) = number32_at(order, block)?;
     let captured = if snap_length == 0 {

@@ -8,7 +8,7 @@ const WORD: u32 = 0x1_0000;
 /// The number of values that an octet has.
 const OCTET: u16 = 0x100;
 
-/// The sum of two words, where what it has above 16 bits is added below them.
+/// Returns the sum of two words, in which the part above 16 bits is added to the low 16 bits.
 fn ones_sum(sum: u16, word: u16) -> u16
     ensures { result ≡ sums.ones_sum sum word }
 {
@@ -16,7 +16,7 @@ fn ones_sum(sum: u16, word: u16) -> u16
     (sum % WORD + sum / WORD) as u16
 }
 
-/// A sum with the words of octets more, of which the last is filled up by an octet of zeros.
+/// Returns a sum with the words of octets added. The last word is filled up with an octet of zeros.
 #[tactic(auto, unfolding(crate::specs::Checksums::sum_of))]
 pub(crate) fn summed(sum: u16, octets: &[u8]) -> u16
     ensures { result ≡ sums.sum_of sum octets.now }

@@ -3,12 +3,12 @@
 use rd_base::Starved;
 use std::alloc::{AllocError, AllocFailed};
 
-/// Why a packet is not read. The capture goes on behind it.
+/// Why a packet is not read. The capture goes on after it.
 #[derive(Clone, Copy, Debug, PartialEq, Eq)]
 pub enum PacketFault {
     /// It was captured over an interface that the capture does not describe.
     Interface,
-    /// Its link type is none of those that are read.
+    /// Its link type is not one that is read.
     LinkLayer,
     /// It has fewer octets than its headers say.
     Cut,
@@ -16,20 +16,20 @@ pub enum PacketFault {
     Version,
     /// It is a fragment.
     Fragment,
-    /// A length in its headers is below that of the header itself.
+    /// A length in its headers is less than that of the header itself.
     Length,
-    /// More octets of it were captured than are kept.
+    /// More octets of it were captured than are stored.
     TooLong,
 }
 
 /// Why a capture is not read any further.
 #[derive(Clone, Copy, Debug, PartialEq, Eq)]
 pub enum CaptureFault {
-    /// What it begins with is not what a capture begins with.
+    /// It does not begin as a capture does.
     NoCapture,
     /// A block has a length that no block has, or is a section of an unknown form.
     Block,
-    /// Out of memory.
+    /// Memory ran out.
     Starved,
 }
 

@@ -7,41 +7,41 @@ use crate::packets::{Found, Packet};
 use crate::times::{Resolution, moved};
 use rd_base::Moment;
 
-/// The option that says what the ticks of an interface are (if_tsresol).
+/// The option that gives the resolution of an interface's times (if_tsresol).
 const TIME_RESOLUTION: u16 = 9;
 
-/// The option that says how many seconds are to be added to its times (if_tsoffset).
+/// The option that gives the seconds to add to an interface's times (if_tsoffset).
 const TIME_OFFSET: u16 = 14;
 
 /// The option that ends the options (opt_endofopt).
 const END_OF_OPTIONS: u16 = 0;
 
-/// The value of an option is filled up to a multiple of this many octets.
+/// The number of octets to whose multiples the value of an option is filled up.
 const ALIGNMENT: usize = 4;
 
 /// An interface over which packets were captured.
 #[derive(Clone, Copy, Debug)]
 pub(crate) struct Interface {
-    /// What its packets begin with.
+    /// The link type of its packets.
     pub link_type: LinkType,
-    /// The most octets that were captured of a packet; 0 where all were.
+    /// The maximum number of octets that were captured of a packet, or 0 if all were.
     pub snap_length: u32,
-    /// What the ticks of its times are.
+    /// The resolution of its times.
     pub resolution: Resolution,
-    /// How many seconds are to be added to its times.
+    /// The number of seconds to add to its times.
     pub offset: i64,
 }
 
 /// An option of a block (draft-ietf-opsawg-pcapng section 3.5).
 #[derive(Clone, Copy, Debug)]
 struct BlockOption<'p> {
-    /// What it is about.
+    /// The code of the option.
     code: u16,
-    /// What it says, without what fills it up.
+    /// The value, without the octets that fill it up.
     value: &'p [u8],
 }
 
-/// The option that octets begin with, and what stands behind it. None: it is cut.
+/// Returns the option at the beginning of octets and the rest, or `None` if it is cut.
 fn option_at(order: ByteOrder, octets: &[u8]) -> Option<(BlockOption<'_>, &[u8])>
     ensures { IfSome result (λ read. length read.1.now + 4 ≤ length octets.now) }
 {
@@ -54,12 +54,12 @@ fn option_at(order: ByteOrder, octets: &[u8]) -> Option<(BlockOption<'_>, &[u8])
 }
 
 impl Interface {
-    /// The moment of a time of this interface.
+    /// Returns the moment of a time of this interface.
     pub(crate) fn moment(&self, ticks: u64) -> Moment {
         Moment(moved(self.resolution.milliseconds(ticks), self.offset))
     }
 
-    /// A packet of this interface.
+    /// Returns a packet of this interface.
     pub(crate) fn packet<'p>(&self, moment: Moment, frame: &'p [u8]) -> Found<'p> {
         Found::Packet(Packet {
             moment,
@@ -68,7 +68,7 @@ impl Interface {
         })
     }
 
-    /// What an option says of this interface.
+    /// Applies an option to this interface.
     fn set_option(&mut self, order: ByteOrder, option: BlockOption<'_>) {
         match option.code {
             TIME_RESOLUTION => {
@@ -85,7 +85,7 @@ impl Interface {
         }
     }
 
-    /// What options say of this interface, up to their end or to one that is cut.
+    /// Applies options to this interface, up to their end or to one that is cut.
     fn set_options(&mut self, order: ByteOrder, options: &[u8]) {
         let mut rest = options;
         'options: while let Some((option, behind)) = option_at(order, rest) {
@@ -98,7 +98,7 @@ impl Interface {
     }
 }
 
-/// The interface that a block describes. None: the block is cut.
+/// Returns the interface that a block describes, or `None` if the block is cut.
 pub(crate) fn interface_of(order: ByteOrder, block: &[u8]) -> Option<Interface> {
     let (link_type, rest) = number16_at(order, block)?;
     let (_, rest) = number16_at(order, rest)?;

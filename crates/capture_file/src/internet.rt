@@ -1,4 +1,4 @@
-//! The Internet Protocol, versions 4 and 6: which UDP datagram a packet carries.
+//! The Internet Protocol, versions 4 and 6: the UDP datagram that a packet carries.
 ghost use Rattle.std.specs.Prelude.{◌<◌, length, IfSome};
 
 use crate::faults::PacketFault;
@@ -21,21 +21,21 @@ const FRAGMENT: u8 = 44;
 /// The extension header of options for the destination (RFC 8200 section 4.6).
 const DESTINATION: u8 = 60;
 
-/// The octets that a word of an IPv4 header has.
+/// The number of octets in a word of an IPv4 header.
 const WORD: u16 = 4;
 
-/// The least octets of an IPv4 header (RFC 791 section 3.1).
+/// The minimum length of an IPv4 header in octets (RFC 791 section 3.1).
 const IPV4_HEADER: u16 = 20;
 
-/// The bits of an IPv4 header by which a packet is a fragment: more fragments follow, or it does
-/// not begin the packet (RFC 791 section 3.1).
+/// The bits of an IPv4 header of which one is set in a fragment: more fragments follow, or the
+/// offset is not 0 (RFC 791 section 3.1).
 const IS_FRAGMENT: u16 = 0x3fff;
 
-/// The octets of the version, the traffic class and the flow label of IPv6.
+/// The length of the version, the traffic class and the flow label of IPv6, in octets.
 const IPV6_FLOW: usize = 4;
 
-/// The octets of an extension header that its length does not count, and by which it counts the
-/// others (RFC 8200 section 4.3).
+/// The number of octets of an extension header that its length does not count. It is also the unit
+/// in which the others are counted (RFC 8200 section 4.3).
 const EXTENSION_UNIT: usize = 8;
 
 /// A UDP datagram in an IP packet, with its header.
@@ -45,21 +45,22 @@ pub(crate) struct UdpPacket<'p> {
     pub source: IpAddr,
     /// The address that it went to.
     pub destination: IpAddr,
-    /// The octets of the datagram, as far as they were captured and the packet holds them.
+    /// The octets of the datagram, as far as they were captured and are part of the packet.
     pub octets: &'p [u8],
 }
 
-/// The first octets, at most so many.
+/// Returns the first octets, at most `count`.
 fn at_most(count: usize, octets: &[u8]) -> &[u8] {
     &octets[..count.min(octets.len())]
 }
 
-/// The version of the packet that begins with this octet.
+/// Returns the version of the packet that begins with this octet.
 pub(crate) fn version_of(first: u8) -> u8 {
     first / 16
 }
 
-/// Whether octets begin a packet of this version. `Cut`: there are none. `Version`: they do not.
+/// Checks that octets begin a packet of this version. Returns `Cut` if there are none, and
+/// `Version` if they do not.
 fn check_version(version: u8, octets: &[u8]) -> Result<(), PacketFault> {
     let first = octets.first().ok_or(PacketFault::Cut)?;
     if version_of(*first) != version {
@@ -71,21 +72,21 @@ fn check_version(version: u8, octets: &[u8]) -> Result<(), PacketFault> {
 /// The fields of an IPv4 header that are used here (RFC 791 section 3.1).
 #[derive(Clone, Copy, Debug)]
 struct Ipv4Header {
-    /// The octets of the header, with its options.
+    /// The length of the header in octets, with its options.
     header_length: u16,
-    /// The octets of the packet, with the header.
+    /// The length of the packet in octets, with the header.
     total_length: u16,
-    /// The flags, and where a fragment stands in its packet.
+    /// The flags, and the offset of a fragment.
     fragment: u16,
-    /// What the packet carries.
+    /// The protocol that the packet carries.
     protocol: u8,
-    /// The address that it came from.
+    /// The address that the packet came from.
     source: IpAddr,
-    /// The address that it went to.
+    /// The address that the packet went to.
     destination: IpAddr,
 }
 
-/// The address of IPv4 that octets begin with, and what stands behind it. None: it is cut.
+/// Returns the IPv4 address at the beginning of octets and the rest, or `None` if it is cut.
 fn ipv4_address_at(octets: &[u8]) -> Option<(IpAddr, &[u8])> {
     let [first, second, third, fourth, rest @ ..] = octets else {
         return None;
@@ -96,7 +97,7 @@ fn ipv4_address_at(octets: &[u8]) -> Option<(IpAddr, &[u8])> {
     ))
 }
 
-/// The two octets that octets begin with, and what stands behind them. None: there are fewer.
+/// Returns the two octets at the beginning of octets and the rest, or `None` if there are fewer.
 fn pair_at(octets: &[u8]) -> Option<(u8, u8, &[u8])> {
     let [first, second, rest @ ..] = octets else {
         return None;
@@ -104,7 +105,7 @@ fn pair_at(octets: &[u8]) -> Option<(u8, u8, &[u8])> {
     Some((*first, *second, rest))
 }
 
-/// The IPv4 header that octets begin with. None: it is cut.
+/// Returns the IPv4 header at the beginning of octets, or `None` if it is cut.
 fn ipv4_header(octets: &[u8]) -> Option<Ipv4Header> {
     let (first, _, rest) = pair_at(octets)?;
     let (total_length, rest) = number16_at(BigEndian, rest)?;
@@ -124,10 +125,11 @@ fn ipv4_header(octets: &[u8]) -> Option<Ipv4Header> {
     })
 }
 
-/// The UDP datagram of an IPv4 packet. None: it carries another protocol.
+/// Returns the UDP datagram of an IPv4 packet, or `None` if it carries another protocol.
 ///
-/// `Version`: it is of another version. `Cut`: it ends before its header does. `Length`: its
-/// header says that it is shorter than the header. `Fragment`: it is one.
+/// Returns `Version` if the packet is of another version, and `Cut` if it ends before its header
+/// does. Returns `Length` if its header says that it is shorter than the header, and `Fragment` if
+/// it is a fragment.
 pub(crate) fn ipv4_udp(octets: &[u8]) -> Result<Option<UdpPacket<'_>>, PacketFault> {
     check_version(4, octets)?;
     let header = ipv4_header(octets).ok_or(PacketFault::Cut)?;
@@ -149,7 +151,7 @@ pub(crate) fn ipv4_udp(octets: &[u8]) -> Result<Option<UdpPacket<'_>>, PacketFau
     }))
 }
 
-/// The address of IPv6 that octets begin with, and what stands behind it. None: it is cut.
+/// Returns the IPv6 address at the beginning of octets and the rest, or `None` if it is cut.
 fn ipv6_address_at(octets: &[u8]) -> Option<(IpAddr, &[u8])> {
     let (first, rest) = number16_at(BigEndian, octets)?;
     let (second, rest) = number16_at(BigEndian, rest)?;
@@ -163,20 +165,20 @@ fn ipv6_address_at(octets: &[u8]) -> Option<(IpAddr, &[u8])> {
     Some((IpAddr::V6(Ipv6Addr::from_segments(groups)), rest))
 }
 
-/// The fields of an IPv6 header that are used here, and what it carries (RFC 8200 section 3).
+/// The fields of an IPv6 header that are used here, and the payload (RFC 8200 section 3).
 #[derive(Clone, Copy, Debug)]
 struct Ipv6Packet<'p> {
-    /// What stands behind the header.
+    /// The kind of the header after this one, or the protocol of the payload.
     next_header: u8,
     /// The address that the packet came from.
     source: IpAddr,
-    /// The address that it went to.
+    /// The address that the packet went to.
     destination: IpAddr,
-    /// The octets behind the header, as far as they were captured and the packet holds them.
+    /// The octets after the header, as far as they were captured and are part of the packet.
     payload: &'p [u8],
 }
 
-/// The IPv6 packet that octets are. None: its header is cut.
+/// Returns the IPv6 packet of octets, or `None` if its header is cut.
 fn ipv6_packet(octets: &[u8]) -> Option<Ipv6Packet<'_>> {
     let (_, rest) = octets_at(IPV6_FLOW, octets)?;
     let (length, rest) = number16_at(BigEndian, rest)?;
@@ -191,13 +193,13 @@ fn ipv6_packet(octets: &[u8]) -> Option<Ipv6Packet<'_>> {
     })
 }
 
-/// Whether an extension header is one that is passed over.
+/// Returns whether an extension header is one that is skipped.
 fn is_passed(header: u8) -> bool {
     header == HOP_BY_HOP || header == ROUTING || header == DESTINATION
 }
 
-/// What stands behind the extension header that octets begin with, and what it is. None: it is
-/// cut.
+/// Returns the kind of the header after the extension header at the beginning of octets, and the
+/// rest, or `None` if it is cut.
 fn behind_extension(octets: &[u8]) -> Option<(u8, &[u8])>
     ensures { IfSome result (λ next. length next.1.now < length octets.now) }
 {
@@ -208,8 +210,9 @@ fn behind_extension(octets: &[u8]) -> Option<(u8, &[u8])>
     Some((*next, rest))
 }
 
-/// The octets of the UDP datagram behind extension headers, of which `header` is the first. None:
-/// another protocol stands behind them. `Cut`: they are. `Fragment`: one of them is that of one.
+/// Returns the octets of the UDP datagram after extension headers, of which `header` is the first,
+/// or `None` if another protocol follows them. Returns `Cut` if an extension header is cut, and
+/// `Fragment` if one is that of a fragment.
 fn behind_extensions(header: u8, octets: &[u8]) -> Result<Option<&[u8]>, PacketFault> {
     let mut header = header;
     let mut rest = octets;
@@ -225,10 +228,10 @@ fn behind_extensions(header: u8, octets: &[u8]) -> Result<Option<&[u8]>, PacketF
     }
 }
 
-/// The UDP datagram of an IPv6 packet. None: it carries another protocol.
+/// Returns the UDP datagram of an IPv6 packet, or `None` if it carries another protocol.
 ///
-/// `Version`: it is of another version. `Cut`: it ends before its headers do. `Fragment`: it is
-/// one.
+/// Returns `Version` if the packet is of another version, `Cut` if it ends before its headers do,
+/// and `Fragment` if it is a fragment.
 pub(crate) fn ipv6_udp(octets: &[u8]) -> Result<Option<UdpPacket<'_>>, PacketFault> {
     check_version(6, octets)?;
     let packet = ipv6_packet(octets).ok_or(PacketFault::Cut)?;

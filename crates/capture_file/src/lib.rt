@@ -1,5 +1,5 @@
-//! Captures of network traffic: pcap and pcapng files are read, the UDP datagrams of their
-//! packets found, and pcap files written.
+//! Captures of network traffic. It reads pcap and pcapng files, finds the UDP datagrams of their
+//! packets, and writes pcap files.
 #![tactic(auto)]
 
 mod blocks;

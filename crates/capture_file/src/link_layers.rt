@@ -1,4 +1,4 @@
-//! Link layers: what a packet begins with, and what it carries.
+//! Link layers: the beginning of a packet, and what it carries.
 ghost use Rattle.std.specs.Prelude.{◌≤◌, length, IfSome};
 
 use crate::faults::PacketFault;
@@ -6,31 +6,31 @@ use crate::internet::version_of;
 use crate::numbers::ByteOrder::BigEndian;
 use crate::numbers::{number16_at, number32_at, octets_at};
 
-/// BSD's loopback: the number of an address family in the order of the machine.
+/// BSD's loopback: the number of an address family in the byte order of the host.
 const LINKTYPE_NULL: u16 = 0;
 
 /// Ethernet.
 const LINKTYPE_ETHERNET: u16 = 1;
 
-/// An IP packet alone, as the systems number it on which it is 12.
+/// An IP packet without a link layer, on the systems that give it the number 12.
 const DLT_RAW: u16 = 12;
 
-/// An IP packet alone.
+/// An IP packet without a link layer.
 const LINKTYPE_RAW: u16 = 101;
 
 /// OpenBSD's loopback: the number of an address family.
 const LINKTYPE_LOOP: u16 = 108;
 
-/// Linux, cooked.
+/// Linux cooked capture.
 const LINKTYPE_LINUX_SLL: u16 = 113;
 
-/// An IPv4 packet alone.
+/// An IPv4 packet without a link layer.
 const LINKTYPE_IPV4: u16 = 228;
 
-/// An IPv6 packet alone.
+/// An IPv6 packet without a link layer.
 const LINKTYPE_IPV6: u16 = 229;
 
-/// Linux, cooked, version 2.
+/// Linux cooked capture, version 2.
 const LINKTYPE_LINUX_SLL2: u16 = 276;
 
 /// IPv4, as an EtherType (RFC 894).
@@ -60,17 +60,17 @@ const AF_INET6_FREEBSD: u32 = 28;
 /// IPv6, as an address family on Darwin.
 const AF_INET6_DARWIN: u32 = 30;
 
-/// The octets of two Ethernet addresses.
+/// The length of two Ethernet addresses in octets.
 const ETHERNET_ADDRESSES: usize = 12;
 
-/// The octets before the EtherType of a packet that Linux cooked: its kind, the kind of the
+/// The number of octets before the EtherType of a Linux cooked packet: its kind, the kind of the
 /// device, and an address of eight octets with its length.
 const COOKED_PREFIX: usize = 14;
 
-/// The octets behind the EtherType of a packet that Linux cooked by version 2.
+/// The number of octets after the EtherType of a Linux cooked packet of version 2.
 const COOKED2_SUFFIX: usize = 18;
 
-/// What the packets of an interface begin with, by the registry of link types
+/// The beginning of the packets of an interface, by the registry of link types
 /// (draft-ietf-opsawg-pcaplinktype).
 #[derive(Clone, Copy, Debug, PartialEq, Eq)]
 pub enum LinkType {
@@ -78,9 +78,9 @@ pub enum LinkType {
     Loopback,
     /// Ethernet addresses and an EtherType, with VLAN tags before it (`ETHERNET`).
     Ethernet,
-    /// What Linux tells of a packet (`LINUX_SLL`).
+    /// The header of a Linux cooked capture (`LINUX_SLL`).
     LinuxCooked,
-    /// The same, version 2 (`LINUX_SLL2`).
+    /// The header of a Linux cooked capture, version 2 (`LINUX_SLL2`).
     LinuxCooked2,
     /// Nothing: an IP packet of either version (`RAW`).
     Raw,
@@ -88,12 +88,12 @@ pub enum LinkType {
     Ipv4,
     /// Nothing: an IPv6 packet (`IPV6`).
     Ipv6,
-    /// What is not read here.
+    /// A link type that is not read here.
     Other,
 }
 
 impl LinkType {
-    /// The link type with this number.
+    /// Returns the link type with this number.
     pub fn of(number: u16) -> LinkType {
         match number {
             LINKTYPE_NULL | LINKTYPE_LOOP => LinkType::Loopback,
@@ -108,18 +108,18 @@ impl LinkType {
     }
 }
 
-/// What a packet carries behind the link layer.
+/// What a packet carries after the link layer.
 #[derive(Clone, Copy, Debug)]
 pub(crate) enum Carried<'p> {
-    /// What is said to be an IPv4 packet.
+    /// An IPv4 packet, according to the link layer.
     Ipv4(&'p [u8]),
-    /// What is said to be an IPv6 packet.
+    /// An IPv6 packet, according to the link layer.
     Ipv6(&'p [u8]),
     /// No IP packet.
     Other,
 }
 
-/// What an EtherType says that octets are.
+/// Returns what octets are according to an EtherType.
 fn by_ether_type(ether_type: u16, octets: &[u8]) -> Carried<'_> {
     match ether_type {
         ETHERTYPE_IPV4 => Carried::Ipv4(octets),
@@ -128,12 +128,12 @@ fn by_ether_type(ether_type: u16, octets: &[u8]) -> Carried<'_> {
     }
 }
 
-/// Whether an EtherType says that a VLAN tag comes, which has two octets and a further EtherType.
+/// Returns whether an EtherType announces a VLAN tag, which has two octets and a further EtherType.
 fn is_vlan(ether_type: u16) -> bool {
     ether_type == ETHERTYPE_VLAN || ether_type == ETHERTYPE_SERVICE_VLAN
 }
 
-/// What octets behind an EtherType are, with VLAN tags passed over. None: they are cut.
+/// Skips VLAN tags. Returns what the octets after an EtherType are, or `None` if they are cut.
 fn tagged(ether_type: u16, octets: &[u8]) -> Option<Carried<'_>> {
     let mut ether_type = ether_type;
     let mut rest = octets;
@@ -146,29 +146,29 @@ fn tagged(ether_type: u16, octets: &[u8]) -> Option<Carried<'_>> {
     Some(by_ether_type(ether_type, rest))
 }
 
-/// What an Ethernet frame carries. None: it is cut.
+/// Returns what an Ethernet frame carries, or `None` if it is cut.
 fn ethernet(frame: &[u8]) -> Option<Carried<'_>> {
     let (_, rest) = octets_at(ETHERNET_ADDRESSES, frame)?;
     let (ether_type, rest) = number16_at(BigEndian, rest)?;
     tagged(ether_type, rest)
 }
 
-/// What a packet carries that Linux cooked. None: it is cut.
+/// Returns what a Linux cooked packet carries, or `None` if it is cut.
 fn linux_cooked(frame: &[u8]) -> Option<Carried<'_>> {
     let (_, rest) = octets_at(COOKED_PREFIX, frame)?;
     let (ether_type, rest) = number16_at(BigEndian, rest)?;
     tagged(ether_type, rest)
 }
 
-/// What a packet carries that Linux cooked by version 2. None: it is cut.
+/// Returns what a Linux cooked packet of version 2 carries, or `None` if it is cut.
 fn linux_cooked2(frame: &[u8]) -> Option<Carried<'_>> {
     let (ether_type, rest) = number16_at(BigEndian, frame)?;
     let (_, rest) = octets_at(COOKED2_SUFFIX, rest)?;
     tagged(ether_type, rest)
 }
 
-/// What a packet of a loopback carries. The number of its address family is small, so it is told
-/// in either order of its octets. None: it is cut.
+/// Returns what a loopback packet carries, or `None` if it is cut. The number of its address family
+/// is small, so it is recognized in either byte order.
 fn loopback(frame: &[u8]) -> Option<Carried<'_>> {
     let (family, rest) = number32_at(BigEndian, frame)?;
     let family = family.min(family.swap_bytes());
@@ -181,8 +181,8 @@ fn loopback(frame: &[u8]) -> Option<Carried<'_>> {
     })
 }
 
-/// What an IP packet without a link layer is, by the version in its first octet. `Cut`: it has
-/// none. `Version`: it is neither of the two.
+/// Returns what an IP packet without a link layer is, by the version in its first octet. Returns
+/// `Cut` if there is no octet, and `Version` if it is neither version.
 fn raw(frame: &[u8]) -> Result<Carried<'_>, PacketFault> {
     match frame.first() {
         None => Err(PacketFault::Cut),
@@ -194,8 +194,9 @@ fn raw(frame: &[u8]) -> Result<Carried<'_>, PacketFault> {
     }
 }
 
-/// What a packet with this link type carries. `LinkLayer`: the link type is not read. `Cut`: the
-/// packet ends before its link layer does. `Version`: it is an IP packet of neither version.
+/// Returns what a packet with this link type carries. Returns `LinkLayer` if the link type is not
+/// one that is read. Returns `Cut` if the packet ends before its link layer does, and `Version` if
+/// it is an IP packet of neither version.
 pub(crate) fn behind_link_layer(
     link_type: LinkType,
     frame: &[u8],

@@ -1,7 +1,7 @@
-//! The numbers of headers, and the octets behind them.
+//! The numbers of headers, and the octets after them.
 ghost use Rattle.std.specs.Prelude.{◌≡◌, ◌+◌, length, IfSome};
 
-/// The order in which the octets of a number stand.
+/// The order of the octets of a number.
 #[derive(Clone, Copy, Debug, PartialEq, Eq)]
 pub(crate) enum ByteOrder {
     /// The most significant octet comes first, as in all headers of the Internet.
@@ -10,7 +10,7 @@ pub(crate) enum ByteOrder {
     LittleEndian,
 }
 
-/// The number of 16 bits that octets begin with, and what stands behind it. None: there are fewer
+/// Returns the 16-bit number at the beginning of octets and the rest, or `None` if there are fewer
 /// than two octets.
 pub(crate) fn number16_at(order: ByteOrder, octets: &[u8]) -> Option<(u16, &[u8])>
     ensures { IfSome result (λ read. length read.1.now + 2 ≡ length octets.now) }
@@ -26,7 +26,7 @@ pub(crate) fn number16_at(order: ByteOrder, octets: &[u8]) -> Option<(u16, &[u8]
     Some((number, rest))
 }
 
-/// The number of 32 bits that octets begin with, and what stands behind it. None: there are fewer
+/// Returns the 32-bit number at the beginning of octets and the rest, or `None` if there are fewer
 /// than four octets.
 pub(crate) fn number32_at(order: ByteOrder, octets: &[u8]) -> Option<(u32, &[u8])>
     ensures { IfSome result (λ read. length read.1.now + 4 ≡ length octets.now) }
@@ -42,7 +42,7 @@ pub(crate) fn number32_at(order: ByteOrder, octets: &[u8]) -> Option<(u32, &[u8]
     Some((number, rest))
 }
 
-/// The number of 64 bits that octets begin with, and what stands behind it. None: there are fewer
+/// Returns the 64-bit number at the beginning of octets and the rest, or `None` if there are fewer
 /// than eight octets.
 pub(crate) fn number64_at(order: ByteOrder, octets: &[u8]) -> Option<(u64, &[u8])>
     ensures { IfSome result (λ read. length read.1.now + 8 ≡ length octets.now) }
@@ -56,12 +56,12 @@ pub(crate) fn number64_at(order: ByteOrder, octets: &[u8]) -> Option<(u64, &[u8]
     Some((number, rest))
 }
 
-/// The number of 64 bits with these upper and lower 32 bits.
+/// Returns the 64-bit number with these upper and lower 32 bits.
 pub(crate) fn joined(high: u32, low: u32) -> u64 {
     (u64::from(high) << 32) | u64::from(low)
 }
 
-/// The first octets, so many, and what stands behind them. None: there are fewer.
+/// Returns the first `count` octets and the rest, or `None` if there are fewer.
 pub(crate) fn octets_at(count: usize, octets: &[u8]) -> Option<(&[u8], &[u8])>
     ensures first { IfSome result (λ read. length read.0.now ≡ count) }
     ensures rest { IfSome result (λ read. length read.1.now + count ≡ length octets.now) }

@@ -1,4 +1,4 @@
-//! Packets as they are captured.
+//! Captured packets.
 
 use crate::faults::PacketFault;
 use crate::link_layers::LinkType;
@@ -7,21 +7,21 @@ use rd_base::Moment;
 /// A captured packet.
 #[derive(Clone, Copy, Debug)]
 pub struct Packet<'p> {
-    /// When it was captured, in milliseconds since 1970.
+    /// The moment at which it was captured, in milliseconds since 1970.
     pub moment: Moment,
-    /// What it begins with.
+    /// The link type of its beginning.
     pub link_type: LinkType,
     /// Its octets, as far as they were captured.
     pub frame: &'p [u8],
 }
 
-/// What a part of a capture is.
+/// The content of a part of a capture.
 #[derive(Clone, Copy, Debug)]
 pub enum Found<'p> {
     /// A header, or a block without a packet.
     NoPacket,
     /// A packet.
     Packet(Packet<'p>),
-    /// A packet that is not read, and why.
+    /// A packet that is not read, and the reason.
     Unread(PacketFault),
 }

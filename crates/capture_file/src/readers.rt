@@ -1,4 +1,4 @@
-//! Captures, read part by part: classic ones (draft-ietf-opsawg-pcap) and those of blocks
+//! Captures, read part by part: classic captures (draft-ietf-opsawg-pcap) and captures of blocks
 //! (draft-ietf-opsawg-pcapng).
 ghost use Rattle.std.specs.Prelude.{◌<◌, ◌≤◌, IfSome};
 
@@ -14,76 +14,77 @@ use crate::times::Resolution;
 use rd_base::Moment;
 use std::alloc::Global;
 
-/// The most octets of a part that [`Reader::read`] looks at: the first of them.
+/// The maximum number of octets of a part that [`Reader::read`] reads: its first.
 pub const MAX_PART: usize = 1 << 20;
 
-/// What a classic capture begins with.
+/// The magic number of a classic capture.
 const CLASSIC: u32 = 0xa1b2_c3d4;
 
-/// What it begins with where its times have nanoseconds.
+/// The magic number of a classic capture whose times have nanoseconds.
 const CLASSIC_NANOSECONDS: u32 = 0xa1b2_3c4d;
 
-/// The first number of the version of a classic capture.
+/// The major version of a classic capture.
 const CLASSIC_VERSION: u16 = 2;
 
-/// How many numbers there are for link types.
+/// The number of possible link types.
 const LINK_TYPES: u32 = 0x1_0000;
 
-/// What a section has in its own order of octets.
+/// The byte-order magic of a section.
 const BYTE_ORDER_MAGIC: u32 = 0x1a2b_3c4d;
 
-/// The first number of the version of a section.
+/// The major version of a section.
 const SECTION_VERSION: u16 = 1;
 
-/// The octets of a number that begins a file or a block, and of the length of a block.
+/// The length in octets of the number that begins a file or a block, and of the length of a block.
 const NUMBER: usize = 4;
 
-/// The octets of the header of a classic capture behind its first number.
+/// The length in octets of the header of a classic capture after its magic number.
 const FILE_HEADER: usize = 20;
 
-/// The octets of the header of a packet of a classic capture.
+/// The length in octets of the header of a packet of a classic capture.
 const RECORD_HEADER: usize = 16;
 
-/// The octets of the length and the order of a section.
+/// The length in octets of the length and the byte order of a section.
 const SECTION_START: usize = 8;
 
-/// The octets of the least block: its type, and its length at both ends.
+/// The minimum length of a block in octets: its type, and its length at both ends.
 const LEAST_BLOCK: u32 = 12;
 
-/// The octets of the least section header block.
+/// The minimum length of a section header block in octets.
 const LEAST_SECTION: u32 = 28;
 
-/// The octets of a block before what it says: its type and its length.
+/// The number of octets of a block before its body: its type and its length.
 const BLOCK_START: u32 = 8;
 
-/// The octets of a section header block before its version: its type, its length and its order.
+/// The number of octets of a section header block before its version: its type, its length and its
+/// byte order.
 const SECTION_BEGIN: u32 = 12;
 
-/// The length of a block is a multiple of this many octets.
+/// The number of octets of which the length of a block is a multiple.
 const ALIGNMENT: u32 = 4;
 
-/// What part comes next.
+/// The kind of the next part.
 #[derive(Clone, Copy, Debug)]
 enum Part {
     /// The number that a file begins with.
     Magic,
-    /// The header of a classic capture, behind its first number.
+    /// The header of a classic capture, after its magic number.
     FileHeader(Resolution),
     /// The header of a packet of a classic capture.
     RecordHeader,
-    /// A packet of a classic capture, of this moment.
+    /// A packet of a classic capture, captured at this moment.
     Record(Moment),
     /// The type of a block.
     BlockType,
-    /// The length and the order of a section.
+    /// The length and the byte order of a section.
     SectionStart,
     /// The length of a block.
     BlockLength(Block),
-    /// What stands in a block behind its length, and its length again.
+    /// The body of a block after its length, and its length again.
     Body(Block),
 }
 
-/// The order of octets in which a number is this one, where they are its octets.
+/// Returns the byte order in which the first octets are this number, or `None` if there is none.
 fn order_of(number: u32, octets: &[u8]) -> Option<ByteOrder> {
     let (found, _) = number32_at(ByteOrder::BigEndian, octets)?;
     if found == number {
@@ -95,8 +96,8 @@ fn order_of(number: u32, octets: &[u8]) -> Option<ByteOrder> {
     None
 }
 
-/// The octets that are left of a block of this length when so many were read. None: it has fewer
-/// than the least, or its length is none that a block has.
+/// Returns how many octets of a block of this length are left after `read` octets. Returns `None`
+/// if it is shorter than `least`, or no block has this length.
 fn left_of_block(length: u32, least: u32, read: u32) -> Option<usize>
     requires { read < least }
     ensures { IfSome result (λ left. 1 ≤ left) }
@@ -107,27 +108,27 @@ fn left_of_block(length: u32, least: u32, read: u32) -> Option<usize>
     Some((length - read) as usize)
 }
 
-/// Reads a capture part by part. How many octets the next part has says [`Reader::wanted`], and
-/// [`Reader::read`] is given them.
+/// A reader of a capture, part by part. [`Reader::wanted`] returns the length of the next part, and
+/// [`Reader::read`] reads it.
 #[derive(Drop)]
 pub struct Reader {
-    /// The order of the numbers of the file or the section.
+    /// The byte order of the file or the section.
     order: ByteOrder,
-    /// The interfaces of the file or the section, by their numbers from 0.
+    /// The interfaces of the file or the section, by number from 0.
     interfaces: Vec<Interface>,
     /// The moment of the last packet that has one.
     latest: Moment,
     /// Whether the header of the file was read.
     is_capture: bool,
-    /// What comes next.
+    /// The kind of the next part.
     part: Part,
-    /// How many octets it has.
+    /// The length of the next part in octets.
     wanted: usize,
     ghost present: { 1 ≤ wanted },
 }
 
 impl Reader {
-    /// A reader before a file.
+    /// Creates a reader at the beginning of a file.
     pub fn new(alloc: Global) -> Reader {
         Reader {
             order: ByteOrder::BigEndian,
@@ -139,19 +140,19 @@ impl Reader {
         }
     }
 
-    /// How many octets the next part has.
+    /// Returns the length of the next part in octets, at least one.
     pub fn wanted(&self) -> usize
         ensures { 1 ≤ result }
     {
         self.wanted
     }
 
-    /// Whether what was read is the header of a capture, and what stands behind it.
+    /// Returns whether what was read so far begins a capture.
     pub fn is_capture(&self) -> bool {
         self.is_capture
     }
 
-    /// Whether a capture may end before the next part.
+    /// Returns whether a capture may end before the next part.
     pub fn may_end(&self) -> bool {
         match self.part {
             Part::RecordHeader | Part::BlockType => true,
@@ -159,7 +160,7 @@ impl Reader {
         }
     }
 
-    /// This part comes next.
+    /// Sets the kind and the length of the next part.
     fn set_next(&mut self, part: Part, wanted: usize)
         requires { 1 ≤ wanted }
     {
@@ -167,7 +168,7 @@ impl Reader {
         self.wanted = wanted;
     }
 
-    /// The number that a file begins with.
+    /// Reads the magic number of a file.
     fn read_magic(&mut self, part: &[u8]) -> Result<(), CaptureFault> {
         if order_of(SECTION_HEADER, part).is_some() {
             self.set_next(Part::SectionStart, SECTION_START);
@@ -186,8 +187,8 @@ impl Reader {
         Err(CaptureFault::NoCapture)
     }
 
-    /// What the header of a classic capture says of its interface (draft-ietf-opsawg-pcap section
-    /// 4). None: it is cut, or it is of another version.
+    /// Returns the interface of the header of a classic capture (draft-ietf-opsawg-pcap section 4),
+    /// or `None` if the header is cut or of another version.
     fn classic_interface(&self, resolution: Resolution, part: &[u8]) -> Option<Interface> {
         let (version, rest) = number16_at(self.order, part)?;
         let (_, rest) = number16_at(self.order, rest)?;
@@ -207,7 +208,7 @@ impl Reader {
         })
     }
 
-    /// The header of a classic capture.
+    /// Reads the header of a classic capture.
     fn read_file_header(
         &mut self,
         resolution: Resolution,
@@ -222,13 +223,13 @@ impl Reader {
         Ok(())
     }
 
-    /// The interface with this number.
+    /// Returns the interface with this number.
     fn interface(&self, number: u32) -> Option<Interface> {
         self.interfaces.get(number as usize).copied()
     }
 
-    /// The moment of a packet of a classic capture, and how many octets of it were captured
-    /// (draft-ietf-opsawg-pcap section 5). None: the header is cut.
+    /// Returns the moment of a packet of a classic capture, and the number of its octets that were
+    /// captured (draft-ietf-opsawg-pcap section 5). Returns `None` if the header is cut.
     fn record_header(&self, part: &[u8]) -> Option<(Moment, u32)> {
         let (seconds, rest) = number32_at(self.order, part)?;
         let (fraction, rest) = number32_at(self.order, rest)?;
@@ -238,7 +239,7 @@ impl Reader {
         Some((moment, captured))
     }
 
-    /// The header of a packet of a classic capture.
+    /// Reads the header of a packet of a classic capture.
     fn read_record_header(&mut self, part: &[u8]) -> Found<'static> {
         let Some((moment, captured)) = self.record_header(part) else {
             return Found::Unread(PacketFault::Cut);
@@ -250,7 +251,7 @@ impl Reader {
         Found::NoPacket
     }
 
-    /// A packet of an interface.
+    /// Returns a packet of an interface.
     fn found<'p>(&self, interface: u32, moment: Moment, frame: &'p [u8]) -> Found<'p> {
         match self.interface(interface) {
             Some(interface) => interface.packet(moment, frame),
@@ -258,7 +259,7 @@ impl Reader {
         }
     }
 
-    /// A packet of a classic capture.
+    /// Reads a packet of a classic capture.
     fn read_record<'p>(&mut self, moment: Moment, part: &'p [u8]) -> Found<'p> {
         let is_whole = self.wanted == part.len();
         self.set_next(Part::RecordHeader, RECORD_HEADER);
@@ -268,7 +269,7 @@ impl Reader {
         self.found(0, moment, part)
     }
 
-    /// The type of a block.
+    /// Reads the type of a block.
     fn read_block_type(&mut self, part: &[u8]) {
         let number = number32_at(self.order, part).map_or(0, |read| read.0);
         match Block::of(number) {
@@ -277,7 +278,7 @@ impl Reader {
         }
     }
 
-    /// Why a section or a block cannot be read.
+    /// Returns why a section or a block cannot be read.
     fn fault(&self) -> CaptureFault {
         if self.is_capture {
             CaptureFault::Block
@@ -286,8 +287,8 @@ impl Reader {
         }
     }
 
-    /// The length and the order of a section, and how many octets are left of its header. None:
-    /// they are cut, or those of no section.
+    /// Returns the byte order of a section, and how many octets of its header are left. Returns
+    /// `None` if the part is cut, or does not belong to a section.
     fn section_start(part: &[u8]) -> Option<(ByteOrder, usize)>
         ensures { IfSome result (λ start. 1 ≤ start.1) }
     {
@@ -298,7 +299,7 @@ impl Reader {
         Some((order, left))
     }
 
-    /// The length and the order of a section.
+    /// Reads the length and the byte order of a section.
     fn read_section_start(&mut self, part: &[u8]) -> Result<(), CaptureFault> {
         let Some((order, left)) = Reader::section_start(part) else {
             return Err(self.fault());
@@ -308,7 +309,7 @@ impl Reader {
         Ok(())
     }
 
-    /// The length of a block.
+    /// Reads the length of a block.
     fn read_block_length(&mut self, block: Block, part: &[u8]) -> Result<(), CaptureFault> {
         let length = number32_at(self.order, part).map_or(0, |read| read.0);
         let Some(left) = left_of_block(length, LEAST_BLOCK, BLOCK_START) else {
@@ -318,7 +319,7 @@ impl Reader {
         Ok(())
     }
 
-    /// A section begins: no interface is described yet.
+    /// Begins a section, in which no interface is described yet.
     fn read_section(&mut self, body: &[u8]) -> Result<(), CaptureFault> {
         match number16_at(self.order, body) {
             Some((SECTION_VERSION, _)) => {
@@ -330,7 +331,7 @@ impl Reader {
         }
     }
 
-    /// An interface is described. `Block`: its description is cut.
+    /// Adds an interface. Returns `Block` if its description is cut.
     fn read_interface(&mut self, body: &[u8]) -> Result<(), CaptureFault> {
         match interface_of(self.order, body) {
             Some(interface) => Ok(self.interfaces.push(interface)?),
@@ -338,7 +339,7 @@ impl Reader {
         }
     }
 
-    /// The packet of a block. None: it is cut.
+    /// Returns the packet of a block; a packet that is not read if it is cut.
     fn found_packet<'p>(&mut self, packet: Option<BlockPacket<'p>>) -> Found<'p> {
         let Some(packet) = packet else {
             return Found::Unread(PacketFault::Cut);
@@ -350,7 +351,7 @@ impl Reader {
         interface.packet(self.latest, packet.frame)
     }
 
-    /// The packet of a simple packet block. It has no moment: it is given that of the packet
+    /// Returns the packet of a simple packet block. It has no moment, and gets that of the packet
     /// before.
     fn found_simple<'p>(&self, body: &'p [u8]) -> Found<'p> {
         let Some(interface) = self.interface(0) else {
@@ -362,7 +363,7 @@ impl Reader {
         }
     }
 
-    /// What a block without a packet says.
+    /// Reads a block without a packet.
     fn read_other(&mut self, block: Block, body: &[u8]) -> Result<Found<'static>, CaptureFault> {
         match block {
             Block::Section => self.read_section(body)?,
@@ -372,7 +373,7 @@ impl Reader {
         Ok(Found::NoPacket)
     }
 
-    /// What stands in a block behind its length, before its length again.
+    /// Reads the body of a block, followed by its length again.
     fn read_body<'p>(&mut self, block: Block, part: &'p [u8]) -> Result<Found<'p>, CaptureFault> {
         let is_whole = self.wanted == part.len();
         self.set_next(Part::BlockType, NUMBER);
@@ -394,12 +395,16 @@ impl Reader {
         }
     }
 
-    /// Reads the next part: its octets, or the first [`MAX_PART`] of them where it has more.
+    /// Reads the next part: its octets, or the first [`MAX_PART`] of them if it has more.
     ///
-    /// `NoCapture`: what was read is not what a capture begins with. `Block`: a block has a
-    /// length that no block has, the description of an interface is cut, or a section is of an
-    /// unknown version; then what stands behind it cannot be found. `Starved`: out of memory.
-    /// After either the reader is not to be used any more.
+    /// After an error, the reader must not be used any more.
+    ///
+    /// # Errors
+    ///
+    /// - `NoCapture` if what was read does not begin as a capture does.
+    /// - `Block` if a block has a length that no block has, or a section is of an unknown version.
+    ///   Also if the description of an interface is cut. What follows such a block cannot be found.
+    /// - `Starved` if memory runs out.
     pub fn read<'p>(&mut self, part: &'p [u8]) -> Result<Found<'p>, CaptureFault> {
         match self.part {
             Part::Magic => self.read_magic(part)?,

@@ -1,4 +1,4 @@
-//! Classic captures, written (draft-ietf-opsawg-pcap): UDP datagrams in IP packets without a link
+//! Writing of classic captures (draft-ietf-opsawg-pcap): UDP datagrams in IP packets without a link
 //! layer.
 ghost use Rattle.std.specs.Prelude.{◌≡◌, ◌+◌, ◌≤◌, length, IfOk};
 ghost use Rattle.capture_file.specs.Written.{address_octets, header_octets, packet_octets};
@@ -7,33 +7,34 @@ use crate::checksums::summed;
 use rd_base::{Bytes, Moment, Starved};
 use std::alloc::Global;
 
-/// What a capture begins with, in numbers of the order in which the least significant octet comes
-/// first: the number that says so and that times have microseconds, the version 2.4, eight octets
-/// that are not used, the most octets of a packet (262,144), and the link type 101, which is
-/// none: IP packets alone.
+/// The header of a capture, in little-endian numbers.
+///
+/// It has the magic number of times in microseconds, the version 2.4, and eight octets that are not
+/// used. The maximum length of a packet (262,144 octets) and the link type 101 follow: IP packets
+/// without a link layer.
 pub const FILE_HEADER: [u8; 24] = [
     0xd4, 0xc3, 0xb2, 0xa1, 2, 0, 4, 0, 0, 0, 0, 0, 0, 0, 0, 0, 0, 0, 4, 0, 101, 0, 0, 0,
 ];
 
-/// The most octets of a payload.
+/// The maximum length of a payload in octets.
 pub const MAX_PAYLOAD: usize = 4_096;
 
-/// The milliseconds of a second.
+/// The number of milliseconds in a second.
 const SECOND: u64 = 1_000;
 
-/// The microseconds of a millisecond.
+/// The number of microseconds in a millisecond.
 const MILLISECOND: u32 = 1_000;
 
-/// The greatest number of seconds that a capture can say.
+/// The greatest number of seconds since 1970 in a capture.
 const LAST_SECOND: u64 = 0xffff_ffff;
 
-/// The octets of a UDP header (RFC 768).
+/// The length of a UDP header in octets (RFC 768).
 const UDP_HEADER: u16 = 8;
 
-/// The octets of an IPv4 header without options (RFC 791 section 3.1).
+/// The length of an IPv4 header without options, in octets (RFC 791 section 3.1).
 const IPV4_HEADER: u16 = 20;
 
-/// The version of IPv4, and how many words its header has.
+/// The version of IPv4, and the number of words of its header.
 const IPV4_BEGIN: u8 = 0x45;
 
 /// The version of IPv6.
@@ -42,13 +43,13 @@ const IPV6_BEGIN: u8 = 0x60;
 /// A packet that may not be fragmented (RFC 791 section 3.1).
 const DONT_FRAGMENT: u8 = 0x40;
 
-/// How many routers a packet may pass.
+/// The number of routers that a packet may pass.
 const HOPS: u8 = 64;
 
 /// UDP, as the protocol of a packet (RFC 768).
 const UDP: u8 = 17;
 
-/// The checksum of a datagram whose checksum comes out as 0, which would say that it has none
+/// The checksum of a datagram whose computed checksum is 0, since 0 would mean that it has none
 /// (RFC 768).
 const FULL_CHECKSUM: u16 = 0xffff;
 
@@ -80,7 +81,7 @@ pub struct Ports {
     pub destination: u16,
 }
 
-/// Appends an address of IPv6.
+/// Appends an IPv6 address.
 fn append_groups(octets: &mut Bytes, groups: &[u16; 8]) -> Result<(), Starved>
     ensures { IfOk result (λ _. length octets.new ≡ length octets.old + 16) }
 {
@@ -90,7 +91,7 @@ fn append_groups(octets: &mut Bytes, groups: &[u16; 8]) -> Result<(), Starved>
     Ok(())
 }
 
-/// The octets of the two addresses.
+/// Returns the octets of the two addresses.
 fn addresses(alloc: Global, route: &Route) -> Result<Bytes, Starved>
     ensures { IfOk result (λ octets. length octets ≡ address_octets route.now) }
 {
@@ -114,7 +115,7 @@ fn addresses(alloc: Global, route: &Route) -> Result<Bytes, Starved>
     Ok(octets)
 }
 
-/// A UDP header with this checksum (RFC 768).
+/// Returns a UDP header with this checksum (RFC 768).
 fn udp_header(ports: Ports, length: u16, checksum: u16) -> [u8; 8] {
     let [source_high, source_low] = ports.source.to_be_bytes();
     let [destination_high, destination_low] = ports.destination.to_be_bytes();
@@ -132,8 +133,8 @@ fn udp_header(ports: Ports, length: u16, checksum: u16) -> [u8; 8] {
     ]
 }
 
-/// The checksum of a datagram, over its addresses, its protocol, its length, its header and its
-/// payload (RFC 768, RFC 8200 section 8.1).
+/// Returns the checksum of a datagram, over its addresses, its protocol, its length, its header and
+/// its payload (RFC 768, RFC 8200 section 8.1).
 fn udp_checksum(addresses: &[u8], ports: Ports, length: u16, payload: &[u8]) -> u16 {
     let sum = summed(u16::from(UDP), addresses);
     let sum = summed(sum, &length.to_be_bytes());
@@ -145,7 +146,7 @@ fn udp_checksum(addresses: &[u8], ports: Ports, length: u16, payload: &[u8]) -> 
     checksum
 }
 
-/// An IPv4 header up to its addresses, with this checksum (RFC 791 section 3.1).
+/// Returns an IPv4 header up to its addresses, with this checksum (RFC 791 section 3.1).
 fn ipv4_header(length: u16, checksum: u16) -> [u8; 12] {
     let [length_high, length_low] = length.to_be_bytes();
     let [checksum_high, checksum_low] = checksum.to_be_bytes();
@@ -165,13 +166,13 @@ fn ipv4_header(length: u16, checksum: u16) -> [u8; 12] {
     ]
 }
 
-/// An IPv6 header up to its addresses (RFC 8200 section 3).
+/// Returns an IPv6 header up to its addresses (RFC 8200 section 3).
 fn ipv6_header(length: u16) -> [u8; 8] {
     let [length_high, length_low] = length.to_be_bytes();
     [IPV6_BEGIN, 0, 0, 0, length_high, length_low, UDP, HOPS]
 }
 
-/// Appends an IP header up to its addresses, of a packet that carries so many octets.
+/// Appends an IP header up to its addresses, of a packet that carries `carried` octets.
 fn append_ip_header(
     packet: &mut Bytes,
     route: &Route,
@@ -192,7 +193,7 @@ fn append_ip_header(
     }
 }
 
-/// The packet of a datagram.
+/// Returns the packet of a datagram.
 fn ip_packet(alloc: Global, route: &Route, ports: Ports, payload: &[u8]) -> Result<Bytes, Starved>
     requires { length payload.now ≤ MAX_PAYLOAD }
     ensures { IfOk result (λ packet. length packet ≡ packet_octets route.now (length payload.now)) }
@@ -208,16 +209,26 @@ fn ip_packet(alloc: Global, route: &Route, ports: Ports, payload: &[u8]) -> Resu
     Ok(packet)
 }
 
-/// The seconds and microseconds of a moment, up to the last second that a capture can say.
+/// Returns the seconds and microseconds of a moment, with at most the last second of a capture.
 fn time_of(moment: Moment) -> (u32, u32) {
     let seconds = (moment.0 / SECOND).min(LAST_SECOND) as u32;
     let milliseconds = (moment.0 % SECOND) as u32;
     (seconds, milliseconds * MILLISECOND)
 }
 
-/// A datagram as a packet of a capture that begins with [`FILE_HEADER`], with its header: an IP
-/// packet with the right checksums, captured whole at this moment, in milliseconds since 1970. A
-/// moment that the capture cannot say, after 2106, is its last second. `Starved`: out of memory.
+/// Returns a datagram as a packet of a capture that begins with [`FILE_HEADER`], with the header of
+/// the packet.
+///
+/// It is an IP packet with correct checksums, captured whole at this moment, in milliseconds since
+/// 1970. A moment after the last second that a capture can express, in 2106, gets that second.
+///
+/// # Requires
+///
+/// The payload has at most [`MAX_PAYLOAD`] octets.
+///
+/// # Errors
+///
+/// `Starved` if memory runs out.
 pub fn packet_record(
     alloc: Global,
     moment: Moment,

@@ -1,5 +1,5 @@
--- The requests of a client of a directory (RFC 9176 section 5): what each is for, the message that
--- it is, and which can be sent.
+-- The requests of a client of a directory (RFC 9176 section 5): their purposes, their messages, and
+-- which can be sent.
 use Rattle.std.specs.Prelude.{
   ℕ,
   ◌≡◌,
@@ -27,28 +27,28 @@ use Rattle.client_model.specs.declared.asks.Ask.{Ask}
 use Rattle.client_model.specs.declared.asks.Purpose.{Purpose}
 use Rattle.client_model.specs.declared.asks.Purpose.TheVariants as purpose
 
--- a DELETE removes, a POST with a Content-Format registers, and any other POST refreshes (RFC 9176
--- sections 5, 5.3.1 and 5.3.2)
+-- Returns the purpose of an ask. A DELETE removes, a POST with a Content-Format registers, and any
+-- other POST refreshes (RFC 9176 sections 5, 5.3.1 and 5.3.2).
 abbrev pub purpose_of : Ask → Purpose
 purpose_of ask =
     if ask.code == codes_of.delete then purpose.Remove
     else if stands_in table.content_format ask.options then purpose.Register
     else purpose.Refresh
 
--- a request: of whom, what for, under which Message ID and token
+-- A request: its directory, its purpose, its Message ID and its token.
 pub record Request : Type 0 where
   pub to : Peer
   pub purpose : Purpose
   pub mid : ℕ
   pub token : List ℕ
 
--- a request that was made: when, and the word that its first wait is made from
+-- A request that was made, with its moment and the word that determines its initial timeout.
 pub record Asked : Type 0 where
   pub request : Request
   pub at : ℕ
   pub word : ℕ
 
--- the request of an ask
+-- Returns the request of an ask.
 abbrev pub request_of : Ask → ℕ → List ℕ → Request
 request_of ask mid token = record {
   to = ask.to;
@@ -57,7 +57,7 @@ request_of ask mid token = record {
   token = token;
 }
 
--- its message, which is confirmable (RFC 7252 section 4.2)
+-- Returns its message, which is confirmable (RFC 7252 section 4.2).
 abbrev pub message_of : Ask → ℕ → List ℕ → Message
 message_of ask mid token = record {
   kind = Con;
@@ -68,8 +68,8 @@ message_of ask mid token = record {
   payload = ask.payload;
 }
 
--- how many octets its datagram has, whatever its Message ID and its token: the four of a header,
--- those of the token, its options and its payload (RFC 7252 section 3)
+-- Returns how many octets its datagram has, whatever its Message ID and its token (RFC 7252 section
+-- 3). These are the four of a header, and those of the token, its options and its payload.
 abbrev pub ask_size : Ask → ℕ
 ask_size ask =
     4
@@ -77,8 +77,8 @@ ask_size ask =
     + length (options_spelling 0 ask.options)
     + length (payload_spelling ask.payload)
 
--- options that can be written after one of that number: no number falls, and each can be written
--- (RFC 7252 section 3.1)
+-- States that options can be spelled after one of that number: the numbers never fall, and each
+-- option can be spelled (RFC 7252 section 3.1).
 abbrev pub CanFollow : ℕ → List Opt → Type 0
 CanFollow before [] = ⊤
 CanFollow before (option ∷ options) =
@@ -87,7 +87,7 @@ CanFollow before (option ∷ options) =
     × (length option.1 ≤ longest_value)
     × CanFollow option.0 options
 
--- an ask that can be sent in one datagram (RFC 7252 section 4.6)
+-- An ask that can be sent in one datagram (RFC 7252 section 4.6).
 pub record CanBeSent (ask : Ask) : Type 0 where
   pub code : (ask.code ≡ codes_of.post) ⊎ (ask.code ≡ codes_of.delete)
   pub options : CanFollow 0 ask.options

@@ -19,11 +19,11 @@ use Rattle.client_model.specs.Verdicts.{
   sent_again,
 }
 
--- a datagram to a peer
+-- A datagram to a peer.
 abbrev pub Sent : Type 0
 Sent = Peer × List ℕ
 
--- the empty acknowledgement of a Message ID (RFC 7252 section 4.2)
+-- Returns the empty acknowledgement of a Message ID (RFC 7252 section 4.2).
 unfoldable pub empty_acknowledgement : ℕ → List ℕ
 empty_acknowledgement mid = spelling (record {
   kind = kind.Ack;
@@ -34,28 +34,29 @@ empty_acknowledgement mid = spelling (record {
   payload = [];
 })
 
--- what acknowledges a message: a confirmable one has an empty acknowledgement
+-- Returns what acknowledges a message: an empty acknowledgement if it is confirmable.
 abbrev pub acknowledgement : Kind4 → ℕ → Option (List ℕ)
 acknowledgement kind.Con mid = Some (empty_acknowledgement mid)
 acknowledgement _ mid = None
 
+-- Returns what acknowledges a message, if there is one.
 abbrev pub acknowledgement_in : Option Message → Option (List ℕ)
 acknowledgement_in None = None
 acknowledgement_in (Some m) = acknowledgement m.kind m.mid
 
--- these octets to a peer, where there are some
+-- Returns these octets to a peer, if there are some.
 abbrev pub to_peer : Peer → Option (List ℕ) → List Sent
 to_peer peer None = []
 to_peer peer (Some octets) = (peer, octets) ∷ []
 
--- what a datagram makes go that decides this: what acknowledges it
+-- Returns what is sent for a datagram that decides the request: what acknowledges it.
 abbrev pub sent_for_datagram : Peer → List ℕ → Option Outcome → List Sent
 sent_for_datagram peer octets None = []
 sent_for_datagram peer octets (Some o) =
     to_peer peer (acknowledgement_in (readable (reading octets)))
 
--- what an event makes go after those before it, of a request of these octets: what acknowledges an
--- answer, and the request again at its deadlines
+-- Returns what is sent at an event after those before it, for a request with these octets. This is
+-- what acknowledges an answer, and the request again at its deadlines.
 abbrev pub sent_for : Asked → List ℕ → List Event → Event → List Sent
 sent_for a octets before (event.Came now peer datagram) =
     sent_for_datagram peer datagram (datagram_decides a.request peer datagram)

@@ -1,5 +1,5 @@
--- The verdict of what happens to a request: that of the first event that decides it (RFC 7252
--- sections 4.2 and 5.3.2, RFC 9176 section 5). All lists of events stand newest first.
+-- The verdict of the events of a request: that of the first event that decides it (RFC 7252
+-- sections 4.2 and 5.3.2, RFC 9176 section 5). All lists of events have the newest first.
 use Rattle.std.specs.Prelude.{
   ℕ,
   ◌+◌,
@@ -52,31 +52,31 @@ use Rattle.client_model.specs.Requests.{Request, Asked}
 
 -- ---- a datagram
 
--- the message that was read, where one was
+-- Returns the message that was read, if one was.
 abbrev pub readable : Result Message Unread → Option Message
 readable (Ok m) = Some m
 readable (Err fault) = None
 
--- an acknowledgement has the Message ID of the request; another message may have any (RFC 7252
--- section 5.2)
+-- Returns whether a message may have this Message ID. An acknowledgement has that of the request,
+-- and another message may have any (RFC 7252 section 5.2).
 abbrev pub has_mid_of : Kind4 → ℕ → ℕ → Bool
 has_mid_of kind.Ack mid asked = mid == asked
 has_mid_of _ mid asked = true
 
--- a response is the answer to the request (RFC 7252 sections 5.3.2 and 5.4.1)
+-- Returns whether a response is the answer to the request (RFC 7252 sections 5.3.2 and 5.4.1).
 abbrev pub is_answer : Request → Message → Bool
 is_answer r m =
     bytes_eq m.token r.token
     && has_mid_of m.kind m.mid r.mid
     && is_none (first_bad_option m.options)
 
--- a path has a segment, and each segment is text (RFC 7252 section 5.10.7)
+-- Returns whether a path has a segment, and each segment is text (RFC 7252 section 5.10.7).
 abbrev pub is_path : List (List ℕ) → Bool
 is_path [] = false
 is_path (segment ∷ segments) = list_all is_utf8 (segment ∷ segments)
 
--- what an answer with a code and a path of a location says of a request (RFC 9176 sections 5, 5.3.1
--- and 5.3.2)
+-- Returns the outcome of a request by an answer with a code and the path of a location (RFC 9176
+-- sections 5, 5.3.1 and 5.3.2).
 abbrev pub answered : Purpose → Peer → ℕ → List (List ℕ) → Outcome
 answered purpose.Register to code path =
     if code == codes_of.created && is_path path
@@ -87,78 +87,83 @@ answered purpose.Refresh to code path =
 answered purpose.Remove to code path =
     if code == codes_of.deleted then outcome.Done else outcome.Refused code
 
--- what a message of the directory decides
+-- Returns the outcome that a message of the directory decides, if it decides one.
 abbrev pub decided_by : Role → Request → Message → Option Outcome
 decided_by role.Response r m =
     if is_answer r m then Some (answered r.purpose r.to m.code (locations_in m)) else None
 decided_by role.Reset r m = if m.mid == r.mid then Some outcome.Reset else None
 decided_by _ r m = None
 
--- a message of the directory acknowledges the request (RFC 7252 section 4.2)
+-- Returns whether a message of the directory acknowledges the request (RFC 7252 section 4.2).
 abbrev pub quiets_by : Role → Request → Message → Bool
 quiets_by role.Acknowledgement r m = m.mid == r.mid
 quiets_by _ r m = false
 
+-- Returns the outcome that what was read of a datagram decides.
 abbrev pub decided_in : Request → Option Message → Option Outcome
 decided_in r None = None
 decided_in r (Some m) = decided_by (role_of m.kind m.code) r m
 
+-- Returns whether what was read of a datagram acknowledges the request.
 abbrev pub quiets_in : Request → Option Message → Bool
 quiets_in r None = false
 quiets_in r (Some m) = quiets_by (role_of m.kind m.code) r m
 
--- what a datagram of a peer decides
+-- Returns the outcome that a datagram of a peer decides.
 abbrev pub datagram_decides : Request → Peer → List ℕ → Option Outcome
 datagram_decides r peer octets =
     if is_same_peer peer r.to then decided_in r (readable (reading octets)) else None
 
--- a datagram of a peer acknowledges the request
+-- Returns whether a datagram of a peer acknowledges the request.
 abbrev pub datagram_quiets : Request → Peer → List ℕ → Bool
 datagram_quiets r peer octets =
     is_same_peer peer r.to && quiets_in r (readable (reading octets))
 
 -- ---- retransmission
 
--- an event acknowledges the request
+-- Returns whether an event acknowledges the request.
 abbrev pub quiets : Asked → Event → Bool
 quiets a (event.Came now peer octets) = datagram_quiets a.request peer octets
 quiets a (event.Tick now) = false
 
--- the request was acknowledged: it is not sent again (RFC 7252 section 4.2)
+-- Returns whether the request was acknowledged, so that it is not retransmitted (RFC 7252 section
+-- 4.2).
 unfoldable pub is_quiet : Asked → List Event → Bool
 is_quiet a events = list_any (quiets a) events
 
--- when it was sent last, of a request that was sent again at these moments, the newest first
+-- Returns the moment at which a request was last sent that was retransmitted at these moments, the
+-- newest first.
 abbrev pub last_sent : Asked → List ℕ → ℕ
 last_sent a [] = a.at
 last_sent a (last ∷ before) = last
 
--- when its wait for an acknowledgement ends: each wait is twice as long, and it counts from the
--- last sending (RFC 7252 section 4.2)
+-- Returns the moment at which its timeout ends. The timeout doubles with each retransmission, and
+-- counts from the last sending (RFC 7252 section 4.2).
 unfoldable pub wait_end : Asked → List ℕ → ℕ
 wait_end a sent = last_sent a sent + first_wait a.word * 2 ^ length sent
 
--- a tick sends the request again, where it was sent again at these moments before: it was not
--- acknowledged, a retransmission is left, and the wait has ended
+-- Returns whether a tick retransmits the request, which was retransmitted at these moments before.
+-- It was not acknowledged, a retransmission is left, and the timeout has ended.
 abbrev pub is_sent_again : Asked → Bool → ℕ → List ℕ → Bool
 is_sent_again a true now sent = false
 is_sent_again a false now sent = nat_lt (length sent) max_again && nat_le (wait_end a sent) now
 
--- the moments at which it was sent again, with this event more
+-- Returns the moments of its retransmissions, with one more event.
 abbrev pub sent_with : Asked → Bool → Event → List ℕ → List ℕ
 sent_with a quiet (event.Came now peer octets) sent = sent
 sent_with a quiet (event.Tick now) sent =
     if is_sent_again a quiet now.0 sent then now.0 ∷ sent else sent
 
--- the moments at which it was sent again, the newest first
+-- Returns the moments of its retransmissions, the newest first.
 unfoldable pub sent_again : Asked → List Event → List ℕ
 sent_again a [] = []
 sent_again a (e ∷ before) = sent_with a (is_quiet a before) e (sent_again a before)
 
 -- ---- the verdict
 
--- what a tick decides: a request that was acknowledged is silent in the end (RFC 7252 section
--- 4.8.2), another is given up when the wait of its last retransmission ends (RFC 7252 section 4.2)
+-- Returns the outcome that a tick decides. A request that was acknowledged is silent in the end
+-- (RFC 7252 section 4.8.2). Another is given up when the timeout of its last retransmission ends
+-- (RFC 7252 section 4.2).
 abbrev pub tick_decides : Asked → Bool → ℕ → List ℕ → Option Outcome
 tick_decides a true now sent =
     if nat_le (a.at + MAX_TRANSMIT_WAIT) now then Some outcome.Silent else None
@@ -167,18 +172,18 @@ tick_decides a false now sent =
     then Some outcome.GaveUp
     else None
 
--- what an event decides after those before it
+-- Returns the outcome that an event decides after those before it.
 abbrev pub decides : Asked → List Event → Event → Option Outcome
 decides a before (event.Came now peer octets) = datagram_decides a.request peer octets
 decides a before (event.Tick now) =
     tick_decides a (is_quiet a before) now.0 (sent_again a before)
 
--- the first of two, where there is one, and else the second
+-- Returns the first of two if there is one, and otherwise the second.
 abbrev pub or_later : Option Outcome → Option Outcome → Option Outcome
 or_later (Some o) later = Some o
 or_later None later = later
 
--- the verdict of a list of events: that of the first one that decides
+-- Returns the verdict of a list of events: that of the first one that decides.
 unfoldable pub verdict : Asked → List Event → Option Outcome
 verdict a [] = None
 verdict a (e ∷ before) = or_later (verdict a before) (decides a before e)

@@ -1,14 +1,13 @@
-//! What a client asks of a directory.
+//! The requests that a client makes of a directory.
 use rd_base::{Bytes, List, Peer};
 
-/// How many octets the token of an ask has (RFC 7252 section 5.3.1).
+/// The number of octets of an ask's token (RFC 7252 section 5.3.1).
 pub const TOKEN_SIZE: usize = 8;
 
-/// The most octets of a part of a path or of a query that is sent, and of one that is received
-/// (RFC 7252 section 5.10).
+/// The most octets of a part of a path or of a query, sent or received (RFC 7252 section 5.10).
 pub const MAX_PART: usize = 255;
 
-/// Options in order, each its number and its value.
+/// Options in order, each with its number and its value.
 pub type Opts = List<(u32, Bytes)>;
 
 /// A request that a client makes of a directory (RFC 9176 section 5), without its Message ID and
@@ -25,31 +24,31 @@ pub struct Ask {
     pub payload: Bytes,
 }
 
-/// Why there is no ask, in the order in which it is looked for.
+/// The reason why there is no ask, in the order of the checks.
 #[derive(Clone, Copy, Debug, PartialEq, Eq)]
 pub enum AskBad {
     /// The text is no URI, or it has a fragment (RFC 7252 section 6.1).
     Uri,
-    /// Its scheme is another than `coap`.
+    /// The scheme is not `coap`.
     Scheme,
-    /// Its host is no address as it is printed (RFC 5952), or its port is none that a datagram is
-    /// sent to.
+    /// The host is no address as it is printed (RFC 5952), or a datagram cannot be sent to the
+    /// port.
     Host,
-    /// A part of its path or of its query is decoded to no text, or to more than 255 octets.
+    /// A part of the path or of the query does not decode to text, or is longer than 255 octets.
     Part,
-    /// Its datagram would have more than 1,280 octets.
+    /// The datagram would have more than 1,280 octets.
     Size,
     /// Memory ran out.
     Starved,
 }
 
-/// What a request is for (RFC 9176 section 5).
+/// The purpose of a request (RFC 9176 section 5).
 #[derive(Clone, Copy, Debug, PartialEq, Eq)]
 pub enum Purpose {
     /// A registration (RFC 9176 section 5).
     Register,
-    /// A refresh of one (RFC 9176 section 5.3.1).
+    /// A refresh of a registration (RFC 9176 section 5.3.1).
     Refresh,
-    /// Its removal (RFC 9176 section 5.3.2).
+    /// The removal of a registration (RFC 9176 section 5.3.2).
     Remove,
 }

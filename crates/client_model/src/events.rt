@@ -1,10 +1,12 @@
-//! What happens to a request. No value of it is made.
+//! The events of a request.
+//!
+//! Only definitions and contracts use this type; no value of it is made.
 use rd_base::{Bytes, Moment, Peer};
 
-/// What happens to a request, and when.
+/// An event of a request, with its moment.
 #[derive(Debug, Drop)]
 pub enum Event {
-    /// A datagram of a peer came.
+    /// A datagram of a peer arrived.
     Came(Moment, Peer, Bytes),
     /// Time passed.
     Tick(Moment),

@@ -1,5 +1,7 @@
-//! Definitions of what a client asks of a directory and what becomes of it (RFC 9176 section 5,
-//! RFC 7252 sections 4.2, 5.3.2 and 6.4). No function.
+//! Definitions of the requests that a client makes of a directory, and of their outcomes (RFC 9176
+//! section 5, RFC 7252 sections 4.2, 5.3.2 and 6.4).
+//!
+//! The crate has no functions.
 #![tactic(auto)]
 
 mod asks;

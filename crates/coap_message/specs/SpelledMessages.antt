@@ -1,4 +1,4 @@
--- The message that octets show, and what a writer keeps true of its own.
+-- The message that octets spell, and what always holds of a writer's octets.
 use Rattle.std.specs.Prelude.{◌≡◌, ℕ, List, [], Result, Ok, Err}
 use Rattle.message_model.specs.declared.messages.Kind4.TheVariants.{Con}
 use Rattle.message_model.specs.declared.messages.Unread.{Unread}
@@ -8,16 +8,16 @@ use Rattle.message_model.specs.Spelling.{spelling}
 use Rattle.message_model.specs.Reading.{reading}
 use Rattle.coap_message.specs.PartialMessages.{bare_message}
 
--- The message that was read, or an empty one.
+-- Returns the message that was read, or an empty one if none was.
 abbrev pub or_empty : Result Message Unread → Message
 or_empty (Ok m) = m
 or_empty (Err fault) = bare_message Con empty 0 []
 
--- The message that the octets spell; an empty one where they spell none.
+-- Returns the message that the octets spell, or an empty one if they spell none.
 unfoldable pub message_of_bytes : List ℕ → Message
 message_of_bytes bytes = or_empty (reading bytes)
 
--- The octets are the spelling of the message, whose last option has this number.
+-- The spelling of a message, whose last option has this number.
 pub record IsWritten (bytes : List ℕ) (last : ℕ) (m : Message) : Type 0 where
   pub message : IsMessage m
   pub spelled : spelling m ≡ bytes

@@ -3,7 +3,7 @@ use Rattle.message_model.specs.Message.{Message}
 use Rattle.coap_message.specs.declared.views.View.{View}
 use Rattle.coap_message.specs.OptionsAt.{options_at}
 
--- Its parts are those of the view, and its options are those that are spelled there (RFC 7252
+-- Returns the message of a view: the same parts, with the options that are spelled there (RFC 7252
 -- section 3).
 abbrev pub message_in : View → Message
 message_in v = record {

@@ -1,4 +1,4 @@
-//! The message that a datagram is.
+//! The reading of the message in a datagram.
 
 ghost use Rattle.std.specs.Prelude.{◌≡◌, ◌-◌, ◌≤◌, [], length, take, IfOk, IfSome, OnErr};
 ghost use Rattle.std.specs.Option.{option_map};
@@ -15,7 +15,7 @@ use super::prefixes::{byte_at, bytes_at, option_at};
 use super::views::{TokenRef, View};
 use message_model::{PAYLOAD_MARKER, Unread};
 
-/// The octets of `whole` before those that it ends with.
+/// Returns the octets of `whole` before those that it ends with.
 fn before_end<'a>(whole: &'a [u8], end: &[u8]) -> &'a [u8]
     requires { length end.now ≤ length whole.now }
     ensures { result.now ≡ take (length whole.now - length end.now) whole.now }
@@ -23,7 +23,7 @@ fn before_end<'a>(whole: &'a [u8], end: &[u8]) -> &'a [u8]
     &whole[..whole.len() - end.len()]
 }
 
-/// What follows the marker: a payload of one octet or more (RFC 7252 section 3).
+/// Reads what follows the marker: a payload of at least one octet (RFC 7252 section 3).
 fn payload_at(bytes: &[u8]) -> Option<&[u8]>
     ensures { option_map (λ payload. ([], payload.now)) result ≡ reading.payload_at bytes.now }
 {
@@ -33,9 +33,10 @@ fn payload_at(bytes: &[u8]) -> Option<&[u8]>
     Some(bytes)
 }
 
-/// The octets of the options that follow a token, and the payload (RFC 7252 section 3). None: an
-/// option is cut off, begins with a nibble of 15, or passes number 65,535; or nothing follows the
-/// marker.
+/// Returns the octets of the options that follow a token, and the payload (RFC 7252 section 3).
+///
+/// Returns `None` if an option is cut off, begins with a nibble of 15, or has a number above
+/// 65,535, or if nothing follows the marker.
 pub fn tail_at(bytes: &[u8]) -> Option<(&[u8], &[u8])>
     ensures parts { option_map (λ x. (options_at 0 x.0.now, x.1.now)) result
         ≡ reading.tail_at 0 bytes.now }
@@ -55,7 +56,7 @@ pub fn tail_at(bytes: &[u8]) -> Option<(&[u8], &[u8])>
     Some((bytes, rest))
 }
 
-/// The message with this header that the octets after it give (RFC 7252 sections 3 and 4.1).
+/// Reads the message that a header and the octets after it spell (RFC 7252 sections 3 and 4.1).
 #[tactic(auto, unfolding(message_model::specs::Reading::body_at))]
 fn body_at<'a>(header: &Header, bytes: &'a [u8]) -> Option<View<'a>>
     ensures message { option_map message_in result
@@ -77,14 +78,20 @@ fn body_at<'a>(header: &Header, bytes: &'a [u8]) -> Option<View<'a>>
     })
 }
 
-/// The message in a datagram, which it borrows (RFC 7252 section 3).
+/// Returns the message in a datagram, which it borrows (RFC 7252 section 3).
 ///
-/// `Short`: the datagram has fewer than four octets. `Version`: its version is not 1.
-/// `Format`, with its type and Message ID: the class of its code is reserved; its token is longer
-/// than eight octets or
-/// cut off; an option is cut off, begins with a nibble of 15, or passes number 65,535; nothing
-/// follows the marker; or
-/// its code is 0.00 and it is more than a header (RFC 7252 sections 3, 3.1, 4.1 and 4.2).
+/// # Errors
+///
+/// - `Short` if the datagram has fewer than four octets.
+/// - `Version` if its version is not 1.
+/// - `Format`, with the type and the Message ID, if it has a format error.
+///
+/// A format error is one of these (RFC 7252 sections 3, 3.1, 4.1 and 4.2):
+///
+/// - the class of the code is reserved, or the code is 0.00 and there is more than a header;
+/// - the token is longer than eight octets or cut off;
+/// - an option is cut off, begins with a nibble of 15, or has a number above 65,535;
+/// - nothing follows the marker.
 #[tactic(auto, unfolding(message_model::specs::Reading::reading))]
 pub fn view(datagram: &[u8]) -> Result<View<'_>, Unread>
     ensures message { result_map_both message_in (λ fault. fault) result

@@ -1,4 +1,4 @@
-//! The four octets that each message begins with (RFC 7252 section 3).
+//! The header: the four octets that each message begins with (RFC 7252 section 3).
 
 ghost use Rattle.std.specs.Prelude.{◌≡◌};
 ghost use Rattle.std.specs.Result.{result_map_both};
@@ -9,7 +9,7 @@ ghost use Rattle.coap_message.specs.Headers.{header_in};
 use message_model::codes::EMPTY;
 use message_model::{Kind4, Unread};
 
-/// What a header says.
+/// The parts of a header.
 #[derive(Clone, Copy)]
 pub(crate) struct Header {
     pub kind: Kind4,
@@ -18,7 +18,7 @@ pub(crate) struct Header {
     pub mid: u16,
 }
 
-/// The type with these two bits (RFC 7252 section 3).
+/// Returns the type with these two bits (RFC 7252 section 3).
 fn kind_of(bits: u8) -> Kind4
     ensures { result ≡ reading.kind_of bits }
 {
@@ -30,7 +30,7 @@ fn kind_of(bits: u8) -> Kind4
     }
 }
 
-/// The header and the octets after it (RFC 7252 section 3).
+/// Reads the header, and returns it with the octets after it (RFC 7252 section 3).
 #[tactic(auto, unfolding(message_model::specs::Reading::header_at))]
 pub(crate) fn header_at(bytes: &[u8]) -> Result<(Header, &[u8]), Unread>
     ensures { result_map_both (λ x. (header_in x.0, x.1.now)) (λ fault. fault) result
@@ -53,7 +53,7 @@ pub(crate) fn header_at(bytes: &[u8]) -> Result<(Header, &[u8]), Unread>
     }
 }
 
-/// Classes 1, 6 and 7 of codes are reserved (RFC 7252 section 3).
+/// Returns whether a code is of class 1, 6 or 7, which are reserved (RFC 7252 section 3).
 fn is_reserved(code: u8) -> bool
     ensures { result ≡ codes_of.is_reserved code }
 {
@@ -61,15 +61,16 @@ fn is_reserved(code: u8) -> bool
     class == 1 || class == 6 || class == 7
 }
 
-/// More than a header: a token, or octets after the header (RFC 7252 section 4.1).
+/// Returns whether there is more than a header: a token, or octets after the header (RFC 7252
+/// section 4.1).
 fn is_filled(header: &Header, bytes: &[u8]) -> bool
     ensures { result ≡ reading.is_filled (header_in header.now) bytes.now }
 {
     !(header.token_length == 0 && bytes.len() == 0)
 }
 
-/// No message has a reserved class, a token of nine octets or more, or more than a header at 0.00
-/// (RFC 7252 sections 3 and 4.1).
+/// Returns whether no message has this header: the class is reserved, the token has nine octets or
+/// more, or more than a header has the code 0.00 (RFC 7252 sections 3 and 4.1).
 pub(crate) fn is_bad_header(header: &Header, bytes: &[u8]) -> bool
     ensures { result ≡ reading.is_bad_header (header_in header.now) bytes.now }
 {

@@ -1,5 +1,5 @@
 //! Reading and writing of CoAP messages (RFC 7252 section 3), in borrowed octets and without
-//! memory.
+//! allocating.
 #![tactic(auto)]
 
 mod datagrams;

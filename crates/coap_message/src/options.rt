@@ -11,13 +11,13 @@ use super::views::View;
 /// An option: its number and its value (RFC 7252 section 3.1).
 #[derive(Clone, Copy, Debug)]
 pub struct Opt<'a> {
-    /// The number, which the deltas before it add up to.
+    /// The number: the sum of the deltas up to the option's own.
     pub number: u32,
     /// The value, as octets.
     pub value: &'a [u8],
 }
 
-/// The options that are left, in order (RFC 7252 section 3.1): a contract sees them by
+/// An iterator over the remaining options, in order (RFC 7252 section 3.1). Contracts see them as
 /// `options_left`.
 #[derive(Clone, Copy, Debug)]
 pub struct OptionsIter<'a> {
@@ -26,7 +26,7 @@ pub struct OptionsIter<'a> {
     rest: &'a [u8],
 }
 
-/// The options of a message that [`view`](crate::view) read, in order.
+/// Returns the options of a message that [`view`](crate::view) read, in order.
 pub fn options_of<'a>(view: &View<'a>) -> OptionsIter<'a>
     ensures { options_left result ≡ (message_in view.now).options }
 {
@@ -36,8 +36,8 @@ pub fn options_of<'a>(view: &View<'a>) -> OptionsIter<'a>
     }
 }
 
-/// The options that these octets are, in order, of those that
-/// [`tail_at`](crate::tail_at) cut from the payload.
+/// Returns the options that these octets spell, in order. [`tail_at`](crate::tail_at) cuts such
+/// octets off from the payload.
 pub fn options_in(octets: &[u8]) -> OptionsIter<'_>
     ensures { options_left result ≡ options_at 0 octets.now }
 {
@@ -48,7 +48,7 @@ pub fn options_in(octets: &[u8]) -> OptionsIter<'_>
 }
 
 impl OptionsIter<'_> {
-    /// How many octets the options that are left take, which are no fewer than these options.
+    /// Returns how many octets the remaining options take, which are no fewer than these options.
     #[tactic(auto, using(crate::proofs::OptionsAtLemmas::options_at_size))]
     pub fn octets(&self) -> usize
         ensures value { result ≡ octets_left self.now }

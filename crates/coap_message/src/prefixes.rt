@@ -1,4 +1,4 @@
-//! What octets begin with: each step gives a value and the octets after it.
+//! What octets begin with: each function returns a value and the octets after it.
 
 ghost use Rattle.std.specs.Prelude.{◌≡◌, ◌≤◌, IfSome};
 ghost use Rattle.std.specs.Option.{option_map};
@@ -7,7 +7,7 @@ ghost use Rattle.message_model.specs.Message.{last_number, longest_value};
 
 use super::options::Opt;
 
-/// One octet.
+/// Reads one octet.
 pub(crate) fn byte_at(bytes: &[u8]) -> Option<(u8, &[u8])>
     ensures { option_map (λ x. (x.0, x.1.now)) result ≡ reading.byte_at bytes.now }
 {
@@ -17,7 +17,7 @@ pub(crate) fn byte_at(bytes: &[u8]) -> Option<(u8, &[u8])>
     }
 }
 
-/// This many octets.
+/// Reads this many octets.
 pub(crate) fn bytes_at(count: usize, bytes: &[u8]) -> Option<(&[u8], &[u8])>
     ensures { option_map (λ x. (x.0.now, x.1.now)) result ≡ reading.bytes_at count bytes.now }
 {
@@ -27,7 +27,7 @@ pub(crate) fn bytes_at(count: usize, bytes: &[u8]) -> Option<(&[u8], &[u8])>
     Some(bytes.split_at(count))
 }
 
-/// A delta or a length: its nibble, extended by the octets after it (RFC 7252 section 3.1).
+/// Reads a delta or a length: its nibble, extended by the octets after it (RFC 7252 section 3.1).
 #[tactic(auto, unfolding(message_model::specs::Reading::extended_at))]
 pub(crate) fn extended_at(nibble: u8, bytes: &[u8]) -> Option<(u32, &[u8])>
     ensures value { option_map (λ x. (x.0, x.1.now)) result ≡ reading.extended_at nibble bytes.now }
@@ -48,7 +48,7 @@ pub(crate) fn extended_at(nibble: u8, bytes: &[u8]) -> Option<(u32, &[u8])>
     None
 }
 
-/// An option after an option of the number before (RFC 7252 section 3.1).
+/// Reads an option after an option of the number before (RFC 7252 section 3.1).
 #[tactic(auto, unfolding(message_model::specs::Reading::option_at))]
 pub(crate) fn option_at(before: u16, bytes: &[u8]) -> Option<(Opt<'_>, &[u8])>
     ensures value { option_map (λ x. ((x.0.number, x.0.value.now), x.1.now)) result

@@ -1,4 +1,4 @@
-//! The spelling of options and payloads, put into a buffer from an offset on: each step gives the
+//! The spelling of options and payloads into a buffer, from an offset on. Each function returns the
 //! offset after what it put.
 
 ghost use Rattle.std.specs.Prelude.{◌≡◌, ◌+◌, ◌-◌, ◌<◌, ◌≤◌, [], ◌∷◌, ◌++◌, length, take};
@@ -8,7 +8,7 @@ ghost use Rattle.message_model.specs.Spelling as spelling_of;
 
 use message_model::PAYLOAD_MARKER;
 
-/// One octet.
+/// Puts one octet.
 pub(crate) fn put_byte(octets: &mut [u8], at: usize, byte: u8) -> usize
     requires { at < length octets.old }
     ensures end { result ≡ at + 1 }
@@ -18,7 +18,7 @@ pub(crate) fn put_byte(octets: &mut [u8], at: usize, byte: u8) -> usize
     at + 1
 }
 
-/// Several octets.
+/// Puts several octets.
 pub(crate) fn put_bytes(octets: &mut [u8], at: usize, bytes: &[u8]) -> usize
     requires { at + length bytes.now ≤ length octets.old }
     ensures end { result ≡ at + length bytes.now }
@@ -30,7 +30,7 @@ pub(crate) fn put_bytes(octets: &mut [u8], at: usize, bytes: &[u8]) -> usize
     end
 }
 
-/// The nibble of an option's delta or length (RFC 7252 section 3.1).
+/// Returns the nibble of an option's delta or length (RFC 7252 section 3.1).
 #[tactic(auto, unfolding(message_model::specs::Spelling::nibble_of))]
 fn nibble_of(n: u32) -> u8
     ensures value { result ≡ spelling_of.nibble_of n }
@@ -45,7 +45,7 @@ fn nibble_of(n: u32) -> u8
     14
 }
 
-/// How many octets extend that nibble (RFC 7252 section 3.1).
+/// Returns how many octets extend that nibble (RFC 7252 section 3.1).
 #[tactic(auto, unfolding(message_model::specs::Spelling::extension_of))]
 fn extension_size(n: u32) -> usize
     ensures value { result ≡ length (spelling_of.extension_of n) }
@@ -60,7 +60,7 @@ fn extension_size(n: u32) -> usize
     2
 }
 
-/// The octets that extend that nibble (RFC 7252 section 3.1).
+/// Puts the octets that extend that nibble (RFC 7252 section 3.1).
 #[tactic(auto, unfolding(message_model::specs::Spelling::extension_of))]
 fn put_extension(octets: &mut [u8], at: usize, n: u32) -> usize
     requires room { at + length (spelling_of.extension_of n) ≤ length octets.old }
@@ -78,7 +78,8 @@ fn put_extension(octets: &mut [u8], at: usize, n: u32) -> usize
     put_byte(octets, end, ((n - 269) % 256) as u8)
 }
 
-/// How many octets spell an option after an option of the number before (RFC 7252 section 3.1).
+/// Returns how many octets spell an option after an option of the number before (RFC 7252 section
+/// 3.1).
 #[tactic(auto, unfolding(message_model::specs::Spelling::option_spelling))]
 pub(crate) fn option_size(before: u16, number: u32, value: &[u8]) -> usize
     requires ascends { before ≤ number }
@@ -90,7 +91,7 @@ pub(crate) fn option_size(before: u16, number: u32, value: &[u8]) -> usize
     1 + delta + size + value.len()
 }
 
-/// An option after an option of the number before (RFC 7252 section 3.1).
+/// Puts an option after an option of the number before (RFC 7252 section 3.1).
 #[tactic(auto, unfolding(message_model::specs::Spelling::option_spelling))]
 pub(crate) fn put_option(
     octets: &mut [u8],
@@ -116,7 +117,8 @@ pub(crate) fn put_option(
     put_bytes(octets, third, value)
 }
 
-/// How many octets a payload takes: its marker and itself, or none (RFC 7252 section 3).
+/// Returns how many octets a payload takes with its marker; an empty payload takes none (RFC 7252
+/// section 3).
 #[tactic(auto, unfolding(message_model::specs::Spelling::payload_spelling))]
 pub(crate) fn payload_size(payload: &[u8]) -> usize
     ensures { result ≡ length (spelling_of.payload_spelling payload.now) }
@@ -127,7 +129,7 @@ pub(crate) fn payload_size(payload: &[u8]) -> usize
     }
 }
 
-/// A payload after its marker; an empty one has no marker (RFC 7252 section 3).
+/// Puts a payload after its marker; an empty payload has no marker (RFC 7252 section 3).
 #[tactic(auto, unfolding(message_model::specs::Spelling::payload_spelling))]
 pub(crate) fn put_payload(octets: &mut [u8], at: usize, payload: &[u8]) -> usize
     requires { at + length (spelling_of.payload_spelling payload.now) ≤ length octets.old }

@@ -13,13 +13,13 @@ pub struct TokenRef<'a> {
     pub ghost short: { length octets.now ≤ longest_token },
 }
 
-/// A message in a datagram: its type, code and Message ID, and where the rest of it stands there
-/// (RFC 7252 section 3).
+/// A message in a datagram: its type, code and Message ID, and the octets of its other parts (RFC
+/// 7252 section 3).
 #[derive(Clone, Copy, Debug)]
 pub struct View<'a> {
     /// The type.
     pub kind: Kind4,
-    /// The code, class.detail in one octet.
+    /// The code: class and detail in one octet.
     pub code: u8,
     /// The Message ID.
     pub mid: u16,
@@ -27,6 +27,6 @@ pub struct View<'a> {
     pub token: TokenRef<'a>,
     /// The options as they are spelled, which [`options_of`](crate::options_of) reads.
     pub options: &'a [u8],
-    /// The payload, empty where there is none.
+    /// The payload, which may be empty.
     pub payload: &'a [u8],
 }

@@ -18,18 +18,18 @@ use super::views::TokenRef;
 use message_model::{Kind4, MAX_MESSAGE_SIZE};
 use std::marker::Model;
 
-/// The message is longer than 1,280 octets.
+/// The error of a message that would be longer than 1,280 octets.
 #[derive(Clone, Copy, Debug, PartialEq, Eq)]
 pub struct TooLong;
 
-/// A message being written, of at most 1,280 octets (RFC 7252 section 3): a contract sees the
+/// A message being written, of at most 1,280 octets (RFC 7252 section 3). Contracts see the
 /// message.
 #[derive(Drop)]
 pub struct Writer {
     octets: [u8; MAX_MESSAGE_SIZE],
-    /// How many of them are written.
+    /// The number of octets that are written.
     length: usize,
-    /// The number of the last option, or 0 where there is none.
+    /// The number of the last option, or 0 if there is none.
     last: u16,
 }
 
@@ -45,7 +45,7 @@ impl Model for Writer {
     ghost invariant = { IsWriting };
 }
 
-/// The two bits of a type (RFC 7252 section 3).
+/// Returns the two bits of a type (RFC 7252 section 3).
 fn kind_number(kind: Kind4) -> u8
     ensures value { result ≡ spelling_of.kind_number kind }
     ensures few { result < 4 }
@@ -58,7 +58,8 @@ fn kind_number(kind: Kind4) -> u8
     }
 }
 
-/// The header, in the first four octets (RFC 7252 section 3).
+/// Puts the header and the token at the beginning, and returns the offset after them (RFC 7252
+/// section 3).
 #[tactic(auto, unfolding(message_model::specs::Spelling::header_spelling))]
 fn put_header(octets: &mut [u8], kind: Kind4, code: u8, mid: u16, token: TokenRef<'_>) -> usize
     requires room { 12 ≤ length octets.old }
@@ -80,10 +81,12 @@ fn put_header(octets: &mut [u8], kind: Kind4, code: u8, mid: u16, token: TokenRe
 }
 
 impl Writer {
-    /// A message with neither options nor payload.
+    /// Starts a message with neither options nor payload.
     ///
-    /// The class of the code is not a reserved one, and an empty message, of code 0.00, has no
-    /// token (RFC 7252 sections 3 and 4.1).
+    /// # Requires
+    ///
+    /// The class of the code is not reserved. An empty message, of code 0.00, has no token (RFC
+    /// 7252 sections 3 and 4.1).
     pub fn start(kind: Kind4, code: u8, mid: u16, token: TokenRef<'_>) -> Writer
         requires class { codes_of.is_reserved code ≡ false }
         requires empty { code ≡ codes_of.empty → token.octets.now ≡ [] }
@@ -98,11 +101,16 @@ impl Writer {
         }
     }
 
-    /// One more option (RFC 7252 section 3.1): its number is not below the one before and at most
-    /// 65,535, and its value has at most 65,804 octets. An empty message and one with a payload get
-    /// none.
+    /// Adds an option (RFC 7252 section 3.1).
     ///
-    /// `TooLong`: the message with it would be longer than 1,280 octets; it is then as it was.
+    /// # Requires
+    ///
+    /// The message is not empty and has no payload yet. The number is not below that of the option
+    /// before and at most 65,535. The value has at most 65,804 octets.
+    ///
+    /// # Errors
+    ///
+    /// `TooLong` if the message would then be longer than 1,280 octets. It does not change.
     pub fn option(&mut self, number: u32, value: &[u8]) -> Result<(), TooLong>
         requires filled { codes_of.empty < self.old.code }
         requires open { self.old.payload ≡ [] }
@@ -123,7 +131,7 @@ impl Writer {
         Ok(())
     }
 
-    /// The payload after its marker; where there is no room for it, nothing changes.
+    /// Puts the payload after its marker. If there is no room for it, nothing changes.
     fn put_payload(&mut self, payload: &[u8]) -> Result<(), TooLong>
         requires open { self.old.payload ≡ [] }
         requires empty { self.old.code ≡ codes_of.empty → payload.now ≡ [] }
@@ -140,7 +148,7 @@ impl Writer {
         Ok(())
     }
 
-    /// The octets that are written.
+    /// Returns the octets that are written.
     fn octets(&self) -> &[u8]
         ensures spelled { result.now ≡ spelling self.now }
         ensures read_back { reading result.now ≡ Ok self.now }
@@ -148,11 +156,17 @@ impl Writer {
         &self.octets[..self.length]
     }
 
-    /// The datagram of the message with this payload, which [`view`](crate::view) reads back.
+    /// Returns the datagram of the message with this payload, which [`view`](crate::view) reads
+    /// back.
     ///
-    /// An empty message has an empty payload, and a message gets one payload (RFC 7252 sections 3
-    /// and 4.1).
-    /// `TooLong`: the datagram would be longer than 1,280 octets; the message is then as it was.
+    /// # Requires
+    ///
+    /// The message has no payload yet. The payload of an empty message is empty (RFC 7252 sections
+    /// 3 and 4.1).
+    ///
+    /// # Errors
+    ///
+    /// `TooLong` if the datagram would be longer than 1,280 octets. The message does not change.
     pub fn finish(&mut self, payload: &[u8]) -> Result<&[u8], TooLong>
         requires open { self.old.payload ≡ [] }
         requires empty { self.old.code ≡ codes_of.empty → payload.now ≡ [] }

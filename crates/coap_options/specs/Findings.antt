@@ -1,4 +1,4 @@
--- What the code holds of the options up to one of them.
+-- What the code stores of the options up to one of them.
 use Rattle.std.specs.Prelude.{
   ◌≡◌,
   ℕ,
@@ -28,17 +28,18 @@ use Rattle.message_model.specs.OptionTable.{
 use Rattle.coap_options.specs.declared.findings.Found.{Found}
 use Rattle.coap_options.specs.Segments.{AreSegments}
 
--- The number of the last option.
+-- Returns the number of the last option.
 abbrev pub last_number : List Opt → Option ℕ
 last_number [] = None
 last_number (option ∷ options) = Some (end_number option.0 options)
 
--- It is the number of the last option.
+-- Returns whether a number is that of the last option.
 abbrev pub is_last : Option ℕ → ℕ → Bool
 is_last None number = false
 is_last (Some last) number = last == number
 
--- These options say it, and each critical one of them is recognized (RFC 7252 section 5.4.1).
+-- What is found in these options, each critical one of which is recognized (RFC 7252 section
+-- 5.4.1).
 pub record IsFound (options : List Opt) (found : Found) : Type 0 where
   pub last : found.last ≡ last_number options
   pub good : first_bad_option options ≡ None
@@ -54,11 +55,11 @@ pub record IsFound (options : List Opt) (found : Found) : Type 0 where
       ≡ (stands_in table.proxy_uri (recognized_options options)
       || stands_in table.proxy_scheme (recognized_options options))
 
--- The first value: the one that was found, or else that of this option, where it has the number.
+-- Returns the value that was found, or else that of this option, if it has the number.
 abbrev pub or_value : Option (List ℕ) → ℕ → Opt → Option (List ℕ)
 or_value found number option = option_or found (if option.0 == number then Some option.1 else None)
 
--- What is found with one recognized option more.
+-- What is found with one more recognized option.
 pub record IsFoundWith (found : Found) (option : Opt) (more : Found) : Type 0 where
   pub last : more.last ≡ Some option.0
   pub segments : (segments : List (List ℕ))

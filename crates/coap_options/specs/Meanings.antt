@@ -1,4 +1,4 @@
--- What a message means.
+-- The meaning of a message.
 use Rattle.std.specs.Prelude.{◌≡◌, ◌≤◌, length, option_map, IsSome}
 use Rattle.std.specs.Option.{ForSome}
 use Rattle.message_model.specs.Blocks.{block_read}
@@ -16,8 +16,8 @@ use Rattle.message_model.specs.Request.{
 use Rattle.coap_message.specs.Views.{message_in}
 use Rattle.coap_options.specs.declared.meanings.Meaning.{Meaning}
 
--- Each part is that of the message (RFC 7252 section 5.10, RFC 7641 section 2, RFC 7959 section
--- 2.1, RFC 9175 section 2.2.1).
+-- A meaning each of whose parts is that of the message (RFC 7252 section 5.10, RFC 7641 section 2,
+-- RFC 7959 section 2.1, RFC 9175 section 2.2.1).
 pub record IsMeaning (m : Message) (meaning : Meaning) : Type 0 where
   pub view : message_in meaning.view ≡ m
   pub path : meaning.path ≡ path_in m
@@ -29,12 +29,13 @@ pub record IsMeaning (m : Message) (meaning : Meaning) : Type 0 where
   pub proxy : meaning.proxy ≡ has_proxy m
   pub echo : option_map (λ v. v.now) meaning.echo ≡ echo_in m
 
--- The values of its Block options have at most three octets (RFC 7959 section 2.2).
+-- A meaning whose values of Block options have at most three octets (RFC 7959 section 2.2).
 pub record HasShortBlocks (meaning : Meaning) : Type 0 where
   pub block1 : ForSome meaning.block1 (λ value. length value.now ≤ 3)
   pub block2 : ForSome meaning.block2 (λ value. length value.now ≤ 3)
 
--- They say blocks: neither has the reserved exponent (RFC 7959 section 2.2).
+-- A meaning whose values of Block options encode blocks: neither has the reserved exponent (RFC
+-- 7959 section 2.2).
 pub record HasReadableBlocks (meaning : Meaning) : Type 0 where
   pub block1 : ForSome meaning.block1 (λ value. IsSome (block_read value.now))
   pub block2 : ForSome meaning.block2 (λ value. IsSome (block_read value.now))

@@ -26,20 +26,20 @@ use Rattle.message_model.specs.Refusals.{
   is_other_format,
 }
 
--- A POST to `/rd` registers, and a PUT on the location of a registration replaces its links: both
--- bring links, as a document (RFC 9176 sections 5 and 5.3.3).
+-- Returns whether a request brings links, as a document: a POST to `/rd` registers, and a PUT on
+-- the location of a registration replaces its links (RFC 9176 sections 5 and 5.3.3).
 abbrev pub brings_links : ℕ → Path → Bool
 brings_links code path =
     (code == code_named.post && is_rd path) || (code == code_named.put && is_of_registration path)
 
--- A Block option says no block, or the payload of a request that brings links does not fit its
--- Block1 (RFC 7959 sections 2.2 and 2.5).
+-- Returns whether a Block option has the reserved exponent, or the payload of a request that brings
+-- links does not fit its Block1 (RFC 7959 sections 2.2 and 2.5).
 abbrev pub has_bad_block : Bool → Option (List ℕ) → Option (List ℕ) → ℕ → Bool
 has_bad_block with_links block1 block2 size =
     says_no_block block1 || says_no_block block2 || (with_links && is_misfit_of block1 size)
 
--- Of a method, path, proxy, both blocks, accepted format, format and length of a payload, the first
--- refusal after that of an unrecognized critical option.
+-- Returns the first refusal after that of an unrecognized critical option. The arguments are
+-- method, path, proxy, both blocks, accepted format, format and length of the payload.
 unfoldable pub refusal_of_parts : ℕ
     → Path
     → Bool

@@ -1,4 +1,4 @@
-//! What is found in the options up to one of them, and one option more.
+//! What is found in the options up to one of them, and in one more.
 
 ghost use Rattle.std.specs.Prelude.{◌≡◌, ◌||◌, ◌==◌, ℕ, List, [], ◌∷◌, ◌++◌, Some, None};
 ghost use Rattle.std.specs.Prelude.{if◌then◌else◌, OnOk, IfErr};
@@ -17,26 +17,25 @@ use message_model::options::{
     ACCEPT, BLOCK1, BLOCK2, CONTENT_FORMAT, ECHO, OBSERVE, PROXY_SCHEME, PROXY_URI, URI_PATH,
 };
 
-/// What recognized options say, and the number of the last option, whether or not that one is
-/// recognized.
+/// The values of recognized options, and the number of the last option.
 #[derive(Clone, Copy)]
 pub(crate) struct Found<'a> {
     /// The number of the last option, whether or not it is recognized.
     pub last: Option<u32>,
     /// The segments of the path.
     pub segments: Segments<'a>,
-    /// The first value of each of these.
+    /// The first value of each of the following options.
     pub observe: Option<&'a [u8]>,
     pub accept: Option<&'a [u8]>,
     pub format: Option<&'a [u8]>,
     pub block1: Option<&'a [u8]>,
     pub block2: Option<&'a [u8]>,
     pub echo: Option<&'a [u8]>,
-    /// Whether a proxy is asked for.
+    /// Whether an option asks for a proxy.
     pub proxy: bool,
 }
 
-/// Whether an option with this number follows one that has it too: none falls.
+/// Returns whether the last option has this number, too. Option numbers never fall.
 pub(crate) fn is_last(last: Option<u32>, number: u32) -> bool
     ensures { result ≡ is_last last number }
 {
@@ -46,7 +45,7 @@ pub(crate) fn is_last(last: Option<u32>, number: u32) -> bool
     }
 }
 
-/// The first value of an option with the number that is looked for is kept.
+/// Stores the value of an option with the wanted number, unless an earlier one is stored.
 fn keep_first<'a>(found: &mut Option<&'a [u8]>, wanted: u32, option: &Opt<'a>)
     ensures { option_map (λ v. v.now) found.new
         ≡ option_or (option_map (λ v. v.now) found.old)
@@ -60,7 +59,7 @@ fn keep_first<'a>(found: &mut Option<&'a [u8]>, wanted: u32, option: &Opt<'a>)
     }
 }
 
-/// The segment of an option is added, where it has one.
+/// Adds the segment of an option, if it has one.
 fn add_path<'a>(segments: &mut Segments<'a>, option: &Opt<'a>)
     ensures { (values : List (List ℕ)) → AreSegments segments.old values
         → AreSegments segments.new (values
@@ -72,14 +71,14 @@ fn add_path<'a>(segments: &mut Segments<'a>, option: &Opt<'a>)
     }
 }
 
-/// Whether the option asks for a proxy (RFC 7252 section 5.10.2).
+/// Returns whether the option asks for a proxy (RFC 7252 section 5.10.2).
 fn is_proxy(number: u32) -> bool
     ensures { result ≡ (number == table.proxy_uri || number == table.proxy_scheme) }
 {
     number == PROXY_URI || number == PROXY_SCHEME
 }
 
-/// A recognized option more.
+/// Adds a recognized option.
 pub(crate) fn add_recognized<'a>(found: &mut Found<'a>, option: &Opt<'a>)
     ensures { IsFoundWith found.old (option_in option.now) found.new }
 {
@@ -94,7 +93,7 @@ pub(crate) fn add_recognized<'a>(found: &mut Found<'a>, option: &Opt<'a>)
     found.proxy = found.proxy || is_proxy(option.number);
 }
 
-/// Of no options.
+/// Returns what is found in no options.
 #[rattlefmt::skip]
 #[tactic(
     auto,
@@ -121,12 +120,13 @@ pub(crate) fn nothing_found<'a>() -> Found<'a>
     }
 }
 
-/// The first critical option that is not recognized has this number (RFC 7252 section 5.4.1).
+/// The error of a critical option that is not recognized: the number of the first one (RFC 7252
+/// section 5.4.1).
 #[derive(Clone, Copy, Debug, PartialEq, Eq)]
 pub struct BadOption(pub u32);
 
-/// An option more: it counts where it is recognized, and else is passed over, unless it is critical
-/// (RFC 7252 section 5.4.1).
+/// Adds an option: its value if it is recognized, and otherwise only its number. Returns an error
+/// if it is critical and not recognized (RFC 7252 section 5.4.1).
 pub(crate) fn add_option<'a>(found: &mut Found<'a>, option: &Opt<'a>) -> Result<(), BadOption>
     ensures found { OnOk result ((before : List model.Opt) → IsFound before found.old
         → stands_in option.now.number before ≡ is_last found.old.last option.now.number

@@ -13,8 +13,8 @@ use message_model::Path;
 use rd_base::{Bytes, Key, Starved};
 use std::alloc::Global;
 
-/// One octet for the resource, and the number of a registration in eight after it, the most
-/// significant first.
+/// Appends one octet for the resource, and then the number of a registration in eight octets, the
+/// most significant first.
 fn push_path(octets: &mut Vec<u8>, path: &Path) -> Result<(), Starved>
     ensures { OnOk result (octets.new.items ≡ octets.old.items ++ keys.path_bytes path.now) }
 {
@@ -34,7 +34,7 @@ fn push_path(octets: &mut Vec<u8>, path: &Path) -> Result<(), Starved>
     Ok(())
 }
 
-/// A query option: its length, which fits an octet, and its octets.
+/// Appends a query option: its length, which fits an octet, and its own octets.
 fn push_query(octets: &mut Vec<u8>, query: &[u8]) -> Result<(), Starved>
     requires { length query.now ≤ 255 }
     ensures { OnOk result (octets.new.items ≡ octets.old.items ++ keys.query_bytes query.now) }
@@ -44,7 +44,7 @@ fn push_query(octets: &mut Vec<u8>, query: &[u8]) -> Result<(), Starved>
     Ok(())
 }
 
-/// The octets of the key: the code, the resource, and each query option with its length before it.
+/// Returns the key: the code, the resource, and each query option after its length.
 fn spelled_key(alloc: Global, meaning: &Meaning<'_>) -> Result<Key, Starved>
     ensures { IfOk result (λ key. key ≡ keys.key_of meaning.now.view.code meaning.now.path
         (request.queries_in (message_in meaning.now.view))) }
@@ -58,11 +58,15 @@ fn spelled_key(alloc: Global, meaning: &Meaning<'_>) -> Result<Key, Starved>
     Ok(Key::of(Bytes::of(octets)))
 }
 
-/// The key of a request (RFC 7959 section 2.4): its code, one octet for the resource with eight for
-/// the number of a registration after it, and each query option as its length and its octets. Two
-/// requests have the same key exactly where they have the same method, path and query options.
+/// Returns the key of a request (RFC 7959 section 2.4).
 ///
-/// `Starved`: out of memory.
+/// The key has the code, one octet for the resource, the number of a registration in eight octets,
+/// and each query option after its length. Two requests have the same key exactly if they have the
+/// same method, path and query options.
+///
+/// # Errors
+///
+/// `Starved` if memory runs out.
 pub fn request_key(alloc: Global, meaning: &Meaning<'_>) -> Result<Key, Starved>
     ensures parts { IfOk result (λ key. key ≡ keys.key_of meaning.now.view.code meaning.now.path
         (request.queries_in (message_in meaning.now.view))) }

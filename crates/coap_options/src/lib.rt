@@ -1,5 +1,5 @@
-//! What the options of a CoAP request mean, and the first refusal that a request alone decides (RFC
-//! 7252 section 5.4).
+//! The meaning of the options of a CoAP request, and the first refusal that a request alone decides
+//! (RFC 7252 section 5.4).
 #![tactic(auto)]
 
 mod findings;

@@ -10,18 +10,18 @@ ghost use Rattle.coap_message.specs.Views.{message_in};
 use coap_message::View;
 use message_model::Path;
 
-/// What the recognized options of a message say, each the first of its number (RFC 7252 section
-/// 5.10, RFC 7641 section 2, RFC 7959 section 2.1, RFC 9175 section 2.2.1).
+/// The values of the recognized options of a message, each of the first option with its number (RFC
+/// 7252 section 5.10, RFC 7641 section 2, RFC 7959 section 2.1, RFC 9175 section 2.2.1).
 #[rattlefmt::skip]
 #[derive(Clone, Copy, Debug)]
 pub struct Meaning<'a> {
     /// The message itself.
     pub view: View<'a>,
-    /// The resource that its path names.
+    /// The resource that the path names.
     pub path: Path,
     /// The number in Observe.
     pub observe: Option<u32>,
-    /// The format that is accepted.
+    /// The accepted format.
     pub accept: Option<u16>,
     /// The format of the payload, by Content-Format.
     pub format: Option<u16>,
@@ -29,7 +29,7 @@ pub struct Meaning<'a> {
     pub block1: Option<&'a [u8]>,
     /// The value of Block2, of at most three octets.
     pub block2: Option<&'a [u8]>,
-    /// Whether it has Proxy-Uri or Proxy-Scheme.
+    /// Whether the message has Proxy-Uri or Proxy-Scheme.
     pub proxy: bool,
     /// The value of Echo, of 1 to 40 octets.
     pub echo: Option<&'a [u8]>,

@@ -1,4 +1,4 @@
-//! The options of a message one after the other, and what the message means by them.
+//! The options of a message, one after the other, and the meaning of the message.
 
 ghost use Rattle.std.specs.Prelude.{◌≡◌, ◌≤◌, Some, None, length, IfOk, IfErr, OnOk};
 ghost use Rattle.std.specs.Option.{option_map, ForSome};
@@ -15,7 +15,7 @@ use crate::uint_values::short_uint_of;
 use block_wise::uint_of;
 use coap_message::{View, options_of};
 
-/// The number that a value of at most two octets gives.
+/// Returns the number that a value of at most two octets encodes.
 fn short_uint_in(value: Option<&[u8]>) -> Option<u16>
     requires { ForSome value (λ v. length v.now ≤ 2) }
     ensures { result ≡ option_map numbers.uint_of (option_map (λ v. v.now) value.entry) }
@@ -26,7 +26,7 @@ fn short_uint_in(value: Option<&[u8]>) -> Option<u16>
     }
 }
 
-/// The number that a value of at most three octets gives.
+/// Returns the number that a value of at most three octets encodes.
 fn uint_in(value: Option<&[u8]>) -> Option<u32>
     requires { ForSome value (λ v. length v.now ≤ 3) }
     ensures { result ≡ option_map numbers.uint_of (option_map (λ v. v.now) value.entry) }
@@ -37,7 +37,7 @@ fn uint_in(value: Option<&[u8]>) -> Option<u32>
     }
 }
 
-/// The meaning of a message whose options say this.
+/// Returns the meaning of a message in whose options this was found.
 fn meaning_of<'a>(view: &View<'a>, found: &Found<'a>) -> Meaning<'a>
     requires { IsFound (message_in view.now).options found.now }
     ensures meaning { IsMeaning (message_in view.now) result }
@@ -56,11 +56,15 @@ fn meaning_of<'a>(view: &View<'a>, found: &Found<'a>) -> Meaning<'a>
     }
 }
 
-/// What the options of a message say (RFC 7252 section 5.4). An option is recognized where the
-/// table has its number and allows the length of its value, and where it is no second one of a
-/// number that may stand once. An elective option that is not recognized is passed over.
+/// Returns the meaning of the options of a message (RFC 7252 section 5.4).
 ///
-/// `BadOption(n)`: a critical option is not recognized, and `n` is the number of the first one.
+/// An option is recognized if the table has its number and allows the length of its value. An
+/// option that may appear only once is not recognized after another with its number. An elective
+/// option that is not recognized is ignored.
+///
+/// # Errors
+///
+/// `BadOption(n)` if a critical option is not recognized; `n` is the number of the first one.
 pub fn meaning<'a>(view: &View<'a>) -> Result<Meaning<'a>, BadOption>
     ensures meaning { IfOk result (λ meaning. IsMeaning (message_in view.now) meaning) }
     ensures short { IfOk result HasShortBlocks }

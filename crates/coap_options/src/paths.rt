@@ -9,14 +9,14 @@ ghost use Rattle.message_model.specs.declared.requests.Path.TheVariants as path;
 
 use message_model::{MAX_LOCATION_DIGITS, Path};
 
-/// Whether all of them are decimal digits.
+/// Returns whether all octets are decimal digits.
 fn are_digits(text: &[u8]) -> bool
     ensures { result ≡ list_all is_ascii_digit text.now }
 {
     text.iter().all(|byte| byte.is_ascii_digit())
 }
 
-/// A zero that other digits follow.
+/// Returns whether a text of at least two octets begins with the digit 0.
 fn has_leading_zero(text: &[u8]) -> bool
     ensures { result ≡ request.has_leading_zero text.now }
 {
@@ -26,7 +26,7 @@ fn has_leading_zero(text: &[u8]) -> bool
     }
 }
 
-/// Some digits, and no more than a registration's number has.
+/// Returns whether there is an octet, and no more than a registration's number has digits.
 fn has_good_length(text: &[u8]) -> bool
     ensures { result
         ≡ (nat_le 1 (length text.now) && nat_le (length text.now) request.most_digits) }
@@ -34,7 +34,7 @@ fn has_good_length(text: &[u8]) -> bool
     1 <= text.len() && text.len() <= MAX_LOCATION_DIGITS
 }
 
-/// A decimal number of 1 to 15 digits without leading zero.
+/// Returns whether a text is a decimal number of 1 to 15 digits without a leading zero.
 fn is_location(text: &[u8]) -> bool
     ensures value { result ≡ request.is_location text.now }
     ensures few { result ≡ true → length text.now ≤ 15 }
@@ -49,7 +49,7 @@ fn is_location(text: &[u8]) -> bool
     !has_leading_zero(text)
 }
 
-/// The number that at most 15 digits say.
+/// Returns the number that at most 15 digits spell.
 fn decimal_value(text: &[u8]) -> u64
     requires few { length text.now ≤ 15 }
     requires digits { list_all is_ascii_digit text.now ≡ true }
@@ -61,7 +61,7 @@ fn decimal_value(text: &[u8]) -> u64
     }
 }
 
-/// The registration that is named by the segment after `rd` (RFC 9176 section 5.3).
+/// Returns the registration that the segment after `rd` names (RFC 9176 section 5.3).
 #[tactic(auto, unfolding(message_model::specs::Request::location_of))]
 fn location_of(text: &[u8]) -> Path
     ensures { result ≡ request.location_of text.now }
@@ -72,7 +72,7 @@ fn location_of(text: &[u8]) -> Path
     Path::Location(decimal_value(text))
 }
 
-/// The resource that the segment after `.well-known` names (RFC 9176 sections 4.3 and 5.1).
+/// Returns the resource that the segment after `.well-known` names (RFC 9176 sections 4.3 and 5.1).
 fn well_known_of(segment: &[u8]) -> Path
     ensures { result ≡ request.well_known_of segment.now }
 {
@@ -85,7 +85,7 @@ fn well_known_of(segment: &[u8]) -> Path
     Path::Other
 }
 
-/// The resource that the segment after `rd-lookup` names (RFC 9176 section 6).
+/// Returns the resource that the segment after `rd-lookup` names (RFC 9176 section 6).
 fn lookup_of(segment: &[u8]) -> Path
     ensures { result ≡ request.lookup_of segment.now }
 {
@@ -98,7 +98,7 @@ fn lookup_of(segment: &[u8]) -> Path
     Path::Other
 }
 
-/// The resource that one segment names.
+/// Returns the resource that one segment names.
 pub(crate) fn path_of_one(segment: &[u8]) -> Path
     ensures { result ≡ (if bytes_eq segment.now (codes "rd") then path.Rd else path.Other) }
 {
@@ -108,7 +108,7 @@ pub(crate) fn path_of_one(segment: &[u8]) -> Path
     Path::Other
 }
 
-/// The resource that two segments name.
+/// Returns the resource that two segments name.
 pub(crate) fn path_of_two(first: &[u8], second: &[u8]) -> Path
     ensures { result ≡ request.path_of_two first.now second.now }
 {

@@ -20,7 +20,7 @@ use message_model::codes::{GET, POST, PUT};
 use message_model::formats::LINK_FORMAT;
 use message_model::{Path, Refusal};
 
-/// A path that names no resource.
+/// Returns whether a path names no resource.
 fn is_nowhere(path: &Path) -> bool
     ensures { result ≡ refusals.is_nowhere path.now }
 {
@@ -30,8 +30,8 @@ fn is_nowhere(path: &Path) -> bool
     }
 }
 
-/// A POST to `/rd` registers, and a PUT on the location of a registration replaces its links: both
-/// bring links, as a document (RFC 9176 sections 5 and 5.3.3).
+/// Returns whether a request brings links, as a document: a POST to `/rd` registers, and a PUT on
+/// the location of a registration replaces its links (RFC 9176 sections 5 and 5.3.3).
 fn brings_links(code: u8, path: &Path) -> bool
     ensures { result ≡ brings_links code path.now }
 {
@@ -42,7 +42,7 @@ fn brings_links(code: u8, path: &Path) -> bool
     }
 }
 
-/// A Block option with the reserved exponent (RFC 7959 section 2.2).
+/// Returns whether a Block option has the reserved exponent (RFC 7959 section 2.2).
 fn says_no_block(value: Option<&[u8]>) -> bool
     requires { ForSome value (λ v. length v.now ≤ 3) }
     ensures { result ≡ refusals.says_no_block (option_map (λ v. v.now) value.entry) }
@@ -53,8 +53,8 @@ fn says_no_block(value: Option<&[u8]>) -> bool
     }
 }
 
-/// A block that more follow has exactly the block size, and the last is no longer (RFC 7959 section
-/// 2.2).
+/// Returns whether a payload of this size does not fit its block. A block that more follow has
+/// exactly the block size, and the last block is no longer (RFC 7959 section 2.2).
 fn is_misfit(block: &Block, size: usize) -> bool
     requires { block.now.szx < blocks.reserved_szx }
     ensures { result ≡ blocks.is_misfit block.now size }
@@ -66,7 +66,8 @@ fn is_misfit(block: &Block, size: usize) -> bool
     most < size
 }
 
-/// A payload of this length does not fit the block that it is said to be.
+/// Returns whether a payload of this length does not fit the block that the value of a Block option
+/// encodes, if it encodes one.
 fn is_misfit_of(value: Option<&[u8]>, size: usize) -> bool
     requires { ForSome value (λ v. length v.now ≤ 3) }
     ensures { result ≡ refusals.is_misfit_of (option_map (λ v. v.now) value.entry) size }
@@ -80,8 +81,8 @@ fn is_misfit_of(value: Option<&[u8]>, size: usize) -> bool
     is_misfit(&block, size)
 }
 
-/// A Block option says no block, or the payload of a request that brings links does not fit its
-/// Block1 (RFC 7959 sections 2.2 and 2.5).
+/// Returns whether a Block option has the reserved exponent, or the payload of a request that
+/// brings links does not fit its Block1 (RFC 7959 sections 2.2 and 2.5).
 fn has_bad_block(
     with_links: bool,
     block1: Option<&[u8]>,
@@ -103,7 +104,7 @@ fn has_bad_block(
     with_links && is_misfit_of(block1, size)
 }
 
-/// A format is named, and it is not that of link documents.
+/// Returns whether a format is named that is not that of link documents.
 fn is_other_format(format: Option<u16>) -> bool
     ensures { result ≡ refusals.is_other_format format }
 {
@@ -113,7 +114,7 @@ fn is_other_format(format: Option<u16>) -> bool
     }
 }
 
-/// The first refusal after that of an unrecognized critical option.
+/// Returns the first refusal after that of an unrecognized critical option.
 #[tactic(auto, unfolding(crate::specs::PartRefusals::refusal_of_parts))]
 fn refusal_after_options(meaning: &Meaning<'_>) -> Option<Refusal>
     ensures { result ≡ refusal_of_parts meaning.now.view.code meaning.now.path meaning.now.proxy
@@ -144,16 +145,23 @@ fn refusal_after_options(meaning: &Meaning<'_>) -> Option<Refusal>
     None
 }
 
-/// What a request means, or why it is refused before its query is looked at: the first of the
-/// refusals in the order of [`Refusal`] (RFC 7252 section 5.9).
+/// Returns the meaning of a request, unless it is refused before its query is read (RFC 7252
+/// section 5.9).
 ///
-/// `BadOption(n)`: a critical option is not recognized, and `n` is the number of the first one.
-/// `Proxy`: Proxy-Uri or
-/// Proxy-Scheme stands in it. `Path`: its path names no resource. `Method`: the resource does not
-/// have its method.
-/// `Block`: Block1 or Block2 has the exponent 7, or it brings links, as a registration or a
-/// replacement, and its payload does not fit its Block1. `Accept`: it is a GET that accepts another
-/// format than that of link documents. `Format`: it brings links, and its body has another format.
+/// A request *brings links* if it is a registration or a replacement of links.
+///
+/// # Errors
+///
+/// The first that applies:
+///
+/// - `BadOption(n)` if a critical option is not recognized; `n` is the number of the first one.
+/// - `Proxy` if the request has Proxy-Uri or Proxy-Scheme.
+/// - `Path` if the path names no resource.
+/// - `Method` if the resource does not have the method.
+/// - `Block` if Block1 or Block2 has the exponent 7, or if the request brings links and its payload
+///   does not fit its Block1.
+/// - `Accept` if the request is a GET that accepts another format than that of link documents.
+/// - `Format` if the request brings links and its body has another format.
 pub fn request<'a>(view: &View<'a>) -> Result<Meaning<'a>, Refusal>
     ensures meaning { IfOk result (λ meaning. IsMeaning (message_in view.now) meaning) }
     ensures short { IfOk result HasShortBlocks }

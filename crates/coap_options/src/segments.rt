@@ -1,4 +1,4 @@
-//! The segments of a path as they come.
+//! The segments of a path, in order.
 
 ghost use Rattle.std.specs.Prelude.{◌≡◌, ℕ, List, [], ◌∷◌, ◌++◌};
 ghost use Rattle.message_model.specs.Request as request;
@@ -7,20 +7,20 @@ ghost use Rattle.coap_options.specs.Segments.{AreSegments};
 use crate::paths::{path_of_one, path_of_two};
 use message_model::Path;
 
-/// The segments of a path, of which no resource has more than two.
+/// The segments of a path. No resource has more than two.
 #[derive(Clone, Copy)]
 pub(crate) enum Segments<'a> {
-    /// None.
+    /// No segment.
     None,
-    /// One.
+    /// One segment.
     One(&'a [u8]),
-    /// Two, in order.
+    /// Two segments, in order.
     Two(&'a [u8], &'a [u8]),
-    /// Three or more, which name no resource.
+    /// Three segments or more, which name no resource.
     More,
 }
 
-/// One segment more.
+/// Returns the segments with one more.
 pub(crate) fn with_segment<'a>(segments: Segments<'a>, segment: &'a [u8]) -> Segments<'a>
     ensures { (values : List (List ℕ))
         → AreSegments segments.entry values
@@ -34,7 +34,7 @@ pub(crate) fn with_segment<'a>(segments: Segments<'a>, segment: &'a [u8]) -> Seg
     }
 }
 
-/// The resource that they name.
+/// Returns the resource that the segments name.
 #[tactic(auto, unfolding(message_model::specs::Request::path_of))]
 pub(crate) fn path_of(segments: Segments<'_>) -> Path
     ensures { (values : List (List ℕ))

@@ -11,7 +11,8 @@ use message_model::options::{
     PROXY_URI, SIZE1, SIZE2, URI_HOST, URI_PATH, URI_PORT, URI_QUERY,
 };
 
-/// Of an option: the least and greatest length of its value, and whether it may be repeated.
+/// What the table says of an option: the least and greatest length of its value in octets, and
+/// whether it may be repeated.
 #[derive(Clone, Copy)]
 pub(crate) struct Definition {
     pub least: usize,
@@ -19,7 +20,7 @@ pub(crate) struct Definition {
     pub repeatable: bool,
 }
 
-/// An option that stands at most once.
+/// Returns the entry of an option that appears at most once.
 fn at_most_once(least: usize, most: usize) -> Option<Definition>
     ensures { option_map definition_in result ≡ table.at_most_once least most }
 {
@@ -30,7 +31,7 @@ fn at_most_once(least: usize, most: usize) -> Option<Definition>
     })
 }
 
-/// An option that may stand more than once.
+/// Returns the entry of an option that may appear more than once.
 fn any_number(least: usize, most: usize) -> Option<Definition>
     ensures { option_map definition_in result ≡ table.any_number least most }
 {
@@ -41,7 +42,7 @@ fn any_number(least: usize, most: usize) -> Option<Definition>
     })
 }
 
-/// The definition of the option with this number, where the table has it.
+/// Returns the entry of the option with this number, if the table has it.
 #[tactic(auto, unfolding(message_model::specs::OptionTable::definition_of))]
 fn definition_of(number: u32) -> Option<Definition>
     ensures { option_map definition_in result ≡ table.definition_of number }
@@ -67,16 +68,15 @@ fn definition_of(number: u32) -> Option<Definition>
     }
 }
 
-/// A length between the least and the greatest.
+/// Returns whether a length is between the least and the greatest.
 fn has_length(definition: &Definition, size: usize) -> bool
     ensures { result ≡ (nat_le definition.now.least size && nat_le size definition.now.most) }
 {
     definition.least <= size && size <= definition.most
 }
 
-/// The table has the option and allows this length, and that it is a further one where it is (RFC
-/// 7252 sections 5.4.3 and
-/// 5.4.5).
+/// Returns whether the table has the option and allows this length. A further option of a number is
+/// allowed only if the option may be repeated (RFC 7252 sections 5.4.3 and 5.4.5).
 pub(crate) fn is_recognized(number: u32, is_further: bool, size: usize) -> bool
     ensures { result ≡ table.is_allowed_by (table.definition_of number) is_further size }
 {
@@ -86,7 +86,7 @@ pub(crate) fn is_recognized(number: u32, is_further: bool, size: usize) -> bool
     has_length(&definition, size) && (definition.repeatable || !is_further)
 }
 
-/// Odd numbers are critical (RFC 7252 section 5.4.6).
+/// Returns whether an option is critical: its number is odd (RFC 7252 section 5.4.6).
 pub(crate) fn is_critical(number: u32) -> bool
     ensures { result ≡ table.is_critical number }
 {

@@ -1,9 +1,9 @@
-//! Numbers that values give (RFC 7252 section 3.2).
+//! Numbers that values encode (RFC 7252 section 3.2).
 
 ghost use Rattle.std.specs.Prelude.{◌≡◌, ◌≤◌, length};
 ghost use Rattle.message_model.specs.Numbers as numbers;
 
-/// The number that at most two octets give, the most significant first.
+/// Returns the number that at most two octets encode, the most significant first.
 pub(crate) fn short_uint_of(value: &[u8]) -> u16
     requires { length value.now ≤ 2 }
     ensures { result ≡ numbers.uint_of value.now }

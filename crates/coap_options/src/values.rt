@@ -15,28 +15,30 @@ use coap_message::{Opt, OptionsIter, options_of};
 use message_model::options::{ETAG, LOCATION_PATH, URI_QUERY};
 use rd_base::Pieces;
 
-/// The query options that are left, in order (RFC 7252 section 5.10.1): a contract sees them by
-/// `queries_left`. The readers of parameters and criteria take them as [`Pieces`].
+/// An iterator over the remaining query options, in order (RFC 7252 section 5.10.1).
+///
+/// Contracts see them as `queries_left`. The readers of parameters and criteria take them as
+/// [`Pieces`].
 #[derive(Clone, Copy, Debug)]
 pub struct QueryIter<'a> {
     options: OptionsIter<'a>,
 }
 
-/// The entity tags that are left, in order (RFC 7252 section 5.10.6): a contract sees them by
-/// `etags_left`.
+/// An iterator over the remaining entity tags, in order (RFC 7252 section 5.10.6). Contracts see
+/// them as `etags_left`.
 #[derive(Clone, Copy, Debug)]
 pub struct EtagIter<'a> {
     options: OptionsIter<'a>,
 }
 
-/// The segments of a location that are left, in order (RFC 7252 section 5.10.7): a contract sees
-/// them by `locations_left`.
+/// An iterator over the remaining segments of a location, in order (RFC 7252 section 5.10.7).
+/// Contracts see them as `locations_left`.
 #[derive(Clone, Copy, Debug)]
 pub struct LocationIter<'a> {
     options: OptionsIter<'a>,
 }
 
-/// Whether the option has this number, which may be repeated, and is recognized.
+/// Returns whether an option has this number, which may be repeated, and is recognized.
 fn is_value(number: u32, option: &Opt<'_>) -> bool
     ensures { result
         ≡ (option.now.number
@@ -49,7 +51,7 @@ fn is_value(number: u32, option: &Opt<'_>) -> bool
     is_recognized(number, false, option.value.len())
 }
 
-/// The next value of a number that may be repeated, and the options after it.
+/// Returns the next value of an option that may be repeated, and the options after it.
 fn next_value<'a>(options: OptionsIter<'a>, number: u32) -> Option<(&'a [u8], OptionsIter<'a>)>
     ensures some { IfSome result (λ x.
         values_left number (options_left options.entry)
@@ -65,8 +67,8 @@ fn next_value<'a>(options: OptionsIter<'a>, number: u32) -> Option<(&'a [u8], Op
     None
 }
 
-/// The query options of a message, in order: those that are recognized (RFC 7252 sections 5.4 and
-/// 5.10.1).
+/// Returns the query options of a message, in order: those that are recognized (RFC 7252 sections
+/// 5.4 and 5.10.1).
 pub fn queries<'a>(meaning: &Meaning<'a>) -> QueryIter<'a>
     ensures { queries_left result ≡ request.queries_in (message_in meaning.now.view) }
 {
@@ -75,8 +77,8 @@ pub fn queries<'a>(meaning: &Meaning<'a>) -> QueryIter<'a>
     }
 }
 
-/// The entity tags of a message, in order: those that are recognized (RFC 7252 sections 5.4 and
-/// 5.10.6).
+/// Returns the entity tags of a message, in order: those that are recognized (RFC 7252 sections 5.4
+/// and 5.10.6).
 pub fn etags<'a>(meaning: &Meaning<'a>) -> EtagIter<'a>
     ensures { etags_left result ≡ request.etags_in (message_in meaning.now.view) }
 {
@@ -85,8 +87,8 @@ pub fn etags<'a>(meaning: &Meaning<'a>) -> EtagIter<'a>
     }
 }
 
-/// The segments of the location that an answer names, in order: those that are recognized (RFC
-/// 7252 sections 5.4 and 5.10.7).
+/// Returns the segments of the location that a response names, in order: those that are recognized
+/// (RFC 7252 sections 5.4 and 5.10.7).
 pub fn locations<'a>(meaning: &Meaning<'a>) -> LocationIter<'a>
     ensures { locations_left result ≡ request.locations_in (message_in meaning.now.view) }
 {
@@ -151,7 +153,7 @@ impl<'a> Pieces<'a> for QueryIter<'a> {
 
     ghost left = { queries_left };
 
-    /// The next query option, where one is left.
+    /// Returns the next query option, if one is left.
     fn next_piece(&mut self) -> Option<&'a [u8]> {
         let _octets = self.options.octets();
         self.next()

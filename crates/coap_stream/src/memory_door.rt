@@ -1,8 +1,9 @@
 //! Connections in memory.
-ghost use Rattle.std.specs.Prelude.{◌≡◌, Some};
+ghost use Rattle.std.specs.Prelude.{◌≡◌, Some, []};
+ghost use Rattle.coap_stream.specs.Serving.{CountsOpened, Opens};
 
 use crate::doors::{Accept, Opened};
-use rd_base::{Bytes, List, Peer, SureSink, SureSource};
+use rd_base::{Bytes, List, Peer, Source, SureSink, SureSource};
 use udp_link::Arrivals;
 
 /// Connections in memory: peers, each with the octets that it sends. Each is opened once, in order,
@@ -35,7 +36,13 @@ impl Accept for MemAccept {
 
     ghost faults = { λ d. d.faults };
 
-    fn next(&mut self) -> Opened<SureSource, SureSink> {
+    /// Opens the first connection that is left, and fails exactly where none is.
+    fn next(&mut self) -> Opened<SureSource, SureSink>
+        ensures opened { Opens ⟦<SureSource as Source>⟧.left (Some self.old.streams)
+            (Some self.new.streams) result }
+        ensures cause { CountsOpened self.old.faults self.new.faults result }
+        ensures ended { result ≡ Opened.Failed → self.old.streams ≡ [] }
+    {
         match self.streams.take_first() {
             Some((peer, octets)) => Opened::One(peer, SureSource::of(octets), SureSink::new()),
             None => {

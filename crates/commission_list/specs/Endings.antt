@@ -1,4 +1,4 @@
--- How the making of a list ends: its status, what is said of it, and what stands in the output.
+-- How a list ends: its status, what is reported of it, and what the output contains.
 use Rattle.std.specs.Prelude.{
   ◌≡◌,
   ◌⊎◌,
@@ -35,12 +35,12 @@ reason_text bad.Form = codes "form"
 reason_text bad.Ask = codes "ask"
 reason_text bad.Base = codes "base"
 
--- what is said of a line that is bad
+-- what is reported of a bad line
 abbrev pub line_text : ℕ → AskLine → List ℕ
 line_text n why =
     codes "line " ++ (decimal n ++ (codes ": " ++ (reason_text why ++ codes "\n")))
 
--- what is said of a status on the error sink
+-- what is reported of a status on the error sink
 abbrev pub status_text : CommissionStatus → List ℕ
 status_text status.Done = []
 status_text status.ReadFault = codes "read failed\n"
@@ -50,11 +50,11 @@ status_text (status.Line n why) = line_text n why
 status_text status.Memory = codes "memory\n"
 status_text status.Link = codes "link failed\n"
 
--- a text is the beginning of another
+-- a text is a prefix of another
 abbrev pub IsFrontOf : List ℕ → List ℕ → Type 0
 IsFrontOf front whole = (rest : List ℕ) × (whole ≡ front ++ rest)
 
--- a text was said, or a front of it where a fault was counted
+-- a text was reported, or a prefix of it if a fault was counted
 pub record Says
     (before now : Option (List ℕ))
     (counted counts : ℕ)
@@ -65,7 +65,7 @@ pub record Says
   pub stands : Appends before now said
   pub whole : (said ≡ text) ⊎ Rose counted counts
 
--- what is said of a status stands on the error sink, or a front of it where a fault was counted
+-- the text of a status is on the error sink, or a prefix of it if a fault was counted
 abbrev pub IsReported : Option (List ℕ)
     → Option (List ℕ)
     → ℕ
@@ -74,12 +74,12 @@ abbrev pub IsReported : Option (List ℕ)
     → Type 0
 IsReported before now counted counts s = Says before now counted counts (status_text s)
 
--- the count of the source rose exactly where the reading is at fault
+-- the count of the source rose exactly if the reading failed
 abbrev pub CountsReads : ℕ → ℕ → CommissionStatus → Type 0
 CountsReads before now status.ReadFault = (before ≤ now) × Rose before now
 CountsReads before now _ = now ≡ before
 
--- the count of the output rose exactly where the writing is at fault
+-- the count of the output rose exactly if the writing failed
 abbrev pub CountsWrites : ℕ → ℕ → CommissionStatus → Type 0
 CountsWrites before now status.WriteFault = (before ≤ now) × Rose before now
 CountsWrites before now _ = now ≡ before

@@ -1,4 +1,4 @@
--- What the making of a list comes to: what happened, and what was written.
+-- What becomes of a list: what happened, and what was written.
 use Rattle.std.specs.Prelude.{
   ◌≡◌,
   ◌⊎◌,
@@ -47,20 +47,20 @@ use Rattle.commission_list.specs.Printing.{line_text, front_text}
 
 -- ---- what came to pass
 
--- the lines of what became of asks after what happened, up to the first that is not decided
+-- the lines of what became of requests after what happened, up to the first undecided one
 abbrev pub lines_after : List Ask → List Step → List ℕ
 lines_after asks past = front_text 1 (said_all asks 0 past)
 
--- memory ran out: at a line of output; or, where an ask was undecided, as a datagram was heard or a
--- talk was to begin
+-- memory ran out: at a line of output; or, while a request was undecided, when a datagram was
+-- handled or a request was to begin
 abbrev pub IsStarved : List Ask → List Step → Outside → Outside → Type 0
 IsStarved asks past last after =
     (after ≡ last) ⊎ Ends asks past (Some fault.Starved) last after
 
--- What the making of asks came to after what happened before, and what was written of it. Where it
--- is done each ask is decided, and the line of each was written, in the order of the list. Where a
--- receive failed an ask was undecided and none was to begin, and the lines of those were written
--- before which all are decided. Otherwise a front of these was. No event came after all were
+-- What became of requests after what happened before, and what was written of it. With `Done`, each
+-- request is decided and the line of each was written, in the order of the list. With `Link`, a
+-- receive failed while a request was undecided and none was to begin, and the lines up to the first
+-- undecided request were written. Otherwise a prefix of these was. No event came after all were
 -- decided (`HappensAll`).
 abbrev pub Makes : List Ask
     → List Step
@@ -94,7 +94,7 @@ Makes asks past status.ReadFault before after text = ⊥
 Makes asks past status.Usage before after text = ⊥
 Makes asks past (status.Line n why) before after text = ⊥
 
--- the same, by what an output holds
+-- the same, from what an output holds
 abbrev pub MakesOut : List Ask
     → CommissionStatus
     → Outside
@@ -107,7 +107,7 @@ MakesOut asks s before after holds now =
 
 -- ---- the whole
 
--- the same, by a link and a clock that were handed in and back
+-- the same, for a link and a clock that were passed in and returned
 abbrev pub MakesBack : {L C : Type 0}
     → (L → C → Outside)
     → List Ask
@@ -122,7 +122,7 @@ MakesBack told asks s None link clock holds now = ⊥
 MakesBack told asks s (Some ends) link clock holds now =
     MakesOut asks s (told link clock) (told ends.0 ends.1) holds now
 
--- nothing was written, and the link and the clock came back as they were handed in, so that nothing
+-- nothing was written, and the link and the clock were returned as they were passed in, so nothing
 -- was sent
 abbrev pub IsUnmade : {L C : Type 0}
     → Option (L × C)
@@ -133,7 +133,7 @@ abbrev pub IsUnmade : {L C : Type 0}
     → Type 0
 IsUnmade back link clock holds now = Appends holds now [] × (back ≡ Some (link, clock))
 
--- what the making of asks that were listed came to, where they were read, and what was written
+-- what became of the requests of a list, if they were read, and what was written
 abbrev pub IsMadeOf : {L C : Type 0}
     → (L → C → Outside)
     → Result (List Ask) LineBad
@@ -150,7 +150,7 @@ IsMadeOf told (Ok asks) status.ReadFault back link clock holds now =
 IsMadeOf told (Ok asks) s back link clock holds now =
     MakesBack told asks s back link clock holds now
 
--- the statuses at which nothing was sent, since the list was not read whole, or is bad
+-- the statuses at which nothing was sent, since the list was not read whole or is bad
 abbrev pub HandsBack : {L C : Type 0}
     → CommissionStatus
     → L
@@ -162,8 +162,7 @@ HandsBack status.ReadFault link clock back = back ≡ Some (link, clock)
 HandsBack (status.Line n why) link clock back = back ≡ Some (link, clock)
 HandsBack _ link clock back = ⊤
 
--- where a line is bad, no other line is named and the list is not done; where none is, none is
--- named
+-- if a line is bad, no other line is named and the list is not done; if none is bad, none is named
 abbrev pub EndsBy : Result (List Ask) LineBad → CommissionStatus → Type 0
 EndsBy (Err first) (status.Line n why) = first ≡ record { line = n; why = why }
 EndsBy (Err first) status.Done = ⊥
@@ -173,12 +172,12 @@ EndsBy (Err first) _ = ⊤
 EndsBy (Ok asks) (status.Line n why) = ⊥
 EndsBy (Ok asks) _ = ⊤
 
--- a receive failed only where that was counted, and otherwise its count stands
+-- a receive failed only if that was counted; otherwise its count stays
 abbrev pub CountsStatus : ℕ → ℕ → CommissionStatus → Type 0
 CountsStatus before now status.Link = (before ≤ now) × Rose before now
 CountsStatus before now _ = now ≡ before
 
--- the same of a link that is handed back. It is not only where memory ran out
+-- the same for a link that is returned. It is not returned only if memory ran out
 abbrev pub CountsBack : {L C : Type 0}
     → (L → ℕ)
     → L
@@ -191,27 +190,30 @@ CountsBack recv_faults link s (Some ends) =
 
 -- ---- what the code answers
 
+-- the status of a list that failed while it was made
 abbrev pub status_of : TellFault → CommissionStatus
 status_of fault.Link = status.Link
 status_of fault.Starved = status.Memory
 
+-- the status of a list whose outcomes were not written
 abbrev pub print_status : PrintFault → CommissionStatus
 print_status unprinted.Unwritten = status.WriteFault
 print_status unprinted.Starved = status.Memory
 
+-- the status of a list that was not read
 abbrev pub list_status : ListFault → CommissionStatus
 list_status stop.Unread = status.ReadFault
 list_status (stop.Bad n why) = status.Line n why
 list_status stop.Starved = status.Memory
 
--- the asks of a source that was read, or why they were not
+-- the requests of a source that was read, or why they were not
 abbrev pub IsRead : Result (List Ask) ListFault → Result (List Ask) LineBad → Type 0
 IsRead (Ok asks) expected = expected ≡ Ok asks
 IsRead (Err (stop.Bad n why)) expected = expected ≡ Err (record { line = n; why = why })
 IsRead (Err stop.Unread) expected = ⊤
 IsRead (Err stop.Starved) expected = ⊤
 
--- the outcomes of the first indexes are there, and the text has their lines from a number on
+-- the first outcomes exist, and the text has their lines from a number on
 abbrev pub Printed : ℕ → List (Option Outcome) → ℕ → List ℕ → Type 0
 Printed n outcomes zero text = text ≡ []
 Printed n [] (suc k) text = ⊥
@@ -219,14 +221,14 @@ Printed n (None ∷ outcomes) (suc k) text = ⊥
 Printed n (Some o ∷ outcomes) (suc k) text =
     (more : List ℕ) × (text ≡ line_text n o ++ more) × Printed (n + 1) outcomes k more
 
--- the outcome of an index is there
+-- the outcome at an index exists
 abbrev pub is_there : Option (Option Outcome) → Bool
 is_there (Some (Some o)) = true
 is_there (Some None) = false
 is_there None = false
 
--- the lines of outcomes up to an index were written behind a text, where they end at one that is
--- not there; or a front of the lines was
+-- the lines of outcomes up to an index were written after a text, up to one that is missing; or a
+-- prefix of the lines was
 abbrev pub IsWrittenOn : {A : Type 0}
     → List (Option Outcome)
     → List ℕ
@@ -245,12 +247,13 @@ IsWrittenOn outcomes text (Err f) k holds now =
     × Appends holds now more
     × IsFrontOf (text ++ more) (front_text 1 outcomes)
 
+-- a write failed only if that was counted; otherwise its count stays
 abbrev pub CountsPrint : {A : Type 0} → ℕ → ℕ → Result A PrintFault → Type 0
 CountsPrint before now (Ok x) = now ≡ before
 CountsPrint before now (Err unprinted.Starved) = now ≡ before
 CountsPrint before now (Err unprinted.Unwritten) = (before ≤ now) × Rose before now
 
--- lines stand for a list of which an ask is undecided, and what is decided at its front is written
+-- lines stand for a list with an undecided request, and all that is decided before it is written
 pub record Prints
     (asks : List Ask)
     (past : List Step)
@@ -263,7 +266,7 @@ pub record Prints
   pub printed : Printed 1 outcomes k text
   pub front : is_there (slice_get outcomes k) ≡ false
 
--- a poll and what was written after it
+-- a poll, and what was written after it
 abbrev pub IsStepped : List Ask
     → List Step
     → List ℕ
@@ -287,10 +290,12 @@ IsStepped asks past text (Some s) k lines outcomes before after holds now =
     × Appends holds now written
     × Makes asks past s before after (text ++ written)
 
+-- `CountsStatus` of a poll
 abbrev pub CountsStep : ℕ → ℕ → Option CommissionStatus → Type 0
 CountsStep before now None = now ≡ before
 CountsStep before now (Some s) = CountsStatus before now s
 
+-- `CountsWrites` of a poll
 abbrev pub WritesStep : ℕ → ℕ → Option CommissionStatus → Type 0
 WritesStep before now None = now ≡ before
 WritesStep before now (Some s) = CountsWrites before now s

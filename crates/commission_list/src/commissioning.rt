@@ -22,7 +22,7 @@ use std::alloc::{AllocGlobal, Global};
 use std::sync::Wait;
 use udp_link::{Clock, Link};
 
-/// The asks of a source.
+/// Reads the requests of a source.
 fn asks_of<S: Source>(alloc: Global, source: &mut S) -> Result<Asks, ListFault>
     ensures read { IfSome (S.left source.old) (λ bytes. IsRead result (listed bytes)) }
     ensures few { IfOk result (λ asks. length asks ≤ MAX_ASKS) }
@@ -36,7 +36,7 @@ fn asks_of<S: Source>(alloc: Global, source: &mut S) -> Result<Asks, ListFault>
     }
 }
 
-/// The status of a list that was not read.
+/// Returns the status of a list that was not read.
 fn list_status(fault: ListFault) -> CommissionStatus
     ensures { result ≡ makings.list_status fault }
 {
@@ -47,7 +47,7 @@ fn list_status(fault: ListFault) -> CommissionStatus
     }
 }
 
-/// Does what the program does with no words, but for what it says of its status.
+/// Does what the program does without arguments, except for reporting its status.
 fn make_list<R, S, K, L, C>(
     rt: &R,
     source: &mut S,
@@ -81,7 +81,7 @@ where
     }
 }
 
-/// Does what the program does, but for what it says of its status.
+/// Does what the program does, except for reporting its status.
 fn commission_said<R, S, K, L, C>(
     rt: &R,
     words: &[String],
@@ -117,8 +117,12 @@ where
     make_list(rt, source, out, link, clock)
 }
 
-/// Does all that `rd_commission` does over its link: reads a list of devices whole, makes the ask
-/// of each line, and writes what became of each (RFC 9176 section 5.1).
+/// Reads a whole list of devices, makes the request of each line, and writes what became of each
+/// (RFC 9176 section 5.1).
+///
+/// This is all that `rd_commission` does over its link. Nothing is sent unless the whole list was
+/// read and no line is bad. If an argument is given, nothing is read and the status is `Usage`. The
+/// error sink `err` receives the text of the status.
 pub fn commission<R, S, K, E, L, C>(
     rt: &R,
     words: &[String],

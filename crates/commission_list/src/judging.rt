@@ -1,4 +1,4 @@
-//! One line of a list: what it asks for, or why it is bad.
+//! One line of a list: the request that it describes, or why it is bad.
 ghost use Rattle.std.specs.Prelude.{◌≡◌, ◌≤◌, Ok, IfOk};
 ghost use Rattle.line_model.specs.Lines.{fields};
 ghost use Rattle.client_model.specs.Requests.{CanBeSent};
@@ -13,20 +13,20 @@ use std::alloc::Global;
 use std::str;
 use trace_text::cut;
 
-/// The most lines of a list.
+/// The maximum number of lines in a list.
 pub const MAX_LINES: u64 = 1024;
 
-/// The most octets of a line, its line feed apart.
+/// The maximum length of a line in octets, without its line feed.
 pub const MAX_LINE: usize = 20_000;
 
-/// Why a line of a list is bad, in the order in which it is looked for.
+/// Why a line of a list is bad, in the order in which the reasons are checked.
 #[derive(Clone, Copy, Debug, PartialEq, Eq)]
 pub enum AskLine {
     /// It is line 1,025.
     Many,
-    /// It is no URI, one space and a body in hexadecimal digits or `-`, or it is too long.
+    /// It is not a URI, one space and a body in hexadecimal digits or `-`, or it is too long.
     Form,
-    /// There is no ask of its URI and its body.
+    /// No request can be built from its URI and its body.
     Ask,
     /// No part of its query begins with `base=`.
     Base,
@@ -41,7 +41,8 @@ pub(crate) enum LineFault {
     Starved,
 }
 
-/// The body that a text writes: `-` for the empty one, or octets in digits of either case.
+/// Reads the body that a text writes: `-` for the empty body, or octets in hexadecimal digits of
+/// either case.
 #[tactic(auto, unfolding(crate::specs::Lists::body_of))]
 fn body_read(alloc: Global, text: &[u8]) -> Result<Bytes, LineFault>
     ensures { IsBody result (lists.body_of text.now) }
@@ -59,14 +60,14 @@ fn body_read(alloc: Global, text: &[u8]) -> Result<Bytes, LineFault>
     }
 }
 
-/// Whether the base of a registration is said (RFC 9176 section 5).
+/// Returns whether a request gives the base of its registration (RFC 9176 section 5).
 fn has_base(ask: &Ask) -> bool
     ensures { result ≡ has_base ask.now }
 {
     ask.options.as_slice().iter().any(|option| is_base(option))
 }
 
-/// Whether an option says the base of a registration.
+/// Returns whether an option gives the base of a registration.
 fn is_base(option: &(u32, Bytes)) -> bool
     ensures { result ≡ lists.is_base option.now }
 {
@@ -76,7 +77,7 @@ fn is_base(option: &(u32, Bytes)) -> bool
     option.1.as_slice().starts_with(b"base=")
 }
 
-/// Why a line is bad of whose URI and body there is no ask.
+/// Returns why a line is bad if no request can be built from its URI and its body.
 fn fault_of(bad: AskBad) -> LineFault
     ensures { result ≡ lists.fault_of bad }
 {
@@ -88,7 +89,7 @@ fn fault_of(bad: AskBad) -> LineFault
     }
 }
 
-/// An ask that says its base.
+/// Returns the request, or `Base` if it does not give its base.
 fn based(ask: Ask) -> Result<Ask, LineFault>
     requires { CanBeSent ask }
     ensures exact { IsJudged result (lists.if_based (Ok ask)) }
@@ -100,7 +101,7 @@ fn based(ask: Ask) -> Result<Ask, LineFault>
     Ok(ask)
 }
 
-/// The ask of a URI and a body.
+/// Builds the request of a URI and a body.
 #[tactic(auto, unfolding(crate::specs::Lists::asked))]
 fn ask_read(alloc: Global, uri: &[u8], body: &Bytes) -> Result<Ask, LineFault>
     ensures exact { IsJudged result (lists.asked uri.now body.now) }
@@ -115,7 +116,7 @@ fn ask_read(alloc: Global, uri: &[u8], body: &Bytes) -> Result<Ask, LineFault>
     }
 }
 
-/// The ask of a line that is not too long.
+/// Builds the request of a line that is not too long.
 fn fields_read(alloc: Global, line: &[u8]) -> Result<Ask, LineFault>
     ensures exact { IsJudged result (lists.asked_of (lists.two_of (fields line.now))) }
     ensures sent { IfOk result CanBeSent }
@@ -132,7 +133,7 @@ fn fields_read(alloc: Global, line: &[u8]) -> Result<Ask, LineFault>
     }
 }
 
-/// The ask of a line, by its number from 1.
+/// Builds the request of a line with this number, from 1.
 #[tactic(auto, unfolding(crate::specs::Lists::judged))]
 pub(crate) fn line_read(alloc: Global, number: u64, line: &[u8]) -> Result<Ask, LineFault>
     ensures exact { IsJudged result (lists.judged number line.now) }

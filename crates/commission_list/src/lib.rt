@@ -1,5 +1,5 @@
-//! A list of devices as text: read whole and judged, made over one link, and what became of each
-//! printed (RFC 9176 sections 1 and 5.1).
+//! A list of devices as text. It is read whole and checked, its requests are made over one link,
+//! and what became of each is written (RFC 9176 sections 1 and 5.1).
 #![tactic(auto)]
 
 mod commissioning;

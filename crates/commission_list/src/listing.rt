@@ -1,4 +1,4 @@
-//! A whole list: the lines of a text, each judged.
+//! A whole list: the lines of a text, each checked.
 ghost use Rattle.std.specs.Prelude.{◌≡◌, ◌<◌, ◌≤◌, ◌≢◌, ◌∷◌, []};
 ghost use Rattle.std.specs.Prelude.{IfOk, IfErr, length};
 ghost use Rattle.std.specs.List.{All};
@@ -21,13 +21,13 @@ use trace_text::offset_of;
 pub(crate) enum ListFault {
     /// The source failed.
     Unread,
-    /// A line is bad.
+    /// The line with this number, from 1, is bad.
     Bad(u64, AskLine),
     /// Memory ran out.
     Starved,
 }
 
-/// The first line of a text that is not empty, without its line feed, and what stands after it.
+/// Returns the first line of a text that is not empty, without its line feed, and the rest.
 fn first_line(text: &[u8]) -> (&[u8], &[u8])
     requires { text.now ≢ [] }
     ensures lines { lines_of text.now ≡ result.0.now ∷ lines_of result.1.now }
@@ -39,7 +39,7 @@ fn first_line(text: &[u8]) -> (&[u8], &[u8])
     }
 }
 
-/// The asks of the lines of a text.
+/// Builds the requests of the lines of a text.
 pub(crate) fn list_read(alloc: Global, text: &[u8]) -> Result<List<Ask>, ListFault>
     ensures exact { IsListed result (lists.listed text.now) }
     ensures sent { IfOk result (All CanBeSent) }
@@ -68,7 +68,7 @@ pub(crate) fn list_read(alloc: Global, text: &[u8]) -> Result<List<Ask>, ListFau
     Ok(asks)
 }
 
-/// All octets of a source.
+/// Reads all octets of a source.
 pub(crate) fn text_read<S: Source>(alloc: Global, source: &mut S) -> Result<Bytes, ListFault>
     ensures read { IfOk result (λ text. Consumes (S.left source.old) (S.left source.new) text
         × IsAtEnd (S.left source.new)) }

@@ -1,4 +1,4 @@
-//! A list of asks that is made, and what became of each, written as soon as it and all before it
+//! A list of requests in progress. What became of each is written as soon as it and all before it
 //! are decided.
 ghost use Rattle.std.specs.Prelude.{◌≡◌, ◌≤◌, ℕ, false, List, [], Some};
 ghost use Rattle.std.specs.Prelude.{IfOk, MatchOption, length};
@@ -27,12 +27,12 @@ use std::alloc::{AllocGlobal, Global};
 use std::sync::Wait;
 use udp_link::{Clock, Link, MAX_DATAGRAM};
 
-/// How the making of a list ended, and the link and the clock, unless memory ran out.
+/// How a list ended, with the link and the clock.
 #[derive(Drop)]
 pub struct CommissionEnd<L: Link + Drop, C: Clock + Drop> {
     /// How it ended.
     pub status: CommissionStatus,
-    /// The link and the clock. None: out of memory.
+    /// The link and the clock; `None` only if memory ran out.
     pub back: Option<(L, C)>,
 }
 
@@ -45,7 +45,7 @@ pub(crate) enum PrintFault {
     Starved,
 }
 
-/// The line of an outcome, by the number of its line in the list.
+/// Returns the line of an outcome, with the number of its line in the list.
 fn line_of(alloc: Global, number: u64, outcome: &Outcome) -> Result<Bytes, Starved>
     ensures { IfOk result (λ line. line ≡ line_text number outcome.now) }
 {
@@ -54,7 +54,7 @@ fn line_of(alloc: Global, number: u64, outcome: &Outcome) -> Result<Bytes, Starv
     Ok(line)
 }
 
-/// The outcome at an index, where it is there.
+/// Returns the outcome at an index, or `None` if there is none.
 fn outcome_at(outcomes: &[Option<Outcome>], at: usize) -> Option<&Outcome>
     ensures { MatchOption result (is_there (slice_get outcomes.now at) ≡ false)
         (λ o. slice_get outcomes.now at ≡ Some (Some o.now)) }
@@ -66,8 +66,8 @@ fn outcome_at(outcomes: &[Option<Outcome>], at: usize) -> Option<&Outcome>
     }
 }
 
-/// Writes the line of each outcome that is there, from the first that was not written on, up to one
-/// that is not.
+/// Writes the line of each outcome in order, from the first that is not yet written up to the first
+/// that is missing.
 fn print_front<K: Sink>(
     alloc: Global,
     out: &mut K,
@@ -91,7 +91,7 @@ fn print_front<K: Sink>(
     Ok(())
 }
 
-/// The status of a list whose making failed.
+/// Returns the status of a list that failed while it was made.
 fn status_of(fault: TellFault) -> CommissionStatus
     ensures { result ≡ makings.status_of fault }
 {
@@ -101,7 +101,7 @@ fn status_of(fault: TellFault) -> CommissionStatus
     }
 }
 
-/// The status of a list whose outcomes were not written.
+/// Returns the status of a list whose outcomes were not written.
 fn print_status(fault: PrintFault) -> CommissionStatus
     ensures { result ≡ makings.print_status fault }
 {
@@ -111,8 +111,8 @@ fn print_status(fault: PrintFault) -> CommissionStatus
     }
 }
 
-/// One poll, and the lines of what is decided by it. The room has 4,096 octets. None: an ask is not
-/// decided yet.
+/// Makes one poll and writes the lines of what is then decided. Returns `None` if a request is
+/// undecided. `room` has 4,096 octets or more.
 fn step<K: Sink, L: Link + Drop, C: Clock + Drop>(
     alloc: Global,
     going: &mut Going<L, C>,
@@ -148,8 +148,8 @@ fn step<K: Sink, L: Link + Drop, C: Clock + Drop>(
     }
 }
 
-/// Makes asks, poll after poll, and writes what became of each as soon as it and all before it are
-/// decided.
+/// Makes the requests, poll after poll, and writes what became of each as soon as it and all before
+/// it are decided.
 fn make_all<R: Wait, K: Sink, L: Link + Drop, C: Clock + Drop>(
     rt: &R,
     alloc: Global,
@@ -179,7 +179,7 @@ fn make_all<R: Wait, K: Sink, L: Link + Drop, C: Clock + Drop>(
     unreachable!()
 }
 
-/// Makes a list of 1 to 1,024 asks.
+/// Makes a list of 1 to 1,024 requests.
 fn make_some<R, K, L, C>(rt: &R, out: &mut K, link: L, clock: C, asks: Asks) -> CommissionEnd<L, C>
 where
     R: Wait + AllocGlobal,
@@ -210,7 +210,7 @@ where
     }
 }
 
-/// Makes a list of at most 1,024 asks.
+/// Makes a list of at most 1,024 requests.
 pub(crate) fn make_asks<R, K, L, C>(
     rt: &R,
     out: &mut K,

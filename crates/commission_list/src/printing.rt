@@ -1,4 +1,4 @@
-//! What became of an ask, as a line of output.
+//! What became of a request, as a line of output.
 ghost use Rattle.std.specs.Prelude.{◌≡◌, ◌<◌, ◌++◌, OnOk, decimal};
 ghost use Rattle.commission_list.specs.Printing as printing;
 
@@ -6,10 +6,10 @@ use itoa::write_digits;
 use rd_base::{Bytes, Starved, Texts};
 use registrant::Outcome;
 
-/// The digits that a number of 64 bits has at most.
+/// The maximum number of decimal digits of a 64-bit number.
 const DIGITS: usize = 20;
 
-/// Adds the digits of a number.
+/// Appends the digits of a number.
 fn push_number(into: &mut Bytes, number: u64) -> Result<(), Starved>
     ensures { OnOk result (into.new ≡ into.old ++ decimal number) }
 {
@@ -18,7 +18,7 @@ fn push_number(into: &mut Bytes, number: u64) -> Result<(), Starved>
     into.append(&digits[start..])
 }
 
-/// A hexadecimal digit of upper case.
+/// Returns a hexadecimal digit in upper case.
 fn digit(value: u8) -> u8
     requires { value < 16 }
     ensures { result ≡ printing.digit value }
@@ -29,14 +29,14 @@ fn digit(value: u8) -> u8
     b'A' + (value - 10)
 }
 
-/// Whether an octet stands for itself in a path (RFC 3986 section 2.3).
+/// Returns whether an octet is written as itself in a path (RFC 3986 section 2.3).
 fn is_plain(octet: u8) -> bool
     ensures { result ≡ printing.is_plain octet }
 {
     octet.is_ascii_alphanumeric() || matches!(octet, b'-' | b'.' | b'_' | b'~')
 }
 
-/// Adds an octet of a segment.
+/// Appends an octet of a segment.
 fn push_octet(into: &mut Bytes, octet: u8) -> Result<(), Starved>
     ensures { OnOk result (into.new ≡ into.old ++ printing.escaped octet) }
 {
@@ -46,7 +46,7 @@ fn push_octet(into: &mut Bytes, octet: u8) -> Result<(), Starved>
     into.append(&[b'%', digit(octet / 16), digit(octet % 16)])
 }
 
-/// Adds a segment with the slash before it.
+/// Appends a slash and a segment.
 fn push_segment(into: &mut Bytes, segment: &[u8]) -> Result<(), Starved>
     ensures { OnOk result (into.new ≡ into.old ++ printing.segment_text segment.now) }
 {
@@ -57,7 +57,7 @@ fn push_segment(into: &mut Bytes, segment: &[u8]) -> Result<(), Starved>
     Ok(())
 }
 
-/// Adds the path of a location.
+/// Appends the path of a location.
 fn push_path(into: &mut Bytes, path: &Texts) -> Result<(), Starved>
     ensures { OnOk result (into.new ≡ into.old ++ printing.path_text path.now) }
 {
@@ -67,7 +67,7 @@ fn push_path(into: &mut Bytes, path: &Texts) -> Result<(), Starved>
     Ok(())
 }
 
-/// Adds a code, as `4.04` (RFC 7252 section 3).
+/// Appends a code, such as `4.04` (RFC 7252 section 3).
 #[tactic(auto, unfolding(crate::specs::Printing::code_text))]
 fn push_code(into: &mut Bytes, code: u8) -> Result<(), Starved>
     ensures { OnOk result (into.new ≡ into.old ++ printing.code_text code) }
@@ -76,7 +76,7 @@ fn push_code(into: &mut Bytes, code: u8) -> Result<(), Starved>
     into.append(&[b'0' + class, b'.', b'0' + detail / 10, b'0' + detail % 10])
 }
 
-/// Adds what became of an ask.
+/// Appends what became of a request.
 fn push_outcome(into: &mut Bytes, outcome: &Outcome) -> Result<(), Starved>
     ensures { OnOk result (into.new ≡ into.old ++ printing.outcome_text outcome.now) }
 {
@@ -96,7 +96,7 @@ fn push_outcome(into: &mut Bytes, outcome: &Outcome) -> Result<(), Starved>
     }
 }
 
-/// Adds the line of an outcome, by the number of its line in the list.
+/// Appends the line of an outcome, with the number of its line in the list.
 pub(crate) fn push_line(into: &mut Bytes, number: u64, outcome: &Outcome) -> Result<(), Starved>
     ensures { OnOk result (into.new ≡ into.old ++ printing.line_text number outcome.now) }
 {

@@ -1,4 +1,4 @@
-//! Octets that are written, and what is said of a status.
+//! The texts of statuses, written to the error sink.
 ghost use Rattle.std.specs.Prelude.{◌≡◌, ◌≤◌, drop, decimal, flat_map};
 ghost use Rattle.commission_list.specs.Endings as ends;
 
@@ -6,10 +6,10 @@ use crate::{AskLine, CommissionStatus};
 use itoa::write_digits;
 use rd_base::{Sink, write_all};
 
-/// The digits that a number of 64 bits has at most.
+/// The maximum number of decimal digits of a 64-bit number.
 const DIGITS: usize = 20;
 
-/// The name of a reason.
+/// Returns the name of a reason.
 fn reason_name(why: AskLine) -> &'static [u8]
     ensures { result.now ≡ ends.reason_text why }
 {
@@ -21,7 +21,7 @@ fn reason_name(why: AskLine) -> &'static [u8]
     }
 }
 
-/// Writes texts one after the other, or a front of them where the sink fails.
+/// Writes texts one after the other, or a prefix of them if the sink fails.
 fn say<E: Sink>(err: &mut E, texts: &[&[u8]])
     ensures { ends.Says (E.holds err.old) (E.holds err.new) (E.faults err.old) (E.faults err.new)
         (flat_map (λ text. text.now) texts.now) }
@@ -33,7 +33,7 @@ fn say<E: Sink>(err: &mut E, texts: &[&[u8]])
     }
 }
 
-/// Writes the digits of a number to the end of the octets, and answers where they begin.
+/// Writes the digits of a number to the end of `into`, and returns the index at which they begin.
 fn write_number(number: u64, into: &mut [u8; DIGITS]) -> usize
     ensures digits { drop result into.new ≡ decimal number }
     ensures within { result ≤ 20 }
@@ -41,7 +41,7 @@ fn write_number(number: u64, into: &mut [u8; DIGITS]) -> usize
     write_digits(number, into, DIGITS)
 }
 
-/// Says which line is bad, and why. Takes no memory.
+/// Reports which line is bad, and why. Does not allocate.
 fn say_line<E: Sink>(err: &mut E, line: u64, why: AskLine)
     ensures { ends.Says (E.holds err.old) (E.holds err.new) (E.faults err.old) (E.faults err.new)
         (ends.line_text line why) }
@@ -52,7 +52,7 @@ fn say_line<E: Sink>(err: &mut E, line: u64, why: AskLine)
     say(err, &[b"line ", &digits[start..], b": ", why, b"\n"]);
 }
 
-/// Says a status. Takes no memory.
+/// Reports a status. Does not allocate.
 pub(crate) fn say_status<E: Sink>(err: &mut E, status: CommissionStatus)
     ensures { ends.IsReported (E.holds err.old) (E.holds err.new) (E.faults err.old)
         (E.faults err.new) status }

@@ -3,18 +3,19 @@ ghost use Rattle.std.specs.Prelude.{◌≡◌};
 
 use crate::AskLine;
 
-/// How the making of a list ends, with its exit status.
+/// How a list ends, with its exit status.
 #[derive(Clone, Copy, Debug, PartialEq, Eq)]
 pub enum CommissionStatus {
-    /// 0: the list was read to its end, no line is bad, each ask has an outcome, all was written.
+    /// 0: the list was read to its end, no line is bad, each request has an outcome, all was
+    /// written.
     Done,
     /// 1: the source failed.
     ReadFault,
     /// 2: the output failed.
     WriteFault,
-    /// 3: a word was given.
+    /// 3: an argument was given.
     Usage,
-    /// 4: a line is bad.
+    /// 4: the line with this number, from 1, is bad.
     Line(u64, AskLine),
     /// 5: memory ran out.
     Memory,
@@ -25,7 +26,7 @@ pub enum CommissionStatus {
 impl CommissionStatus {
     ghost use Rattle.commission_list.specs.Endings.{code_of};
 
-    /// The exit status of the program.
+    /// Returns the exit status of the program.
     pub fn code(&self) -> u8
         ensures { result ≡ code_of self.now }
     {

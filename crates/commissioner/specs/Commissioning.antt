@@ -1,4 +1,4 @@
--- What a commissioning gives.
+-- What a list of requests gives.
 use Rattle.std.specs.Prelude.{◌≡◌, ◌⊎◌, ℕ, ◌≤◌, true, false, List, [], ◌++◌, Option, Some, None}
 use Rattle.rd_base.specs.Outside.{Rose}
 use Rattle.rd_base.specs.declared.moments.Moment.{Moment}
@@ -27,8 +27,8 @@ use Rattle.commissioner.specs.Happening.{
   KeepsDecided,
 }
 
--- how it ended after what happened: each ask was decided; or one was not, and a receive failed, or
--- memory ran out. A receive is made only where no ask is to begin
+-- how it ended after what happened: each request was decided; or one was not, and a receive failed
+-- or memory ran out. A receive is made only if no request is to begin
 abbrev pub Ends : List Ask → List Step → Option TellFault → Outside → Outside → Type 0
 Ends asks past None before after =
     (is_unsaid (said_all asks 0 past) ≡ false) × (after ≡ before)
@@ -41,8 +41,8 @@ Ends asks past (Some fault.Starved) before after =
     × (((first_due [] asks 0 past ≡ None) × Unheard asks past before after)
     ⊎ IsLost before after)
 
--- what a list of asks came to over a link and a clock: these steps happened, so it ended, and what
--- became of each ask is the verdict of its share
+-- what became of a list of requests over a link and a clock: these steps happened, so it ended, and
+-- what became of each request is the verdict of its share
 pub record IsMade
     (asks : List Ask)
     (past : List Step)
@@ -56,7 +56,7 @@ pub record IsMade
   pub said : outcomes ≡ said_all asks 0 (more ++ past)
   pub ends : Ends asks (more ++ past) fault last after
 
--- the lines stand for those of a list that are not decided, of which there are some
+-- the lines stand for the undecided requests of a list, of which there is at least one
 pub record StandsFor
     (asks : List Ask)
     (past : List Step)
@@ -66,7 +66,7 @@ pub record StandsFor
   pub kept : AreOpen past asks 0 lines outcomes
   pub some : is_unsaid outcomes ≡ true
 
--- whatever list and past the lines stand for, so it comes
+-- whatever list and past the lines stand for, this became of it
 abbrev pub IsGiven : List Line
     → List (Option Outcome)
     → List (Option Outcome)
@@ -79,7 +79,7 @@ IsGiven lines kept outcomes fault before after =
     → StandsFor asks past lines kept
     → IsMade asks past outcomes fault before after
 
--- it ends by the link only where a receive failed and was counted, and otherwise that count stands
+-- it ends by the link only if a receive failed and was counted; otherwise that count stays
 abbrev pub CountsFault : ℕ → ℕ → Option TellFault → Type 0
 CountsFault before now None = now ≡ before
 CountsFault before now (Some fault.Link) = (before ≤ now) × Rose before now
@@ -87,7 +87,7 @@ CountsFault before now (Some fault.Starved) = now ≡ before
 
 -- ---- a poll
 
--- what happened in a poll: one event came, but none where a fault ended it before
+-- what happened in a poll: one event came, or none if a fault ended it before
 abbrev pub IsTurnBy : Option TellFault → List Step → Type 0
 IsTurnBy None more = IsOneTurn more
 IsTurnBy (Some f) more = AllBegan more
@@ -109,11 +109,12 @@ IsPolled asks past polled.Going lines outcomes before after =
 IsPolled asks past (polled.Over fault) lines outcomes before after =
     (made : IsMade asks past outcomes fault before after) × IsTurnBy fault made.more
 
+-- `CountsFault` of a poll
 abbrev pub CountsPoll : ℕ → ℕ → Polled → Type 0
 CountsPoll before now polled.Going = now ≡ before
 CountsPoll before now (polled.Over fault) = CountsFault before now fault
 
--- what was decided before a poll is so after it, and where it failed nothing more is
+-- what was decided before a poll is still decided after it; if it failed, nothing more is
 abbrev pub KeepsPolled : Polled → List (Option Outcome) → List (Option Outcome) → Type 0
 KeepsPolled polled.Going old new = KeepsDecided old new
 KeepsPolled (polled.Over None) old new = KeepsDecided old new
@@ -121,16 +122,17 @@ KeepsPolled (polled.Over (Some fault)) old new = new ≡ old
 
 -- ---- the future
 
--- a list and a past that lines stand for
+-- there is a list and a past that the lines stand for
 abbrev pub StandForSome : List Line → List (Option Outcome) → Type 0
 StandForSome lines outcomes =
     (asks : List Ask) × (past : List Step) × StandsFor asks past lines outcomes
 
+-- there is a list in progress, and what is stored stands for some list
 abbrev pub CanPollFrom : {L C : Type 0} → Option (Going L C) → Type 0
 CanPollFrom None = ⊥
 CanPollFrom (Some going) = StandForSome going.lines.items going.outcomes
 
--- its link and its clock are there, and what is kept stands for a list
+-- the future can be polled: it has its link and its clock, and what is stored stands for a list
 abbrev pub CanPoll : {L C : Type 0} → Commission L C → Type 0
 CanPoll c = CanPollFrom c.going
 
@@ -143,6 +145,7 @@ module _
     (times : C → Option (List Moment))
     (words : C → Option (List ℕ))
   where
+    -- what a list in progress gives from this state on
     abbrev pub GivesFrom : Option (Going L C) → Commissioned L C → Type 0
     GivesFrom None told = ⊥
     GivesFrom (Some going) told =
@@ -164,12 +167,11 @@ module _
     (times : C → Option (List Moment))
     (words : C → Option (List ℕ))
   where
-    -- what it gives, whatever its lines stand for, and what was counted
+    -- what the future gives, whatever its lines stand for, and what was counted
     abbrev pub Gives : Commission L C → Commissioned L C → Type 0
     Gives c told = GivesFrom coming gone recv_faults send_faults times words c.going told
 
--- a commissioning to which nothing has happened: it has the link and the clock, and stands for the
--- list
+-- a list to which nothing has happened: it has the link and the clock, and stands for the requests
 abbrev pub IsStartedFrom : {L C : Type 0} → L → C → List Ask → Option (Going L C) → Type 0
 IsStartedFrom link clock asks None = ⊥
 IsStartedFrom link clock asks (Some going) =
@@ -177,5 +179,6 @@ IsStartedFrom link clock asks (Some going) =
     × (going.clock ≡ clock)
     × StandsFor asks [] going.lines.items going.outcomes
 
+-- a future whose list has just started
 abbrev pub IsStarted : {L C : Type 0} → L → C → List Ask → Commission L C → Type 0
 IsStarted link clock asks c = IsStartedFrom link clock asks c.going

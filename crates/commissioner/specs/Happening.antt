@@ -1,4 +1,4 @@
--- What happens while a list of asks is made over a link and a clock.
+-- What happens while a list of requests is made over a link and a clock.
 use Rattle.std.specs.Prelude.{
   ◌≡◌,
   ◌⊎◌,
@@ -58,14 +58,14 @@ use Rattle.commissioner.specs.Shares.{
 }
 use Rattle.commissioner.specs.Lines.{IsOpen, IsLine, IsLost, IsDatagram}
 
--- an ask is not decided
+-- a request is undecided
 abbrev pub is_unsaid : List (Option Outcome) → Bool
 is_unsaid outcomes = list_any is_none outcomes
 
 -- ---- a step
 
--- the talk of the first ask that is to begin began: at the next moment of the clock, with its next
--- word, and its request was sent
+-- the first request that is to begin began: at the next moment of the clock, with its next word,
+-- and it was sent
 pub record Begins
     (asks : List Ask)
     (past : List Step)
@@ -87,8 +87,8 @@ pub record Begins
   pub coming : Stays before.coming after.coming
   pub receives : after.recv_faults ≡ before.recv_faults
 
--- an event came, when an ask was undecided and none was to begin: it is made of what is coming, at
--- the next moment of the clock, and what it makes go was sent
+-- an event came when a request was undecided and none was to begin: it comes from what is coming,
+-- at the next moment of the clock, and what it causes was sent
 pub record Comes (asks : List Ask) (past : List Step) (e : Event) (before after : Outside)
     : Type 0 where
   pub unsaid : is_unsaid (said_all asks 0 past) ≡ true
@@ -105,12 +105,13 @@ pub record Comes (asks : List Ask) (past : List Step) (e : Event) (before after 
   pub words : Stays before.words after.words
   pub receives : after.recv_faults ≡ before.recv_faults
 
+-- a step happened, after the past steps
 abbrev pub Happens : List Ask → List Step → Step → Outside → Outside → Type 0
 Happens asks past (step.Began n now word) before after =
     Begins asks past n now word before after
 Happens asks past (step.Happened e) before after = Comes asks past e before after
 
--- these steps happened, of which the newest stands first, after those before
+-- these steps happened, newest first, after the past steps
 abbrev pub HappensAll : List Ask → List Step → List Step → Outside → Outside → Type 0
 HappensAll asks past [] before after = after ≡ before
 HappensAll asks past (s ∷ more) before after =
@@ -120,19 +121,19 @@ HappensAll asks past (s ∷ more) before after =
 
 -- ---- a poll
 
--- talks began, and no event came
+-- requests began, and no event came
 abbrev pub AllBegan : List Step → Type 0
 AllBegan [] = ⊤
 AllBegan (step.Began n now word ∷ past) = AllBegan past
 AllBegan (step.Happened e ∷ past) = ⊥
 
--- talks began, and then one event came: one datagram, or one tick
+-- requests began, and then one event came: one datagram, or one tick
 abbrev pub IsOneTurn : List Step → Type 0
 IsOneTurn [] = ⊥
 IsOneTurn (step.Began n now word ∷ past) = ⊥
 IsOneTurn (step.Happened e ∷ past) = AllBegan past
 
--- one ask could not hear an event that belongs to its talk: what the event makes go for those
+-- one request could not handle an event that belongs to it: what the event causes for the requests
 -- before it was sent, and nothing else
 pub record StopsAt
     (asks : List Ask)
@@ -149,7 +150,7 @@ pub record StopsAt
   pub heard : is_heard ask e (share ask number past) ≡ true
   pub sends : Sends (sent_all (take number asks) 0 past e) sent faults sent_after faults_after
 
--- a datagram was taken that one ask could not hear for want of memory
+-- a datagram was taken that one request could not handle because memory ran out
 pub record Unheard (asks : List Ask) (past : List Step) (before after : Outside)
     : Type 0 where
   pub lost : Datagram
@@ -170,8 +171,8 @@ pub record Unheard (asks : List Ask) (past : List Step) (before after : Outside)
 
 -- ---- what is kept of a list of asks
 
--- The asks from a number on, by what is kept: each that is decided has its outcome, and the others
--- have a line each, in the order of the list.
+-- The requests from an index on, and what is stored of them: each decided one has its outcome, and
+-- the others have a line each, in the order of the list.
 abbrev pub AreKept : (Ask → ℕ → Line → Type 0)
     → List Step
     → List Ask
@@ -187,17 +188,17 @@ AreKept Is past (ask ∷ asks) i [] (None ∷ outcomes) = ⊥
 AreKept Is past (ask ∷ asks) i (line ∷ lines) (None ∷ outcomes) =
     Is ask i line × AreKept Is past asks (suc i) lines outcomes
 
--- the lines stand for the asks that are not decided
+-- the lines stand for the undecided requests
 abbrev pub AreOpen : List Step → List Ask → ℕ → List Line → List (Option Outcome)
     → Type 0
 AreOpen past asks i lines outcomes = AreKept (IsOpen past) past asks i lines outcomes
 
--- the same, where some of the lines may have been decided since
+-- the same, but some of the lines may have been decided since
 abbrev pub AreLines : List Step → List Ask → ℕ → List Line → List (Option Outcome)
     → Type 0
 AreLines past asks i lines outcomes = AreKept (IsLine past) past asks i lines outcomes
 
--- each line has begun, or stands behind another to the same directory
+-- each line has begun, or comes after another to the same directory
 abbrev pub HasBegun : List Peer → Line → Type 0
 HasBegun busy line = (line.ask ≡ None) ⊎ (is_busy busy line.to ≡ true)
 
@@ -208,7 +209,7 @@ AllBegun busy (line ∷ lines) =
 
 -- ---- the parts of a poll
 
--- the talks that are to begin began, one after the other, or memory ran out at one
+-- the requests that were to begin began, one after the other, or memory ran out at one
 abbrev pub AreBegun : {E : Type 0}
     → List Ask
     → List Step
@@ -232,8 +233,8 @@ AreBegun asks past outcomes (Err x) lines before after =
     × IsLost last after
     × AllBegan more
 
--- an event was handed to each talk, and what is to be sent was sent; or a datagram could not be
--- heard
+-- an event was passed to each request and what it causes was sent, or a datagram could not be
+-- handled
 abbrev pub AreHanded : List Ask
     → List Step
     → List (Option Outcome)
@@ -252,13 +253,13 @@ AreHanded asks past outcomes e (Err fault.Starved) lines sent faults sent_after 
     IsDatagram e × StopsAt asks past e sent faults sent_after faults_after
 AreHanded asks past outcomes e (Err fault.Link) lines sent faults sent_after faults_after = ⊥
 
--- a receive failed only where that was counted
+-- a receive failed only if that was counted
 abbrev pub CountsTaken : ℕ → ℕ → Result Unit TellFault → Type 0
 CountsTaken before now (Ok x) = now ≡ before
 CountsTaken before now (Err fault.Starved) = now ≡ before
 CountsTaken before now (Err fault.Link) = (before ≤ now) × Rose before now
 
--- an event came, or a receive failed, or what came could not be heard
+-- an event came, or a receive failed, or the datagram could not be handled
 abbrev pub IsTaken : List Ask
     → List Step
     → List (Option Outcome)
@@ -275,7 +276,7 @@ IsTaken asks past outcomes (Err fault.Link) lines before after = Fails before af
 IsTaken asks past outcomes (Err fault.Starved) lines before after =
     Unheard asks past before after
 
--- what was decided is so still, and no ask is more or less
+-- what was decided is still decided, and there are as many requests
 abbrev pub KeepsDecided : List (Option Outcome) → List (Option Outcome) → Type 0
 KeepsDecided [] new = new ≡ []
 KeepsDecided (o ∷ old) [] = ⊥

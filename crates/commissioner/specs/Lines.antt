@@ -1,4 +1,4 @@
--- What is kept of an ask while it is made, and what it stands for.
+-- What is stored of a request while it is made, and what it stands for.
 use Rattle.std.specs.Prelude.{
   ◌≡◌,
   ◌⊎◌,
@@ -51,12 +51,13 @@ use Rattle.commissioner.specs.Shares.{
   is_heard,
 }
 
--- the event that a receive came to
+-- the event that a receive makes
 abbrev pub event_of : Taken → Event
 event_of (taken.Came now peer datagram) = event.Came now peer datagram.now
 event_of (taken.Tick now) = event.Tick now
 
--- a talk stands for the share of an ask; before it has begun the ask itself is there
+-- a pending request stands for the share of a request; before that begins, the request itself is
+-- stored
 abbrev pub IsStage : Ask → ℕ → Option Share → Option Ask → Option Talking → Type 0
 IsStage ask i None (Some kept) None = (kept ≡ ask) × CanBeSent ask
 IsStage ask i None (Some kept) (Some talk) = ⊥
@@ -66,26 +67,27 @@ IsStage ask i (Some s) None (Some talk) =
 IsStage ask i (Some s) None None = ⊥
 IsStage ask i (Some s) (Some kept) talk = ⊥
 
--- a line stands for the ask of a number that is not decided
+-- a line stands for the undecided request with an index
 pub record IsOpen (past : List Step) (ask : Ask) (i : ℕ) (line : Line) : Type 0 where
   pub number : line.number ≡ i
   pub to : line.to ≡ ask.to
   pub outcome : line.outcome ≡ None
   pub stage : IsStage ask i (share ask i past) line.ask line.talk
 
--- a line stands for one that is
+-- a line stands for the decided request with an index
 pub record IsOver (past : List Step) (ask : Ask) (i : ℕ) (line : Line) : Type 0 where
   pub number : line.number ≡ i
   pub outcome : Outcome
   pub kept : line.outcome ≡ Some outcome
   pub said : said ask i past ≡ Some outcome
 
+-- a line stands for the request with an index, decided or not
 abbrev pub IsLine : List Step → Ask → ℕ → Line → Type 0
 IsLine past ask i line = IsOpen past ask i line ⊎ IsOver past ask i line
 
 -- ---- a talk begins
 
--- the talk of a line is to begin: it has not, and none of these before it is to its directory
+-- the request of a line is to begin: it has not begun, and no line before it is to its directory
 abbrev pub is_to_begin : List Line → Line → Bool
 is_to_begin before line =
     is_some line.ask && not (list_any (λ other. is_same_peer other.to line.to) before)
@@ -121,11 +123,12 @@ pub record Begun (ask : Ask) (old new : Line) (before after : Outside) : Type 0 
         outcome = old.outcome;
       }
 
+-- whatever request a line has, it began
 abbrev pub IsBegun : Line → Line → Outside → Outside → Type 0
 IsBegun old new before after =
     (ask : Ask) → old.ask ≡ Some ask → Begun ask old new before after
 
--- the clock was asked for a moment and a word, and memory ran out before anything was sent
+-- the clock was read for a moment and a word, and memory ran out before anything was sent
 pub record IsLost (before after : Outside) : Type 0 where
   pub now : Moment
   pub word : ℕ
@@ -138,7 +141,7 @@ pub record IsLost (before after : Outside) : Type 0 where
 
 -- ---- an event is handed to a line
 
--- what a talk came to by an event, where it belongs to it
+-- what became of a pending request by an event, if the event belongs to it
 abbrev pub IsTurnedIf : Bool
     → Asked
     → List ℕ
@@ -157,12 +160,13 @@ IsTurnedIf false a octets past e turn.Going talk sent faults sent_after faults_a
     StandsFor a octets past talk × Sends [] sent faults sent_after faults_after
 IsTurnedIf false a octets past e (turn.Over r) talk sent faults sent_after faults_after = ⊥
 
+-- an event is a datagram
 abbrev pub IsDatagram : Event → Type 0
 IsDatagram (event.Came now peer octets) = ⊤
 IsDatagram (event.Tick now) = ⊥
 
--- The line stands for the ask with the event more, and what is to be sent for it was sent. Without
--- memory a datagram was not heard that belongs to its talk, and nothing was sent for it.
+-- The line stands for the request after the event, and what the event causes for it was sent. Out
+-- of memory, a datagram that belongs to it was not handled, and nothing was sent for it.
 abbrev pub IsHanded : Ask
     → ℕ
     → List Step
@@ -183,7 +187,7 @@ IsHanded ask i past e (Err fault.Starved) line sent faults sent_after faults_aft
     × Sends [] sent faults sent_after faults_after
 IsHanded ask i past e (Err fault.Link) line sent faults sent_after faults_after = ⊥
 
--- what is handed does not end by the link
+-- the result of passing an event is not an end by the link
 abbrev pub IsNoLink : Result Unit TellFault → Type 0
 IsNoLink (Ok x) = ⊤
 IsNoLink (Err fault.Starved) = ⊤

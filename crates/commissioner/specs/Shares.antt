@@ -1,5 +1,5 @@
--- What becomes of each ask of a list, by looking back over what happened while they were made (RFC
--- 9176 sections 1 and 5.1). All lists of what happened stand newest first.
+-- What becomes of each request of a list, found by looking back over what happened while they were
+-- made (RFC 9176 sections 1 and 5.1). All lists of what happened are newest first.
 use Rattle.std.specs.Prelude.{
   ℕ,
   suc,
@@ -38,36 +38,38 @@ use Rattle.commissioner.specs.declared.steps.Step.TheVariants as step
 
 -- ---- an ask
 
--- the token of the ask of a number: one more, as eight octets (RFC 7252 section 5.3.1)
+-- the token of the request with an index: the index plus one, as eight octets (RFC 7252 section
+-- 5.3.1)
 abbrev pub token_of : ℕ → List ℕ
 token_of i = to_be_bytes w64 (i + 1)
 
--- the datagram of the ask of a number, whose Message ID is that number
+-- the datagram of the request with an index, which is its Message ID
 abbrev pub octets_of : Ask → ℕ → List ℕ
 octets_of ask i = spelling (message_of ask i (token_of i))
 
 -- ---- the share of an ask
 
--- an ask as it was asked when its talk began, and its share of what happened since
+-- a request as it was made when it began, and its share of what happened since
 pub record Share : Type 0 where
   pub asked : Asked
   pub events : List Event
 
--- a datagram belongs to the talk with its peer, and a tick to each talk
+-- a datagram belongs to the request to its peer, and a tick to every request
 abbrev pub is_shared : Peer → Event → Bool
 is_shared to (event.Came now peer octets) = is_same_peer peer to
 is_shared to (event.Tick now) = true
 
--- a share with an event more, where it belongs to the talk with a directory
+-- a share with one event more, if the event belongs to the request
 abbrev pub share_if : Bool → Event → Share → Share
 share_if true e s = record s { events = e ∷ s.events }
 share_if false e s = s
 
--- an event while the talk runs; one that is decided takes no more
+-- an event while the request is in progress; a decided request takes no more
 abbrev pub share_after : Peer → Event → Option Outcome → Share → Share
 share_after to e (Some o) s = s
 share_after to e None s = share_if (is_shared to e) e s
 
+-- a share after a step
 abbrev pub share_with : Ask → ℕ → Step → Option Share → Option Share
 share_with ask i (step.Began n now word) s =
     if n == i
@@ -77,41 +79,44 @@ share_with ask i (step.Happened e) None = None
 share_with ask i (step.Happened e) (Some s) =
     Some (share_after ask.to e (verdict s.asked s.events) s)
 
--- the share of the ask of a number: the datagrams of its directory that were taken while its talk
--- ran, and its ticks; none where the talk has not begun
+-- the share of the request with an index: the datagrams of its directory that were taken while it
+-- was in progress, and its ticks; none if it has not begun
 unfoldable pub share : Ask → ℕ → List Step → Option Share
 share ask i [] = None
 share ask i (s ∷ past) = share_with ask i s (share ask i past)
 
+-- the verdict of a share, if there is one
 abbrev pub verdict_of : Option Share → Option Outcome
 verdict_of None = None
 verdict_of (Some s) = verdict s.asked s.events
 
--- what became of the ask of a number: the verdict of its share
+-- what became of the request with an index: the verdict of its share
 abbrev pub said : Ask → ℕ → List Step → Option Outcome
 said ask i past = verdict_of (share ask i past)
 
--- what became of each, in the order of the list
+-- what became of each request, in the order of the list
 abbrev pub said_all : List Ask → ℕ → List Step → List (Option Outcome)
 said_all [] i past = []
 said_all (ask ∷ asks) i past = said ask i past ∷ said_all asks (suc i) past
 
 -- ---- which talk begins
 
+-- one of these peers is this directory
 abbrev pub is_busy : List Peer → Peer → Bool
 is_busy busy to = list_any (λ other. is_same_peer other to) busy
 
--- an ask is to begin: it has not, and no earlier ask to its directory is undecided
+-- a request is to begin: it has not begun, and no earlier request to its directory is undecided
 abbrev pub is_due : List Peer → Peer → Option Share → Bool
 is_due busy to None = not (is_busy busy to)
 is_due busy to (Some s) = false
 
--- the directories of asks that are undecided, with that of one ask more
+-- the directories of undecided requests, and that of one more request if it is undecided
 abbrev pub busy_with : List Peer → Peer → Option Outcome → List Peer
 busy_with busy to (Some o) = busy
 busy_with busy to None = busy ++ to ∷ []
 
--- the first ask that is to begin, of those behind undecided asks to these directories
+-- the first request that is to begin, of those that come after undecided requests to these
+-- directories
 unfoldable pub first_due : List Peer → List Ask → ℕ → List Step → Option ℕ
 first_due busy [] i past = None
 first_due busy (ask ∷ asks) i past =
@@ -121,17 +126,18 @@ first_due busy (ask ∷ asks) i past =
 
 -- ---- what is sent
 
--- what is sent where the talk of the ask of a number begins
+-- what is sent when the request with an index begins
 abbrev pub sent_first : List Ask → ℕ → ℕ → List Sent
 sent_first [] i n = []
 sent_first (ask ∷ asks) i n =
     if n == i then (ask.to, octets_of ask i) ∷ [] else sent_first asks (suc i) n
 
--- what an event makes go for one ask: while its talk runs, what the verdict's rules send
+-- what an event causes for one request: while it is in progress, what the rules of the verdict send
 abbrev pub sent_if : Bool → List Sent → List Sent
 sent_if true sent = sent
 sent_if false sent = []
 
+-- what an event causes for the request with an index
 abbrev pub sent_by : Ask → ℕ → Event → Option Share → List Sent
 sent_by ask i e None = []
 sent_by ask i e (Some s) =
@@ -139,12 +145,12 @@ sent_by ask i e (Some s) =
     (is_none (verdict s.asked s.events) && is_shared ask.to e)
     (sent_for s.asked (octets_of ask i) s.events e)
 
--- an event belongs to the talk of an ask, which runs
+-- an event belongs to a request that is in progress
 abbrev pub is_heard : Ask → Event → Option Share → Bool
 is_heard ask e None = false
 is_heard ask e (Some s) = is_none (verdict s.asked s.events) && is_shared ask.to e
 
--- what it makes go for each, in the order of the list
+-- what an event causes for each request, in the order of the list
 abbrev pub sent_all : List Ask → ℕ → List Step → Event → List Sent
 sent_all [] i past e = []
 sent_all (ask ∷ asks) i past e =

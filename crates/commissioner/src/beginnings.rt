@@ -1,4 +1,4 @@
-//! The talks that are to begin.
+//! The requests that are to begin.
 ghost use Rattle.std.specs.Prelude.{◌≡◌, ◌<◌, List, Option};
 ghost use Rattle.std.specs.Prelude.{Some, length, take, slice_get};
 ghost use Rattle.commissioner.specs.declared.lines.Line.{Line as LineOf};
@@ -16,15 +16,15 @@ use rd_base::{Peer, Starved};
 use std::alloc::Global;
 use udp_link::{Clock, Link};
 
-/// Whether one of these asks is to a directory.
+/// Returns whether one of these requests is to a directory.
 fn is_busy(lines: &[Line], to: Peer) -> bool
     ensures { result ≡ list_any (λ line. is_same_peer line.to to) lines.now }
 {
     lines.iter().any(|line| line.to == to)
 }
 
-/// Whether the talk of the line at an index is to begin: it has not, and none of the undecided asks
-/// before it is to its directory.
+/// Returns whether the request of the line at an index is to begin: it has not begun, and no
+/// undecided request before it is to its directory.
 fn is_due(lines: &[Line], at: usize) -> bool
     requires { at < length lines.now }
     ensures { (line : LineOf) → slice_get lines.now at ≡ Some line
@@ -36,7 +36,7 @@ fn is_due(lines: &[Line], at: usize) -> bool
     !is_busy(&lines[..at], lines[at].to)
 }
 
-/// Begins each talk that is to begin, in the order of the list. `Starved`: out of memory.
+/// Begins each request that is to begin, in the order of the list.
 pub(crate) fn begin_all<L: Link, C: Clock>(
     alloc: Global,
     link: &mut L,

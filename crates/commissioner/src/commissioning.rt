@@ -1,4 +1,4 @@
-//! Many asks over one link, as a future.
+//! A list of requests over one link, as a future.
 ghost use Rattle.std.specs.Prelude.{◌≡◌, ◌≤◌, [], Some, IfOk, IfErr, length};
 ghost use Rattle.std.specs.List.{All};
 ghost use Rattle.client_model.specs.Requests.{CanBeSent};
@@ -16,18 +16,18 @@ use registrant::{Ask, TellFault};
 use std::alloc::Global;
 use udp_link::{Clock, Link, MAX_DATAGRAM};
 
-/// Asks in the order in which they are to be made.
+/// Requests in the order in which they are to be made.
 pub type Asks = List<Ask>;
 
-/// The most asks of a list.
+/// The maximum number of requests in a list.
 pub const MAX_ASKS: usize = 1024;
 
-/// What became of a list of asks, and the link and the clock that they were made with.
+/// What became of a list of requests, with the link and the clock that they used.
 #[derive(Drop)]
 pub struct Commissioned<L: Link + Drop, C: Clock + Drop> {
-    /// What became of each, in the order of the list.
+    /// What became of each request, in the order of the list.
     pub outcomes: Outcomes,
-    /// Why not all are decided.
+    /// Why some requests are undecided, or `None` if all are decided.
     pub fault: Option<TellFault>,
     /// The link.
     pub link: L,
@@ -35,23 +35,23 @@ pub struct Commissioned<L: Link + Drop, C: Clock + Drop> {
     pub clock: C,
 }
 
-/// A list of asks that are made over one link, of which at most one at each directory runs at once:
-/// a future that gives [`Commissioned`].
+/// A future that makes a list of requests over one link, at most one at a time for each directory.
+/// It gives [`Commissioned`].
 ///
-/// In each poll the talks begin that are to: those of asks before which no undecided ask to the
-/// same directory stands, in the order of the list. Each poll makes one receive, asks the clock for
-/// one moment after it, and hands a datagram to the talk with its peer; where none came, or one
-/// that is too long, time passes for each talk. It is pending, and yields, exactly where an ask is
-/// then undecided and nothing failed.
+/// Each poll first begins the requests that are to begin, in the order of the list: those to a
+/// directory with no earlier undecided request. It then makes one receive and reads the clock once.
+/// A datagram is handled by the request that is in progress with its peer. If none arrived, or one
+/// that is too long, time passes for each request in progress. The poll is pending, and yields,
+/// exactly if a request is then undecided and nothing failed.
 #[derive(Drop)]
 pub struct Commission<L: Link + Drop, C: Clock + Drop> {
     alloc: Global,
-    /// What is made, until it is handed back.
+    /// The list in progress, until it is returned.
     going: Option<Going<L, C>>,
 }
 
-/// A line for each ask, none of which has begun, and no outcome. `Err`: out of memory, and the asks
-/// are handed back.
+/// Returns a line for each request, none of which has begun, and as many empty outcomes. Returns
+/// the requests if memory runs out.
 fn lines_of(alloc: Global, asks: Asks) -> Result<(Vec<Line>, Outcomes), Asks>
     requires few { length asks ≤ MAX_ASKS }
     requires sent { All CanBeSent asks }
@@ -71,9 +71,17 @@ fn lines_of(alloc: Global, asks: Asks) -> Result<(Vec<Line>, Outcomes), Asks>
     Ok((lines, Outcomes::of(outcomes)))
 }
 
-/// A list of 1 to 1,024 asks over a link and a clock, none of which has begun. The Message ID of
-/// the ask of number i from 0 is i, and its token is i + 1 in eight octets. `Err`: out of memory,
-/// and all is handed back.
+/// Prepares a list of requests over a link and a clock. None of them has begun.
+///
+/// The request with index i, from 0, has Message ID i. Its token is i + 1 in eight octets.
+///
+/// # Requires
+///
+/// The list has 1 to 1,024 requests, and each can be sent (`CanBeSent`).
+///
+/// # Errors
+///
+/// The link, the clock and the requests, unchanged, if memory runs out.
 pub fn start<L: Link + Drop, C: Clock + Drop>(
     alloc: Global,
     link: L,
@@ -97,7 +105,15 @@ pub fn start<L: Link + Drop, C: Clock + Drop>(
     }
 }
 
-/// The same as a future. `Err`: out of memory, and all is handed back.
+/// Prepares a list of requests over a link and a clock, as a future. The rest is as for [`start`].
+///
+/// # Requires
+///
+/// The list has 1 to 1,024 requests, and each can be sent (`CanBeSent`).
+///
+/// # Errors
+///
+/// The link, the clock and the requests, unchanged, if memory runs out.
 pub fn commission_all<L: Link + Drop, C: Clock + Drop>(
     alloc: Global,
     link: L,

@@ -1,4 +1,4 @@
-//! A commissioning tool: it registers many devices at their directories on their behalf (RFC 9176
+//! A commissioning tool. It registers many devices at their directories on their behalf (RFC 9176
 //! sections 1 and 5.1).
 #![tactic(auto)]
 

@@ -1,4 +1,4 @@
-//! An ask of a list while it is made.
+//! A request of a list while it is undecided.
 ghost use Rattle.std.specs.Prelude.{◌≡◌, ◌⊎◌, ℕ, List, Some};
 ghost use Rattle.std.specs.Prelude.{None, IsSome, is_some, OnOk, OnErr};
 ghost use Rattle.udp_link.specs.Told.{Stays};
@@ -19,38 +19,38 @@ use registrant::{Ask, Outcome, Talk, TellFault, Turn, hear_turn, send, tick_turn
 use std::alloc::Global;
 use udp_link::{Clock, Link};
 
-/// What one receive came to, and when.
+/// The result of one receive, and its moment.
 #[derive(Clone, Copy)]
 pub(crate) enum Taken<'a> {
-    /// A datagram of a peer.
+    /// A datagram from a peer.
     Came(Moment, Peer, &'a [u8]),
-    /// None, or one that is too long: time passed.
+    /// No datagram, or one that is too long: time passed.
     Tick(Moment),
 }
 
-/// An ask of a list while it is made.
+/// A request of a list while it is undecided.
 #[derive(Debug, Drop)]
 pub(crate) struct Line {
-    /// Its number in the list, from 0, which is the Message ID of its request.
+    /// Its index in the list, from 0, which is its Message ID.
     pub(crate) number: u16,
     /// Its directory.
     pub(crate) to: Peer,
-    /// The ask, until its talk begins.
+    /// The request, until it begins.
     pub(crate) ask: Option<Ask>,
-    /// Its talk, once it has begun.
+    /// The pending request, once it has begun.
     pub(crate) talk: Option<Talk>,
     /// What became of it.
     pub(crate) outcome: Option<Outcome>,
 }
 
-/// The token of the ask of a number: one more, as eight octets.
+/// Returns the token of the request with an index: the index plus one, in eight octets.
 fn token_of(number: u16) -> [u8; TOKEN_SIZE]
     ensures { result ≡ token_of number }
 {
     (u64::from(number) + 1).to_be_bytes()
 }
 
-/// Hands what came to a talk with a directory, where it belongs to it.
+/// Passes what was received to a pending request, if it belongs to it.
 fn turn_of<L: Link>(
     alloc: Global,
     link: &mut L,
@@ -78,7 +78,7 @@ fn turn_of<L: Link>(
 }
 
 impl Line {
-    /// An ask of a list that has not begun.
+    /// Creates the line of a request that has not begun.
     pub(crate) fn of(number: u16, ask: Ask) -> Line
         ensures { result ≡ record {
           number = number;
@@ -97,15 +97,15 @@ impl Line {
         }
     }
 
-    /// Whether its talk is still to begin.
+    /// Returns whether its request is still to begin.
     pub(crate) fn is_waiting(&self) -> bool
         ensures { result ≡ is_some self.now.ask }
     {
         self.ask.is_some()
     }
 
-    /// Begins its talk: the clock is asked for a moment and then for a word, and the request is
-    /// sent. `Starved`: out of memory, and nothing was sent.
+    /// Begins its request. The clock is read for a moment and then for a random word, and the
+    /// request is sent. After `Starved`, nothing was sent.
     pub(crate) fn begin<L: Link, C: Clock>(
         &mut self,
         alloc: Global,
@@ -132,7 +132,8 @@ impl Line {
         Ok(())
     }
 
-    /// Hands what came to its talk, where it has begun. `Starved`: out of memory; no other error.
+    /// Passes what was received to its pending request, if it has begun. The only error is
+    /// `Starved`.
     pub(crate) fn hand<L: Link>(
         &mut self,
         alloc: Global,

@@ -1,10 +1,10 @@
-//! What became of each ask of a list.
+//! What became of each request of a list.
 ghost use Rattle.std.specs.Prelude.{◌≡◌, ◌<◌, length, slice_set};
 
 use registrant::Outcome;
 use std::marker::Model;
 
-/// What became of each ask of a list, in its order: none of one that is not decided.
+/// What became of each request of a list, in its order; `None` for a request that is undecided.
 #[derive(Debug, Drop)]
 pub struct Outcomes {
     items: Vec<Option<Outcome>>,
@@ -20,21 +20,21 @@ impl Model for Outcomes {
 }
 
 impl Outcomes {
-    /// These, in order. Takes no memory.
+    /// Creates outcomes from these, in order. Does not allocate.
     pub(crate) fn of(items: Vec<Option<Outcome>>) -> Outcomes
         ensures { result ≡ items.items }
     {
         Outcomes { items }
     }
 
-    /// What became of each, in order.
+    /// Returns what became of each request, in order.
     pub fn as_slice(&self) -> &[Option<Outcome>]
         ensures { result.now ≡ self.now }
     {
         self.items.as_slice()
     }
 
-    /// Gives the vector back. Takes no memory.
+    /// Returns the vector. Does not allocate.
     pub fn into_vec(self) -> Vec<Option<Outcome>>
         ensures { result.items ≡ self }
     {
@@ -42,7 +42,7 @@ impl Outcomes {
         items
     }
 
-    /// What became of the ask of a number.
+    /// Records what became of the request with an index.
     pub(crate) fn settle(&mut self, number: u16, outcome: Option<Outcome>)
         requires { number < length self.old }
         ensures { self.new ≡ slice_set self.old number outcome }

@@ -1,4 +1,4 @@
-//! One poll of a list of asks: talks begin, one receive is made, and what is decided is put aside.
+//! One poll of a list of requests: requests begin, one receive is made, and outcomes are recorded.
 ghost use Rattle.std.specs.Prelude.{◌≡◌, ◌≤◌, List, [], Option, None, length};
 ghost use Rattle.udp_link.specs.declared.links.TheConstants.{MAX_DATAGRAM};
 ghost use Rattle.client_model.specs.declared.asks.Ask.{Ask};
@@ -18,16 +18,16 @@ use registrant::TellFault;
 use std::alloc::Global;
 use udp_link::{Clock, Link};
 
-/// What a poll came to.
+/// The result of one poll.
 #[derive(Clone, Copy, Debug, PartialEq, Eq)]
 pub enum Polled {
-    /// An ask is not decided yet.
+    /// A request is undecided.
     Going,
-    /// Each ask is decided, or there is a fault.
+    /// Each request is decided, or the fault says why not.
     Over(Option<TellFault>),
 }
 
-/// Puts aside what became of each line that is decided.
+/// Moves the outcome of each decided line to the outcomes, and removes the line.
 fn put_aside(lines: &mut Vec<Line>, outcomes: &mut Outcomes)
     requires { (asks : List Ask) × (past : List Step)
         × AreLines past asks 0 lines.old.items outcomes.old }
@@ -47,21 +47,21 @@ fn put_aside(lines: &mut Vec<Line>, outcomes: &mut Outcomes)
     }
 }
 
-/// A list of asks that are being made.
+/// A list of requests in progress.
 #[derive(Drop)]
 pub struct Going<L: Link + Drop, C: Clock + Drop> {
     /// The link.
     pub link: L,
     /// The clock.
     pub clock: C,
-    /// Those that are not decided.
+    /// The lines of undecided requests.
     pub(crate) lines: Vec<Line>,
-    /// What became of each.
+    /// What became of each request.
     pub outcomes: Outcomes,
 }
 
 impl<L: Link + Drop, C: Clock + Drop> Going<L, C> {
-    /// The link and the clock.
+    /// Ends the list and returns the link and the clock.
     pub fn into_ends(self) -> (L, C)
         ensures { result ≡ (self.link, self.clock) }
     {
@@ -75,7 +75,15 @@ impl<L: Link + Drop, C: Clock + Drop> Going<L, C> {
     }
 }
 
-/// One poll. The room has 4,096 octets.
+/// Makes one poll: begins the requests that are to begin, makes one receive, and records outcomes.
+///
+/// Returns `Over` with a fault if memory runs out or the receive fails. The poll then decides
+/// nothing more.
+///
+/// # Requires
+///
+/// `room` has 4,096 octets or more. `going` comes from [`start`], and each poll of it so far
+/// returned [`Polled::Going`].
 pub fn poll_once<L: Link + Drop, C: Clock + Drop>(
     alloc: Global,
     going: &mut Going<L, C>,

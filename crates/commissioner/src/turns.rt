@@ -1,4 +1,4 @@
-//! One receive, and what it is to the talks that run.
+//! One receive, and what it means for the requests in progress.
 ghost use Rattle.std.specs.Prelude.{◌≡◌, ◌≤◌, true, List, [], Option, length, take};
 ghost use Rattle.udp_link.specs.declared.links.TheConstants.{MAX_DATAGRAM};
 ghost use Rattle.udp_link.specs.Told.{Stays};
@@ -15,7 +15,7 @@ use registrant::TellFault;
 use std::alloc::Global;
 use udp_link::{Came, Clock, Link};
 
-/// Hands what came to each talk. `Starved`: out of memory; no other error.
+/// Passes what was received to each request in progress. The only error is `Starved`.
 fn hand_all<L: Link>(
     alloc: Global,
     link: &mut L,
@@ -36,7 +36,7 @@ fn hand_all<L: Link>(
     Ok(())
 }
 
-/// The octets of a datagram that was received.
+/// Returns the octets of a received datagram.
 fn received(room: &[u8], size: usize) -> &[u8]
     requires { size ≤ length room.now }
     ensures { result.now ≡ take size room.now }
@@ -44,8 +44,8 @@ fn received(room: &[u8], size: usize) -> &[u8]
     &room[..size]
 }
 
-/// One receive, and what comes of it. The room has 4,096 octets. `Link`: the receive failed.
-/// `Starved`: out of memory.
+/// Makes one receive, reads the clock, and passes the result to each request in progress. `room`
+/// has 4,096 octets or more. Returns `Link` if the receive failed.
 pub(crate) fn take_event<L: Link, C: Clock>(
     alloc: Global,
     link: &mut L,

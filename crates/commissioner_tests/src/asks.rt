@@ -1,4 +1,4 @@
-//! The asks of a list.
+//! The requests of a list.
 ghost use Rattle.std.specs.Prelude.{◌≡◌, IfOk, length};
 ghost use Rattle.std.specs.List.{All};
 ghost use Rattle.client_model.specs.Requests.{CanBeSent};
@@ -7,7 +7,7 @@ use commissioner::{Ask, Asks, register_ask};
 use rd_base::{List, Starved};
 use std::alloc::Global;
 
-/// The ask that registers an endpoint at a directory of 192.0.2.0/24.
+/// Builds the request that registers an endpoint at a directory of 192.0.2.0/24.
 pub(crate) fn ask_at(alloc: Global, uri: &str) -> Result<Ask, Starved>
     ensures { IfOk result CanBeSent }
 {
@@ -17,7 +17,7 @@ pub(crate) fn ask_at(alloc: Global, uri: &str) -> Result<Ask, Starved>
     }
 }
 
-/// Two asks.
+/// Builds two requests.
 pub(crate) fn two(alloc: Global, first: &str, second: &str) -> Result<Asks, Starved>
     ensures { IfOk result (λ asks. All CanBeSent asks × (length asks ≡ 2)) }
 {

@@ -6,7 +6,7 @@ use rd_base::{Bytes, Host, Moment, Peer, Starved};
 use std::alloc::Global;
 use udp_link::{Arrivals, MemClock, MemLink, Moments, Words};
 
-/// The directory at an address of 192.0.2.0/24.
+/// Returns the directory at an address of 192.0.2.0/24.
 pub(crate) fn directory(last: u8) -> Peer {
     Peer {
         host: Host::V4([192, 0, 2, last]),
@@ -14,8 +14,8 @@ pub(crate) fn directory(last: u8) -> Peer {
     }
 }
 
-/// A link to which these datagrams come, each of the directory of that last octet. The receives
-/// with these numbers fail.
+/// Returns a link that receives these datagrams, each from the directory with that last octet. The
+/// receives with these numbers fail.
 pub(crate) fn link_of(
     alloc: Global,
     coming: &[(u8, &[u8])],
@@ -29,7 +29,7 @@ pub(crate) fn link_of(
     Ok(MemLink::of(alloc, arrivals, fail_recv, Bytes::new(alloc)))
 }
 
-/// A clock whose words are 0 and whose moments are these, in milliseconds.
+/// Returns a clock whose words are 0 and whose moments are these, in milliseconds.
 pub(crate) fn clock_of(alloc: Global, millis: &[u32]) -> Result<MemClock, Starved> {
     let mut moments = Vec::new(alloc);
     for at in millis {

@@ -1,4 +1,4 @@
-//! Tests of a commissioner: what becomes of a list of asks over a link in memory.
+//! Tests of a commissioner: what becomes of a list of requests over a link in memory.
 #![tactic(auto)]
 
 #[cfg(test)]

@@ -10,28 +10,29 @@ use std::sync::Wait;
 use std::test::Fail;
 use udp_link::{MemClock, MemLink};
 
-/// An endpoint of one directory, and one of another.
+/// An endpoint for one directory, and one for another.
 const APART: [&str; 2] = [
     "coap://192.0.2.1/rd?ep=n1&lt=600&base=coap://h1",
     "coap://192.0.2.2/rd?ep=n2&base=coap://h2",
 ];
 
-/// Two of one directory.
+/// Two endpoints for one directory.
 const TOGETHER: [&str; 2] = [
     "coap://192.0.2.1/rd?ep=n1&base=coap://h1",
     "coap://192.0.2.1/rd?ep=n2&base=coap://h2",
 ];
 
-/// `ACK 2.01` to the second ask, of the location `/rd/7`.
+/// `ACK 2.01` to the second request, with the location `/rd/7`.
 const CREATED: &[u8] = b"\x68\x41\x00\x01\x00\x00\x00\x00\x00\x00\x00\x02\x82rd\x017";
 
-/// `ACK 4.00` to the first.
+/// `ACK 4.00` to the first request.
 const REFUSED: &[u8] = b"\x68\x80\x00\x00\x00\x00\x00\x00\x00\x00\x00\x01\xfflinks";
 
-/// `RST` to the first.
+/// `RST` to the first request.
 const RESET: &[u8] = b"\x70\x00\x00\x00";
 
-/// What a link gives and which of its receives fail, and the moments of a clock.
+/// The datagrams that a link receives, the receives that fail, and the moments of a clock in
+/// milliseconds.
 #[derive(Clone, Copy)]
 struct Outside<'a> {
     coming: &'a [(u8, &'a [u8])],
@@ -39,7 +40,7 @@ struct Outside<'a> {
     millis: &'a [u32],
 }
 
-/// What two asks come to.
+/// Returns what becomes of two requests.
 fn told<R>(
     rt: &R,
     uris: [&str; 2],
@@ -59,7 +60,8 @@ where
     }
 }
 
-/// The last octet of the directory and that of the Message ID of each datagram that was sent.
+/// Returns whether the sent datagram at an index went to the first directory, and the last octet of
+/// its Message ID.
 fn sent(link: &MemLink, at: usize) -> Option<(bool, u8)> {
     let (to, octets) = link.gone().as_slice().get(at)?;
     Some((*to == directory(1), *octets.as_slice().get(3)?))

@@ -1,4 +1,4 @@
-//! Lists as text: what is written, and the status.
+//! Lists as text: the output, and the status.
 use crate::ends::{clock_of, link_of};
 use commission_list::{AskLine, CommissionStatus, commission};
 use rd_base::{Bytes, MemSink, MemSource, Starved};
@@ -6,13 +6,13 @@ use std::alloc::AllocGlobal;
 use std::sync::Wait;
 use std::test::Fail;
 
-/// `ACK 2.01` to the second ask, of the location `/rd/7`.
+/// `ACK 2.01` to the second request, with the location `/rd/7`.
 const CREATED: &[u8] = b"\x68\x41\x00\x01\x00\x00\x00\x00\x00\x00\x00\x02\x82rd\x017";
 
-/// `ACK 4.00` to the first.
+/// `ACK 4.00` to the first request.
 const REFUSED: &[u8] = b"\x68\x80\x00\x00\x00\x00\x00\x00\x00\x00\x00\x01\xfflinks";
 
-/// Whether a list comes to a status, and writes and says this.
+/// Returns whether a list ends with this status, output and error text.
 fn comes_to<R>(
     rt: &R,
     list: &[u8],

@@ -1,7 +1,40 @@
 -- Challenges: what one event more leaves of them and adds, and that a value is good exactly where
 -- it answers the first of the latest challenges that went to its peer. End theorems, for what keeps
 -- challenges: nothing here cites them.
-use Rattle.std.proofs.Common.{◌≡◌, ℕ, zero, suc, ◌+◌, ◌%◌, ◌^◌, ◌/◌, ◌<◌, ◌≢◌, Bool, true, false, ◌&&◌, cond, List, [], ◌∷◌, ◌++◌, drop, length, take, filter_map, Option, Some, None, bytes_eq, refl, ap, sym, ◌∙◌, arith}
+use Rattle.std.proofs.Common.{
+  ◌≡◌,
+  ℕ,
+  zero,
+  suc,
+  ◌+◌,
+  ◌%◌,
+  ◌^◌,
+  ◌/◌,
+  ◌<◌,
+  ◌≢◌,
+  Bool,
+  true,
+  false,
+  ◌&&◌,
+  cond,
+  List,
+  [],
+  ◌∷◌,
+  ◌++◌,
+  drop,
+  length,
+  take,
+  filter_map,
+  Option,
+  Some,
+  None,
+  bytes_eq,
+  refl,
+  ap,
+  sym,
+  ◌∙◌,
+  arith,
+}
 use Rattle.std.specs.Prelude.{nat_lt, find}
 use Rattle.std.specs.Int.{bytes_high_first}
 use Rattle.std.proofs.Common.{inl, inr}

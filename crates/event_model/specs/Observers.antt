@@ -1,4 +1,4 @@
--- Who observes a lookup (RFC 7641 section 4.1), and what was formed for whom.
+-- Who observes a lookup (RFC 7641 section 4.1), and what was built for whom.
 use Rattle.std.specs.Prelude.{
   ℕ,
   ◌+◌,
@@ -32,75 +32,76 @@ use Rattle.event_model.specs.declared.notes.Note.TheVariants as note
 use Rattle.event_model.specs.Same.{RequestName, is_same_request, is_same_query}
 use Rattle.event_model.specs.Events.{Event, last_said}
 
--- the most observers
+-- The most observers.
 abbrev pub max_observers : ℕ
 max_observers = MAX_OBSERVERS
 
--- the most queries that are observed
+-- The most queries that are observed.
 abbrev pub max_watched : ℕ
 max_watched = MAX_WATCHED
 
--- an observer is known by its peer and its token (RFC 7641 section 4.1)
+-- Returns the name of an observer: its peer and its token (RFC 7641 section 4.1).
 abbrev pub name_of : Observer → RequestName
 name_of o = (o.peer, o.token)
 
--- the note replaces or removes the observer of a peer and a token
+-- Returns whether the note replaces or removes the observer with this name.
 abbrev pub is_end_of : Note → RequestName → Bool
 is_end_of (note.Watched o) name = is_same_request (name_of o) name
 is_end_of (note.Unwatched peer token) name = is_same_request (peer, token) name
 is_end_of _ name = false
 
--- the observer that a note adds
+-- Returns the observer that a note adds.
 abbrev pub observer_added : Note → List Observer
 observer_added (note.Watched o) = o ∷ []
 observer_added _ = []
 
--- the observers that no later note replaces or removes, in the order in which they were added
+-- Returns the observers that no later note replaces or removes, in the order in which they were
+-- added.
 unfoldable pub observers : List Event → List Observer
 observers [] = []
 observers (e ∷ before) =
     filter (λ o. not (is_end_of e.note (name_of o))) (observers before) ++ observer_added e.note
 
--- an observer of this peer and token stands
+-- Returns whether an observer with this name is among these.
 abbrev pub is_observer : RequestName → List Observer → Bool
 is_observer name standing = list_any (λ o. is_same_request (name_of o) name) standing
 
--- the query is observed
+-- Returns whether the query is observed.
 abbrev pub is_watched : Query → List Observer → Bool
 is_watched query standing = list_any (λ o. is_same_query o.query query) standing
 
--- how many queries are observed, each counted once
+-- Returns how many queries are observed, each counted once.
 abbrev pub number_watched : List Observer → ℕ
 number_watched [] = 0
 number_watched (o ∷ standing) =
     if is_watched o.query standing then number_watched standing else 1 + number_watched standing
 
--- one more observer of the query has room beside those that stand
+-- Returns whether there is room for one more observer of the query.
 unfoldable pub has_room_for : Query → List Observer → Bool
 has_room_for query standing =
     nat_lt (length standing) max_observers
     && (is_watched query standing || nat_lt (number_watched standing) max_watched)
 
--- a body was formed for an observer
+-- Returns whether a note says that a body was built for an observer.
 abbrev pub is_forming : Note → Bool
 is_forming (note.Formed peer token body mid) = true
 is_forming _ = false
 
--- the Observe value that is sent next: one more than were sent before, in its low 24 bits (RFC 7641
--- section 3.4)
+-- Returns the Observe value that is sent next: one more than the number of values sent before, in
+-- its low 24 bits (RFC 7641 section 3.4).
 unfoldable pub observe_value : List Event → ℕ
 observe_value events = (count_by (λ e. is_forming e.note) events + 1) % 2 ^ 24
 
--- how many Observe values were sent, as 64 bits count
+-- Returns how many Observe values were sent, modulo 2^64.
 unfoldable pub observe_values_sent : List Event → ℕ
 observe_values_sent events = count_by (λ e. is_forming e.note) events % 2 ^ 64
 
--- the body that a note forms for the observer of a peer and a token
+-- Returns the body that a note builds for the observer with a name.
 abbrev pub body_formed : RequestName → Note → Option (List ℕ)
 body_formed name (note.Formed peer token body mid) =
     if is_same_request (peer, token) name then Some body else None
 body_formed name _ = None
 
--- the body that was last formed for the observer of a peer and a token
+-- Returns the body that was last built for the observer with a name.
 unfoldable pub last_body_formed : RequestName → List Event → Option (List ℕ)
 last_body_formed name events = last_said (body_formed name) events

@@ -1,5 +1,7 @@
-//! What the journal of the directory notes, and what is found by looking back through it.
-//! Definitions and their laws; no function.
+//! The notes of a journal, and what is found by looking back through them: definitions and their
+//! laws.
+//!
+//! The crate has no functions.
 #![tactic(auto)]
 
 pub mod limits;

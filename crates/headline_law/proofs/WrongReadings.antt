@@ -244,8 +244,8 @@ pub tick_admits_falls : (datagram : List ℕ) (mid : ℕ) (later before : List R
 tick_admits_falls datagram mid later before h =
     let it : AdmitsWrite (row_of step.Tick datagram false [] (note.Admitted (peer 1) mid ∷ []))
     (peer 1) mid =
-    h.admitted before (row_of step.Tick datagram false [] (note.Admitted (peer 1) mid ∷ [])) (peer 1)
-    mid (record { later = later; whole = refl }) (0, (omega arith, refl)) in
+    h.admitted before (row_of step.Tick datagram false [] (note.Admitted (peer 1) mid ∷ []))
+    (peer 1) mid (record { later = later; whole = refl }) (0, (omega arith, refl)) in
     absurd (let no : step.Tick ≡ step.Admit = it.hears.heard in cc)
 
 -- a lookup is admitted, as if it were a write

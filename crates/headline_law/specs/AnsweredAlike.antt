@@ -1,5 +1,5 @@
--- A sentence of the headline, of the answers to writes: each is answered once, as its request wants
--- it, and a write that comes again is answered by the same octets.
+-- A sentence of the headline, about the answers to writes. Each write is answered once, as its
+-- request wants it, and a duplicate is answered by the same octets.
 use Rattle.std.specs.Prelude.{
   ◌≡◌,
   ◌⊎◌,
@@ -57,31 +57,32 @@ use Rattle.journal_model.specs.SentDatagrams.{is_response}
 
 -- ---- one answer, as the request wants it
 
--- a message, where one is read
+-- Returns the message that was read, if one was.
 abbrev pub message_read : Result Message Unread → Option Message
 message_read (Err fault) = None
 message_read (Ok m) = Some m
 
--- the responses among datagrams, in order
+-- Returns the responses among datagrams, in order.
 abbrev pub responses_in : List (Peer × List ℕ) → List Message
 responses_in sent = filter is_response (filter_map (λ d. message_read (reading d.1)) sent)
 
--- a confirmable request is answered in the acknowledgement, which has its Message ID; any other in
--- a message that is not confirmable (RFC 7252 sections 5.2.1 and 5.2.3)
+-- States that an answer has the type and the Message ID that its request wants. A confirmable
+-- request is answered in the acknowledgement, which has its Message ID, and any other in a
+-- non-confirmable message (RFC 7252 sections 5.2.1 and 5.2.3).
 abbrev pub IsOfType : Kind4 → ℕ → Message → Type 0
 IsOfType Con mid answer = (answer.kind ≡ Ack) × (answer.mid ≡ mid)
 IsOfType Non mid answer = answer.kind ≡ Non
 IsOfType Ack mid answer = answer.kind ≡ Non
 IsOfType Rst mid answer = answer.kind ≡ Non
 
--- an answer has the type and the Message ID that its request wants, and its token (RFC 7252 section
--- 5.3.1)
+-- An answer that has the type and the Message ID that its request wants, and its token (RFC 7252
+-- section 5.3.1).
 pub record IsAnswerLike (request answer : Message) : Type 0 where
   pub type : IsOfType request.kind request.mid answer
   pub token : answer.token ≡ request.token
 
--- the row of a commit sends its peer one response, and this is the answer to the request; unless
--- memory ran out, the exchange keeps its octets (RFC 7252 section 4.5)
+-- The row of a commit, which sends its peer one response: the answer to the request. Unless memory
+-- ran out, the exchange stores its octets (RFC 7252 section 4.5).
 pub record AnswersOnce (r : Row) (place : ℕ) (request : Message) : Type 0 where
   pub answer : Message
   pub one : responses_in r.sent ≡ answer ∷ []
@@ -91,10 +92,10 @@ pub record AnswersOnce (r : Row) (place : ℕ) (request : Message) : Type 0 wher
   pub sent : IsAmong r.sent (r.step.peer, octets)
   pub keeps : r.starved ≡ false → IsAmong r.notes (note.Settled place octets)
 
--- ---- writes that come again
+-- ---- duplicate writes
 
--- the row hears a write that comes again, and the octets are those that its first admission was
--- answered by (RFC 7252 section 4.5)
+-- A row that handles a duplicate write, and the octets with which the first admission of the write
+-- was answered (RFC 7252 section 4.5).
 pub record RepeatsReply (here : Placed) (peer : Peer) (octets : List ℕ) : Type 0 where
   pub heard : here.row.step.kind ≡ step.Admit
   pub to : peer ≡ here.row.step.peer
@@ -105,12 +106,12 @@ pub record RepeatsReply (here : Placed) (peer : Peer) (octets : List ℕ) : Type
       repeated here.row.moment.0 here.row.step.peer request.mid (events here.before) ≡ Some first
   pub reply : settled first.place (events here.before) ≡ Some octets
 
--- these octets to a peer, or nothing where there are none
+-- Returns these octets to a peer, or nothing if there are none.
 abbrev pub sent_to : Peer → Option (List ℕ) → List (Peer × List ℕ)
 sent_to peer None = []
 sent_to peer (Some octets) = (peer, octets) ∷ []
 
--- the row hears a write that meets no refusal, and memory did not run out in it
+-- A row that handles a write that meets no refusal, and in which memory did not run out.
 pub record HearsWrite (r : Row) (m : Message) : Type 0 where
   pub heard : r.step.kind ≡ step.Admit
   pub read : reading r.step.datagram ≡ Ok m
@@ -121,8 +122,8 @@ pub record HearsWrite (r : Row) (m : Message) : Type 0 where
 
 -- ---- how an exchange begins and ends
 
--- the row admits a write: it hears it, the write meets no refusal, and memory suffices. It sends
--- nothing, and notes nothing else: the commit is to answer (RFC 7252 section 4.5)
+-- A row that admits a write: it handles the write, which meets no refusal, and memory suffices. It
+-- sends nothing and notes nothing else, since the commit is to answer (RFC 7252 section 4.5).
 pub record AdmitsWrite (r : Row) (peer : Peer) (mid : ℕ) : Type 0 where
   pub request : Message
   pub hears : HearsWrite r request
@@ -131,35 +132,37 @@ pub record AdmitsWrite (r : Row) (peer : Peer) (mid : ℕ) : Type 0 where
   pub silent : r.sent ≡ []
   pub alone : r.notes ≡ note.Admitted peer mid ∷ []
 
--- the row ends an exchange without an answer that is kept: it commits its write, memory ran out in
--- it, and 5.00 is sent; it notes nothing else (RFC 7252 section 4.5)
+-- A row that ends an exchange without an answer that is stored: it commits its write, memory ran
+-- out in it, and 5.00 is sent. It notes nothing else (RFC 7252 section 4.5).
 pub record FailsWrite (r : Row) (place : ℕ) : Type 0 where
   pub commits : Commits r place
   pub starved : r.starved ≡ true
   pub sent : code_sent r.sent ≡ codes_of.internal_server_error
   pub alone : r.notes ≡ note.Failed place ∷ []
 
--- ---- where memory runs out
+-- ---- if memory runs out
 
--- the step is made for the request in its datagram
+-- States that the step is made for the request in its datagram.
 abbrev pub IsForDatagram : StepKind → Type 0
 IsForDatagram step.Tick = ⊥
 IsForDatagram (step.Begin first) = ⊥
 IsForDatagram _ = Unit {0}
 
--- then a commit notes that its write failed, and any other step nothing
+-- States what a step notes if memory ran out: a commit that its write failed, and any other step
+-- nothing.
 abbrev pub NotesOutOfMemory : StepKind → List Note → Type 0
 NotesOutOfMemory (step.Commit place) notes = notes ≡ note.Failed place ∷ []
 NotesOutOfMemory _ notes = notes ≡ []
 
--- the row answers 5.00, and changes nothing
+-- A row that answers 5.00, and changes nothing.
 pub record RunsOut (r : Row) : Type 0 where
   pub sent : code_sent r.sent ≡ codes_of.internal_server_error
   pub notes : NotesOutOfMemory r.step.kind r.notes
 
 -- ---- answers that say what was done
 
--- the code says that a write was done, or that a block of it was taken: 2.01, 2.02, 2.04 or 2.31
+-- Returns whether the code says that a write was done, or that a block of it was accepted: 2.01,
+-- 2.02, 2.04 or 2.31.
 abbrev pub is_code_of_write : ℕ → Bool
 is_code_of_write code =
     code == codes_of.created || code == codes_of.deleted || code == codes_of.changed
@@ -167,12 +170,12 @@ is_code_of_write code =
 
 -- ---- locations
 
--- the values of the Location-Path options, in order (RFC 7252 section 5.10.7)
+-- Returns the values of the Location-Path options, in order (RFC 7252 section 5.10.7).
 abbrev pub location_named : List Opt → List (List ℕ)
 location_named options = map (λ o. o.1) (filter (λ o. o.0 == table.location_path) options)
 
--- the row enters one registration, and an answer names its location: `rd`, and the number that the
--- history with this entry gives it (RFC 9176 section 5)
+-- A row that enters one registration, and an answer that names its location: `rd`, and the number
+-- that the history with this entry gives it (RFC 9176 section 5).
 pub record NamesEntry (here : Placed) (answer : Message) : Type 0 where
   pub entry : Entry
   pub params : RegParams
@@ -186,21 +189,28 @@ pub record NamesEntry (here : Placed) (answer : Message) : Type 0 where
 
 -- ---- the sentence
 
--- the step is no tick: in a tick each response is a notice
+-- States that the step is no tick. In a tick each response is a notification.
 abbrev pub IsNotOfTick : StepKind → Type 0
 IsNotOfTick step.Tick = ⊥
 IsNotOfTick _ = Unit {0}
 
--- A commit sends exactly one response, of the type and with the Message ID and the token that its
--- request wants, and its exchange keeps that. Each other row that is made for a request sends at
--- most one, and of that type, unless a write comes again. A write that comes again is answered by
--- the octets that its exchange keeps, or by nothing, and nothing is noted of it. What an exchange
--- keeps was noted by its own commit, which sent it. A row that admits hears a write, and sends
--- nothing; a write fails only in its own commit, where memory ran out, and with 5.00. Where memory
--- ran out, a row that is made for a request answers 5.00 and changes nothing. What says
--- that a write was done stands in a commit, and a 2.01 names the location of the registration that
--- its row entered, unless it is such a kept answer. (In a tick each response is a 2.05, as
--- SendsToWhoAsked says.)
+-- The sentence about the answers to writes. In a tick each response is a 2.05, as SendsToWhoAsked
+-- says.
+-- - `once`: a commit sends exactly one response, of the type and with the Message ID and the token
+--   that its request wants. Its exchange stores that response.
+-- - `single`, `alike`: each other row that is made for a request sends at most one response, and of
+--   that type, unless the request is a duplicate write.
+-- - `again`: a duplicate write is answered by the octets that its exchange stores, or by nothing,
+--   and nothing is noted of it.
+-- - `kept`: what an exchange stores was noted by its own commit, which sent it.
+-- - `admitted`: a row that admits handles a write, and sends nothing.
+-- - `failed`: a write fails only in its own commit, if memory ran out, and with 5.00.
+-- - `starved`: if memory ran out, a row that is made for a request answers 5.00 and changes
+--   nothing.
+-- - `commits`: a response that says that a write was done is in a commit, unless it is such a
+--   stored answer.
+-- - `located`: a 2.01 names the location of the registration that its row entered, unless it is
+--   such a stored answer.
 pub record AnsweredAlike (rows : List Row) : Type 0 where
   pub once : (before : List Row) (r : Row) (place : ℕ) (m : Message)
       → Within rows before r

@@ -1,4 +1,4 @@
--- Simple registrations that answered a challenge: their peer showed that it receives at its address
+-- Simple registrations that answered a challenge: their peer proved that it receives at its address
 -- and port (RFC 9176 section 5.1, RFC 9175 sections 2.3 and 2.6).
 use Rattle.std.specs.Prelude.{◌≡◌, true, ℕ, List, Some, Ok}
 use Rattle.rd_base.specs.declared.peers.Peer.{Peer}
@@ -13,8 +13,8 @@ use Rattle.journal_model.specs.declared.rows.Row.{Row}
 use Rattle.journal_model.specs.Journal.{events}
 use Rattle.journal_model.specs.PlacedRows.{Within, Placed, admits}
 
--- the row admitted a simple registration whose Echo option answers the last challenge of its peer:
--- one that is less than 247 seconds old, and among the 1,024 that were made last
+-- A row that admitted a simple registration whose Echo option answers the last challenge of its
+-- peer. That challenge is less than 247 seconds old, and among the 1,024 that were made last.
 pub record ShowsAddress (p : Placed) : Type 0 where
   pub heard : p.row.step.kind ≡ step.Admit
   pub message : Message
@@ -26,7 +26,7 @@ pub record ShowsAddress (p : Placed) : Type 0 where
   pub echo : echo_in message ≡ Some value
   pub good : is_good p.row.moment.0 p.row.step.peer value (events p.before) ≡ true
 
--- an earlier row admitted such a registration of a peer: the same address and port
+-- An earlier row that admitted such a registration of a peer: the same address and port.
 pub record ShownBefore (before : List Row) (peer : Peer) : Type 0 where
   pub shown : Placed
   pub within : Within before shown.before shown.row

@@ -1,5 +1,5 @@
--- A sentence of the headline, of Echo: the directory sends a request only to a peer that answered a
--- challenge (RFC 9176 section 5.1, RFC 9175 sections 2.3 and 2.6).
+-- A sentence of the headline, about Echo: the directory sends a request only to a peer that
+-- answered a challenge (RFC 9176 section 5.1, RFC 9175 sections 2.3 and 2.6).
 use Rattle.std.specs.Prelude.{◌≡◌, true, ℕ, Bool, List, [], ◌∷◌, Option, Ok}
 use Rattle.std.specs.List.{IsAmong}
 use Rattle.rd_base.specs.declared.peers.Peer.{Peer}
@@ -22,20 +22,20 @@ use Rattle.journal_model.specs.PlacedRows.{Within}
 use Rattle.journal_model.specs.CarriedBlocks.{Sent}
 use Rattle.headline_law.specs.AnsweredChallenges.{ShownBefore}
 
--- the code is one of a method: GET has 0.01, and no code of a request is greater than 0.31 (RFC
--- 7252 sections 5.8 and 12.1)
+-- Returns whether the code of a message is one of a method: GET has 0.01, and no code of a request
+-- is greater than 0.31 (RFC 7252 sections 5.8 and 12.1).
 abbrev pub is_request : Message → Bool
 is_request m = codes_of.is_request_code m.code
 
--- octets spell the request of a fetch: a confirmable GET of /.well-known/core, with no further
--- option but Block2 (RFC 9176 section 5.1)
+-- Octets that spell the request of a fetch: a confirmable GET of `/.well-known/core`, with no
+-- further option except Block2 (RFC 9176 section 5.1).
 pub record IsFetchRequest (octets : List ℕ) : Type 0 where
   pub mid : ℕ
   pub token : List ℕ
   pub block : Option Block
   pub octets_are : octets ≡ spelling (fetch_request mid token block)
 
--- a row sends a peer 4.01 with a value in Echo, and no other option (RFC 9175 section 2.3)
+-- A row that sends a peer 4.01 with a value in Echo, and no other option (RFC 9175 section 2.3).
 pub record SendsEcho (r : Row) (peer : Peer) (value : List ℕ) : Type 0 where
   pub octets : List ℕ
   pub among : IsAmong r.sent (peer, octets)
@@ -44,8 +44,8 @@ pub record SendsEcho (r : Row) (peer : Peer) (value : List ℕ) : Type 0 where
   pub code : message.code ≡ codes_of.unauthorized
   pub options : message.options ≡ (table.echo, value) ∷ []
 
--- a row challenges a peer by a value: it hears a simple registration of that peer, and sends it the
--- value; this is the word that was handed in, and then how many challenges were made before
+-- A row that challenges a peer by a value: it handles a simple registration of that peer, and sends
+-- it the value. This is the word that was passed in, and then how many challenges were made before.
 pub record IsChallenge (before : List Row) (r : Row) (peer : Peer) (value : List ℕ) : Type 0 where
   pub heard : r.step.kind ≡ step.Admit
   pub message : Message
@@ -56,23 +56,23 @@ pub record IsChallenge (before : List Row) (r : Row) (peer : Peer) (value : List
   pub value_is : value ≡ next_challenge r.step.word (events before)
   pub sends : SendsEcho r peer value
 
--- The directory sends a request only where a challenge was answered.
+-- The sentence: the directory sends a request only if a challenge was answered.
 pub record EchoedFirst (rows : List Row) : Type 0 where
-  -- each request that is sent is a GET (RFC 7252 section 5.8.1)
+  -- Each request that is sent is a GET (RFC 7252 section 5.8.1).
   pub method : (sent : Sent rows)
       → is_request sent.message ≡ true
       → sent.message.code ≡ codes_of.get
-  -- it asks for the links of a device, and for nothing else (RFC 9176 section 5.1)
+  -- It asks for the links of a device, and for nothing else (RFC 9176 section 5.1).
   pub fetches : (sent : Sent rows)
       → is_request sent.message ≡ true
       → IsFetchRequest sent.octets
-  -- it goes to an address and port from which an earlier row admitted a simple registration that
-  -- answered the last challenge sent there (RFC 9175 section 2.6)
+  -- It goes to an address and port from which an earlier row admitted a simple registration that
+  -- answered the last challenge sent there (RFC 9175 section 2.6).
   pub shown : (sent : Sent rows)
       → is_request sent.message ≡ true
       → ShownBefore sent.here.before sent.peer
-  -- each challenge that is noted is sent to its peer, in answer to a simple registration; its value
-  -- is the word of the row and the number of challenges before it (RFC 9175 section 2.3)
+  -- Each challenge that is noted is sent to its peer, in answer to a simple registration. Its value
+  -- is the word of the row and the number of challenges before it (RFC 9175 section 2.3).
   pub challenged : (before : List Row) (r : Row) (peer : Peer) (value : List ℕ)
       → Within rows before r
       → IsAmong r.notes (note.Challenged peer value)

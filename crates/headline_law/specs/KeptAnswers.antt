@@ -1,4 +1,4 @@
--- A sentence of the headline, of answers that are kept: a further block is read only of one that is
+-- A sentence of the headline, about kept answers: a later block is read only from one that is
 -- young, and among those that were used last (RFC 7959 section 2.4).
 use Rattle.std.specs.Prelude.{◌≡◌, true, ℕ, ◌+◌, ◌<◌, List, Option, Some, Ok, take}
 use Rattle.std.specs.List.{list_any, IsAmong}
@@ -19,11 +19,11 @@ use Rattle.journal_model.specs.Requests.{is_later_block}
 use Rattle.journal_model.specs.PlacedRows.{Within, Placed, last_row}
 use Rattle.journal_model.specs.BodyFormers.{last_kept}
 
--- the last row that used the kept answer of a name: it kept one, or read it
+-- Returns the last row that used the kept answer of a name: it kept one, or read it.
 abbrev pub last_use : RequestName → List Row → Option Placed
 last_use name rows = last_row (λ r. list_any (is_use_of name) r.notes) rows
 
--- the step hears a request for a block above 0, whose peer and key are this name
+-- A step that handles a request for a block above 0, whose peer and key are this name.
 pub record AsksFurther (s : Step) (name : RequestName) : Type 0 where
   pub heard : s.kind ≡ step.Admit
   pub message : Message
@@ -33,8 +33,8 @@ pub record AsksFurther (s : Step) (name : RequestName) : Type 0 where
   pub peer_is : s.peer ≡ name.0
   pub key_is : key_in message ≡ name.1
 
--- an answer of a name can be read after rows at a moment: a row kept one, it was last used less
--- than 247 seconds ago, and the name is among the 64 that were used last
+-- An answer of a name that can be read after rows at a moment. A row kept one, it was last used
+-- less than 247 seconds ago, and the name is among the 64 that were used last.
 pub record CanBeRead (before : List Row) (moment : ℕ) (name : RequestName) : Type 0 where
   pub kept : Placed
   pub kept_is : last_kept name before ≡ Some kept
@@ -43,14 +43,15 @@ pub record CanBeRead (before : List Row) (moment : ℕ) (name : RequestName) : T
   pub young : moment < used.row.moment.0 + exchange_lifetime
   pub among_last : is_named_among (take max_answers (names_used (events before))) name ≡ true
 
--- A kept answer is read only for its own request, and only while it lives (RFC 7959 section 2.4).
+-- The sentence: a kept answer is read only for its own request, and only while it lives (RFC 7959
+-- section 2.4).
 pub record KeptAnswers (rows : List Row) : Type 0 where
-  -- the row hears a request for a block above 0, of the peer and the key of that answer
+  -- The row handles a request for a block above 0, with the peer and the key of that answer.
   pub asked : (before : List Row) (r : Row) (peer : Peer) (key : List ℕ)
       → Within rows before r
       → IsAmong r.notes (note.Used peer key)
       → AsksFurther r.step (peer, key)
-  -- the answer was last used less than 247 seconds ago, and is among the 64 that were used last
+  -- The answer was last used less than 247 seconds ago, and is among the 64 that were used last.
   pub lives : (before : List Row) (r : Row) (peer : Peer) (key : List ℕ)
       → Within rows before r
       → IsAmong r.notes (note.Used peer key)

@@ -1,4 +1,4 @@
--- A sentence of the headline, of what is fetched and uploaded: nothing is invented (RFC 9176
+-- A sentence of the headline, about what is fetched and uploaded: nothing is invented (RFC 9176
 -- section 5.1, RFC 7959 sections 2.4 and 2.5).
 use Rattle.std.specs.Prelude.{◌≡◌, true, false, ℕ, ◌+◌, ◌<◌, Bool, List, length, Option, Some}
 use Rattle.std.specs.List.{list_any, IsAmong}
@@ -33,9 +33,9 @@ use Rattle.journal_model.specs.FetchCompletions.{AnswersFetch}
 use Rattle.journal_model.specs.AdmittedWrites.{AdmittedAt}
 use Rattle.headline_law.specs.AnsweredChallenges.{ShowsAddress}
 
--- the row commits a simple registration that answered its challenge, and whose peer and parameters
--- these are; the token is that of no earlier fetch: the number of fetches with this one; no fetch
--- with the peer runs, and there is room for one more
+-- A row that commits a simple registration that answered its challenge, and has this peer and these
+-- parameters. The token is that of no earlier fetch: the number of fetches with this one. No fetch
+-- with the peer runs, and there is room for one more.
 pub record StartsFor (before : List Row) (r : Row) (peer : Peer) (token : List ℕ)
     (params : RegParams) : Type 0 where
   pub admission : Placed
@@ -48,20 +48,21 @@ pub record StartsFor (before : List Row) (r : Row) (peer : Peer) (token : List �
   pub none_runs : is_fetching peer (events before) ≡ false
   pub room : length (fetches (events before)) < max_fetches
 
--- the row sends this peer the GET of a fetch, with this token and Message ID, that asks for the
--- block of this number
+-- A row that sends this peer the GET of a fetch, with this token and Message ID, which requests the
+-- block with this number.
 pub record SendsRequest (r : Row) (peer : Peer) (token : List ℕ) (mid number : ℕ) : Type 0 where
   pub block : Option Block
   pub among : IsAmong r.sent (peer, spelling (fetch_request mid token block))
   pub number_is : number_of block ≡ number
 
--- the note gathers a block of the fetch with a peer
+-- Returns whether a note gathers a block of the fetch with a peer.
 abbrev pub gathers_from : Peer → Note → Bool
 gathers_from peer (note.Gathered p octets tag) = is_same_peer p peer
 gathers_from peer _ = false
 
--- the step hears a response to the last request of the running fetch with this peer, which has this
--- token and these parameters; the response brings a block that more follow, and this is the next
+-- A step that handles a response to the last request of the running fetch with this peer, which has
+-- this token and these parameters. The response brings a block that more follow, and this is the
+-- number of the next.
 pub record GoesOnWith (before : List Row) (s : Step) (peer : Peer) (token : List ℕ)
     (params : RegParams) (number : ℕ) : Type 0 where
   pub answers : AnswersFetch before s
@@ -73,8 +74,9 @@ pub record GoesOnWith (before : List Row) (s : Step) (peer : Peer) (token : List
   pub more : block.more ≡ true
   pub next : number ≡ block.num + 1
 
--- the row commits a write of this peer that an earlier row admitted; its request has this key, its
--- payload is the block of this number, which begins where what is collected ends, and more follow
+-- A row that commits a write of this peer that an earlier row admitted. Its request has this key,
+-- and its payload is the block with this number. The block begins where what is collected ends, and
+-- more follow.
 pub record CameInWrite (before : List Row) (r : Row) (peer : Peer) (key : List ℕ) (number : ℕ)
     (octets : List ℕ) : Type 0 where
   pub place : ℕ
@@ -90,9 +92,9 @@ pub record CameInWrite (before : List Row) (r : Row) (peer : Peer) (key : List �
   pub joins : IsCollected (Some block) before r.moment.0 r.step admitted.message collected
   pub octets_are : octets ≡ admitted.message.payload
 
--- the step hears a response to the last request of the running fetch with this peer; these are its
--- payload, which begins where what is collected ends, and its entity tag; nothing of it ends the
--- fetch, and more follow
+-- A step that handles a response to the last request of the running fetch with this peer. These are
+-- its payload, which begins where what is collected ends, and its entity tag. Nothing in it ends
+-- the fetch, and more follow.
 pub record CameInResponse (before : List Row) (s : Step) (peer : Peer) (octets : List ℕ)
     (tag : Option (List ℕ)) : Type 0 where
   pub answers : AnswersFetch before s
@@ -106,43 +108,44 @@ pub record CameInResponse (before : List Row) (s : Step) (peer : Peer) (octets :
       ≡ false
   pub more : more_follow (block_in answers.message) ≡ true
 
--- Nothing is invented: what is fetched was asked for, and what is collected came.
+-- The sentence: nothing is invented. What is fetched was requested, and what is collected arrived.
 pub record NothingInvented (rows : List Row) : Type 0 where
-  -- a fetch starts only where a simple registration is committed that answered its challenge (RFC
-  -- 9176 section 5.1)
+  -- A fetch starts only if a simple registration is committed that answered its challenge (RFC 9176
+  -- section 5.1).
   pub starts : (before : List Row) (r : Row) (peer : Peer) (token : List ℕ) (mid : ℕ)
       (params : RegParams)
       → Within rows before r
       → IsAmong r.notes (note.Asked peer token mid params 0)
       → StartsFor before r peer token params
-  -- it goes on only where a response to its last request brought a block that more follow, and asks
-  -- for the next one (RFC 7959 section 2.4)
+  -- It continues only if a response to its last request brought a block that more follow, and
+  -- requests the next one (RFC 7959 section 2.4).
   pub goes_on : (before : List Row) (r : Row) (peer : Peer) (token : List ℕ) (mid : ℕ)
       (params : RegParams) (number : ℕ)
       → Within rows before r
       → IsAmong r.notes (note.Asked peer token mid params number)
       → 0 < number
       → GoesOnWith before r.step peer token params number
-  -- and that block is gathered in the same row
+  -- That block is gathered in the same row.
   pub gathers : (before : List Row) (r : Row) (peer : Peer) (token : List ℕ) (mid : ℕ)
       (params : RegParams) (number : ℕ)
       → Within rows before r
       → IsAmong r.notes (note.Asked peer token mid params number)
       → 0 < number
       → list_any (gathers_from peer) r.notes ≡ true
-  -- each request that is noted is sent
+  -- Each request that is noted is sent.
   pub sends : (before : List Row) (r : Row) (peer : Peer) (token : List ℕ) (mid : ℕ)
       (params : RegParams) (number : ℕ)
       → Within rows before r
       → IsAmong r.notes (note.Asked peer token mid params number)
       → SendsRequest r peer token mid number
-  -- a block of an upload came in the write of its peer that the row commits (RFC 7959 section 2.5)
+  -- A block of an upload arrived in the write of its peer that the row commits (RFC 7959 section
+  -- 2.5).
   pub uploaded : (before : List Row) (r : Row) (peer : Peer) (key : List ℕ) (number : ℕ)
       (octets : List ℕ)
       → Within rows before r
       → IsAmong r.notes (note.Piece peer key number octets)
       → CameInWrite before r peer key number octets
-  -- a block of a fetch came in the response that the row hears (RFC 7959 section 2.4)
+  -- A block of a fetch arrived in the response that the row handles (RFC 7959 section 2.4).
   pub gathered : (before : List Row) (r : Row) (peer : Peer) (octets : List ℕ)
       (tag : Option (List ℕ))
       → Within rows before r

@@ -1,5 +1,5 @@
--- A sentence of the headline, of who observes: an answer that carries Observe makes its peer an
--- observer of what it asked for, and an observer ends only for a reason.
+-- A sentence of the headline, about who observes. A response that carries Observe makes its peer an
+-- observer of what it requested, and an observer ends only for a reason.
 use Rattle.std.specs.Prelude.{
   ◌≡◌,
   ◌⊎◌,
@@ -49,8 +49,8 @@ use Rattle.journal_model.specs.SentDatagrams.{is_response}
 
 -- ---- requests
 
--- a step hears a lookup of a first block that meets no refusal, and whose Observe value begins or
--- ends an observation (RFC 7641 sections 2 and 4.1)
+-- A step that handles a lookup of a first block that meets no refusal, and whose Observe value
+-- begins or ends an observation (RFC 7641 sections 2 and 4.1).
 pub record AsksOfObservation (s : Step) (request : Message) : Type 0 where
   pub heard : s.kind ≡ step.Admit
   pub read : reading s.datagram ≡ Ok request
@@ -62,13 +62,13 @@ pub record AsksOfObservation (s : Step) (request : Message) : Type 0 where
 
 -- ---- answers that carry Observe
 
--- the message carries an Observe option
+-- Returns whether the message carries an Observe option.
 abbrev pub carries_observe : Message → Bool
 carries_observe m = stands_in table.observe m.options
 
--- its row hears a lookup with Observe 0, and then an observer of the peer and the token of the
--- answer stands, which is the one that the request asks to be: of its query and its block size (RFC
--- 7641 sections 3.1 and 4.1)
+-- A response whose row handles a lookup with Observe 0. After that row there is an observer with
+-- the peer and the token of the response. It is the one that the request asks to be: of its query
+-- and its block size (RFC 7641 sections 3.1 and 4.1).
 pub record MakesObserver (here : Placed) (peer : Peer) (answer : Message) : Type 0 where
   pub request : Message
   pub asks : AsksOfObservation here.row.step request
@@ -76,15 +76,16 @@ pub record MakesObserver (here : Placed) (peer : Peer) (answer : Message) : Type
   pub stands : observer_named (peer, answer.token) (here.row ∷ here.before)
       ≡ Some (observer_of here.row.step request)
 
--- of notices SendsToWhoAsked says that they go to observers
+-- States that a response which carries Observe makes an observer. Of notifications SendsToWhoAsked
+-- says that they go to observers.
 abbrev pub ObservesSo : StepKind → Placed → Peer → Message → Type 0
 ObservesSo step.Tick here peer answer = Unit {0}
 ObservesSo _ here peer answer = MakesObserver here peer answer
 
 -- ---- how an observer ends
 
--- its peer asks again under its token, to observe anew or no more, and memory did not run out (RFC
--- 7641 sections 3.6 and 4.1)
+-- An observer whose peer asks again with its token, to observe anew or no more, in a row in which
+-- memory did not run out (RFC 7641 sections 3.6 and 4.1).
 pub record AsksAnew (r : Row) (o : Observer) : Type 0 where
   pub request : Message
   pub asks : AsksOfObservation r.step request
@@ -92,7 +93,7 @@ pub record AsksAnew (r : Row) (o : Observer) : Type 0 where
   pub peer : o.peer ≡ r.step.peer
   pub token : o.token ≡ request.token
 
--- its peer rejects the notice that is in flight to it (RFC 7641 section 3.6)
+-- An observer whose peer rejects the notification that is in flight to it (RFC 7641 section 3.6).
 pub record RejectsNotice (before : List Row) (r : Row) (o : Observer) : Type 0 where
   pub heard : r.step.kind ≡ step.Admit
   pub message : Message
@@ -103,8 +104,8 @@ pub record RejectsNotice (before : List Row) (r : Row) (o : Observer) : Type 0 w
   pub flies : flight o (events before) ≡ Some notice
   pub mid : message.mid ≡ notice.mid
 
--- the notice that is in flight to it was sent again as often as may be, and the last wait for its
--- acknowledgement has ended (RFC 7252 section 4.2, RFC 7641 section 4.5)
+-- An observer whose notification in flight was retransmitted as often as may be, and whose last
+-- timeout has ended (RFC 7252 section 4.2, RFC 7641 section 4.5).
 pub record NeverAcknowledges (before : List Row) (r : Row) (o : Observer) : Type 0 where
   pub ticks : r.step.kind ≡ step.Tick
   pub notice : Flight
@@ -112,15 +113,15 @@ pub record NeverAcknowledges (before : List Row) (r : Row) (o : Observer) : Type
   pub sent : max_again ≤ length notice.again
   pub waited : deadline notice.formed notice.again ≤ r.moment.0
 
--- one of these
+-- The three reasons for which an observer ends.
 pub data EndsObserving (before : List Row) (r : Row) (o : Observer) : Type 0 where
   asks_anew : AsksAnew r o → EndsObserving before r o
   rejects_notice : RejectsNotice before r o → EndsObserving before r o
   never_acknowledges : NeverAcknowledges before r o → EndsObserving before r o
 
--- ---- notices in flight
+-- ---- notifications in flight
 
--- the row hears an acknowledgement of this peer, with this Message ID (RFC 7252 section 4.2)
+-- A row that handles an acknowledgement of this peer, with this Message ID (RFC 7252 section 4.2).
 pub record HearsAcknowledgement (r : Row) (peer : Peer) (mid : ℕ) : Type 0 where
   pub heard : r.step.kind ≡ step.Admit
   pub message : Message
@@ -129,8 +130,8 @@ pub record HearsAcknowledgement (r : Row) (peer : Peer) (mid : ℕ) : Type 0 whe
   pub from : peer ≡ r.step.peer
   pub mid_is : mid ≡ message.mid
 
--- a tick finds that the wait for the acknowledgement of a notice has ended, which is in flight to
--- an observer and was sent again fewer than four times (RFC 7252 section 4.2)
+-- A tick that finds that the timeout of a notification has ended. The notification is in flight to
+-- an observer, and was retransmitted fewer than four times (RFC 7252 section 4.2).
 pub record WaitedOnce (before : List Row) (r : Row) (peer : Peer) (mid : ℕ) : Type 0 where
   pub ticks : r.step.kind ≡ step.Tick
   pub observer : Observer
@@ -144,8 +145,8 @@ pub record WaitedOnce (before : List Row) (r : Row) (peer : Peer) (mid : ℕ) : 
 
 -- ---- the sentence
 
--- the row hears a lookup with Observe 0 that asks to be this observer, and tells it so: it sends it
--- an answer, under its token, that carries Observe (RFC 7641 section 4.1)
+-- A row that handles a lookup with Observe 0 that asks to be this observer. The row confirms it by
+-- a response with its token that carries Observe (RFC 7641 section 4.1).
 pub record AsksToBe (r : Row) (o : Observer) : Type 0 where
   pub request : Message
   pub asks : AsksOfObservation r.step request
@@ -158,18 +159,23 @@ pub record AsksToBe (r : Row) (o : Observer) : Type 0 where
   pub token : answer.token ≡ o.token
   pub carries : carries_observe answer ≡ true
 
--- the row hears a lookup with Observe 1, and memory did not run out in it (RFC 7641 section 3.6)
+-- A row that handles a lookup with Observe 1, and in which memory did not run out (RFC 7641 section
+-- 3.6).
 pub record Cancels (r : Row) (request : Message) : Type 0 where
   pub asks : AsksOfObservation r.step request
   pub deregisters : observe_in request ≡ Some deregister
   pub ample : r.starved ≡ false
 
--- An answer that carries Observe stands in a row after which its peer observes, under its token,
--- exactly what it asked for. Who observes asked to, and was told so. An observer ends only where
--- its peer asks anew under its token, rejects the notice in flight, or never acknowledges it. It
--- does end where its notice is rejected or never acknowledged; and after a cancellation nobody
--- observes under its token. A notice is noted as acknowledged only where its peer acknowledges it,
--- and as sent again only where the wait for that has ended.
+-- The sentence about who observes.
+-- - `observed`: take a response that carries Observe. After its row its peer observes, under its
+--   token, exactly what it requested.
+-- - `begins`: an observer asked to observe, and got a response that says so.
+-- - `ends`: an observer ends only if its peer asks anew under its token, rejects the notification
+--   in flight, or never acknowledges it.
+-- - `leaves`: it does end if its notification is rejected or never acknowledged.
+-- - `cancels`: after a cancellation nobody observes under its token.
+-- - `landed`, `again`: a notification is noted as acknowledged only if its peer acknowledges it,
+--   and as retransmitted only if its timeout has ended.
 pub record ObserversStand (rows : List Row) : Type 0 where
   pub observed : (sent : Sent rows)
       → is_response sent.message ≡ true

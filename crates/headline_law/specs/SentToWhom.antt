@@ -1,6 +1,6 @@
--- A sentence of the headline, of whom the directory writes to unasked or without an answer: a
--- request goes only to the peer of a fetch that runs, a Reset or an empty acknowledgement only to
--- who sent the message that it answers.
+-- A sentence of the headline, about those to whom the directory writes unasked or without a
+-- response. A request goes only to the peer of a fetch that runs. A Reset or an empty
+-- acknowledgement goes only to the sender of the message that it answers.
 use Rattle.std.specs.Prelude.{
   ◌≡◌,
   ◌⊎◌,
@@ -48,23 +48,24 @@ use Rattle.journal_model.specs.Responses.{fetch_of}
 
 -- ---- requests
 
--- the fetch of a peer asks, under a token and a Message ID, for the block of a number
+-- Returns whether a note says that the fetch of a peer requests the block with a number, with the
+-- token and the Message ID of a message.
 abbrev pub is_asking : Peer → Message → ℕ → Note → Bool
 is_asking peer m number (note.Asked p token mid params n) =
     is_same_peer p peer && bytes_eq token m.token && mid == m.mid && n == number
 is_asking peer m number _ = false
 
--- the row asks for the device's own links: its fetch of that peer runs, and the request is a GET of
--- `/.well-known/core` for the block, and under the token and the Message ID, that the row notes
--- (RFC 9176 section 5.1, RFC 7959 section 2.4)
+-- A row that requests the device's own links: its fetch of that peer runs. The request is a GET of
+-- `/.well-known/core` for the block, and with the token and the Message ID, that the row notes (RFC
+-- 9176 section 5.1, RFC 7959 section 2.4).
 pub record AsksOfFetch (here : Placed) (peer : Peer) (m : Message) : Type 0 where
   pub block : Option Block
   pub request : m ≡ fetch_request m.mid m.token block
   pub noted : list_any (is_asking peer m (number_of block)) here.row.notes ≡ true
   pub runs : is_fetching peer (events (here.row ∷ here.before)) ≡ true
 
--- a tick sends again what the row sent to that peer that asked it last, while the fetch runs (RFC
--- 7252 section 4.2)
+-- A tick that retransmits what the row sent to that peer that made its last request, while the
+-- fetch runs (RFC 7252 section 4.2).
 pub record AsksAgain (here : Placed) (peer : Peer) (octets : List ℕ) : Type 0 where
   pub ticks : here.row.step.kind ≡ step.Tick
   pub runs : is_fetching peer (events here.before) ≡ true
@@ -74,47 +75,48 @@ pub record AsksAgain (here : Placed) (peer : Peer) (octets : List ℕ) : Type 0 
 
 -- ---- Resets and acknowledgements
 
--- the message is confirmable
+-- Returns whether the message is confirmable.
 abbrev pub is_con : Kind4 → Bool
 is_con Con = true
 is_con _ = false
 
--- a confirmable message with this Message ID that wants an acknowledgement and nothing else: a
--- response to the last request of the fetch of its sender, which runs (RFC 7252 section 5.2.2)
+-- Returns whether a message wants an acknowledgement and nothing else: it is a response to the last
+-- request of the running fetch with its sender (RFC 7252 section 5.2.2).
 abbrev pub is_response_for : List Row → Step → Message → Role → Bool
 is_response_for before s m role.Response = is_some (fetch_of s m (events before))
 is_response_for before s m _ = false
 
--- one that is rejected: a ping, or a response that belongs to no such request (RFC 7252 sections
--- 4.2 and 4.3)
+-- Returns whether a message is rejected: it is a ping, or a response that belongs to no such
+-- request (RFC 7252 sections 4.2 and 4.3).
 abbrev pub is_out_of_place : List Row → Step → Message → Role → Bool
 is_out_of_place before s m role.Ping = true
 is_out_of_place before s m role.Response = is_none (fetch_of s m (events before))
 is_out_of_place before s m _ = false
 
--- the message in a datagram is acknowledged under a Message ID
+-- Returns whether the message in a datagram is confirmable, and is acknowledged with a Message ID.
 abbrev pub is_acknowledged : List Row → Step → ℕ → Result Message Unread → Bool
 is_acknowledged before s mid (Err fault) = false
 is_acknowledged before s mid (Ok m) =
     is_con m.kind && m.mid == mid && is_response_for before s m (role_of m.kind m.code)
 
--- the message in a datagram is rejected under a Message ID; so is a confirmable one with a format
--- error (RFC 7252 section 4.2)
+-- Returns whether the message in a datagram is confirmable, and is rejected with a Message ID. So
+-- is a confirmable one with a format error (RFC 7252 section 4.2).
 abbrev pub is_rejected : List Row → Step → ℕ → Result Message Unread → Bool
 is_rejected before s mid (Err (unread.Format Con m)) = m == mid
 is_rejected before s mid (Err _) = false
 is_rejected before s mid (Ok m) =
     is_con m.kind && m.mid == mid && is_out_of_place before s m (role_of m.kind m.code)
 
--- a Reset goes to the sender of the datagram that its row heard, and has its Message ID; that
--- message is rejected
+-- A Reset, which goes to the sender of the datagram that its row handled, and has its Message ID.
+-- That message is rejected.
 pub record Rejects (here : Placed) (peer : Peer) (m : Message) : Type 0 where
   pub heard : here.row.step.kind ≡ step.Admit
   pub to : peer ≡ here.row.step.peer
   pub rejected :
       is_rejected here.before here.row.step m.mid (reading here.row.step.datagram) ≡ true
 
--- an empty acknowledgement goes there too, and has that Message ID; that message is acknowledged
+-- An empty acknowledgement, which goes to the sender of the datagram that its row handled, and has
+-- its Message ID. That message is acknowledged.
 pub record Acknowledges (here : Placed) (peer : Peer) (m : Message) : Type 0 where
   pub heard : here.row.step.kind ≡ step.Admit
   pub to : peer ≡ here.row.step.peer
@@ -123,8 +125,8 @@ pub record Acknowledges (here : Placed) (peer : Peer) (m : Message) : Type 0 whe
 
 -- ---- the sentence
 
--- a message of this use goes to whom it may: no ping goes out, nothing that nobody reads, and of
--- responses SendsToWhoAsked speaks
+-- States that a message with this role goes only where it may. No ping is sent, and nothing that is
+-- ignored. SendsToWhoAsked is about responses.
 abbrev pub GoesToWhom : Role → Placed → Peer → List ℕ → Message → Type 0
 GoesToWhom role.Ping here peer octets m = ⊥
 GoesToWhom role.Acknowledgement here peer octets m = Acknowledges here peer m
@@ -133,9 +135,10 @@ GoesToWhom role.Request here peer octets m = AsksOfFetch here peer m ⊎ AsksAga
 GoesToWhom role.Response here peer octets m = Unit {0}
 GoesToWhom role.Ignored here peer octets m = ⊥
 
--- A request of the directory is a GET for the fetch of its peer, which runs, or is sent again while
--- it runs; a Reset, and an empty acknowledgement, goes to the sender of the confirmable message
--- that its row heard, with its Message ID; and nothing else goes out but responses.
+-- The sentence about what the directory sends except responses. A request is a GET for the fetch of
+-- its peer, which runs, or is retransmitted while it runs. A Reset or an empty acknowledgement goes
+-- to the sender of the confirmable message that its row handled, with its Message ID. Nothing else
+-- is sent.
 pub record SentToWhom (rows : List Row) : Type 0 where
   pub goes : (sent : Sent rows)
       → GoesToWhom (role_of sent.message.kind sent.message.code) sent.here sent.peer sent.octets

@@ -1,2 +1,4 @@
-//! The laws of the headline: what holds of every journal of the machine. No function.
+//! The laws of the headline: what holds of every journal of the machine.
+//!
+//! The crate has no functions.
 #![tactic(auto)]

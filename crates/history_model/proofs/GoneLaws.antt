@@ -1,5 +1,20 @@
 -- A registration that is gone stays gone: its number is not live again.
-use Rattle.std.proofs.Common.{◌≡◌, ℕ, ◌≤◌, true, List, [], ◌∷◌, ◌++◌, sym, ap, subst, append_assoc, append-nil, arith}
+use Rattle.std.proofs.Common.{
+  ◌≡◌,
+  ℕ,
+  ◌≤◌,
+  true,
+  List,
+  [],
+  ◌∷◌,
+  ◌++◌,
+  sym,
+  ap,
+  subst,
+  append_assoc,
+  append-nil,
+  arith,
+}
 use Rattle.std.specs.List.{AllByRecursion}
 use Rattle.history_model.specs.declared.entries.Entry.{Entry}
 use Rattle.history_model.specs.Leases.{is_live_at, live_among}

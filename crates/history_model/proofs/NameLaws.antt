@@ -1,5 +1,21 @@
 -- The names of live records differ, and no record was granted later than the last entry.
-use Rattle.std.proofs.Common.{◌≡◌, ◌≢◌, ℕ, ◌≤◌, Bool, true, false, not, cond, List, refl, sym, ◌∙◌, arith, eqb-true}
+use Rattle.std.proofs.Common.{
+  ◌≡◌,
+  ◌≢◌,
+  ℕ,
+  ◌≤◌,
+  Bool,
+  true,
+  false,
+  not,
+  cond,
+  List,
+  refl,
+  sym,
+  ◌∙◌,
+  arith,
+  eqb-true,
+}
 use Rattle.std.specs.List.{AllByRecursion}
 use Rattle.std.proofs.lemmas.Bool.{true≢false}
 use Rattle.rd_base.specs.declared.records.Record.{Record}

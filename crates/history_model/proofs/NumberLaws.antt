@@ -1,5 +1,36 @@
 -- The numbers of records: they rise, and none is used again.
-use Rattle.std.proofs.Common.{◌≡◌, ℕ, ◌+◌, ◌<◌, ◌≤◌, Bool, true, false, not, ◌||◌, cond, List, [], ◌∷◌, ◌++◌, map, filter, refl, sym, ap, subst, ◌∙◌, ◌⊎◌, inl, inr, append_assoc, append-nil, arith, ne_eqb, max}
+use Rattle.std.proofs.Common.{
+  ◌≡◌,
+  ℕ,
+  ◌+◌,
+  ◌<◌,
+  ◌≤◌,
+  Bool,
+  true,
+  false,
+  not,
+  ◌||◌,
+  cond,
+  List,
+  [],
+  ◌∷◌,
+  ◌++◌,
+  map,
+  filter,
+  refl,
+  sym,
+  ap,
+  subst,
+  ◌∙◌,
+  ◌⊎◌,
+  inl,
+  inr,
+  append_assoc,
+  append-nil,
+  arith,
+  ne_eqb,
+  max,
+}
 use Rattle.std.specs.Prelude.{◌==◌}
 use Rattle.std.specs.List.{AllByRecursion, list_any}
 use Rattle.std.proofs.lemmas.Bool.{true≢false, cases_lt, or_cases}
@@ -7,7 +38,15 @@ use Rattle.std.proofs.lemmas.List.Folds.{list_any-append}
 use Rattle.rd_base.specs.declared.records.Record.{Record}
 use Rattle.history_model.specs.declared.entries.Entry.{Entry}
 use Rattle.history_model.specs.Leases.{is_live_at, live_among}
-use Rattle.history_model.specs.Replay.{State, is_numbered, with_changed, apply, replay, count_after, counted}
+use Rattle.history_model.specs.Replay.{
+  State,
+  is_numbered,
+  with_changed,
+  apply,
+  replay,
+  count_after,
+  counted,
+}
 use Rattle.history_model.specs.Live.{AreAscending, IsFront, live}
 use Rattle.history_model.specs.Refusals.{has_number}
 use Rattle.rd_base.proofs.lemmas.Pairs.{

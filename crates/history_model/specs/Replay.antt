@@ -35,40 +35,41 @@ use Rattle.history_model.specs.declared.entries.Entry.{Entry}
 use Rattle.history_model.specs.Leases.{is_live_at}
 use Rattle.history_model.specs.Names.{is_same_name}
 
--- what entries make: the records in ascending number, lapsed ones too, and the last number that a
--- registration got
+-- The state that entries make: the records in ascending number, lapsed ones too, and the last
+-- number that a registration got.
 pub record State : Type 0 where
   pub records : List Record
   pub last_number : ℕ
 
--- what there is before the first entry
+-- The state before the first entry.
 abbrev pub empty : State
 empty = record { records = []; last_number = 0 }
 
--- the record has this number
+-- Returns whether the record has this number.
 abbrev pub is_numbered : ℕ → Record → Bool
 is_numbered number r = r.number == number
 
--- the record has this name, and is live at a moment
+-- Returns whether the record has this name, and is live at a moment.
 abbrev pub is_live_named : Name → ℕ → Record → Bool
 is_live_named name moment r = is_same_name r.name name && is_live_at moment r
 
--- the number of the record of this name that is live at a moment, where there is one
+-- Returns the number of the record with this name that is live at a moment, if there is one.
 abbrev pub number_named : Name → ℕ → List Record → Option ℕ
 number_named name moment records =
     option_map (λ r. r.number) (find (is_live_named name moment) records)
 
--- the number that a registration of this name has at a moment: that of the live record of the name,
--- and else the next one (RFC 9176 section 5)
+-- Returns the number that a registration with this name has at a moment: that of the live record
+-- with the name, or else the next one (RFC 9176 section 5).
 abbrev pub number_for : Name → ℕ → State → ℕ
 number_for name moment state =
     unwrap_or (number_named name moment state.records) (state.last_number + 1)
 
--- the record of a number, where there is one
+-- Returns the record with a number, if there is one.
 abbrev pub numbered : ℕ → List Record → Option Record
 numbered number records = find (is_numbered number) records
 
--- the number that a change is about at a moment; a beginning is about 0, which no record has
+-- Returns the number of the record that a change is about at a moment. A beginning is about 0,
+-- which no record has.
 abbrev pub number_about : State → ℕ → Change → ℕ
 number_about state moment (change.Register params links) = number_for params.name moment state
 number_about state moment (change.Update number given) = number
@@ -76,17 +77,17 @@ number_about state moment (change.Replace number links) = number
 number_about state moment (change.Remove number) = number
 number_about state moment (change.Begin first) = 0
 
--- the records, with something else for that of this number
+-- Returns the records with a function applied to the one with this number.
 abbrev pub with_changed : ℕ → (Record → Record) → List Record → List Record
 with_changed number new records = map (λ r. if is_numbered number r then new r else r) records
 
--- the record with other links (RFC 9176 section 5.3): these, resolved against its base; its lease
--- and all else of it stay
+-- Returns the record with other links (RFC 9176 section 5.3), resolved against its base. Its lease
+-- and all else of it do not change.
 unfoldable pub replaced : List SubmittedLink → Record → Record
 replaced links r = record r { items = items_of r.base links }
 
--- after a registration: where its name has a number, the record keeps the number and all else is
--- replaced, and else a record of the next number is appended
+-- Returns the state after a registration. If its name has a number, the record keeps the number and
+-- all else is replaced. Otherwise a record with the next number is appended.
 abbrev pub registered_under : Option ℕ
     → State
     → Moment
@@ -103,7 +104,7 @@ registered_under None state now peer params links = record {
   last_number = state.last_number + 1;
 }
 
--- after a change at a moment, from a peer
+-- Returns the state after a change at a moment, from a peer.
 abbrev pub changed : State → Moment → Peer → Change → State
 changed state now peer (change.Register params links) =
     registered_under (number_named params.name now.0 state.records) state now peer params links
@@ -120,16 +121,16 @@ changed state now peer (change.Begin first) = record state {
   last_number = max state.last_number first;
 }
 
--- what an entry makes of a state
+-- Returns the state after an entry.
 unfoldable pub apply : State → Entry → State
 apply state entry = changed state entry.moment entry.peer entry.change
 
--- what the entries of a history make, oldest first
+-- Returns the state that the entries of a history make, oldest first.
 unfoldable pub replay : List Entry → State
 replay history = fold apply empty history
 
--- the count that a change follows, where so many entries were counted before: a beginning lifts it
--- to its number
+-- Returns the count that a change follows, if `count` entries were counted before. A beginning
+-- raises it to its own number.
 abbrev pub lifted : ℕ → Change → ℕ
 lifted count (change.Register params links) = count
 lifted count (change.Update number given) = count
@@ -137,10 +138,10 @@ lifted count (change.Replace number links) = count
 lifted count (change.Remove number) = count
 lifted count (change.Begin first) = max count first
 
--- the count with an entry more
+-- Returns the count with one more entry.
 abbrev pub count_after : ℕ → Entry → ℕ
 count_after count entry = lifted count entry.change + 1
 
--- the count of the entries of a history, where so many were counted before the first
+-- Returns the count of the entries of a history, if `first` were counted before the first.
 unfoldable pub counted : ℕ → List Entry → ℕ
 counted first history = fold count_after first history

@@ -7,11 +7,11 @@ use Rattle.history_model.specs.declared.entries.Entry.{Entry}
 use Rattle.history_model.specs.Live.{live}
 use Rattle.history_model.specs.Replay.{numbered}
 
--- the source of a record: the lines of its links, each with its target and its anchor as they were
--- submitted, in the order of the body, with commas between them
+-- Returns the source of a record: the lines of its links in the order of the body, with commas
+-- between them. Each has its target and its anchor as they were submitted.
 abbrev pub record_source : Record → List ℕ
 record_source r = submitted r.items
 
--- the source of the registration of a number at a moment, where it is live
+-- Returns the source of the registration with a number at a moment, if it is live.
 unfoldable pub source : ℕ → List Entry → ℕ → Option (List ℕ)
 source number history moment = option_map record_source (numbered number (live history moment))

@@ -1,4 +1,6 @@
-//! The entries of a history. No value of these types is made.
+//! The entries of a history.
+//!
+//! Only definitions and contracts use these types; no value of them is made.
 use rd_base::{Moment, Peer, RegParams, SubmittedLink, UpdateParams};
 use std::collections::LinkedList;
 
@@ -6,24 +8,24 @@ use std::collections::LinkedList;
 pub enum Change {
     /// A registration: its parameters, and the links of its body.
     Register(RegParams, LinkedList<SubmittedLink>),
-    /// An update of the registration of this number: what it gives.
+    /// An update of the registration with this number, and its parameters.
     Update(u64, UpdateParams),
-    /// Other links for the registration of this number: those of the body.
+    /// A replacement of the links of the registration with this number by those of the body.
     Replace(u64, LinkedList<SubmittedLink>),
-    /// The removal of the registration of this number.
+    /// The removal of the registration with this number.
     Remove(u64),
-    /// The beginning of a run: numbers and the count of entries go on above this one.
+    /// The beginning of a run: numbers and the count of entries continue above this one.
     Begin(u64),
 }
 
-/// A change with its circumstances.
+/// An accepted change with its circumstances.
 pub struct Entry {
-    /// When it was accepted.
+    /// The moment at which the change was accepted.
     pub moment: Moment,
-    /// The worker that accepted it.
+    /// The worker that accepted the change.
     pub worker: u8,
-    /// Where it comes from.
+    /// The peer that requested the change.
     pub peer: Peer,
-    /// What changes.
+    /// The change.
     pub change: Change,
 }

@@ -1,5 +1,6 @@
-//! What happens to the directory, as a history of accepted changes: definitions, and the laws that
-//! show them right. No function.
+//! The history of the directory, as a list of accepted changes: definitions and their laws.
+//!
+//! The crate has no functions.
 #![tactic(auto)]
 
 mod entries;

@@ -1,14 +1,14 @@
-//! Why a change is refused.
+//! The reasons why a change is refused.
 
-/// Why a change is refused, in the order in which it is looked for.
+/// The reason why a change is refused, in the order of the checks.
 #[derive(Clone, Copy, Debug, PartialEq, Eq)]
 pub enum Refusal {
-    /// There is no live registration of the number that it names.
+    /// No live registration has the number that the change names.
     Registration,
-    /// So many registrations are live that no further name has room.
+    /// The name is new, and `MAX_REGISTRATIONS` are live.
     Registrations,
-    /// The live registrations would have more text than there is room for.
+    /// The live registrations would weigh more than `MAX_TEXT` octets.
     Text,
-    /// The history has as many entries as are counted.
+    /// The count of entries would exceed `MAX_ENTRIES`.
     Entries,
 }

@@ -1,4 +1,4 @@
--- How a write that was admitted ended, and which row admitted it (RFC 7252 section 4.5).
+-- How an admitted write ended, and which row admitted it (RFC 7252 section 4.5).
 use Rattle.std.specs.Prelude.{◌≡◌, ℕ, true, List, length, Ok}
 use Rattle.std.specs.List.{list_any}
 use Rattle.message_model.specs.declared.messages.Role.TheVariants as role
@@ -10,8 +10,8 @@ use Rattle.journal_model.specs.declared.steps.Step.{Step}
 use Rattle.journal_model.specs.declared.rows.Row.{Row}
 use Rattle.journal_model.specs.PlacedRows.{Within, Commits, admits, code_sent}
 
--- the write that was admitted at a place ended in 5.00, which was sent: a row commits it, and notes
--- that it failed
+-- A write, admitted at a place, that ended in 5.00, which was sent. A row commits it, and notes
+-- that it failed.
 pub record EndedWithoutMemory (rows : List Row) (place : ℕ) : Type 0 where
   pub before : List Row
   pub row : Row
@@ -20,8 +20,8 @@ pub record EndedWithoutMemory (rows : List Row) (place : ℕ) : Type 0 where
   pub failed : list_any (is_failure_of place) row.notes ≡ true
   pub sent : code_sent row.sent ≡ codes_of.internal_server_error
 
--- the row at a place admitted its own write: that of its peer, with the Message ID of the request
--- in its datagram; and its worker, peer and datagram are those of a later step
+-- A row at a place that admitted its own write: that of its peer, with the Message ID of the
+-- request in its datagram. Its worker, peer and datagram are those of a later step.
 pub record AdmittedAt (rows : List Row) (place : ℕ) (s : Step) : Type 0 where
   pub before : List Row
   pub row : Row

@@ -1,5 +1,5 @@
--- The second sentence of the headline: each lookup answers the listing, and each read of a
--- registration its source, of the history at the row that formed it.
+-- The second sentence of the headline. Each lookup answers the listing, and each read of a
+-- registration its source, of the history at the row that built it.
 use Rattle.std.specs.Prelude.{◌≡◌, true, false, ◌&&◌, ◌==◌, List}
 use Rattle.message_model.specs.Codes as codes_of
 use Rattle.message_model.specs.Reading.{reading}
@@ -15,12 +15,15 @@ use Rattle.journal_model.specs.CarriedBlocks.{
   Validates,
 }
 
--- Each lookup answers the listing, and each read of a registration its source, of the history at
--- the row that formed it: every 2.05 to a lookup or such a read, as a notice or with a tag carries
--- the block that is asked for of the listing or the source, and the tag, of the entries up to the
--- row that formed its body, at the moment of that row; and 2.03 is sent exactly where a look for a
--- listing, or for the source of a registration that is live, names the tag at its own row, with
--- this tag and nothing else; where memory ran out, only there.
+-- The sentence: each lookup answers the listing, and each read of a registration its source, of the
+-- history at the row that built it.
+-- - `carried`: take a 2.05 to a lookup or such a read, as a notification or with a tag. It carries
+--   the tag, and the requested block of the listing or the source. Both are of the entries up to
+--   the row that built its body, at the moment of that row.
+-- - `validated`: only a look sends a 2.03. It is for a listing, or for the source of a live
+--   registration, and names the tag at its own row. The 2.03 has this tag and nothing else. This
+--   holds even if memory ran out.
+-- - `valid`: if memory suffices, every such look sends it.
 pub record AnswersAsFormed (rows : List Row) : Type 0 where
   pub carried : (sent : Sent rows)
       → shows_links sent ≡ true
@@ -33,9 +36,9 @@ pub record AnswersAsFormed (rows : List Row) : Type 0 where
       ≡ (is_look r.step.kind
       && looks_with_tag (entries before) r.moment.0 (reading r.step.datagram))
 
--- The same of a journal of a desk, whose keeps may have any body and tag: each such 2.05 whose body
--- was formed in a row carries the block that is asked for of the listing or the source, and the
--- tag, of the entries up to the row that formed its body, at the moment of that row.
+-- The same for a journal of a desk, whose keeps may have any body and tag. Each such 2.05 whose
+-- body was built in a row carries the tag, and the requested block of the listing or the source.
+-- Both are of the entries up to the row that built its body, at the moment of that row.
 pub record DeskAnswersAsFormed (rows : List Row) : Type 0 where
   pub carried : (sent : Sent rows) → shows_links sent ≡ true
       → is_formed_in_rows sent.here.row.step.kind sent.here ≡ true

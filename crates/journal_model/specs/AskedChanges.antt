@@ -1,4 +1,4 @@
--- The change that a step asks for, and the entry that is made of it (RFC 9176 sections 5 and 5.3).
+-- The change that a step requests, and the entry that is made of it (RFC 9176 sections 5 and 5.3).
 use Rattle.std.specs.Prelude.{◌≡◌, ℕ, Bool, false, ◌&&◌, ◌||◌, ◌==◌, List, [], ◌++◌, Option}
 use Rattle.std.specs.Prelude.{Some, None, Result, Ok, Err}
 use Rattle.rd_base.specs.declared.submitted_links.SubmittedLink.{SubmittedLink}
@@ -29,30 +29,31 @@ use Rattle.journal_model.specs.Responses.{more_follow}
 use Rattle.journal_model.specs.PlacedRows.{code_sent}
 use Rattle.journal_model.specs.FetchCompletions.{AnswersFetch, EndsBody}
 
--- the datagram names a registration by its location
+-- Returns whether the datagram names a registration by its location.
 abbrev pub names_location : Result Message Unread → Bool
 names_location (Err fault) = false
 names_location (Ok m) = is_location (path_in m)
 
--- the code says that a change was made: 2.01, 2.02, or 2.04 of an update or a replacement
+-- Returns whether the code says that a change was made: 2.01, 2.02, or 2.04 of an update or a
+-- replacement.
 abbrev pub is_code_of_change : ℕ → Bool → Bool
 is_code_of_change code of_location =
     code
     == codes_of.created || code
     == codes_of.deleted || (code == codes_of.changed && of_location)
 
--- the answer that a row sent says that a change was made
+-- Returns whether the response that a row sent says that a change was made.
 abbrev pub answers_change : Row → Bool
 answers_change r = is_code_of_change (code_sent r.sent) (names_location (reading r.step.datagram))
 
--- what is collected before a block of a body: nothing before a whole one
+-- States what is collected before a block of a body: nothing before a whole one.
 abbrev pub IsCollected : Option Block → List Row → ℕ → Step → Message → List ℕ → Type 0
 IsCollected None rows moment s m collected = collected ≡ []
 IsCollected (Some b) rows moment s m collected =
     collected_before b (live_upload moment (s.peer, key_in m) (events rows)) ≡ Some collected
 
--- the links are those of the body of a request, which is whole: its payload, after what is
--- collected before it, and no more follows
+-- A request that brings these links. Its body is whole: its payload, after what is collected before
+-- it, and no more follows.
 pub record BringsLinks (rows : List Row) (moment : ℕ) (s : Step) (m : Message)
     (links : List SubmittedLink) : Type 0 where
   pub last : more_follow (sent_block m) ≡ false
@@ -60,7 +61,7 @@ pub record BringsLinks (rows : List Row) (moment : ℕ) (s : Step) (m : Message)
   pub before : IsCollected (sent_block m) rows moment s m collected
   pub read : body_read (collected ++ m.payload) ≡ good_body links
 
--- a request to `/rd` asks for the registration of its links
+-- States that a request to `/rd` asks for the registration of its links.
 abbrev pub AsksRegistration : List Row → ℕ → Step → Message → Change → Type 0
 AsksRegistration rows moment s m (change.Register params links) =
     (params ≡ registration_values (queries_in m)) × BringsLinks rows moment s m links
@@ -69,8 +70,8 @@ AsksRegistration rows moment s m (change.Replace n links) = ⊥
 AsksRegistration rows moment s m (change.Remove n) = ⊥
 AsksRegistration rows moment s m (change.Begin n) = ⊥
 
--- a request on the registration of a number asks to update it by POST, to replace its links by PUT,
--- and to remove it by DELETE
+-- States that a request on the registration with a number asks for the change. POST asks to update
+-- it, PUT to replace its links, and DELETE to remove it.
 abbrev pub AsksOfLocation : ℕ → List Row → ℕ → Step → Message → Change → Type 0
 AsksOfLocation number rows moment s m (change.Register params links) = ⊥
 AsksOfLocation number rows moment s m (change.Update n params) =
@@ -81,8 +82,9 @@ AsksOfLocation number rows moment s m (change.Remove n) =
     (m.code ≡ codes_of.delete) × (n ≡ number)
 AsksOfLocation number rows moment s m (change.Begin n) = ⊥
 
--- the change is the one that a request asks for: a registration of its links, or an update, a
--- replacement of the links, or a removal of the registration that its location names
+-- States that the change is the one that a request asks for: a registration of its links, or a
+-- change of the registration that its location names. That is an update, a replacement of the
+-- links, or a removal.
 abbrev pub AsksChange : Path → List Row → ℕ → Step → Message → Change → Type 0
 AsksChange path.Core rows moment s m what = ⊥
 AsksChange path.SimpleRd rows moment s m what = ⊥
@@ -92,8 +94,8 @@ AsksChange path.Res rows moment s m what = ⊥
 AsksChange path.Ep rows moment s m what = ⊥
 AsksChange path.Other rows moment s m what = ⊥
 
--- the change is the one that a fetch was made for: a registration of what it collected, with the
--- parameters of its first request
+-- States that the change is the one that a fetch was made for: a registration of what it collected,
+-- with the parameters of its first request.
 abbrev pub FetchesChange : List Row → Step → Message → Request → Change → Type 0
 FetchesChange rows s m request (change.Register params links) =
     (params ≡ request.params)
@@ -103,20 +105,20 @@ FetchesChange rows s m request (change.Replace n links) = ⊥
 FetchesChange rows s m request (change.Remove n) = ⊥
 FetchesChange rows s m request (change.Begin n) = ⊥
 
--- a step that commits a write asks for the change
+-- A step that commits a write, which asks for the change.
 pub record CommitAsks (rows : List Row) (moment : ℕ) (s : Step) (what : Change) : Type 0 where
   pub message : Message
   pub read : reading s.datagram ≡ Ok message
   pub asks : AsksChange (path_in message) rows moment s message what
 
--- a step that completes a fetch makes the change
+-- A step that completes a fetch, and makes the change.
 pub record CompletionMakes (rows : List Row) (s : Step) (what : Change) : Type 0 where
   pub answers : AnswersFetch rows s
   pub body : EndsBody rows s answers.message
   pub makes : FetchesChange rows s answers.message answers.request what
 
--- the change is what a step of this kind makes: a commit what its own request asks for, a datagram
--- that is heard what its fetch was made for, and a beginning its own
+-- States that the change is what a step of this kind makes. A commit makes what its own request
+-- asks for, a datagram that is handled what its fetch was made for, and a beginning its own.
 abbrev pub IsAskedBy : StepKind → List Row → ℕ → Step → Change → Type 0
 IsAskedBy (step.Commit place) rows moment s what = CommitAsks rows moment s what
 IsAskedBy step.Admit rows moment s what = CompletionMakes rows s what
@@ -125,7 +127,7 @@ IsAskedBy (step.Keep body tag) rows moment s what = ⊥
 IsAskedBy step.Tick rows moment s what = ⊥
 IsAskedBy (step.Begin first) rows moment s what = what ≡ change.Begin first
 
--- an entry has the moment, the worker and the peer of its row, and is the change that was asked for
+-- An entry with the moment, the worker and the peer of its row, and the change that was asked for.
 pub record IsEntryOf (rows : List Row) (moment : ℕ) (s : Step) (entry : Entry) : Type 0 where
   pub stamped : entry ≡ entry_of_step moment s entry.change
   pub asked : IsAskedBy s.kind rows moment s entry.change

@@ -11,14 +11,14 @@ use Rattle.journal_model.specs.PlacedRows.{Within}
 use Rattle.journal_model.specs.AskedListings.{asked_at}
 use Rattle.journal_model.specs.CarriedBlocks.{IsBlockOf, Sent}
 
--- what is sought that a message answers
+-- Returns what is sought in the request that a message answers.
 abbrev pub sought_of_sent : {rows : List Row} → Sent rows → Option Sought
 sought_of_sent it =
     option_map (λ asked. asked.sought)
     (asked_at it.here.row.step.kind (it.peer, it.message.token) it.here)
 
--- two messages carry blocks of one body: of what is sought, as it is found in the entries up to one
--- row of the journal, at the moment of that row, whose tag both carry
+-- Two messages that carry blocks of one body. It is what the entries up to one row of the journal
+-- give of what is sought, at the moment of that row. Both messages carry its tag.
 pub record AreBlocksOfOne (rows : List Row) (sought : Sought) (one other : Message) : Type 0 where
   pub before : List Row
   pub row : Row

@@ -24,51 +24,50 @@ use Rattle.journal_model.specs.PlacedRows.{Within, Placed}
 use Rattle.journal_model.specs.BodyFormers.{repeats_body, former_at, asker_at}
 use Rattle.journal_model.specs.AskedListings.{Asked, asked_at, answers_with_links}
 
--- 2.05
+-- Returns whether a message is a 2.05.
 abbrev pub is_content : Message → Bool
 is_content m = m.code == codes_of.content
 
--- the message has an entity tag
+-- Returns whether a message has an entity tag.
 abbrev pub is_tagged : Message → Bool
 is_tagged m = list_any (λ t. true) (etags_in m)
 
--- what a worker had seen when a row was made: the entries of the rows before it
+-- Returns what a worker had seen when a row was made: the entries of the rows before it.
 abbrev pub seen : Placed → List Entry
 seen p = entries p.before
 
--- the most octets of a payload
+-- The most octets of a payload.
 abbrev pub longest_payload : ℕ
 longest_payload = 1_024
 
--- a payload is the block of a body that is named, and the whole body where none is
+-- States that a payload is the named block of a body, or the whole body if none is named.
 abbrev pub IsBlockOf : Option Block → List ℕ → List ℕ → Type 0
 IsBlockOf None body payload = payload ≡ body
 IsBlockOf (Some b) body payload = block_of body b.num b.szx ≡ Some (payload, b.more)
 
--- the block that is named is the one that is asked for; none is named only where that is the first,
--- and the body fits it
+-- States that the named block is the requested one. None is named only if that is the first and the
+-- body fits it.
 abbrev pub IsAsked : ℕ → ℕ → Option Block → List ℕ → Type 0
 IsAsked number szx None body = (number ≡ 0) × (length body ≤ block_size szx)
 IsAsked number szx (Some b) body = (b.num ≡ number) × (b.szx ≡ szx)
 
--- the message carries the block of a body that its own Block2 names, and this is the one that is
--- asked for
+-- A message that carries the block of a body that its own Block2 names, which is the requested one.
 pub record CarriesBlock (m : Message) (number szx : ℕ) (body : List ℕ) : Type 0 where
   pub block : IsBlockOf (asked_block m) body m.payload
   pub asked : IsAsked number szx (asked_block m) body
   pub fits : length m.payload ≤ longest_payload
 
--- the message carries a block of what is asked for, as it is found in a history at a moment, under
--- the tag of that history
+-- A message that carries a block of what is requested, as it is found in a history at a moment,
+-- under the tag of that history.
 pub record Carries (m : Message) (asked : Asked) (history : List Entry) (moment : ℕ) : Type 0 where
   pub whole : List ℕ
   pub found : body asked.sought history moment ≡ Some whole
   pub block : CarriesBlock m asked.number asked.szx whole
   pub tag : etags_in m ≡ tag history moment ∷ []
 
--- the message was formed by a row, and carries the block that is asked for of the listing or the
--- source from the history up to that row, at the moment of that row; and unless it repeats a body
--- of an earlier row, this history holds all that the worker had seen when it was asked
+-- A message that a row built. It carries the requested block of the listing or the source from the
+-- history up to that row, at the moment of that row. Unless it repeats a body of an earlier row,
+-- this history holds all that the worker had seen when it was asked.
 pub record FormedAs (here : Placed) (peer : Peer) (m : Message) : Type 0 where
   pub former : Placed
   pub formed : former_at here.row.step.kind peer m.mid here ≡ Some former
@@ -79,8 +78,8 @@ pub record FormedAs (here : Placed) (peer : Peer) (m : Message) : Type 0 where
       → (asker : Placed) → asker_at here.row.step.kind here ≡ Some asker
       → IsFront (seen asker) (entries (former.row ∷ former.before))
 
--- the request is a look for a listing, or for the source of a registration that is live, and it
--- names the tag of a history at a moment
+-- Returns whether the request is a look that names the tag of a history at a moment. The look is
+-- for a listing, or for the source of a live registration.
 abbrev pub looks_with_tag : List Entry → ℕ → Result Message Unread → Bool
 looks_with_tag history moment (Err fault) = false
 looks_with_tag history moment (Ok m) =
@@ -89,7 +88,7 @@ looks_with_tag history moment (Ok m) =
     && is_found (sought_in m) history moment
     && names_tag (tag history moment) m
 
--- a message that a row of a journal sends
+-- A message that a row of a journal sends.
 pub record Sent (rows : List Row) : Type 0 where
   pub here : Placed
   pub within : Within rows here.before here.row
@@ -99,15 +98,16 @@ pub record Sent (rows : List Row) : Type 0 where
   pub message : Message
   pub read : reading octets ≡ Ok message
 
--- it is a 2.05: to a request that seeks a listing or a source, as a notice, or with an entity tag
+-- Returns whether a message is a 2.05 to a request that seeks a listing or a source, as a
+-- notification, or with an entity tag.
 abbrev pub shows_links : {rows : List Row} → Sent rows → Bool
 shows_links it =
     is_content it.message
     && (answers_with_links it.here.row.step.kind (reading it.here.row.step.datagram)
     || is_tagged it.message)
 
--- 2.03 as a look sends it: where it names the tag at its own row, to the peer and the token of the
--- request, with this tag and nothing else
+-- A 2.03 as a look sends it. The look names the tag at its own row. The 2.03 has the peer and the
+-- token of the request, this tag and nothing else.
 pub record Validates (here : Placed) (peer : Peer) (m : Message) : Type 0 where
   pub looks : is_look here.row.step.kind ≡ true
   pub named :

@@ -1,5 +1,5 @@
--- Writes as they are done: the change and its answer, or the refusal; in both cases the answer is
--- kept for repeats.
+-- Writes as they are done: the change and its response, or the refusal. In both cases the response
+-- is stored for duplicates.
 use Rattle.std.specs.Prelude.{
   ℕ,
   ◌+◌,
@@ -47,26 +47,26 @@ use Rattle.journal_model.specs.Requests.{Method, get, post, put, delete, other_m
 use Rattle.journal_model.specs.Changes.{Outcome, refused, entry_of_step, change_made}
 use Rattle.journal_model.specs.Registrations.{registering, replacing}
 
--- the answer is sent and settled, and what came of the write is noted
+-- Sends and settles the response, and notes the outcome of the write.
 abbrev pub settling : ℕ → Step → Message → Outcome → Effects
 settling place s m done =
     answering s m done.reply
     (done.notes ++ note.Settled place (spelling (answer s m done.reply)) ∷ [])
 
--- an update (RFC 9176 section 5.3.1)
+-- Returns the outcome of an update (RFC 9176 section 5.3.1).
 abbrev pub updating : List Row → ℕ → Step → Message → ℕ → Outcome
 updating rows moment s m number =
     change_made (entries rows)
     (entry_of_step moment s (change.Update number (update_values (queries_in m))))
     (record { reply = bare codes_of.changed; notes = [] })
 
--- a removal (RFC 9176 section 5.3.2)
+-- Returns the outcome of a removal (RFC 9176 section 5.3.2).
 abbrev pub removing : List Row → ℕ → Step → ℕ → Outcome
 removing rows moment s number =
     change_made (entries rows) (entry_of_step moment s (change.Remove number))
     (record { reply = bare codes_of.deleted; notes = [] })
 
--- a fetch asks its peer for a block, with the Message ID that is drawn after so many others
+-- Requests a block from the peer of a fetch, with the next Message ID after `drawn` others.
 abbrev pub asking : Step → ℕ → List ℕ → RegParams → ℕ → Option Block → Effects
 asking s drawn token params number b = record {
   sent = (s.peer, spelling (fetch_request (mid_of s.worker drawn) token b)) ∷ [];
@@ -74,20 +74,21 @@ asking s drawn token params number b = record {
   drew = 1;
 }
 
--- whether there is room for a fetch
+-- The room for a fetch: none if one with its peer runs, or if as many run as may.
 pub data FetchRoom : Type 0 where
   runs_with_peer : FetchRoom
   runs_as_many : FetchRoom
   may_start : FetchRoom
 
--- whether one with its peer runs, and else whether as many run as may
+-- Returns whether there is room for a fetch: first whether one with its peer runs, and then whether
+-- as many run as may.
 abbrev pub fetch_room : Bool → Bool → FetchRoom
 fetch_room true many = runs_with_peer
 fetch_room false true = runs_as_many
 fetch_room false false = may_start
 
--- a simple registration is refused while a fetch with its peer runs, or while as many run as may;
--- else its 2.04 is sent, and a fetch starts after it (RFC 9176 section 5.1)
+-- Refuses a simple registration if a fetch with its peer runs, or if as many run as may. Otherwise
+-- its 2.04 is sent, and a fetch starts after it (RFC 9176 section 5.1).
 abbrev pub simple_unless : FetchRoom → List Event → ℕ → Step → Message → Effects
 simple_unless runs_with_peer events place s m =
     settling place s m (refused codes_of.service_unavailable (codes "fetching"))
@@ -98,19 +99,20 @@ simple_unless may_start events place s m =
     (asking s (s.drawn + drawn_for m.kind) (next_token events) (registration_values (queries_in m))
     0 None)
 
--- a simple registration
+-- Does a simple registration.
 abbrev pub registering_simply : List Event → ℕ → Step → Message → Effects
 registering_simply events place s m =
     simple_unless
     (fetch_room (is_fetching s.peer events) (nat_le max_fetches (length (fetches events)))) events
     place s m
 
--- 4.05: the method does nothing that is committed
+-- The outcome 4.05 of a method that commits nothing.
 abbrev pub no_write : Outcome
 no_write = refused codes_of.method_not_allowed (codes "method")
 
--- what comes of a write on a registration, by its method: POST updates it, PUT replaces its links,
--- and DELETE removes it; GET is no write, and any other method is refused before it is admitted
+-- Returns the outcome of a write on a registration, by its method. POST updates it, PUT replaces
+-- its links, and DELETE removes it. GET is no write, and any other method is refused before it is
+-- admitted.
 abbrev pub location_outcome : Method → List Row → ℕ → Step → Message → ℕ → Outcome
 location_outcome get rows moment s m number = no_write
 location_outcome post rows moment s m number = updating rows moment s m number
@@ -118,7 +120,7 @@ location_outcome put rows moment s m number = replacing rows moment s m number
 location_outcome delete rows moment s m number = removing rows moment s number
 location_outcome other_method rows moment s m number = no_write
 
--- what a write does, by its path
+-- Does a write, by its path.
 abbrev pub write_done : Path → List Row → ℕ → ℕ → Step → Message → Effects
 write_done path.Rd rows moment place s m = settling place s m (registering rows moment s m)
 write_done (path.Location number) rows moment place s m =
@@ -129,6 +131,6 @@ write_done path.Res rows moment place s m = nothing
 write_done path.Ep rows moment place s m = nothing
 write_done path.Other rows moment place s m = nothing
 
--- the write that was admitted at a place is done
+-- Does the write that was admitted at a place.
 unfoldable pub commit_effects : List Row → ℕ → ℕ → Step → Message → Effects
 commit_effects rows moment place s m = write_done (path_in m) rows moment place s m

@@ -1,6 +1,6 @@
--- The journals of a desk: which steps follow which rows, be they those of a replay or of workers
--- that look beside the desk. It says neither who holds which job nor who drew how many Message IDs,
--- and looks may stand in it or not.
+-- The journals of a desk: which steps follow which rows, whether those of a replay or of workers
+-- that look alongside the desk. The definition leaves open which job a worker holds and how many
+-- Message IDs it drew. Looks may be in the journal or not.
 use Rattle.std.specs.Prelude.{◌≡◌, ℕ, ◌<◌, ◌≤◌, max, Bool, true, false, List, [], ◌∷◌, Some}
 use Rattle.std.specs.List.{list_any}
 use Rattle.event_model.specs.Events.{has_event}
@@ -13,12 +13,12 @@ use Rattle.journal_model.specs.declared.rows.Row.{Row}
 use Rattle.journal_model.specs.Journal.{events, now, latest, row_at}
 use Rattle.journal_model.specs.Rows.{row}
 
--- the most workers
+-- The most workers of a directory.
 abbrev pub max_workers : ℕ
 max_workers = MAX_WORKERS
 
--- the row of a place admitted a write of the worker, the peer and the datagram of a step, and no
--- Settled or Failed ended that since
+-- An admission that is open for a step. The row of the place admitted a write of the step's worker,
+-- peer and datagram, and no Settled or Failed ended that since.
 pub record IsOpenFor (s : Step) (place : ℕ) (rows : List Row) : Type 0 where
   pub admission : Row
   pub found : row_at place rows ≡ Some admission
@@ -28,35 +28,36 @@ pub record IsOpenFor (s : Step) (place : ℕ) (rows : List Row) : Type 0 where
   pub datagram : admission.step.datagram ≡ s.datagram
   pub not_ended : has_event (is_ending_of place) (events rows) ≡ false
 
--- a commit is of such an admission; a keep may have any body and any tag
+-- States that a commit is of such an admission. A keep may have any body and any tag.
 abbrev pub CommitsOpen : List Row → Step → StepKind → Type 0
 CommitsOpen rows s (step.Commit place) = IsOpenFor s place rows
 CommitsOpen rows s _ = Unit {0}
 
--- a step that ends a job: a commit or a keep
+-- Returns whether a step ends a job: a commit or a keep.
 abbrev pub ends_job : StepKind → Bool
 ends_job (step.Commit place) = true
 ends_job (step.Keep body tag) = true
 ends_job _ = false
 
--- no look was at a later moment than the last other row, or than the one that is handed in
+-- States that no look was at a later moment than the last other row, or than the one that is passed
+-- in.
 abbrev pub NoLaterLook : ℕ → List Row → Type 0
 NoLaterLook handed rows = latest rows ≤ max handed (now rows)
 
--- what is handed in with a step: a moment that is not below those of looks, one of the workers, and
--- the word 0 where it ends a job
+-- What is passed in with a step: a moment that is not below those of looks, and one of the workers.
+-- A step that ends a job has the word 0.
 pub record IsHanded (rows : List Row) (s : Step) : Type 0 where
   pub in_time : NoLaterLook s.handed.0 rows
   pub worker : s.worker < max_workers
   pub word : ends_job s.kind ≡ true → s.word ≡ 0
 
--- a step that a desk may make after a journal
+-- A step that a desk may make after a journal.
 pub record MayFollow (rows : List Row) (s : Step) : Type 0 where
   pub commits : CommitsOpen rows s s.kind
   pub handed : IsHanded rows s
 
--- a journal of a desk: each row is that of the rows before it and its own step, which may follow
--- them
+-- A journal of a desk: each row is that of the rows before it and its own step, which may follow
+-- them.
 pub data IsDeskJournal : List Row → Type 0 where
   begun : IsDeskJournal []
   made : {rows : List Row}

@@ -17,13 +17,13 @@ use Rattle.journal_model.specs.declared.rows.Row.{Row}
 use Rattle.journal_model.specs.Journal.{events}
 use Rattle.journal_model.specs.Responses.{fetch_of, more_follow, ends_fetch}
 
--- the row ends the fetch of its peer
+-- Returns whether a note ends the fetch of a peer.
 abbrev pub is_end_of_fetch : Peer → Note → Bool
 is_end_of_fetch peer (note.Ceased p) = is_same_peer p peer
 is_end_of_fetch peer _ = false
 
--- a datagram that is heard after rows is a response to the last request of the running fetch with
--- its peer
+-- A datagram that is handled after rows and is a response to the last request of the running fetch
+-- with its peer.
 pub record AnswersFetch (before : List Row) (s : Step) : Type 0 where
   pub kind : s.kind ≡ step.Admit
   pub message : Message
@@ -32,8 +32,8 @@ pub record AnswersFetch (before : List Row) (s : Step) : Type 0 where
   pub request : Request
   pub fetch : fetch_of s message (events before) ≡ Some request
 
--- a response brings the end of a whole body: it is 2.05, it begins where what was collected ends,
--- no more follows, and nothing of it ends the fetch without a registration
+-- A response that brings the end of a whole body. It is a 2.05 and begins where what was collected
+-- ends. No more follows, and nothing in it ends the fetch without a registration.
 pub record EndsBody (before : List Row) (s : Step) (m : Message) : Type 0 where
   pub content : m.code ≡ codes_of.content
   pub joins : is_elsewhere (block_in m) (length (collected s.peer (events before))) ≡ false
@@ -41,8 +41,8 @@ pub record EndsBody (before : List Row) (s : Step) (m : Message) : Type 0 where
   pub whole : ends_fetch m (gathered s.peer (events before))
       (length (collected s.peer (events before))) ≡ false
 
--- such a response completed the fetch: it brought the end of a whole body, and its row ends the
--- fetch
+-- A row whose response completed the fetch: it brought the end of a whole body, and the row ends
+-- the fetch.
 pub record IsCompletion (before : List Row) (r : Row) : Type 0 where
   pub answers : AnswersFetch before r.step
   pub body : EndsBody before r.step answers.message

@@ -1,4 +1,4 @@
--- The headline: what holds of each journal of the machine, and of each of a desk.
+-- The headline: what holds of each journal of the machine, and of each journal of a desk.
 use Rattle.std.specs.Prelude.{List}
 use Rattle.journal_model.specs.declared.rows.Row.{Row}
 use Rattle.journal_model.specs.HoldsEachOnce.{HoldsEachOnce}
@@ -15,10 +15,9 @@ pub record Headline (rows : List Row) : Type 0 where
   pub observers : ObserversKnow rows
   pub sends : SendsToWhoAsked rows
 
--- What holds of every journal of a desk, whose looks need not stand in it, and whose keeps may have
--- any body and tag: of its answers what is said of those whose bodies were formed in its rows, and
--- of its datagrams where each look, commit and keep is made for a request and each keep has a tag
--- of eight octets.
+-- What holds of every journal of a desk, which need not contain its looks, and whose keeps may have
+-- any body and tag. Of answers it holds if their bodies were built in rows. Of datagrams it holds
+-- if each look, commit and keep is made for a request, and each keep has a tag of eight octets.
 pub record DeskHeadline (rows : List Row) : Type 0 where
   pub changes : HoldsEachOnce rows
   pub answers : DeskAnswersAsFormed rows

@@ -1,5 +1,5 @@
 -- The first sentence of the headline: registrations are the replay of one legal history that holds
--- each accepted request once, despite repeats.
+-- each accepted request once, despite duplicates.
 use Rattle.std.specs.Prelude.{◌≡◌, ◌⊎◌, ℕ, ◌+◌, ◌<◌, ◌≤◌, true, false, List, [], ◌∷◌, length}
 use Rattle.rd_base.specs.declared.peers.Peer.{Peer}
 use Rattle.history_model.specs.declared.entries.Entry.{Entry}
@@ -12,16 +12,21 @@ use Rattle.journal_model.specs.FetchCompletions.{IsCompletion}
 use Rattle.journal_model.specs.AskedChanges.{answers_change, IsEntryOf}
 use Rattle.journal_model.specs.AdmittedWrites.{EndedWithoutMemory, AdmittedAt}
 
--- Registrations are the replay of one legal history that holds each accepted request once, despite
--- repeats: a row has at most one entry; an entry stands in the row of a commit, of a response that
--- completed a fetch with the end of a whole body, or of a beginning, and has the moment, the worker
--- and the peer of that row; the change of a commit is the one that its own request asks for, with
--- its last block or a whole body, that of a response is the one that the fetch was made for, and
--- that of a beginning its own; a commit whose
--- answer says that a change was made has exactly one, and any other has none; a commit is of a row
--- that admitted its write, and each admission is committed at most once; and of two admissions with
--- one peer and Message ID that are less than the lifetime of an exchange apart, the earlier ended
--- in 5.00, which was sent, before the later one was made.
+-- The sentence: registrations are the replay of one legal history that holds each accepted request
+-- once, despite duplicates.
+-- - `legal`, `single`: the history is legal, and a row has at most one entry.
+-- - `origin`: the row of an entry is that of a commit, of a beginning, or of a completion. A
+--   completion is a response that completed a fetch with the end of a whole body.
+-- - `entry`: an entry has the moment, the worker and the peer of its row. The change of a commit is
+--   the one that its own request asks for, with its last block or a whole body. The change of a
+--   response is the one that the fetch was made for, and that of a beginning its own.
+-- - `answered`, `enters_none`: a commit whose response says that a change was made has exactly one
+--   entry, and any other has none.
+-- - `place`, `once`: a commit is of a row that admitted its write, and each admission is committed
+--   at most once.
+-- - `failed`: take two admissions with one peer and Message ID that are less than the lifetime of
+--   an exchange apart. The earlier one ended in 5.00, which was sent, before the later one was
+--   made.
 pub record HoldsEachOnce (rows : List Row) : Type 0 where
   pub legal : IsLegal (entries rows)
   pub single : (before : List Row) (r : Row) → Within rows before r → length (entries_of r) ≤ 1

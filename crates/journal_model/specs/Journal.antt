@@ -28,7 +28,7 @@ use Rattle.journal_model.specs.declared.steps.StepKind.{StepKind}
 use Rattle.journal_model.specs.declared.steps.StepKind.TheVariants as step
 use Rattle.journal_model.specs.declared.rows.Row.{Row}
 
--- the step only looks at the registrations
+-- Returns whether a step is a look.
 abbrev pub is_look : StepKind → Bool
 is_look step.Admit = false
 is_look step.Look = true
@@ -37,7 +37,7 @@ is_look (step.Keep body tag) = false
 is_look step.Tick = false
 is_look (step.Begin first) = false
 
--- the step hears a datagram
+-- Returns whether a step handles a datagram.
 abbrev pub is_heard : StepKind → Bool
 is_heard step.Admit = true
 is_heard step.Look = true
@@ -46,45 +46,45 @@ is_heard (step.Keep body tag) = false
 is_heard step.Tick = false
 is_heard (step.Begin first) = false
 
--- the step of the row is no look
+-- Returns whether the step of a row is no look.
 abbrev pub is_desk_row : Row → Bool
 is_desk_row r = not (is_look r.step.kind)
 
--- the notes of a journal as events, the newest first
+-- Returns the notes of a journal as events, the newest first.
 unfoldable pub events : List Row → List Event
 events [] = []
 events (r ∷ before) = noted (length before) r.moment.0 r.step.word r.notes (events before)
 
--- the entry that a note holds
+-- Returns the entry that a note holds.
 abbrev pub entry_noted : Note → Option Entry
 entry_noted (note.Entered entry) = Some entry
 entry_noted _ = None
 
--- the entries that a row notes, in order
+-- Returns the entries that a row notes, in order.
 abbrev pub entries_of : Row → List Entry
 entries_of r = filter_map entry_noted r.notes
 
--- the accepted changes of a journal, the oldest first
+-- Returns the accepted changes of a journal, the oldest first.
 unfoldable pub entries : List Row → List Entry
 entries [] = []
 entries (r ∷ before) = entries before ++ entries_of r
 
--- the moment of the last row that is none of a look, 0 where there is none
+-- Returns the moment of the last row that is not of a look, or 0 if there is none.
 unfoldable pub now : List Row → ℕ
 now [] = 0
 now (r ∷ before) = if is_desk_row r then r.moment.0 else now before
 
--- the greatest moment of all rows, 0 where there is none
+-- Returns the greatest moment of all rows, or 0 if there is none.
 unfoldable pub latest : List Row → ℕ
 latest [] = 0
 latest (r ∷ before) = max r.moment.0 (latest before)
 
--- the row at a place
+-- Returns the row at a place.
 unfoldable pub row_at : ℕ → List Row → Option Row
 row_at place [] = None
 row_at place (r ∷ before) = if place == length before then Some r else row_at place before
 
--- what a row that is none of a look is to observers
+-- Returns a row that is not of a look, as observers see it.
 abbrev pub transition_of : Row → List Row → Transition
 transition_of r before = record {
   place = length before;
@@ -94,7 +94,7 @@ transition_of r before = record {
   moment_after = r.moment.0;
 }
 
--- the rows that are none of a look, as observers see them
+-- Returns the rows that are not of a look, as observers see them.
 unfoldable pub transitions : List Row → List Transition
 transitions [] = []
 transitions (r ∷ before) =

@@ -15,7 +15,7 @@ pub mod Seats
 -- journals of desks, a row that is being made
 pub mod DeskJournal
 pub mod UnfinishedRow
--- rows as they stand in a journal, which row formed a body
+-- rows within a journal, which row built a body
 pub mod PlacedRows
 pub mod BodyFormers
 -- what the first and the second sentence speak of: asked changes, fetches that are completed,

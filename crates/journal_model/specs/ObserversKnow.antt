@@ -1,5 +1,4 @@
--- The fourth sentence of the headline: an observer with no notice due was last given the listing
--- now.
+-- The fourth sentence of the headline: an observer that is not due was last given the listing now.
 use Rattle.std.specs.Prelude.{◌≡◌, false, List, Some}
 use Rattle.std.specs.List.{IsAmong}
 use Rattle.history_model.specs.Listing.{listing}
@@ -9,7 +8,7 @@ use Rattle.event_model.specs.Due.{is_due}
 use Rattle.journal_model.specs.declared.rows.Row.{Row}
 use Rattle.journal_model.specs.Journal.{events, entries, now, transitions}
 
--- Where no notice is due to an observer, the body that was last formed for it is the listing now.
+-- The sentence: the body that was last built for an observer that is not due is the listing now.
 pub record ObserversKnow (rows : List Row) : Type 0 where
   pub last_formed : (o : Observer)
       → IsAmong (observers (events rows)) o

@@ -1,4 +1,4 @@
--- Rows as they stand in a journal, and what a row sent and noted.
+-- Rows within a journal, and what a row sent and noted.
 use Rattle.std.specs.Prelude.{◌≡◌, ℕ, Bool, List, [], ◌∷◌, ◌++◌, Option, Some, None, if◌then◌else◌}
 use Rattle.std.specs.List.{list_any}
 use Rattle.rd_base.specs.declared.peers.Peer.{Peer}
@@ -7,39 +7,39 @@ use Rattle.event_model.specs.Repeats.{is_admission_of}
 use Rattle.journal_model.specs.declared.steps.StepKind.TheVariants as step
 use Rattle.journal_model.specs.declared.rows.Row.{Row}
 
--- a row stands in a journal after the rows before it
+-- A row of a journal, after the rows before it.
 pub record Within (rows before : List Row) (r : Row) : Type 0 where
   pub later : List Row
   pub whole : rows ≡ later ++ r ∷ before
 
--- the step commits the write that was admitted at a place
+-- States that the step of a row commits the write that was admitted at a place.
 abbrev pub Commits : Row → ℕ → Type 0
 Commits r place = r.step.kind ≡ step.Commit place
 
--- the step begins a run
+-- States that the step of a row begins a run.
 abbrev pub Begins : Row → ℕ → Type 0
 Begins r first = r.step.kind ≡ step.Begin first
 
--- the row admits a write of a peer and a Message ID
+-- Returns whether the row admits a write of a peer and a Message ID.
 abbrev pub admits : Peer → ℕ → Row → Bool
 admits peer mid r = list_any (is_admission_of peer mid) r.notes
 
--- the code of a message: its second octet (RFC 7252 section 3)
+-- Returns the code of a message: its second octet (RFC 7252 section 3).
 abbrev pub code_at : List ℕ → ℕ
 code_at (first ∷ code ∷ others) = code
 code_at _ = codes_of.empty
 
--- the code of the first message that a row sent
+-- Returns the code of the first message that a row sent.
 abbrev pub code_sent : List (Peer × List ℕ) → ℕ
 code_sent [] = codes_of.empty
 code_sent (d ∷ sent) = code_at d.1
 
--- a row with the rows before it
+-- A row with the rows before it.
 pub record Placed : Type 0 where
   pub row : Row
   pub before : List Row
 
--- the last row of a kind, with the rows before it
+-- Returns the last row of a kind, with the rows before it.
 unfoldable pub last_row : (Row → Bool) → List Row → Option Placed
 last_row is_kind [] = None
 last_row is_kind (r ∷ before) =

@@ -1,5 +1,5 @@
--- What comes of a registration, and of a replacement of links: the body comes whole, or in blocks
--- (RFC 7959 sections 2.5 and 2.9).
+-- The outcome of a registration, and of a replacement of links, whose body arrives whole or in
+-- blocks (RFC 7959 sections 2.5 and 2.9).
 use Rattle.std.specs.Prelude.{
   ℕ,
   ◌+◌,
@@ -41,12 +41,12 @@ use Rattle.journal_model.specs.Changes.{
   body_used,
 }
 
--- Block1 in the answer to a block (RFC 7959 section 2.3)
+-- Returns Block1 in the response to a block (RFC 7959 section 2.3).
 abbrev pub block1_option : Block → List Opt
 block1_option b = (table.block1, block_value b) ∷ []
 
--- 2.31 where more follows; the last block is the end of the whole body, and its upload is gone once
--- what it is for is done
+-- Returns the outcome of a block: 2.31 if more follow. The last block is the end of the whole body,
+-- and its upload ends if the body's change is accepted.
 abbrev pub block_taken : Bool
     → Purpose
     → List Row
@@ -64,19 +64,20 @@ block_taken false purpose rows moment s m b body =
     body_used purpose (entries rows) moment s body (block1_option b)
     (note.Finished s.peer (key_in m) ∷ [])
 
--- whether there is room for a block that goes on with what is collected
+-- The room for a block that continues what is collected.
 pub data BlockRoom : Type 0 where
   collects_too_much : BlockRoom
   lives_with_too_many : BlockRoom
   fits_in : BlockRoom
 
--- whether too much would be collected, and else whether too many uploads would live
+-- Returns whether there is room for a block: first whether too much would be collected, and then
+-- whether too many uploads would live.
 abbrev pub block_room : Bool → Bool → BlockRoom
 block_room true many = collects_too_much
 block_room false true = lives_with_too_many
 block_room false false = fits_in
 
--- a block that goes on with what is collected, by the room for it
+-- Returns the outcome of a block that continues what is collected, by the room for it.
 abbrev pub block_unless : BlockRoom
     → Purpose
     → List Row
@@ -93,7 +94,8 @@ block_unless lives_with_too_many purpose rows moment s m b body =
 block_unless fits_in purpose rows moment s m b body =
     block_taken b.more purpose rows moment s m b body
 
--- a block, by what is collected before it: refused where that does not end where the block begins
+-- Returns the outcome of a block, by what is collected before it. It is refused if that does not
+-- end where the block begins.
 abbrev pub block_after : Option (List ℕ)
     → Option (List ℕ)
     → Purpose
@@ -111,7 +113,7 @@ block_after (Some collected) upload purpose rows moment s m b =
     (is_one_too_many b upload (live_uploads moment (events rows))))
     purpose rows moment s m b (collected ++ m.payload)
 
--- a block of links, by the live upload of its name
+-- Returns the outcome of a block of links, by the live upload of its name.
 abbrev pub block_with : Option (List ℕ)
     → Purpose
     → List Row
@@ -123,23 +125,23 @@ abbrev pub block_with : Option (List ℕ)
 block_with upload purpose rows moment s m b =
     block_after (collected_before b upload) upload purpose rows moment s m b
 
--- a block of links
+-- Returns the outcome of a block of links.
 unfoldable pub block_uploaded : Purpose → List Row → ℕ → Step → Message → Block → Outcome
 block_uploaded purpose rows moment s m b =
     block_with (live_upload moment (s.peer, key_in m) (events rows)) purpose rows moment s m b
 
--- links that come whole, or a block of them
+-- Returns the outcome of links that arrive whole, or of a block of them.
 abbrev pub links_outcome : Option Block → Purpose → List Row → ℕ → Step → Message → Outcome
 links_outcome None purpose rows moment s m =
     body_used purpose (entries rows) moment s m.payload [] []
 links_outcome (Some b) purpose rows moment s m = block_uploaded purpose rows moment s m b
 
--- what comes of a registration
+-- Returns the outcome of a registration.
 unfoldable pub registering : List Row → ℕ → Step → Message → Outcome
 registering rows moment s m =
     links_outcome (sent_block m) (to_register (registration_values (queries_in m))) rows moment s m
 
--- what comes of a replacement of the links of a registration
+-- Returns the outcome of a replacement of the links of a registration.
 unfoldable pub replacing : List Row → ℕ → Step → Message → ℕ → Outcome
 replacing rows moment s m number =
     links_outcome (sent_block m) (to_replace number) rows moment s m

@@ -62,8 +62,8 @@ use Rattle.journal_model.specs.EmptyMessages.{acknowledged, reset}
 use Rattle.journal_model.specs.Responses.{response_effects}
 use Rattle.journal_model.specs.Ticks.{tick_effects}
 
--- a request on a registration, by its method: GET reads its links, POST, PUT and DELETE are writes,
--- and any other method is refused before
+-- Serves a request on a registration, by its method. GET reads its links; POST, PUT and DELETE are
+-- writes; any other method is refused before.
 abbrev pub served_on_location : Method → List Row → ℕ → Step → Message → Effects
 served_on_location get rows moment s m = read_effects rows moment s m
 served_on_location post rows moment s m = write_effects (events rows) moment s m
@@ -71,7 +71,7 @@ served_on_location put rows moment s m = write_effects (events rows) moment s m
 served_on_location delete rows moment s m = write_effects (events rows) moment s m
 served_on_location other_method rows moment s m = nothing
 
--- a request that meets none of the refusals that it alone decides, by its path
+-- Serves a request that meets none of the refusals that it alone decides, by its path.
 unfoldable pub served : Path → List Row → ℕ → Step → Message → Effects
 served path.Core rows moment s m = look_effects (entries rows) moment s m
 served path.Res rows moment s m = lookup_effects rows moment s m
@@ -82,19 +82,19 @@ served (path.Location number) rows moment s m =
     served_on_location (method_of m.code) rows moment s m
 served path.Other rows moment s m = nothing
 
--- a refusal is answered; an unrecognized critical option in a message that is not confirmable is
--- answered by nothing (RFC 7252 section 5.4.1)
+-- Answers a refused request. If the message is non-confirmable, an unrecognized critical option
+-- gets no response (RFC 7252 section 5.4.1).
 abbrev pub refusal_answered : Kind4 → Option ℕ → Step → Message → Reply → Effects
 refusal_answered Non (Some number) s m refusal = nothing
 refusal_answered _ _ s m refusal = answering s m refusal []
 
--- a request: refused, or served
+-- Refuses or serves a request.
 abbrev pub request_answered : Option Reply → List Row → ℕ → Step → Message → Effects
 request_answered (Some refusal) rows moment s m =
     refusal_answered m.kind (first_bad_option m.options) s m refusal
 request_answered None rows moment s m = served (path_in m) rows moment s m
 
--- what a message does, by what it is for (RFC 7252 section 4)
+-- Handles a message, by its role (RFC 7252 section 4).
 abbrev pub message_effects : Role → Bool → List Row → ℕ → Step → Message → Effects
 message_effects role.Ping starved rows moment s m = resetting s m.mid
 message_effects role.Acknowledgement starved rows moment s m =
@@ -107,31 +107,31 @@ message_effects role.Response true rows moment s m = nothing
 message_effects role.Response false rows moment s m = response_effects rows moment s m
 message_effects role.Ignored starved rows moment s m = nothing
 
--- a confirmable message with a format error is rejected, and what else is no message is ignored
--- (RFC 7252 section 4.2)
+-- Rejects a confirmable message with a format error, and ignores anything else that is no message
+-- (RFC 7252 section 4.2).
 abbrev pub unread_answered : Step → Unread → Effects
 unread_answered s (unread.Format Con mid) = resetting s mid
 unread_answered s _ = nothing
 
--- a datagram that is heard
+-- Handles a datagram.
 abbrev pub heard : Bool → List Row → ℕ → Step → Result Message Unread → Effects
 heard starved rows moment s (Err fault) = unread_answered s fault
 heard starved rows moment s (Ok m) = message_effects (role_of m.kind m.code) starved rows moment s m
 
--- a write that is done; where memory ran out it ends in 5.00, and its admission with it
+-- Does an admitted write. If memory ran out, it ends in 5.00, and its admission with it.
 abbrev pub done : Bool → List Row → ℕ → ℕ → Step → Result Message Unread → Effects
 done starved rows moment place s (Err fault) = nothing
 done true rows moment place s (Ok m) =
     answering s m (bare codes_of.internal_server_error) (note.Failed place ∷ [])
 done false rows moment place s (Ok m) = commit_effects rows moment place s m
 
--- a body that is kept
+-- Keeps a body.
 abbrev pub kept_body : Bool → Step → Result Message Unread → List ℕ → List ℕ → Effects
 kept_body starved s (Err fault) body tag = nothing
 kept_body true s (Ok m) body tag = without_memory s m
 kept_body false s (Ok m) body tag = keep_effects s m body tag
 
--- what a step does, by its kind, after a journal at a moment
+-- Returns what a step does, by its kind, after a journal at a moment.
 unfoldable pub effects : StepKind → Bool → List Row → ℕ → Step → Effects
 effects step.Admit starved rows moment s = heard starved rows moment s (reading s.datagram)
 effects step.Look starved rows moment s =
@@ -143,11 +143,11 @@ effects (step.Keep body tag) starved rows moment s =
 effects step.Tick starved rows moment s = tick_effects starved rows moment s
 effects (step.Begin first) starved rows moment s = beginning starved (entries rows) moment s first
 
--- the moment of a step: the greatest that was handed in so far
+-- Returns the moment of a step: the greatest that was passed in so far.
 unfoldable pub row_moment : List Row → Step → ℕ
 row_moment rows s = max s.handed.0 (latest rows)
 
--- what was done as a row
+-- Returns the row of what was done.
 abbrev pub row_with : Step → ℕ → Bool → Effects → Row
 row_with s moment starved e = record {
   step = s;
@@ -158,13 +158,13 @@ row_with s moment starved e = record {
   drew = e.drew;
 }
 
--- the row of a step after a journal, in which memory ran out or did not
+-- Returns the row of a step after a journal, in which memory ran out or did not.
 unfoldable pub row : List Row → Step → Bool → Row
 row rows s starved =
     row_with s (row_moment rows s) starved (effects s.kind starved rows (row_moment rows s) s)
 
--- each row is that of the rows before it and of a step, whoever may make which step: so it is in
--- journals of the machine, and in those of desks
+-- Rows, each of which is that of the rows before it and of a step. It is left open which worker may
+-- make which step. Journals of the machine and of desks are such rows.
 pub data AreRows : List Row → Type 0 where
   empty : AreRows []
   added : {rows : List Row}

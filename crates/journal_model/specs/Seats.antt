@@ -1,6 +1,6 @@
--- Seats: a worker's share in a desk that many drive. Its desk steps are rows of one journal, each
--- made at a turn of the seat; its looks take no turn: each is answered from a front of the history
--- that holds all that the seat had seen.
+-- Seats: a worker's share in a desk that many workers share. Its desk steps are rows of one
+-- journal, each made at a turn of the seat. Its looks take no turn. Each is answered from a prefix
+-- of the history that holds all that the seat had seen.
 use Rattle.std.specs.Prelude.{
   ◌≡◌,
   ◌⊎◌,
@@ -36,24 +36,24 @@ use Rattle.journal_model.specs.Looks.{looked, held_after}
 use Rattle.journal_model.specs.Rows.{row}
 use Rattle.journal_model.specs.Machine.{Job, job_after}
 
--- what a seat shows
+-- What a seat shows.
 pub record Seat : Type 0 where
-  -- its number, which is that of its worker
+  -- Its number, which is that of its worker.
   pub worker : ℕ
-  -- the journal that it has seen, up to its own last row
+  -- The journal that it has seen, up to its own last row.
   pub seen : List Row
-  -- the rows of it that the seat made
+  -- The rows of it that the seat made.
   pub mine : List Row
-  -- the fronts from which its looks were answered since its last turn, the latest first
+  -- The prefixes from which its looks were answered since its last turn, the latest first.
   pub shown : List (List Entry)
-  -- the front of its last look, empty before the first
+  -- The prefix of its last look, empty before the first.
   pub front : List Entry
-  -- the greatest moment of its rows and looks, 0 where there is none
+  -- The greatest moment of its rows and looks, or 0 if there is none.
   pub last : ℕ
-  -- how many Message IDs its rows and looks drew, as 64 bits count
+  -- How many Message IDs its rows and looks drew, modulo 2^64.
   pub drawn : ℕ
 
--- a seat that made no step
+-- Returns a seat that made no step.
 abbrev pub new_seat : ℕ → Seat
 new_seat worker = record {
   worker = worker;
@@ -65,36 +65,36 @@ new_seat worker = record {
   drawn = 0;
 }
 
--- the rows of a journal that a worker made
+-- Returns the rows of a journal that a worker made.
 unfoldable pub rows_of : ℕ → List Row → List Row
 rows_of worker rows = filter (λ r. r.step.worker == worker) rows
 
--- a journal goes on from another: that one with further rows
+-- A journal that continues another: that one with further rows.
 pub record GoesOn (earlier later : List Row) : Type 0 where
   pub further : List Row
   pub whole : later ≡ further ++ earlier
 
--- of two histories one is a front of the other, so neither has an entry where the other has another
--- one
+-- States that one of two histories is a prefix of the other, so neither has an entry where the
+-- other has another one.
 abbrev pub Agree : List Entry → List Entry → Type 0
 Agree history other = IsFront history other ⊎ IsFront other history
 
--- a step of a seat names its worker, and how many Message IDs the seat drew before
+-- A step of a seat, which names its worker, and how many Message IDs the seat drew before.
 pub record IsStepOf (seat : Seat) (s : Step) : Type 0 where
   pub worker : s.worker ≡ seat.worker
   pub drawn : s.drawn ≡ seat.drawn
 
--- as many Message IDs more, as 64 bits count
+-- Returns the number of Message IDs drawn after `drew` more, modulo 2^64.
 abbrev pub drawn_more : ℕ → ℕ → ℕ
 drawn_more drawn drew = (drawn + drew) % 2 ^ 64
 
 -- ---- desk steps
 
--- the job that a row leaves its worker with, who held none in it
+-- Returns the job that a row leaves its worker with, if the worker held none in it.
 abbrev pub job_left : Row → List Row → Option Job
 job_left r before = job_after r.step.kind r before None
 
--- a seat after a row that it made at its turn, behind the journal that it found
+-- Returns a seat after a row that it made at its turn, after the journal that it found.
 abbrev pub after_row : Seat → List Row → Row → Seat
 after_row seat found r = record {
   worker = seat.worker;
@@ -106,9 +106,9 @@ after_row seat found r = record {
   drawn = drawn_more seat.drawn r.drew;
 }
 
--- One desk step of a seat, at its turn. The journal that it finds goes on from what the seat had
--- seen, by rows of other workers; of its history and of each front that was shown since the last
--- turn one is a front of the other. The seat makes the row of its step after that journal, and
+-- One desk step of a seat, at its turn. The journal that it finds continues what the seat had seen,
+-- by rows of other workers. Compare its history with each prefix that was shown since the last
+-- turn: one is a prefix of the other. The seat makes the row of its step after that journal, and
 -- sends what the row sends.
 pub record MakesRow (before : Seat) (s : Step) (starved : Bool) (sent : List (Peer × List ℕ))
     (after : Seat) : Type 0 where
@@ -123,22 +123,22 @@ pub record MakesRow (before : Seat) (s : Step) (starved : Bool) (sent : List (Pe
 
 -- ---- looks
 
--- the moment of a look from a front: the greatest of the moment handed in, of that of the seat's
--- last row or look, and of that of the front's last entry
+-- Returns the moment of a look from a prefix. It is the greatest of three: the moment passed in,
+-- that of the seat's last row or look, and that of the prefix's last entry.
 abbrev pub look_moment : Seat → Step → List Entry → ℕ
 look_moment seat s front = max s.handed.0 (max seat.last (last_moment front))
 
--- what a look of a seat does, from a front
+-- Returns what a look of a seat does, from a prefix.
 abbrev pub seat_looked : Seat → Step → Bool → List Entry → Effects
 seat_looked seat s starved front =
     looked starved front (look_moment seat s front) s (reading s.datagram)
 
--- the body that it leaves the worker with the job to keep
+-- Returns the body that it leaves the worker with the job to keep.
 abbrev pub seat_held : Seat → Step → Bool → List Entry → Option Answer
 seat_held seat s starved front =
     held_after starved front (look_moment seat s front) (reading s.datagram)
 
--- a seat after a look from a front
+-- Returns a seat after a look from a prefix.
 abbrev pub after_look : Seat → Step → Bool → List Entry → Seat
 after_look seat s starved front = record {
   worker = seat.worker;
@@ -150,8 +150,8 @@ after_look seat s starved front = record {
   drawn = drawn_more seat.drawn (seat_looked seat s starved front).drew;
 }
 
--- One look of a seat. It is answered from a front that holds all entries that the seat had seen,
--- and all of the front of its last look.
+-- One look of a seat. It is answered from a prefix that holds all entries that the seat had seen,
+-- and all of the prefix of its last look.
 pub record LooksFrom (before : Seat) (s : Step) (starved : Bool) (sent : List (Peer × List ℕ))
     (held : Option Answer) (after : Seat) : Type 0 where
   pub front : List Entry
@@ -165,9 +165,9 @@ pub record LooksFrom (before : Seat) (s : Step) (starved : Bool) (sent : List (P
 
 -- ---- what holds of every seat
 
--- Its own rows are those of its worker in what it has seen, each once and in their order; no row of
--- it has a later moment than its last; and each front that it showed since its last turn is a front
--- of that of its last look.
+-- A seat, as every seat is. Its own rows are those of its worker in what it has seen, each once and
+-- in their order. No row of it has a later moment than its last. Each prefix that it showed since
+-- its last turn is a prefix of that of its last look.
 pub record IsSeat (seat : Seat) : Type 0 where
   pub mine : seat.mine ≡ rows_of seat.worker seat.seen
   pub moments : All (λ r. r.moment.0 ≤ seat.last) seat.mine

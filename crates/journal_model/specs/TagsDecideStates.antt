@@ -10,10 +10,11 @@ use Rattle.journal_model.specs.Sought.{Sought}
 use Rattle.journal_model.specs.CarriedBlocks.{FormedAs, Sent, shows_links}
 use Rattle.journal_model.specs.BlocksOfOne.{sought_of_sent, AreBlocksOfOne}
 
--- Equally tagged blocks come from one state: where the tags at two rows are equal, so are the
--- histories and the live registrations; and where the tags that are read in two answers to one
--- query, or to reads of one registration, are equal, both carry blocks of one listing, or of one
--- source, whose tag this is.
+-- The sentence: equally tagged blocks come from one state.
+-- - `histories`, `records`: if the tags at two rows are equal, so are the histories and the live
+--   registrations.
+-- - `answers`: take two answers to one query, or to reads of one registration. If the tags that are
+--   read in them are equal, both carry blocks of one listing, or of one source, whose tag this is.
 pub record TagsDecideStates (rows : List Row) : Type 0 where
   pub histories : (before other_before : List Row) (r other : Row)
       → Within rows before r
@@ -32,8 +33,8 @@ pub record TagsDecideStates (rows : List Row) : Type 0 where
       → sought_of_sent one ≡ Some sought → sought_of_sent other ≡ Some sought
       → AreBlocksOfOne rows sought one.message other.message
 
--- The same where a keep may have any body and tag, as in a journal of a desk: of rows, and of two
--- answers whose bodies were formed in rows.
+-- The same if a keep may have any body and tag, as in a journal of a desk. It holds of rows, and of
+-- two answers whose bodies were built in rows.
 pub record FormedTagsDecideStates (rows : List Row) : Type 0 where
   pub histories : (before other_before : List Row) (r other : Row)
       → Within rows before r

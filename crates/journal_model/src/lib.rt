@@ -1,5 +1,7 @@
-//! What the directory does: the steps of its machine, the row that each step adds to the journal,
-//! and what a journal shows. Definitions and their laws; no function.
+//! The steps of the directory's machine, the row that each step adds to the journal, and what a
+//! journal shows: definitions and their laws.
+//!
+//! The crate has no functions.
 #![tactic(auto)]
 
 pub mod limits;

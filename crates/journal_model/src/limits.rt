@@ -1,7 +1,7 @@
-//! How many workers a directory has, and how many Message IDs each of them.
+//! The limits of workers and of their Message IDs.
 
-/// The most workers.
+/// The most workers of a directory.
 pub const MAX_WORKERS: u64 = 16;
 
-/// How many Message IDs each worker has.
+/// The number of Message IDs that each worker has.
 pub const WORKER_MIDS: u16 = 4_096;

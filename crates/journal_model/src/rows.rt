@@ -1,5 +1,6 @@
-//! The rows of the journal. No value of this type is made at run time: see the notes of
-//! event_model.
+//! The rows of the journal.
+//!
+//! No value of this type is made at run time; the module `notes` of `event_model` says why.
 use crate::Step;
 use event_model::Note;
 use rd_base::{Moment, Peer};
@@ -9,14 +10,14 @@ use std::collections::LinkedList;
 pub struct Row {
     /// The step.
     pub step: Step,
-    /// Its moment.
+    /// The moment of the row.
     pub moment: Moment,
-    /// Whether memory ran out in it.
+    /// Whether memory ran out in the step.
     pub starved: bool,
     /// The datagrams that were sent, in order.
     pub sent: LinkedList<(Peer, LinkedList<u8>)>,
-    /// What is noted, in order.
+    /// The notes, in order.
     pub notes: LinkedList<Note>,
-    /// How many Message IDs it drew.
+    /// The number of Message IDs that the step drew.
     pub drew: u64,
 }

@@ -1,38 +1,40 @@
-//! The steps of the machine. No value of these types is made at run time: see the notes of
-//! event_model.
+//! The steps of the machine.
+//!
+//! No value of these types is made at run time; the module `notes` of `event_model` says why.
 use rd_base::{Moment, Peer};
 use std::collections::LinkedList;
 
-/// What a step does.
+/// The kind of a step.
 pub enum StepKind {
-    /// A datagram that is no look is heard.
+    /// The step handles a datagram that is not a look.
     Admit,
-    /// A lookup, a read of a registration or a discovery is answered from the registrations alone.
+    /// The step answers a lookup, a read of a registration or a discovery, from the registrations
+    /// alone.
     Look,
-    /// The write that was admitted at this place is done.
+    /// The step does the write that was admitted at this place.
     Commit(u64),
-    /// A body that a look formed, with its entity tag, is kept, and its first block is sent.
+    /// The step keeps a body that a look built, with its entity tag, and sends its first block.
     Keep(LinkedList<u8>, LinkedList<u8>),
-    /// Time passes.
+    /// The step lets time pass.
     Tick,
-    /// The run begins: numbers and the count of entries go on above this one.
+    /// The step begins a run: numbers and the count of entries continue above this one.
     Begin(u64),
 }
 
 /// A step of a worker.
 pub struct Step {
-    /// What is done.
+    /// The kind of the step.
     pub kind: StepKind,
     /// The worker.
     pub worker: u8,
-    /// The moment that is handed in.
+    /// The moment that is passed in.
     pub handed: Moment,
-    /// The word that is handed in, from which waits are made.
+    /// The random word that is passed in, which determines initial timeouts and challenges.
     pub word: u32,
-    /// Where the datagram comes from. A tick has none, and what stands here is ignored.
+    /// The peer that sent the datagram. A tick has none, and ignores this field.
     pub peer: Peer,
-    /// The datagram: the one that is heard, or the one that the job began with.
+    /// The datagram: the one that is handled, or the one that the job began with.
     pub datagram: LinkedList<u8>,
-    /// How many Message IDs the worker had drawn before.
+    /// The number of Message IDs that the worker had drawn before.
     pub drawn: u64,
 }

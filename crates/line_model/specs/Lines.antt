@@ -1,4 +1,4 @@
--- One line of a trace: what it says, and how it is printed.
+-- One line of a trace: what it means, and how it is printed.
 use Rattle.std.specs.Prelude.{
   ◌≡◌,
   ℕ,
@@ -41,28 +41,28 @@ use Rattle.line_model.specs.Numbers.{
 use Rattle.rd_base.specs.Peers.{IsPeer, IsPeerText, peer_of, peer_text}
 use Rattle.line_model.specs.Datagrams.{IsDatagramText, max_datagram, datagram_of, datagram_text}
 
--- the space between two fields
+-- The space between two fields.
 abbrev pub space : ℕ
 space = 32
 
--- the most bytes of a line, its line feed apart
+-- The most octets of a line, without its line feed.
 abbrev pub max_line : ℕ
 max_line = MAX_LINE
 
--- the fields of a line, which single spaces part
+-- Returns the fields of a line, which are separated by single spaces.
 abbrev pub fields : List ℕ → List (List ℕ)
 fields text = slice_split (λ b. b == space) text
 
--- fields as a line, with single spaces between them
+-- Returns fields as a line, with single spaces between them.
 abbrev pub joined : List (List ℕ) → List ℕ
 joined parts = join_with_byte space parts
 
--- the second step, where the first gave something
+-- Returns what the second step gives, if the first gave something.
 infixl 10 ◌>>=◌
 abbrev ◌>>=◌ : {A B : Type 0} → Option A → (A → Option B) → Option B
 o >>= f = option_and_then f o
 
--- a datagram that comes: `in`, then worker, moment, peer, octets and word
+-- Returns the line of a datagram that arrives: `in`, then worker, moment, peer, octets and word.
 unfoldable pub come_of : List ℕ
     → List ℕ
     → List ℕ
@@ -77,14 +77,14 @@ come_of worker moment peer octets word = do
   x ← word
   Some (line.Come w (record { 0 = m }) p d x)
 
--- a worker that ends its job: `go`, then worker and moment
+-- Returns the line of a worker that does its job: `go`, then worker and moment.
 unfoldable pub go_of : List ℕ → List ℕ → Option Line
 go_of worker moment = do
   w ← number_of max_worker worker
   m ← number_of max_moment moment
   Some (line.Go w (record { 0 = m }))
 
--- time that passes: `tick`, then worker, moment and word
+-- Returns the line of time that passes: `tick`, then worker, moment and word.
 unfoldable pub tick_of : List ℕ → List ℕ → Option ℕ → Option Line
 tick_of worker moment word = do
   w ← number_of max_worker worker
@@ -92,7 +92,8 @@ tick_of worker moment word = do
   x ← word
   Some (line.Tick w (record { 0 = m }) x)
 
--- a run that begins: `begin`, then worker, moment and the number that it begins above
+-- Returns the line of a run that begins: `begin`, then worker, moment and the number above which it
+-- begins.
 unfoldable pub begin_of : List ℕ → List ℕ → List ℕ → Option Line
 begin_of worker moment first = do
   w ← number_of max_worker worker
@@ -100,8 +101,8 @@ begin_of worker moment first = do
   n ← number_of max_first first
   Some (line.Begin w (record { 0 = m }) n)
 
--- what the fields of a line say, by its first word. A datagram that comes and a tick have the word
--- 0 where none is written
+-- Returns the line that fields spell, by the first of them. An `in` or a `tick` without a word has
+-- the word 0.
 unfoldable pub said_by : List (List ℕ) → Option Line
 said_by (verb ∷ worker ∷ moment ∷ []) =
     if bytes_eq verb (codes "go") then go_of worker moment
@@ -117,18 +118,19 @@ said_by (verb ∷ worker ∷ moment ∷ peer ∷ octets ∷ word ∷ []) =
     else None
 said_by _ = None
 
--- what a line says, or why it is bad: too long comes before any other form
+-- Returns the line that a text spells, or why it is bad. A text that is too long is `Long`,
+-- whatever its form.
 unfoldable pub line_of : List ℕ → Result Line Reason
 line_of text =
     if nat_lt max_line (length text)
     then Err reason.Long
     else ok_or (said_by (fields text)) reason.Form
 
--- the field of a word, which is left out where it is 0
+-- Returns the field of a word, which is left out if the word is 0.
 abbrev pub word_fields : ℕ → List (List ℕ)
 word_fields word = if word == 0 then [] else decimal word ∷ []
 
--- the fields of a line as it is printed, a word of 0 left out
+-- Returns the fields of a line as it is printed, without a word of 0.
 abbrev pub printed_fields : Line → List (List ℕ)
 printed_fields (line.Come worker moment peer octets word) =
     codes "in"
@@ -143,17 +145,18 @@ printed_fields (line.Tick worker moment word) =
 printed_fields (line.Begin worker moment first) =
     codes "begin" ∷ decimal worker ∷ decimal moment.0 ∷ decimal first ∷ []
 
--- a line as it is printed, without a line feed
+-- Returns a line as it is printed, without a line feed.
 unfoldable pub line_text : Line → List ℕ
 line_text l = joined (printed_fields l)
 
--- the line of a datagram that is sent: `out`, then worker, peer and octets, without a line feed
+-- Returns the line of a datagram that is sent: `out`, then worker, peer and octets, without a line
+-- feed.
 unfoldable pub out_text : ℕ → Peer → List ℕ → List ℕ
 out_text worker peer octets =
     joined (codes "out" ∷ decimal worker ∷ peer_text peer ∷ datagram_text octets ∷ [])
 
--- what a line can be: its numbers are within their limits, its peer is one, and its octets are at
--- most 4,096
+-- A valid line: its numbers are within their limits, its peer is one, and its datagram has at most
+-- 4,096 octets.
 pub data IsLine : Line → Type 0 where
   come : {worker : ℕ} {moment : Moment} {peer : Peer} {octets : List ℕ} {word : ℕ}
       → worker ≤ max_worker
@@ -178,7 +181,7 @@ pub data IsLine : Line → Type 0 where
       → first ≤ max_first
       → IsLine (line.Begin worker moment first)
 
--- the fields spell this line
+-- The fields that spell a line.
 pub data AreFieldsOf : List (List ℕ) → Line → Type 0 where
   comes : {w m p d x : List ℕ} {worker : ℕ} {moment : Moment} {peer : Peer} {octets : List ℕ}
       {word : ℕ}
@@ -216,8 +219,8 @@ pub data AreFieldsOf : List (List ℕ) → Line → Type 0 where
       → IsNumber max_first n first
       → AreFieldsOf (codes "begin" ∷ w ∷ m ∷ n ∷ []) (line.Begin worker moment first)
 
--- the text is this line: it is not too long, and its fields, single spaces between them, spell the
--- line
+-- The text of a line: it is not too long, and its fields, with single spaces between them, spell
+-- the line.
 pub record IsLineText (text : List ℕ) (l : Line) : Type 0 where
   pub short : length text ≤ max_line
   pub parts : List (List ℕ)

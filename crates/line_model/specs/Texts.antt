@@ -2,12 +2,12 @@
 use Rattle.std.specs.Prelude.{ℕ, ◌==◌, List, [], ◌∷◌, if◌then◌else◌}
 use Rattle.std.specs.List.{onto_first}
 
--- what ends a line
+-- The octet that ends a line.
 abbrev pub line_feed : ℕ
 line_feed = 10
 
--- the lines of a text, without their line feeds. The last may lack its own, and a last line feed
--- begins no other line
+-- Returns the lines of a text, without their line feeds. The last may have no line feed, and no
+-- line begins after a last line feed.
 unfoldable pub lines_of : List ℕ → List (List ℕ)
 lines_of [] = []
 lines_of (byte ∷ rest) =

@@ -1,4 +1,6 @@
-//! What the lines of a trace mean: definitions, and the laws that show them right. No function.
+//! The meaning of the lines of a trace: types here, definitions in `specs/`, and their laws.
+//!
+//! The crate has no functions.
 #![tactic(auto)]
 
 pub mod limits;

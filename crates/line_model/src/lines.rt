@@ -1,54 +1,54 @@
-//! The lines of a trace, and what is wrong with one.
+//! The lines of a trace, and the reasons why a line is bad.
 use rd_base::{Bytes, Moment, Peer};
 
 /// A line of a trace.
 #[derive(Debug, Drop)]
 pub enum Line {
-    /// A datagram comes to a worker.
+    /// A datagram that arrives at a worker.
     Come {
         /// The worker.
         worker: u8,
-        /// When it comes, in milliseconds.
+        /// The moment of its arrival, in milliseconds.
         moment: Moment,
-        /// Where it comes from.
+        /// The peer that sent it.
         peer: Peer,
         /// Its octets.
         datagram: Bytes,
-        /// The word that is handed in, from which waits and challenges are made.
+        /// The random word of the step, which determines initial timeouts and challenges.
         word: u32,
     },
-    /// A worker ends the job that it holds.
+    /// A worker that does the job that it holds, and the moment in milliseconds.
     Go(u8, Moment),
-    /// Time passes at a worker.
+    /// A worker that lets time pass.
     Tick {
         /// The worker.
         worker: u8,
-        /// The moment that it is then, in milliseconds.
+        /// The moment, in milliseconds.
         moment: Moment,
-        /// The word that is handed in, from which waits are made.
+        /// The random word of the step, which determines initial timeouts.
         word: u32,
     },
-    /// A run begins at a worker.
+    /// A run that begins at a worker.
     Begin {
         /// The worker.
         worker: u8,
-        /// The moment that it is then, in milliseconds.
+        /// The moment, in milliseconds.
         moment: Moment,
-        /// The number above which registrations are numbered and changes are counted from then on.
+        /// The number above which registrations are numbered and changes counted from then on.
         first: u64,
     },
 }
 
-/// Why a line is bad. The first of these that applies is the reason.
+/// The reason why a line is bad: the first of these that applies.
 #[derive(Clone, Copy, Debug, PartialEq, Eq)]
 pub enum Reason {
-    /// It is too long.
+    /// The line is too long.
     Long,
-    /// It is none of the four forms.
+    /// The line has none of the four forms.
     Form,
-    /// It names a worker that there is not.
+    /// The line names a worker that does not exist.
     Worker,
-    /// A datagram comes to a worker that holds a job.
+    /// A datagram arrives at a worker that holds a job.
     Busy,
 }
 

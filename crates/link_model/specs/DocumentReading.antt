@@ -1,4 +1,4 @@
--- Reading link documents: the functions that compute what Documents defines.
+-- The reading of link documents: functions that compute what Documents defines.
 use Rattle.std.specs.Prelude.{
   ℕ,
   min,
@@ -33,44 +33,45 @@ use Rattle.link_model.specs.Characters.{
 use Rattle.link_model.specs.Utf8Prefix.{one_more, utf8_prefix}
 use Rattle.link_model.specs.Documents.{Parameter, Link}
 
--- the points of the grammar, by what may stand there
+-- The points of the grammar, each described by what may follow there.
 pub data Point : Type 0 where
-  -- the end of the document, or a link
+  -- The end of the document, or a link.
   at_beginning : Point
-  -- a link
+  -- A link.
   at_link : Point
-  -- a character of a target, or its end
+  -- A character of a target, or its end.
   at_target : Point
-  -- a parameter, a further link, or the end
+  -- A parameter, a further link, or the end.
   after_part : Point
-  -- the first character of a name
+  -- The first character of a name.
   at_name : Point
-  -- a further character of a name, an asterisk, or what may follow a name
+  -- A further character of a name, an asterisk, or what may follow a name.
   within_name : Point
-  -- an equals sign, or what may follow a parameter
+  -- An equals sign, or what may follow a parameter.
   after_name : Point
-  -- the first character of a value
+  -- The first character of a value.
   at_value : Point
-  -- a further character of a token, or what may follow a parameter
+  -- A further character of a token, or what may follow a parameter.
   in_token : Point
-  -- a character of a quoted string, a backslash, or the closing quote
+  -- A character of a quoted string, a backslash, or the closing quote.
   in_quotes : Point
-  -- the character that a backslash escapes
+  -- The character that a backslash escapes.
   after_backslash : Point
 
--- the point, where the test holds
+-- Returns the point, if the test holds.
 abbrev pub point_if : Bool → Point → Option Point
 point_if allowed point = if allowed then Some point else None
 
--- what may follow a link's target or a whole parameter
+-- Returns the point after what may follow a link's target or a whole parameter.
 abbrev pub point_after_part : ℕ → Option Point
 point_after_part c = if c == semicolon then Some at_name else point_if (c == comma) at_link
 
--- what may follow a parameter's name
+-- Returns the point after what may follow a parameter's name.
 abbrev pub point_after_name : ℕ → Option Point
 point_after_name c = if c == equals_sign then Some at_value else point_after_part c
 
--- the point after an octet, and None where the octet cannot stand at the point (RFC 6690 section 2)
+-- Returns the point after an octet, or `None` if the octet is not allowed at this point (RFC 6690
+-- section 2).
 unfoldable pub point_after : Point → ℕ → Option Point
 point_after at_beginning c = point_if (c == less_than_sign) at_target
 point_after at_link c = point_if (c == less_than_sign) at_target
@@ -93,54 +94,54 @@ point_after in_quotes c =
     (if c == backslash then Some after_backslash else point_if (is_not_control c) in_quotes)
 point_after after_backslash c = point_if (is_not_control c) in_quotes
 
--- a link of which nothing is read, with these parameters
+-- Returns a link of which nothing is read, with these parameters.
 abbrev pub link_of : List Parameter → Link
 link_of parameters = record { target = []; parameters = parameters }
 
--- a parameter of which nothing is read, with this value
+-- Returns a parameter of which nothing is read, with this value.
 abbrev pub parameter_of : Option (List ℕ) → Parameter
 parameter_of value = record { name = []; value = value }
 
--- the octet in front of what is read of a link's target
+-- Returns the links with the octet in front of what is read of the first link's target.
 abbrev pub onto_target : ℕ → List Link → List Link
 onto_target c [] = []
 onto_target c (l ∷ links) = record l { target = c ∷ l.target } ∷ links
 
--- the parameter in front of those that are read of a link
+-- Returns the links with the parameter in front of those that are read of the first link.
 abbrev pub onto_parameters : Parameter → List Link → List Link
 onto_parameters p [] = []
 onto_parameters p (l ∷ links) = record l { parameters = p ∷ l.parameters } ∷ links
 
--- the function at the first parameter
+-- Returns the parameters with the function applied to the first.
 abbrev pub at_first_parameter : (Parameter → Parameter) → List Parameter → List Parameter
 at_first_parameter f [] = []
 at_first_parameter f (p ∷ parameters) = f p ∷ parameters
 
--- the function at the first parameter of the first link
+-- Returns the links with the function applied to the first parameter of the first link.
 abbrev pub at_first : (Parameter → Parameter) → List Link → List Link
 at_first f [] = []
 at_first f (l ∷ links) = record l { parameters = at_first_parameter f l.parameters } ∷ links
 
--- the octet in front of what is read of a name
+-- Returns the links with the octet in front of what is read of a name.
 abbrev pub onto_name : ℕ → List Link → List Link
 onto_name c links = at_first (λ p. record p { name = c ∷ p.name }) links
 
--- the octet in front of what is read of a value
+-- Returns the links with the octet in front of what is read of a value.
 abbrev pub onto_value : ℕ → List Link → List Link
 onto_value c links =
     at_first (λ p. record p { value = option_map (λ value. c ∷ value) p.value }) links
 
--- the links where a parameter has ended and this octet follows: a further link's comma, or a
--- further parameter's semicolon
+-- Returns the links if a parameter has ended and this octet follows: the comma of a further link,
+-- or the semicolon of a further parameter.
 abbrev pub after_parameter : Parameter → ℕ → List Link → List Link
 after_parameter p c links = if c == comma then link_of (p ∷ []) ∷ links else onto_parameters p links
 
--- the links where a parameter's name has ended and this octet follows
+-- Returns the links if a parameter's name has ended and this octet follows.
 abbrev pub after_whole_name : ℕ → List Link → List Link
 after_whole_name c links =
     if c == equals_sign then links else after_parameter (parameter_of None) c links
 
--- the links that are read from an octet at a point on, where those from after it on are read
+-- Returns the links that are read from an octet at a point on, if those from after it on are read.
 unfoldable pub with_octet : Point → ℕ → List Link → List Link
 with_octet at_beginning c links = links
 with_octet at_link c links = links
@@ -163,7 +164,8 @@ with_octet in_quotes c links =
     else onto_value c links
 with_octet after_backslash c links = onto_value c links
 
--- the links that are read where the document ends at the point, and None where it cannot end there
+-- Returns the links that are read if the document ends at the point, or `None` if it cannot end
+-- there.
 unfoldable pub links_at_end : Point → Option (List Link)
 links_at_end at_beginning = Some []
 links_at_end after_part = Some (link_of [] ∷ [])
@@ -172,22 +174,22 @@ links_at_end after_name = Some (link_of (parameter_of None ∷ []) ∷ [])
 links_at_end in_token = Some (link_of (parameter_of (Some []) ∷ []) ∷ [])
 links_at_end _ = None
 
--- the links that the octets from a point on spell, the first of them from that point on
+-- Returns the links that the octets from a point on spell, the first of them from that point on.
 unfoldable pub links_from : Point → List ℕ → Option (List Link)
 links_from point [] = links_at_end point
 links_from point (c ∷ cs) =
     option_and_then (λ next. option_map (with_octet point c) (links_from next cs))
     (point_after point c)
 
--- the links of a document, and None where the octets are none: `IsDocument` as a function
+-- Returns the links of a document, or `None` if the octets are none: `IsDocument` as a function.
 unfoldable pub document : List ℕ → Option (List Link)
 document bytes = if is_utf8 bytes then links_from at_beginning bytes else None
 
--- how many octets may stand one after the other from the point on
+-- Returns how many octets may follow one another from the point on.
 unfoldable pub prefix_from : Point → List ℕ → ℕ
 prefix_from point [] = 0
 prefix_from point (c ∷ cs) = one_more (point_after point c) (λ next. prefix_from next cs)
 
--- the length of the longest prefix that begins some document: `IsGoodPrefix` as a function
+-- Returns the length of the longest prefix that begins some document: `IsGoodPrefix` as a function.
 unfoldable pub good_prefix : List ℕ → ℕ
 good_prefix bytes = min (utf8_prefix bytes) (prefix_from at_beginning bytes)

@@ -2,16 +2,16 @@
 use Rattle.std.specs.Prelude.{ℕ, suc, ◌==◌, List, [], ◌∷◌, Option, Some, None, if◌then◌else◌}
 use Rattle.std.specs.Int.{is_in_range}
 
--- the least and the greatest octet that may stand at a position
+-- The least and the greatest octet that are allowed at a position.
 abbrev pub OctetRange : Type 0
 OctetRange = ℕ × ℕ
 
--- an octet that goes on with a character
+-- The octets that continue a character.
 abbrev pub tail : OctetRange
 tail = (0x80, 0xBF)
 
--- the octets that must follow the first one of a character, and None where no character begins with
--- it
+-- Returns the octets that must follow the first one of a character, or `None` if no character
+-- begins with it.
 unfoldable pub tails_of : ℕ → Option (List OctetRange)
 tails_of b =
     if is_in_range 0x00 0x7F b then Some []
@@ -24,19 +24,19 @@ tails_of b =
     else (if b == 0xF4 then Some ((0x80, 0x8F) ∷ tail ∷ tail ∷ [])
     else None)))))))
 
--- one more than what the function gives, and 0 where there is nothing
+-- Returns one more than what the function gives, or 0 if there is nothing.
 abbrev pub one_more : {A : Type 0} → Option A → (A → ℕ) → ℕ
 one_more None f = 0
 one_more (Some x) f = suc (f x)
 
--- the length of the longest prefix that begins some text, where octets of these ranges must come
--- first
+-- Returns the length of the longest prefix that begins some text, if octets of these ranges must
+-- come first.
 unfoldable pub utf8_prefix_after : List OctetRange → List ℕ → ℕ
 utf8_prefix_after ranges [] = 0
 utf8_prefix_after [] (b ∷ bs) = one_more (tails_of b) (λ ranges. utf8_prefix_after ranges bs)
 utf8_prefix_after (r ∷ ranges) (b ∷ bs) =
     if is_in_range (r.0) (r.1) b then suc (utf8_prefix_after ranges bs) else 0
 
--- the length of the longest prefix that begins some text in UTF-8
+-- Returns the length of the longest prefix that begins some text in UTF-8.
 abbrev pub utf8_prefix : List ℕ → ℕ
 utf8_prefix bytes = utf8_prefix_after [] bytes

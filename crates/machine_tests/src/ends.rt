@@ -1,21 +1,21 @@
-//! Replays of which one call after another fails: of the source, the output, or the error sink.
+//! Replays in which one call after another fails: of the source, the output, or the error sink.
 
 use rd_base::{Bytes, MemSink, MemSource, Starved, SureSink};
 use std::alloc::Global;
 use std::test::Fail;
 use trace_replay::{LineBad, Reason, Status, replay};
 
-/// A line by which nothing is done.
+/// A line that does nothing.
 const GO: &[u8] = b"go 0 6\n";
 
 /// A ping.
 const PING: &[u8] = b"in 0 5 192.0.2.10:5683 40001234\n";
 
-/// What is said of a trace whose second line is bad.
+/// The error text for a trace whose second line is bad.
 const SAID: &[u8] = b"line 2: form\n";
 
-/// A trace of an observer who is told of a link and of its lapse, and not of one that comes and
-/// goes between two ticks (RFC 7641).
+/// A trace of an observer that gets notifications of a link and of its lapse (RFC 7641). It gets
+/// none of a link that comes and goes between two ticks.
 const OBSERVED: &[u8] = b"\
     in 0 1000 192.0.2.30:40000 41010010c1605972642d6c6f6f6b7570037265734c72743d6c696768742d6c7\
       578\n\
@@ -39,8 +39,8 @@ const OBSERVED: &[u8] = b"\
     go 0 700010\n\
     tick 0 700020\n";
 
-/// How a line so many times is replayed, and how many octets are written, where calls of the
-/// source or of the output fail.
+/// Replays a line this many times, with calls of the source or of the output that fail. Returns the
+/// status and the number of octets written.
 fn ends_with(
     alloc: Global,
     line: &[u8],
@@ -79,8 +79,8 @@ fn each_call_may_fail(rt: HostRuntime) -> Result<(), Fail> {
     Ok(())
 }
 
-/// How the trace of an observer ends, and what is written, where one call of the source or of the
-/// output fails.
+/// Replays the trace of an observer, with one call of the source or of the output that fails.
+/// Returns the status and what is written.
 fn observed_with(
     alloc: Global,
     unread: &[u8],
@@ -93,8 +93,8 @@ fn observed_with(
     Ok((status, Bytes::copy_of(alloc, out.as_slice())?))
 }
 
-/// How the trace of an observer ends where one call fails, and whether what is written is a
-/// beginning of the whole, and all of it where nothing failed.
+/// Replays the trace of an observer with one call that fails. Returns the status, and whether what
+/// is written is a prefix of the whole, and all of it if nothing failed.
 fn ending_with(
     alloc: Global,
     whole: &[u8],
@@ -106,8 +106,8 @@ fn ending_with(
     Ok((status, whole.starts_with(written.as_slice()) && is_whole))
 }
 
-/// One call reads the trace and one its end, and each of the seven answers and notices and the last
-/// line is a call of its own: a later one is never made.
+/// One call reads the trace and one its end. Each of the seven responses and notifications is
+/// written by a call of its own, as is the last line. A later call is never made.
 #[test]
 fn what_was_written_is_a_beginning(rt: HostRuntime) -> Result<(), Fail> {
     let alloc = rt.alloc();
@@ -139,8 +139,8 @@ fn what_was_written_is_a_beginning(rt: HostRuntime) -> Result<(), Fail> {
     Ok(())
 }
 
-/// How a trace ends whose second line is bad, where one call of the error sink fails, and whether
-/// so many octets are said then.
+/// Replays a trace whose second line is bad, with one call of the error sink that fails. Returns
+/// the status, and whether this many octets of the error text are then written.
 fn unsaid_at(alloc: Global, call: u8, said: usize) -> Result<(Status, bool), Starved> {
     let trace = Bytes::copy_of(alloc, b"go 0 6\nx\n")?;
     let mut source = MemSource::of(trace, Bytes::new(alloc));

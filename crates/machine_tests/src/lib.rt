@@ -1,5 +1,5 @@
 //! Tests of what neither the output of a trace nor the answer of a call shows: ends that fail,
-//! Message IDs that come again, and versions at their limits.
+//! reused Message IDs, and versions at their limits.
 #![tactic(auto)]
 
 #[cfg(test)]

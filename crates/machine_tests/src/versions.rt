@@ -1,4 +1,4 @@
-//! Versions at their limits: of entries, of registrations and of what these weigh.
+//! Versions at their limits: of entries, of registrations and of their weight.
 
 ghost use Rattle.std.specs.Prelude.{◌≡◌, IfOk, IfSome};
 ghost use Rattle.record_model.specs.AllowedParameters.{IsAllowedChange};
@@ -13,19 +13,19 @@ use registration::{Draft, build};
 use std::alloc::Global;
 use std::test::Fail;
 
-/// How many entries a version counts at most, but for one: 2^48 - 2.
+/// One less than the maximum number of entries of a version: 2^48 - 2.
 const LAST_BUT_ONE: u64 = 281_474_976_710_654;
 
-/// Where changes come from.
+/// The peer that makes changes.
 const PEER: Peer = Peer {
     host: Host::V4([192, 0, 2, 10]),
     port: 5683,
 };
 
-/// A registration, up to its query.
+/// A registration up to its query.
 const POST: &[u8] = b"A\x02\x00\x01\xa1\xb2rd";
 
-/// A registration of a name of four digits for so many seconds.
+/// Returns a registration of a name of four digits, with this lifetime in seconds.
 fn post(alloc: Global, name: u16, lt: u16) -> Result<Vec<u8>, Starved> {
     let mut post = Vec::from_slice(alloc, POST)?;
     let query = format!(in alloc; "\x47ep={name:04}\x06lt={lt:03}")?;
@@ -33,7 +33,7 @@ fn post(alloc: Global, name: u16, lt: u16) -> Result<Vec<u8>, Starved> {
     Ok(post)
 }
 
-/// The draft of a registration with a body.
+/// Returns the draft of a registration with a body, or `None` if it is refused.
 fn draft(alloc: Global, post: &[u8], body: &[u8]) -> Option<Draft>
     ensures { IfSome result IsDraft }
 {
@@ -47,7 +47,7 @@ fn draft(alloc: Global, post: &[u8], body: &[u8]) -> Option<Draft>
     build(alloc, params, PEER, body).ok()
 }
 
-/// An update that only renews the lease.
+/// Returns an update that only renews the lease.
 fn renewal(alloc: Global) -> UpdateParams
     ensures { IsAllowedChange result }
 {
@@ -58,7 +58,7 @@ fn renewal(alloc: Global) -> UpdateParams
     }
 }
 
-/// The version after a registration at the moment 0.
+/// Returns the version after a registration at the moment 0.
 fn registered(
     alloc: Global,
     version: &Directory,
@@ -81,7 +81,7 @@ fn registered(
     }
 }
 
-/// The version to which the last entry came.
+/// Returns a version with the maximum number of entries.
 fn full(alloc: Global) -> Result<Directory, Refusal>
     ensures at { IfOk result (λ made. made.at ≡ 0) }
     ensures swept { IfOk result (λ made. made.swept ≡ 0) }
@@ -90,7 +90,8 @@ fn full(alloc: Global) -> Result<Directory, Refusal>
     registered(alloc, &empty, 1, 60, b"")
 }
 
-/// Why an update and a removal of a registration are refused at the moment 0.
+/// Returns why an update and a removal of a registration are refused at the moment 0, or `None` if
+/// one is not.
 fn refusals(alloc: Global, version: &Directory, number: u64) -> Option<(Refusal, Refusal)>
     requires at { version.now.at ≡ 0 }
     requires swept { version.now.swept ≡ 0 }
@@ -101,7 +102,8 @@ fn refusals(alloc: Global, version: &Directory, number: u64) -> Option<(Refusal,
     Some((update, removal))
 }
 
-/// How many registrations are live, which number a name has, and the first one's lifetime.
+/// Returns the number of live registrations, the number of the one with a name, and the lifetime of
+/// the first in seconds.
 fn told(version: &Directory, name: &Name, now: u64) -> (u64, Option<u64>, Option<u32>)
     requires at { version.now.at ≡ 0 }
     requires swept { version.now.swept ≡ 0 }
@@ -137,7 +139,8 @@ fn the_last_entry_is_counted(rt: HostRuntime) -> Result<(), Fail> {
     Ok(())
 }
 
-/// A version of 4,096 registrations: the second for 60 seconds, the third for 120, others for 300.
+/// Returns a version with 4,096 registrations: the second for 60 seconds, the third for 120, the
+/// others for 300.
 fn crowded(alloc: Global) -> Result<Directory, Refusal>
     ensures at { IfOk result (λ made. made.at ≡ 0) }
     ensures swept { IfOk result (λ made. made.swept ≡ 0) }
@@ -154,8 +157,8 @@ fn crowded(alloc: Global) -> Result<Directory, Refusal>
     Ok(version)
 }
 
-/// Each registration weighs 58 octets and the digits of its number, which are 15,277 in all, and
-/// the link 1,048,577, which are its octets and a comma.
+/// Each registration weighs 58 octets and the digits of its number, which are 15,277 in all. The
+/// link weighs 1,048,577 octets: its own and a comma.
 #[test]
 fn a_crowd_lapses_in_order_and_is_full(rt: HostRuntime) -> Result<(), Fail> {
     let alloc = rt.alloc();
@@ -176,7 +179,7 @@ fn a_crowd_lapses_in_order_and_is_full(rt: HostRuntime) -> Result<(), Fail> {
     Ok(())
 }
 
-/// The parameters of an update are copied, which no request does.
+/// Copies the parameters of an update, which no request does.
 #[test]
 fn copies_are_equal(rt: HostRuntime) -> Result<(), Fail> {
     let change = renewal(rt.alloc());

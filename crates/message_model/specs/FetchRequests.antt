@@ -7,13 +7,13 @@ use Rattle.message_model.specs.Message.{Message, Opt}
 use Rattle.message_model.specs.OptionTable as table
 use Rattle.message_model.specs.Blocks.{block_value}
 
--- The block that a fetch asks for, where it is not the first.
+-- Returns the Block2 option that asks for a block of a fetch, or no option for the first block.
 abbrev pub fetched_block : Option Block → List Opt
 fetched_block None = []
 fetched_block (Some b) = (table.block2, block_value b) ∷ []
 
--- The request of a fetch: a confirmable GET of /.well-known/core, with no other option (RFC 9176
--- section 5.1).
+-- Returns the request of a fetch: a confirmable GET of `/.well-known/core`. It has no options
+-- except the path and the block (RFC 9176 section 5.1).
 abbrev pub fetch_request : ℕ → List ℕ → Option Block → Message
 fetch_request mid token b = record {
   kind = Con;

@@ -1,5 +1,5 @@
--- The message (RFC 7252 section 3): its parts, which parts make a message, and what a message is
--- for.
+-- The message (RFC 7252 section 3): its parts, which parts make a valid message, and the role of a
+-- message.
 use Rattle.std.specs.Prelude.{
   ◌≡◌,
   ◌<◌,
@@ -48,12 +48,13 @@ longest_token = MAX_TOKEN
 abbrev pub last_number : ℕ
 last_number = MAX_OPTION_NUMBER
 
--- The greatest length of a value: 269 and what two more bytes say (RFC 7252 section 3.1).
+-- The greatest length of an option value: 269 and the greatest number of two octets (RFC 7252
+-- section 3.1).
 abbrev pub longest_value : ℕ
 longest_value = MAX_OPTION_VALUE
 
--- Options that can stand after an option of this number: none falls, and each can be written (RFC
--- 7252 section 3.1).
+-- States that these options can follow an option of this number. The numbers never fall, and each
+-- option can be spelled (RFC 7252 section 3.1).
 abbrev pub AreOptionsAfter : ℕ → List Opt → Type 0
 AreOptionsAfter before [] = ⊤
 AreOptionsAfter before (option ∷ options) =
@@ -63,19 +64,19 @@ AreOptionsAfter before (option ∷ options) =
     × AreBytes option.1
     × AreOptionsAfter option.0 options
 
--- The number of the last of these options, or the number before where there is none (RFC 7252
--- section 3.1).
+-- Returns the number of the last of these options, or the number before them if there are none (RFC
+-- 7252 section 3.1).
 abbrev pub end_number : ℕ → List Opt → ℕ
 end_number before [] = before
 end_number before (option ∷ options) = end_number option.0 options
 
--- An empty message is its header alone (RFC 7252 section 4.1).
+-- An empty message, which is a header alone (RFC 7252 section 4.1).
 pub record IsBare (m : Message) : Type 0 where
   pub token : m.token ≡ []
   pub options : m.options ≡ []
   pub payload : m.payload ≡ []
 
--- These parts make a message, which then has one spelling (RFC 7252 section 3).
+-- A valid message: these parts have one spelling (RFC 7252 section 3).
 pub record IsMessage (m : Message) : Type 0 where
   pub code : IsByte m.code
   pub class : codes_of.is_reserved m.code ≡ false
@@ -86,28 +87,30 @@ pub record IsMessage (m : Message) : Type 0 where
   pub payload : AreBytes m.payload
   pub empty : m.code ≡ codes_of.empty → IsBare m
 
--- What an empty message is for (RFC 7252 section 4).
+-- Returns the role of an empty message (RFC 7252 section 4).
 abbrev pub empty_role : Kind4 → Role
 empty_role Con = role.Ping
 empty_role Non = role.Ignored
 empty_role Ack = role.Acknowledgement
 empty_role Rst = role.Reset
 
--- A request comes confirmable or not (RFC 7252 section 4).
+-- Returns the role of a message with the code of a request, which is confirmable or non-confirmable
+-- (RFC 7252 section 4).
 abbrev pub request_role : Kind4 → Role
 request_role Con = role.Request
 request_role Non = role.Request
 request_role Ack = role.Ignored
 request_role Rst = role.Ignored
 
--- A response comes in any message but a Reset (RFC 7252 section 4).
+-- Returns the role of a message with the code of a response, which is of any type except Reset (RFC
+-- 7252 section 4).
 abbrev pub response_role : Kind4 → Role
 response_role Con = role.Response
 response_role Non = role.Response
 response_role Ack = role.Response
 response_role Rst = role.Ignored
 
--- What a message of this type and code is for (RFC 7252 sections 4 and 5).
+-- Returns the role of a message of this type and code (RFC 7252 sections 4 and 5).
 abbrev pub role_of : Kind4 → ℕ → Role
 role_of kind code =
     if code == codes_of.empty then empty_role kind

@@ -1,4 +1,4 @@
--- Bytes, and the numbers that bytes give.
+-- Octets, and the numbers that octets encode.
 use Rattle.std.specs.Prelude.{
   ℕ,
   ◌+◌,
@@ -17,24 +17,25 @@ use Rattle.std.specs.Prelude.{
 }
 use Rattle.std.specs.List.{AllByRecursion}
 
--- How many values a byte has.
+-- The number of values of an octet.
 abbrev pub byte_values : ℕ
 byte_values = 256
 
--- A byte is a number below 256.
+-- States that a number is an octet: it is below 256.
 abbrev pub IsByte : ℕ → Type 0
 IsByte b = b < byte_values
 
--- Each of them is a byte.
+-- States that each of these numbers is an octet.
 abbrev pub AreBytes : List ℕ → Type 0
 AreBytes bytes = AllByRecursion IsByte bytes
 
--- The number that bytes give, the most significant byte first; no bytes give 0 (RFC 7252 section
--- 3.2).
+-- Returns the number that octets encode, the most significant octet first; no octets encode 0 (RFC
+-- 7252 section 3.2).
 abbrev pub uint_of : List ℕ → ℕ
 uint_of bytes = fold (λ n b. n * byte_values + b) 0 bytes
 
--- The fewest bytes that give a number below 2 ^ 24, so that 0 has none (RFC 7252 section 3.2).
+-- Returns the fewest octets that encode a number below 2 ^ 24, so that 0 has none (RFC 7252 section
+-- 3.2).
 unfoldable pub uint_bytes : ℕ → List ℕ
 uint_bytes n =
     if n == 0 then []

@@ -1,4 +1,4 @@
--- The message that bytes spell, or the first fault that keeps them from spelling one (RFC 7252
+-- The message that octets spell, or the first fault that keeps them from spelling one (RFC 7252
 -- section 3).
 use Rattle.std.specs.Prelude.{
   ℕ,
@@ -38,36 +38,37 @@ use Rattle.message_model.specs.Codes.{is_reserved, empty}
 use Rattle.message_model.specs.Message.{Message, Opt, longest_token, last_number}
 use Rattle.message_model.specs.Spelling.{version, marker, first_extended, first_long, long_nibble}
 
--- A value that bytes begin with, and the bytes after it; nothing where they begin with none.
+-- The type of a value that octets begin with, and the octets after it; nothing if they do not begin
+-- with one.
 abbrev pub Read : Type 0 → Type 0
 Read A = Option (A × List ℕ)
 
--- The second step, where the first gave something.
+-- Returns what the second step gives, if the first gave something.
 infixl 10 ◌>>=◌
 abbrev pub ◌>>=◌ : {A B : Type 0} → Option A → (A → Option B) → Option B
 o >>= f = option_and_then f o
 
--- One byte.
+-- Reads one octet.
 abbrev pub byte_at : List ℕ → Read ℕ
 byte_at [] = None
 byte_at (b ∷ bytes) = Some (b, bytes)
 
--- This many bytes.
+-- Reads this many octets.
 abbrev pub bytes_at : ℕ → List ℕ → Read (List ℕ)
 bytes_at n bytes = if nat_lt (length bytes) n then None else Some (take n bytes, drop n bytes)
 
--- The type with these two bits (RFC 7252 section 3).
+-- Returns the type with these two bits (RFC 7252 section 3).
 abbrev pub kind_of : ℕ → Kind4
 kind_of n = if n == 0 then Con else if n == 1 then Non else if n == 2 then Ack else Rst
 
--- The four bytes that each message begins with (RFC 7252 section 3).
+-- The header: the four octets that each message begins with (RFC 7252 section 3).
 pub record Header : Type 0 where
   pub kind : Kind4
   pub token_length : ℕ
   pub code : ℕ
   pub mid : ℕ
 
--- What four bytes of header say (RFC 7252 section 3).
+-- Returns the header that four octets encode (RFC 7252 section 3).
 abbrev pub header_of : ℕ → ℕ → ℕ → ℕ → Header
 header_of first code high low = record {
   kind = kind_of (first / 16 % 4);
@@ -76,15 +77,14 @@ header_of first code high low = record {
   mid = high * byte_values + low;
 }
 
--- The header and the bytes after it, unless it is cut off or has another version (RFC 7252 section
--- 3).
+-- Reads the header, unless it is cut off or has another version (RFC 7252 section 3).
 unfoldable pub header_at : List ℕ → Result (Header × List ℕ) Unread
 header_at (first ∷ code ∷ high ∷ low ∷ bytes) =
     if first / 64 == version then Ok (header_of first code high low, bytes) else Err unread.Version
 header_at bytes = Err unread.Short
 
--- A delta or a length: its nibble, extended by the bytes after it; 15 is kept for the marker (RFC
--- 7252 section 3.1).
+-- Reads a delta or a length: its nibble, extended by the octets after it. The nibble 15 is reserved
+-- for the marker (RFC 7252 section 3.1).
 unfoldable pub extended_at : ℕ → List ℕ → Read ℕ
 extended_at nibble bytes =
     if nat_lt nibble first_extended then Some (nibble, bytes)
@@ -97,7 +97,7 @@ extended_at nibble bytes =
       Some (first_long + (high.0 * byte_values + low.0), low.1))
     else None
 
--- An option after an option of the number before; its own number is at most 65,535 (RFC 7252
+-- Reads an option after an option of the number before; its own number is at most 65,535 (RFC 7252
 -- section 3.1).
 unfoldable pub option_at : ℕ → List ℕ → Read Opt
 option_at before bytes = do
@@ -113,17 +113,17 @@ option_at before bytes = do
 abbrev pub Tail : Type 0
 Tail = List Opt × List ℕ
 
--- What follows the marker: a payload of one byte or more (RFC 7252 section 3).
+-- Reads what follows the marker: a payload of at least one octet (RFC 7252 section 3).
 abbrev pub payload_at : List ℕ → Option Tail
 payload_at [] = None
 payload_at (b ∷ bytes) = Some ([], b ∷ bytes)
 
--- A tail with one more option before it.
+-- Returns a tail with one more option before it.
 abbrev pub with_option : Opt → Tail → Tail
 with_option option tail = (option ∷ tail.0, tail.1)
 
--- A tail of at most n options: nothing, or the marker and a payload, or an option and a tail after
--- it (RFC 7252 section 3).
+-- Reads a tail of at most `n` options: nothing, or the marker and a payload, or an option and a
+-- tail after it (RFC 7252 section 3).
 unfoldable pub short_tail : ℕ → ℕ → List ℕ → Option Tail
 short_tail n before [] = Some ([], [])
 short_tail zero before (b ∷ bytes) = if b == marker then payload_at bytes else None
@@ -132,23 +132,24 @@ short_tail (suc n) before (b ∷ bytes) = if b == marker then payload_at bytes e
   tail ← short_tail n option.0.0 option.1
   Some (with_option option.0 tail)
 
--- The tail that all of the bytes are: it has fewer options than bytes (RFC 7252 section 3).
+-- Reads all of the octets as a tail, which has fewer options than octets (RFC 7252 section 3).
 unfoldable pub tail_at : ℕ → List ℕ → Option Tail
 tail_at before bytes = short_tail (length bytes) before bytes
 
--- More than a header: a token, or bytes after the header (RFC 7252 section 4.1).
+-- Returns whether there is more than a header: a token, or octets after the header (RFC 7252
+-- section 4.1).
 abbrev pub is_filled : Header → List ℕ → Bool
 is_filled header bytes = not (header.token_length == 0 && length bytes == 0)
 
--- No message has a reserved class, a token of 9 bytes or more, or more than a header at 0.00 (RFC
--- 7252 sections 3 and 4.1).
+-- Returns whether no message has this header: the class is reserved, the token has 9 octets or
+-- more, or more than a header has the code 0.00 (RFC 7252 sections 3 and 4.1).
 abbrev pub is_bad_header : Header → List ℕ → Bool
 is_bad_header header bytes =
     is_reserved header.code
     || nat_lt longest_token header.token_length
     || (header.code == empty && is_filled header bytes)
 
--- The message with these parts.
+-- Returns the message with these parts.
 abbrev pub message_of : Header → List ℕ → Tail → Message
 message_of header token tail = record {
   kind = header.kind;
@@ -159,26 +160,26 @@ message_of header token tail = record {
   payload = tail.1;
 }
 
--- The message with this header that the bytes after it give: a token, then a tail (RFC 7252 section
--- 3).
+-- Reads the message that a header and the octets after it spell: a token, then a tail (RFC 7252
+-- section 3).
 unfoldable pub body_at : Header → List ℕ → Option Message
 body_at header bytes = if is_bad_header header bytes then None else do
   token ← bytes_at header.token_length bytes
   tail ← tail_at 0 token.1
   Some (message_of header token.0 tail)
 
--- Where there is no such message, it is a format error, of this type and Message ID (RFC 7252
--- section 4.2).
+-- Returns the message, or a format error with the type and Message ID of the header if there is
+-- none (RFC 7252 section 4.2).
 abbrev pub or_format : Header → Option Message → Result Message Unread
 or_format header None = Err (unread.Format header.kind header.mid)
 or_format header (Some m) = Ok m
 
--- The message with the header that was read, or the fault of the header.
+-- Returns the message with the header that was read, or the fault of the header.
 abbrev pub with_body : Result (Header × List ℕ) Unread → Result Message Unread
 with_body (Err fault) = Err fault
 with_body (Ok header) = or_format header.0 (body_at header.0 header.1)
 
--- The message that bytes spell, or the first fault: too short, another version, a format error (RFC
--- 7252 section 3).
+-- Returns the message that octets spell, or the first fault: too short, another version, a format
+-- error (RFC 7252 section 3).
 unfoldable pub reading : List ℕ → Result Message Unread
 reading bytes = with_body (header_at bytes)

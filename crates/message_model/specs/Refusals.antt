@@ -1,4 +1,4 @@
--- The refusals that a request alone decides, in the order in which they are looked for.
+-- The refusals that a request alone decides, in the order of the checks.
 use Rattle.std.specs.Prelude.{
   ℕ,
   Bool,
@@ -41,7 +41,7 @@ use Rattle.message_model.specs.Request.{
 abbrev pub link_format : ℕ
 link_format = LINK_FORMAT
 
--- A path that names no resource.
+-- Returns whether a path names no resource.
 abbrev pub is_nowhere : Path → Bool
 is_nowhere path.Other = true
 is_nowhere path.Core = false
@@ -51,7 +51,7 @@ is_nowhere (path.Location n) = false
 is_nowhere path.Res = false
 is_nowhere path.Ep = false
 
--- The path of registrations.
+-- Returns whether a path is that of registration, `/rd`.
 abbrev pub is_rd : Path → Bool
 is_rd path.Rd = true
 is_rd path.Core = false
@@ -61,7 +61,7 @@ is_rd path.Res = false
 is_rd path.Ep = false
 is_rd path.Other = false
 
--- The path of one registration, its location.
+-- Returns whether a path is that of one registration, its location.
 abbrev pub is_of_registration : Path → Bool
 is_of_registration path.Rd = false
 is_of_registration path.Core = false
@@ -71,48 +71,50 @@ is_of_registration path.Res = false
 is_of_registration path.Ep = false
 is_of_registration path.Other = false
 
--- A registration is a POST to `/rd` (RFC 9176 section 5).
+-- Returns whether a request is a registration: a POST to `/rd` (RFC 9176 section 5).
 abbrev pub is_registration : Message → Bool
 is_registration m = m.code == code_named.post && is_rd (path_in m)
 
--- A replacement of the links of a registration is a PUT on its location (RFC 9176 section 5.3.3).
+-- Returns whether a request replaces the links of a registration: a PUT on its location (RFC 9176
+-- section 5.3.3).
 abbrev pub is_replacement : Message → Bool
 is_replacement m = m.code == code_named.put && is_of_registration (path_in m)
 
--- A registration and a replacement bring links, as a document, whole or in blocks.
+-- Returns whether a request brings links, as a document, whole or in blocks: a registration or a
+-- replacement.
 abbrev pub brings_links : Message → Bool
 brings_links m = is_registration m || is_replacement m
 
--- A Block option with the reserved exponent (RFC 7959 section 2.2).
+-- Returns whether a Block option has the reserved exponent (RFC 7959 section 2.2).
 abbrev pub says_no_block : Option (List ℕ) → Bool
 says_no_block None = false
 says_no_block (Some value) = is_none (block_read value)
 
--- A payload of this length does not fit the block that it is said to be, where it is said to be
--- one.
+-- Returns whether a payload of this length does not fit its block, if it is a block.
 abbrev pub does_not_fit : Option Block → ℕ → Bool
 does_not_fit None size = false
 does_not_fit (Some b) size = is_misfit b size
 
--- It does not fit the block that the value of a Block option says.
+-- Returns whether a payload of this length does not fit the block that the value of a Block option
+-- encodes, if it encodes one.
 abbrev pub is_misfit_of : Option (List ℕ) → ℕ → Bool
 is_misfit_of None size = false
 is_misfit_of (Some value) size = does_not_fit (block_read value) size
 
--- A Block option says no block, or the payload of a request that brings links does not fit its
--- Block1 (RFC 7959 sections 2.2 and 2.5).
+-- Returns whether a Block option has the reserved exponent, or the payload of a request that brings
+-- links does not fit its Block1 (RFC 7959 sections 2.2 and 2.5).
 abbrev pub has_bad_block : Message → Bool
 has_bad_block m =
     says_no_block (block1_in m) || says_no_block (block2_in m)
     || (brings_links m && is_misfit_of (block1_in m) (length m.payload))
 
--- A format is named, and it is not that of link documents.
+-- Returns whether a format is named that is not that of link documents.
 abbrev pub is_other_format : Option ℕ → Bool
 is_other_format None = false
 is_other_format (Some format) = not (format == link_format)
 
--- The first refusal after that of an unrecognized critical option: proxy, path, method, block,
--- accept, format.
+-- Returns the first refusal after that of an unrecognized critical option: proxy, path, method,
+-- block, accept, format.
 unfoldable pub refusal_after_options : Message → Option Refusal
 refusal_after_options m =
     if has_proxy m then Some refusal.Proxy
@@ -123,17 +125,17 @@ refusal_after_options m =
     else if brings_links m && is_other_format (format_in m) then Some refusal.Format
     else None
 
--- The refusal of a first unrecognized critical option, where there is one, and else the next (RFC
--- 7252 section 5.4.1).
+-- Returns the refusal of a first unrecognized critical option, or the later refusal if all are
+-- recognized (RFC 7252 section 5.4.1).
 abbrev pub option_refusal_or : Option ℕ → Option Refusal → Option Refusal
 option_refusal_or (Some number) later = Some (refusal.BadOption number)
 option_refusal_or None later = later
 
--- The first refusal of a request that is looked for before its query.
+-- Returns the first refusal of a request that is decided before its query is read.
 unfoldable pub refusal_of : Message → Option Refusal
 refusal_of m = option_refusal_or (first_bad_option m.options) (refusal_after_options m)
 
--- The code of a refusal (RFC 7252 section 5.9).
+-- Returns the code of a refusal (RFC 7252 section 5.9).
 abbrev pub refusal_code : Refusal → ℕ
 refusal_code (refusal.BadOption number) = code_named.bad_option
 refusal_code refusal.Proxy = code_named.proxying_not_supported
@@ -143,7 +145,7 @@ refusal_code refusal.Block = code_named.bad_request
 refusal_code refusal.Accept = code_named.not_acceptable
 refusal_code refusal.Format = code_named.unsupported_content_format
 
--- The diagnostic payload of a refusal (RFC 7252 section 5.5.2).
+-- Returns the diagnostic payload of a refusal (RFC 7252 section 5.5.2).
 abbrev pub diagnostic_of : Refusal → List ℕ
 diagnostic_of (refusal.BadOption number) = codes "option"
 diagnostic_of refusal.Proxy = codes "proxy"

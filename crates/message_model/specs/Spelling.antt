@@ -1,4 +1,4 @@
--- The bytes that spell a message (RFC 7252 section 3): one spelling for each message.
+-- The octets that spell a message (RFC 7252 section 3): one spelling for each message.
 use Rattle.std.specs.Prelude.{
   ℕ,
   ◌+◌,
@@ -24,31 +24,31 @@ use Rattle.message_model.specs.Message.{Message, Opt}
 abbrev pub version : ℕ
 version = 1
 
--- The byte before a payload (RFC 7252 section 3).
+-- The octet before a payload (RFC 7252 section 3).
 abbrev pub marker : ℕ
 marker = PAYLOAD_MARKER
 
--- The first number that one more byte extends, and the nibble that says so (RFC 7252 section 3.1).
+-- The first number that one more octet extends, and the nibble that says so (RFC 7252 section 3.1).
 abbrev pub first_extended : ℕ
 first_extended = 13
 
--- The first number that two more bytes extend (RFC 7252 section 3.1).
+-- The first number that two more octets extend (RFC 7252 section 3.1).
 abbrev pub first_long : ℕ
 first_long = 269
 
--- The nibble that says that two more bytes follow (RFC 7252 section 3.1).
+-- The nibble that says that two more octets follow (RFC 7252 section 3.1).
 abbrev pub long_nibble : ℕ
 long_nibble = 14
 
--- The two bits of a type (RFC 7252 section 3).
+-- Returns the two bits of a type (RFC 7252 section 3).
 abbrev pub kind_number : Kind4 → ℕ
 kind_number Con = 0
 kind_number Non = 1
 kind_number Ack = 2
 kind_number Rst = 3
 
--- Version, type and token length in one byte, the code, and the Message ID in two (RFC 7252 section
--- 3).
+-- Returns the header: version, type and token length in one octet, the code, and the Message ID in
+-- two octets (RFC 7252 section 3).
 unfoldable pub header_spelling : Message → List ℕ
 header_spelling m =
     (version * 64 + kind_number m.kind * 16 + length m.token)
@@ -57,7 +57,7 @@ header_spelling m =
     ∷ (m.mid % byte_values)
     ∷ []
 
--- The nibble of an option's delta or length (RFC 7252 section 3.1).
+-- Returns the nibble of an option's delta or length (RFC 7252 section 3.1).
 unfoldable pub nibble_of : ℕ → ℕ
 nibble_of n =
     if nat_lt n first_extended
@@ -66,32 +66,34 @@ nibble_of n =
     then first_extended
     else long_nibble
 
--- The bytes that extend that nibble (RFC 7252 section 3.1).
+-- Returns the octets that extend that nibble (RFC 7252 section 3.1).
 unfoldable pub extension_of : ℕ → List ℕ
 extension_of n =
     if nat_lt n first_extended then []
     else if nat_lt n first_long then (n - first_extended) ∷ []
     else ((n - first_long) / byte_values) ∷ ((n - first_long) % byte_values) ∷ []
 
--- An option after an option of the number before: both nibbles, what extends them, the value (RFC
--- 7252 section 3.1).
+-- Returns the spelling of an option after an option of the number before: both nibbles, what
+-- extends them, and the value (RFC 7252 section 3.1).
 unfoldable pub option_spelling : ℕ → Opt → List ℕ
 option_spelling before option =
     (nibble_of (option.0 - before) * 16 + nibble_of (length option.1))
     ∷ (extension_of (option.0 - before) ++ (extension_of (length option.1) ++ option.1))
 
--- The options after an option of the number before, one after the other (RFC 7252 section 3.1).
+-- Returns the spelling of options after an option of the number before, one after the other (RFC
+-- 7252 section 3.1).
 unfoldable pub options_spelling : ℕ → List Opt → List ℕ
 options_spelling before [] = []
 options_spelling before (option ∷ options) =
     option_spelling before option ++ options_spelling option.0 options
 
--- The payload after its marker; an empty one has no marker (RFC 7252 section 3).
+-- Returns the payload after its marker; an empty payload has no marker (RFC 7252 section 3).
 unfoldable pub payload_spelling : List ℕ → List ℕ
 payload_spelling [] = []
 payload_spelling (b ∷ bytes) = marker ∷ b ∷ bytes
 
--- The header, the token, the options and the payload (RFC 7252 section 3).
+-- Returns the spelling of a message: the header, the token, the options and the payload (RFC 7252
+-- section 3).
 unfoldable pub spelling : Message → List ℕ
 spelling m =
     header_spelling m ++ (m.token ++ (options_spelling 0 m.options ++ payload_spelling m.payload))

@@ -1,5 +1,5 @@
--- Bodies that come in blocks (RFC 7959 section 2.5): what a block goes on with, and how much is
--- collected.
+-- Bodies that arrive in blocks (RFC 7959 section 2.5): which upload a block continues, and how much
+-- is collected.
 use Rattle.std.specs.Prelude.{
   ℕ,
   ◌*◌,
@@ -25,21 +25,21 @@ use Rattle.message_model.specs.Blocks.{block_size}
 abbrev pub max_body : ℕ
 max_body = MAX_BODY
 
--- The most uploads that live.
+-- The most uploads that are live at a time.
 abbrev pub max_uploads : ℕ
 max_uploads = MAX_UPLOADS
 
--- A body goes on at a block where what is collected ends there.
+-- Returns what is collected, if a block at this offset continues it: it ends there.
 abbrev pub continues_at : ℕ → List ℕ → Option (List ℕ)
 continues_at offset body = if length body == offset then Some body else None
 
--- What is collected before a block: nothing before the first, and else the live upload, where it
--- ends there.
+-- Returns what is collected before a block: nothing before the first, and before another block the
+-- live upload, if it ends where the block begins.
 abbrev pub collected_before : Block → Option (List ℕ) → Option (List ℕ)
 collected_before b upload =
     if b.num == 0 then Some [] else option_and_then (continues_at (b.num * block_size b.szx)) upload
 
--- The block begins an upload that more follows, and there are as many live ones as may be beside
--- the upload of its name.
+-- Returns whether a block would begin one upload too many. It is the first and more follow, no
+-- upload of its name is live, and `max_uploads` others are.
 abbrev pub is_one_too_many : Block → Option (List ℕ) → ℕ → Bool
 is_one_too_many b upload live = b.num == 0 && b.more && is_none upload && nat_le max_uploads live

@@ -1,5 +1,6 @@
-//! The codes of requests and responses (RFC 7252 section 12.1, RFC 7959 section 2.9): three bits of
-//! class, five of detail (RFC 7252 section 3).
+//! The codes of requests and responses (RFC 7252 section 12.1, RFC 7959 section 2.9).
+//!
+//! A code has three bits of class and five of detail (RFC 7252 section 3).
 
 /// The code of an empty message, 0.00 (RFC 7252 section 4.1).
 pub const EMPTY: u8 = 0;
@@ -16,7 +17,7 @@ pub const PUT: u8 = 3;
 /// DELETE, 0.04 (RFC 7252 section 5.8.4).
 pub const DELETE: u8 = 4;
 
-/// The last code of class 0, which is that of requests: 0.31 (RFC 7252 section 12.1.1).
+/// The last code of class 0, the class of requests: 0.31 (RFC 7252 section 12.1.1).
 pub const LAST_REQUEST: u8 = 31;
 
 /// 2.01 Created (RFC 7252 section 5.9.1.1).

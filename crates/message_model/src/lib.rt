@@ -1,5 +1,5 @@
-//! What the bytes of a CoAP message mean: plain types here, and in specs/ the definitions that
-//! contracts cite.
+//! The meaning of the octets of a CoAP message: plain types here, and the definitions that
+//! contracts cite in `specs/`.
 #![tactic(auto)]
 
 mod blocks;

@@ -3,7 +3,7 @@
 use message_model::Kind4;
 use message_model::codes::{EMPTY, LAST_REQUEST};
 
-/// The name of a type (RFC 7252 section 1.2).
+/// Returns the name of a type (RFC 7252 section 1.2).
 pub(crate) fn kind_name(kind: Kind4) -> &'static str {
     match kind {
         Kind4::Con => "CON",
@@ -13,13 +13,15 @@ pub(crate) fn kind_name(kind: Kind4) -> &'static str {
     }
 }
 
-/// Whether a code is that of a request (RFC 7252 section 12.1).
+/// Returns whether a code is that of a request (RFC 7252 section 12.1).
 pub(crate) fn is_request(code: u8) -> bool {
     EMPTY < code && code <= LAST_REQUEST
 }
 
-/// The method of a request, and `Empty` of a message with the code 0.00; none of a method without a
-/// name (RFC 7252 section 12.1.1, RFC 8132 section 6).
+/// Returns the method of a request, or `Empty` for the code 0.00 (RFC 7252 section 12.1.1, RFC 8132
+/// section 6).
+///
+/// Returns `None` for a method without a name.
 pub(crate) fn method_name(detail: u8) -> Option<&'static str> {
     Some(match detail {
         0 => "Empty",
@@ -34,7 +36,7 @@ pub(crate) fn method_name(detail: u8) -> Option<&'static str> {
     })
 }
 
-/// What a response of class 2 says (RFC 7252 section 12.1.2, RFC 7959 section 6).
+/// Returns the name of a response of class 2 (RFC 7252 section 12.1.2, RFC 7959 section 6).
 fn success_name(detail: u8) -> &'static str {
     match detail {
         1 => "Created",
@@ -47,8 +49,8 @@ fn success_name(detail: u8) -> &'static str {
     }
 }
 
-/// What a response of class 4 says (RFC 7252 section 12.1.2, RFC 7959 section 6, RFC 8132 section
-/// 6, RFC 8516 section 5).
+/// Returns the name of a response of class 4 (RFC 7252 section 12.1.2, RFC 7959 section 6, RFC 8132
+/// section 6, RFC 8516 section 5).
 fn client_error_name(detail: u8) -> &'static str {
     match detail {
         0 => "Bad Request",
@@ -69,7 +71,7 @@ fn client_error_name(detail: u8) -> &'static str {
     }
 }
 
-/// What a response of class 5 says (RFC 7252 section 12.1.2, RFC 8768 section 4).
+/// Returns the name of a response of class 5 (RFC 7252 section 12.1.2, RFC 8768 section 4).
 fn server_error_name(detail: u8) -> &'static str {
     match detail {
         0 => "Internal Server Error",
@@ -83,7 +85,7 @@ fn server_error_name(detail: u8) -> &'static str {
     }
 }
 
-/// What a response says, by the two parts of its code.
+/// Returns the name of a response, by the two parts of its code.
 pub(crate) fn response_name(class: u8, detail: u8) -> &'static str {
     match class {
         2 => success_name(detail),

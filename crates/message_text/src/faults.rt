@@ -1,15 +1,15 @@
-//! Which rule of the form of a message octets break.
+//! The rules of the form of a message that octets break.
 ghost use Rattle.std.specs.Prelude.{◌≤◌, IfOk, length};
 
 use message_model::codes::EMPTY;
 use message_model::{MAX_OPTION_NUMBER, MAX_TOKEN, PAYLOAD_MARKER};
 
-/// The rule that octets with the header of a message break (RFC 7252 sections 3, 3.1 and 4.1).
+/// A rule that octets with the header of a message break (RFC 7252 sections 3, 3.1 and 4.1).
 #[derive(Clone, Copy, Debug, PartialEq, Eq)]
 pub(crate) enum FormatFault {
     /// The class of the code is reserved.
     Class,
-    /// The token has more octets than one may have.
+    /// The token has more than 8 octets.
     TokenLength,
     /// The token is cut off.
     TokenEnd,
@@ -26,7 +26,7 @@ pub(crate) enum FormatFault {
 }
 
 impl FormatFault {
-    /// What is wrong, in words.
+    /// Returns the fault in words.
     pub(crate) fn text(self) -> &'static str {
         match self {
             FormatFault::Class => "reserved class of code",
@@ -41,7 +41,7 @@ impl FormatFault {
     }
 }
 
-/// A delta or a length: its nibble, extended by the octets after it (RFC 7252 section 3.1).
+/// Reads a delta or a length: its nibble, extended by the octets after it (RFC 7252 section 3.1).
 fn extended(nibble: u8, octets: &[u8]) -> Result<(usize, &[u8]), FormatFault>
     ensures { IfOk result (λ x. length x.1.now ≤ length octets.now) }
 {
@@ -57,7 +57,8 @@ fn extended(nibble: u8, octets: &[u8]) -> Result<(usize, &[u8]), FormatFault>
     }
 }
 
-/// The number of an option after one of the number `before`, and the octets after it.
+/// Reads an option after one with the number `before`, and returns its number and the octets after
+/// it.
 fn option_after(before: usize, first: u8, octets: &[u8]) -> Result<(usize, &[u8]), FormatFault>
     ensures { IfOk result (λ x. length x.1.now ≤ length octets.now) }
 {
@@ -106,8 +107,10 @@ fn body_read(code: u8, token_length: usize, octets: &[u8]) -> Result<(), FormatF
     tail_read(&octets[token_length..])
 }
 
-/// The first rule that octets with the header of a message break; none where they break none, or
-/// have no header (RFC 7252 sections 3, 3.1 and 4.1).
+/// Returns the first rule that octets with the header of a message break (RFC 7252 sections 3, 3.1
+/// and 4.1).
+///
+/// Returns `None` if they break none, or have no header.
 pub(crate) fn format_fault(datagram: &[u8]) -> Option<FormatFault> {
     match datagram {
         [first, code, _, _, rest @ ..] => body_read(*code, usize::from(*first % 16), rest).err(),

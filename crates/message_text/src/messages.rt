@@ -17,7 +17,7 @@ fn write_head(page: &mut String, view: &View<'_>) -> Result<(), Starved> {
     Ok(write!(page, "{kind} [0x{mid:04x}] ")?)
 }
 
-/// Writes the code: a method by its name, or by its number where it has none; a response by its
+/// Writes the code: a method by its name, or by its number if it has none, and a response by its
 /// number and its name.
 fn write_code(page: &mut String, code: u8) -> Result<(), Starved> {
     let class = code >> 5;
@@ -32,13 +32,13 @@ fn write_code(page: &mut String, code: u8) -> Result<(), Starved> {
     Ok(write!(page, "{class}.{detail:02} {name}")?)
 }
 
-/// Writes the path and the query that a request is for.
+/// Writes the path and the query of a request.
 fn write_target(page: &mut String, view: &View<'_>) -> Result<(), Starved> {
     write_joined(page, view, URI_PATH, " /", "/")?;
     write_joined(page, view, URI_QUERY, "?", "&")
 }
 
-/// Writes the location that a response names, where it names one.
+/// Writes the location that a response names, if it names one.
 fn write_location(page: &mut String, view: &View<'_>) -> Result<(), Starved> {
     if holds(view, LOCATION_PATH) || holds(view, LOCATION_QUERY) {
         page.push_str(" Location ")?;
@@ -47,7 +47,7 @@ fn write_location(page: &mut String, view: &View<'_>) -> Result<(), Starved> {
     write_joined(page, view, LOCATION_QUERY, "?", "&")
 }
 
-/// Writes the token, where there is one.
+/// Writes the token, if there is one.
 fn write_token(page: &mut String, token: &[u8]) -> Result<(), Starved> {
     if token.is_empty() {
         return Ok(());
@@ -57,8 +57,8 @@ fn write_token(page: &mut String, token: &[u8]) -> Result<(), Starved> {
     Ok(page.push_str(")")?)
 }
 
-/// Writes the payload on a line of its own, where there is one: text in UTF-8 after a bar, and
-/// octets that are none in hexadecimal after a word that no text stands behind.
+/// Writes the payload on a line of its own, if there is one. Text in UTF-8 follows a bar. Other
+/// octets are written in hexadecimal after a word that precedes no text.
 fn write_payload(page: &mut String, indent: &str, payload: &[u8]) -> Result<(), Starved> {
     if payload.is_empty() {
         return Ok(());
@@ -82,7 +82,7 @@ fn write_message(page: &mut String, indent: &str, view: &View<'_>) -> Result<(),
     write_payload(page, indent, view.payload)
 }
 
-/// Writes which rule octets break that are no message for their form.
+/// Writes which rule octets break that are no message because of their form.
 fn write_fault(page: &mut String, datagram: &[u8]) -> Result<(), Starved> {
     page.push_str("no message, format error")?;
     if let Some(fault) = format_fault(datagram) {
@@ -102,19 +102,26 @@ fn write_unread(page: &mut String, datagram: &[u8], why: Unread) -> Result<(), S
     write_hexadecimal(page, datagram)
 }
 
-/// Writes a datagram to the end of a page: its type, Message ID, code, path and query, token and
-/// options on one line, as `CON [0x0001] POST /rd?ep=node1 (Token 0xa1), Content-Format
-/// link-format`, and its payload after `indent` on one of its own; or the octets of one that is no
-/// message, and why (RFC 7252 section 3).
+/// Appends a datagram to a page (RFC 7252 section 3).
 ///
-/// Nothing in a datagram looks like something else. In text a percent sign, and what is not seen
-/// (control, format and other ignored characters, ends of lines and paragraphs, spaces other than
-/// the one of ASCII), is percent-encoded (RFC 3986 section 2.1). So are a space, a comma and
-/// parentheses on the line of the message, a slash, a question mark and an ampersand in a part of a
-/// path or a query, and octets there that are no text. A payload that is no text in UTF-8 is
-/// written in hexadecimal, after the word `octets` in place of the bar.
+/// A message has a line with its type, Message ID, code, path and query, token and options, as `CON
+/// [0x0001] POST /rd?ep=node1 (Token 0xa1), Content-Format link-format`. Its payload has a line of
+/// its own, after `indent`. If the datagram is no message, its octets are written, and why.
 ///
-/// `Starved`: out of memory.
+/// Nothing in a datagram looks like something else:
+///
+/// - In text a percent sign and invisible characters are percent-encoded (RFC 3986 section 2.1).
+///   These are control, format and other ignored characters, ends of lines and paragraphs, and
+///   spaces other than that of ASCII.
+/// - On the line of the message a space, a comma and parentheses are percent-encoded, too. So are
+///   octets there that are no text.
+/// - In a part of a path or a query, so are a slash, a question mark and an ampersand.
+/// - A payload that is no text in UTF-8 is written in hexadecimal, after the word `octets` and not
+///   after a bar.
+///
+/// # Errors
+///
+/// `Starved` if memory runs out.
 pub fn write_datagram(page: &mut String, indent: &str, datagram: &[u8]) -> Result<(), Starved> {
     match view(datagram) {
         Ok(message) => write_message(page, indent, &message),

@@ -3,8 +3,8 @@
 use rd_base::Starved;
 use unicode::properties::{GeneralCategory, is_default_ignorable_code_point};
 
-/// Where text of a message stands. That decides which characters the line uses itself, and which
-/// are therefore percent-encoded (RFC 3986 section 2.1).
+/// The place of text in a message. It determines which characters the line uses itself, which are
+/// therefore percent-encoded (RFC 3986 section 2.1).
 #[derive(Clone, Copy, Debug, PartialEq, Eq)]
 pub(crate) enum Field {
     /// A segment of a path or an argument of a query, among others on the line of the message.
@@ -25,9 +25,9 @@ pub(crate) fn write_hexadecimal(page: &mut String, octets: &[u8]) -> Result<(), 
     Ok(())
 }
 
-/// Whether a character stands among others without being seen itself: a space other than the one
-/// of ASCII, the end of a line or a paragraph, a control or format character, or any other that is
-/// ignored where it is shown.
+/// Returns whether a character is invisible among others. It is the end of a line or a paragraph, a
+/// control or format character, or a space other than that of ASCII. Or it is any other that is
+/// ignored when it is shown.
 fn is_unseen(character: char) -> bool {
     match GeneralCategory::for_char(character) {
         GeneralCategory::Control
@@ -40,7 +40,7 @@ fn is_unseen(character: char) -> bool {
 }
 
 impl Field {
-    /// Whether a character is one of those that the line uses here itself.
+    /// Returns whether a character is one of those that the line uses here itself.
     fn uses(self, character: char) -> bool {
         match character {
             '%' => true,
@@ -56,7 +56,7 @@ fn write_encoded(page: &mut String, octet: u8) -> Result<(), Starved> {
     Ok(write!(page, "%{octet:02X}")?)
 }
 
-/// Writes a character, percent-encoded where it would not be seen for what it is.
+/// Writes a character, percent-encoded if it would be invisible or taken for something else.
 fn write_character(page: &mut String, field: Field, character: char) -> Result<(), Starved> {
     if !field.uses(character) && !is_unseen(character) {
         return Ok(page.push(character)?);
@@ -69,7 +69,7 @@ fn write_character(page: &mut String, field: Field, character: char) -> Result<(
     Ok(())
 }
 
-/// Writes text in UTF-8 as it is read here.
+/// Writes text in UTF-8, percent-encoded as the field requires.
 pub(crate) fn write_text(page: &mut String, field: Field, text: &str) -> Result<(), Starved> {
     'characters: for character in text.chars() {
         write_character(page, field, character)?;
@@ -85,8 +85,8 @@ fn write_octet(page: &mut String, field: Field, octet: u8) -> Result<(), Starved
     write_encoded(page, octet)
 }
 
-/// Writes octets as the text that they are; where they are no text in UTF-8, with each octet that
-/// is not ASCII percent-encoded.
+/// Writes octets as the text that they are. If they are no text in UTF-8, each octet that is not
+/// ASCII is percent-encoded.
 pub(crate) fn write_octets(page: &mut String, field: Field, octets: &[u8]) -> Result<(), Starved> {
     if let Ok(text) = str::from_utf8(octets) {
         return write_text(page, field, text);

@@ -8,7 +8,7 @@ use coap_message::{Opt, View, options_of};
 use message_model::formats::LINK_FORMAT;
 use rd_base::Starved;
 
-/// What stands before a part: `first` before the first, `next` before each other.
+/// Returns what precedes a part: `first` before the first, `next` before each other.
 fn lead<'a>(begun: bool, first: &'a str, next: &'a str) -> &'a str {
     if begun {
         return next;
@@ -16,13 +16,13 @@ fn lead<'a>(begun: bool, first: &'a str, next: &'a str) -> &'a str {
     first
 }
 
-/// Whether a message has an option of a number.
+/// Returns whether a message has an option with a number.
 pub(crate) fn holds(view: &View<'_>, number: u32) -> bool {
     options_of(view).any(|option| option.number == number)
 }
 
-/// Writes the values of the options of a number one after the other: before the first stands
-/// `first`, before each other `next`.
+/// Writes the values of the options with a number one after the other, with `first` before the
+/// first and `next` before each other.
 pub(crate) fn write_joined(
     page: &mut String,
     view: &View<'_>,
@@ -44,8 +44,10 @@ pub(crate) fn write_joined(
 /// The most octets of a number (RFC 7252 section 5.10, RFC 7959 section 4).
 const LONGEST_NUMBER: usize = 4;
 
-/// The number of a value, most significant octet first (RFC 7252 section 3.2); none where the value
-/// is longer than that of any option that is a number.
+/// Returns the number that a value encodes, the most significant octet first (RFC 7252 section
+/// 3.2).
+///
+/// Returns `None` if the value is longer than that of any option that is a number.
 fn number_of(value: &[u8]) -> Option<u32> {
     if value.len() > LONGEST_NUMBER {
         return None;
@@ -55,8 +57,8 @@ fn number_of(value: &[u8]) -> Option<u32> {
     Some(u32::from_be_bytes(octets))
 }
 
-/// What a number says by name: a Content-Format (RFC 7252 section 12.3), or what a request asks of
-/// an observation (RFC 7641 section 2).
+/// Returns the name that a number stands for: a Content-Format (RFC 7252 section 12.3), or what a
+/// request asks of an observation (RFC 7641 section 2).
 fn name_of(code: u8, form: Form, number: u32) -> Option<&'static str> {
     match (form, number) {
         (Form::ContentFormat, _) if number == u32::from(LINK_FORMAT) => Some("link-format"),
@@ -66,7 +68,8 @@ fn name_of(code: u8, form: Form, number: u32) -> Option<&'static str> {
     }
 }
 
-/// Writes a number or what it says by name, or the octets of a value that is too long for one.
+/// Writes a number or the name that it stands for, or the octets of a value that is too long for a
+/// number.
 fn write_number(page: &mut String, code: u8, form: Form, value: &[u8]) -> Result<(), Starved> {
     let Some(number) = number_of(value) else {
         return write_hexadecimal(page, value);
@@ -78,7 +81,7 @@ fn write_number(page: &mut String, code: u8, form: Form, value: &[u8]) -> Result
 }
 
 /// Writes a block as its number, whether more follow, and its size (RFC 7959 section 3), or the
-/// octets of a value that is none.
+/// octets of a value that is no block.
 fn write_block(page: &mut String, value: &[u8]) -> Result<(), Starved> {
     if value.len() > 3 {
         return write_hexadecimal(page, value);
@@ -102,7 +105,7 @@ fn write_value(page: &mut String, code: u8, form: Form, value: &[u8]) -> Result<
     }
 }
 
-/// Writes an option of a message with this code: by its name, or by its number where it has none
+/// Writes an option of a message with this code: by its name, or by its number if it has no name
 /// here.
 fn write_option(page: &mut String, code: u8, option: &Opt<'_>) -> Result<(), Starved> {
     match named(option.number) {
@@ -119,7 +122,7 @@ fn write_option(page: &mut String, code: u8, option: &Opt<'_>) -> Result<(), Sta
     }
 }
 
-/// Writes all options but those of which paths and queries are made.
+/// Writes all options except those of which paths and queries consist.
 pub(crate) fn write_options(page: &mut String, view: &View<'_>) -> Result<(), Starved> {
     'options: for option in options_of(view) {
         write_option(page, view.code, &option)?;

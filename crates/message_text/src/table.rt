@@ -1,14 +1,14 @@
-//! The options that are shown by name, and how the value of each is written.
+//! The options that are shown by name, and the form of the value of each.
 
 use message_model::options::{
     ACCEPT, BLOCK1, BLOCK2, CONTENT_FORMAT, ECHO, ETAG, LOCATION_PATH, OBSERVE, PROXY_SCHEME,
     PROXY_URI, SIZE1, SIZE2, URI_HOST, URI_PATH, URI_PORT, URI_QUERY,
 };
 
-/// What the value of an option is (RFC 7252 section 5.10).
+/// The form of the value of an option (RFC 7252 section 5.10).
 #[derive(Clone, Copy, Debug, PartialEq, Eq)]
 pub(crate) enum Form {
-    /// One part of a path or a query, which is written with the others.
+    /// A part of a path or a query, which is written with the others.
     Part,
     /// Octets.
     Opaque,
@@ -27,9 +27,11 @@ pub(crate) enum Form {
 /// The number of Location-Query (RFC 7252 section 12.2).
 pub(crate) const LOCATION_QUERY: u32 = 20;
 
-/// The name of an option and the form of its value, by its number; none where it has no name here
-/// (RFC 7252 section 12.2, RFC 7641 section 2, RFC 7959 section 6, RFC 7967 section 2, RFC 8613
-/// section 2, RFC 8768 section 3, RFC 9175 sections 2.2 and 3.2).
+/// Returns the name of an option and the form of its value, by its number (RFC 7252 section 12.2,
+/// RFC 7641 section 2, RFC 7959 section 6, RFC 7967 section 2, RFC 8613 section 2, RFC 8768 section
+/// 3, RFC 9175 sections 2.2 and 3.2).
+///
+/// Returns `None` if it has no name here.
 pub(crate) fn named(number: u32) -> Option<(&'static str, Form)> {
     Some(match number {
         1 => ("If-Match", Form::Opaque),

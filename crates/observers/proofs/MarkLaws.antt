@@ -26,12 +26,13 @@ use Rattle.std.proofs.Common.{
   ◌∙◌,
 }
 use Rattle.std.specs.List.{AllByRecursion, list_any}
+use Rattle.std.proofs.lemmas.Bool.{false≢true, ltb-true}
 use Rattle.rd_base.specs.declared.peers.Peer.{Peer}
 use Rattle.rd_base.specs.declared.queries.Query.{Query}
 use Rattle.event_model.specs.declared.notes.Observer.{Observer}
 use Rattle.event_model.specs.Same.{is_same_peer}
-use Rattle.event_model.specs.Events.{Event}
-use Rattle.event_model.specs.Observers.{observers}
+use Rattle.event_model.specs.Events.{Event, last_event}
+use Rattle.event_model.specs.Observers.{name_of, observers}
 use Rattle.event_model.specs.Flights.{
   OctetsSent,
   Flight,
@@ -40,10 +41,25 @@ use Rattle.event_model.specs.Flights.{
   waiting_notice,
   is_waited_for,
 }
-use Rattle.event_model.specs.Due.{Transition, Watching, is_change_of, watching, observers_standing}
+use Rattle.event_model.specs.Due.{
+  Transition,
+  Watching,
+  is_change_of,
+  is_looking_for,
+  watching,
+  observers_standing,
+}
 use Rattle.event_model.proofs.DueLaws.{IsLookedAt, due_more}
 use Rattle.observers.specs.Standing.{Standing, is_awaited, marked}
-use Rattle.observers.specs.ObserverEvents.{shown, AwaitsOne, EachAwaitsOne, ObserversStandFor}
+use Rattle.observers.specs.ObserverEvents.{
+  shown,
+  AwaitsOne,
+  EachAwaitsOne,
+  ObserversStandFor,
+  IsExactMark,
+  came_before,
+  was_looked_at_before,
+}
 use Rattle.observers.proofs.EventLaws.{parts}
 use Rattle.observers.proofs.StandLaws.{StartsNone, awaits_kept}
 
@@ -126,6 +142,38 @@ marks-StandsFor queries octets events t seen marks ws exact looked h = record {
         ap₂ (λ x rest. x ∷ rest)
         (ap (λ d. record (shown queries w) { due = d })
         (ap (λ b. b || w.due) (sym e.0) ∙ or_turned (marks w.slot) w.due)) (each xs e.1)
+
+was_looked_at : (place : ℕ) (events : List Event) (o : Observer)
+    → was_looked_at_before place events o ≡ true
+    → IsLookedAt o events place
+was_looked_at place events o was = by (last_event (is_looking_for (name_of o)) events) refl
+  where
+    by : (found : Option Event)
+        → last_event (is_looking_for (name_of o)) events ≡ found
+        → IsLookedAt o events place
+    by None e = absurd (false≢true (sym (ap (came_before place) e) ∙ was))
+    by (Some event) e = record {
+      event = event;
+      last = e;
+      before = ltb-true event.place place (sym (ap (came_before place) e) ∙ was);
+    }
+
+-- a mark of one slot that is exact for a transition: the table stands for it too
+pub mark_stands : (queries : ℕ → Query) (octets : OctetsSent) (events : List Event)
+    (t : Transition) (seen : List Transition) (slot : ℕ) (ws : List Standing)
+    → IsExactMark queries t slot ws
+    → AllByRecursion (λ o. was_looked_at_before t.place events o ≡ true) (observers events)
+    → ObserversStandFor queries octets events seen ws
+    → ObserversStandFor queries octets events (t ∷ seen) (map (marked slot) ws)
+mark_stands queries octets events t seen slot ws exact looked h =
+    marks-StandsFor queries octets events t seen (λ p. p == slot) ws exact
+    (each (observers events) looked) h
+  where
+    each : (xs : List Observer)
+        → AllByRecursion (λ o. was_looked_at_before t.place events o ≡ true) xs
+        → AllByRecursion (λ o. IsLookedAt o events t.place) xs
+    each [] l = tt
+    each (o ∷ xs) l = (was_looked_at t.place events o l.0, each xs l.1)
 
 -- ---- who is waited for
 

@@ -7,6 +7,7 @@ use Rattle.std.specs.Prelude.{
   true,
   false,
   ◌||◌,
+  ◌==◌,
   nat_lt,
   List,
   [],
@@ -25,9 +26,16 @@ use Rattle.event_model.specs.declared.notes.Note.{Note}
 use Rattle.event_model.specs.declared.notes.Note.TheVariants as note
 use Rattle.event_model.specs.declared.notes.Observer.{Observer}
 use Rattle.event_model.specs.Same.{is_same_peer}
-use Rattle.event_model.specs.Events.{Event}
+use Rattle.event_model.specs.Events.{Event, last_event}
+use Rattle.event_model.specs.Observers.{name_of}
 use Rattle.event_model.specs.Flights.{Flight, OctetsSent}
-use Rattle.event_model.specs.Due.{Transition, Watching, observers_standing}
+use Rattle.event_model.specs.Due.{
+  Transition,
+  Watching,
+  is_change_of,
+  is_looking_for,
+  observers_standing,
+}
 use Rattle.exchange_core.specs.declared.resends.Again.{Again}
 use Rattle.exchange_core.specs.declared.resends.Again.TheVariants as again
 use Rattle.exchange_core.specs.Retransmissions.{due_at}
@@ -71,6 +79,22 @@ pub record ObserversStandFor (queries : ℕ → Query) (octets : OctetsSent) (ev
     (transitions : List Transition) (ws : List Standing) : Type 0 where
   pub standing : observers_standing octets events transitions ≡ map (shown queries) ws
   pub awaited : EachAwaitsOne ws
+
+-- a mark of a slot is exact for a transition: of the queries in the slots of these observers, the
+-- transition changed the lines of the one in this slot, and of no other
+abbrev pub IsExactMark : (ℕ → Query) → Transition → ℕ → List Standing → Type 0
+IsExactMark queries t slot ws =
+    AllByRecursion (λ w. (w.slot == slot) ≡ is_change_of (queries w.slot) t) ws
+
+-- an event came before a place
+abbrev pub came_before : ℕ → Option Event → Bool
+came_before place None = false
+came_before place (Some e) = nat_lt e.place place
+
+-- the listing of an observer was last looked at before a place
+abbrev pub was_looked_at_before : ℕ → List Event → Observer → Bool
+was_looked_at_before place events o =
+    came_before place (last_event (is_looking_for (name_of o)) events)
 
 -- no transition is later than a place
 abbrev pub NoneLater : ℕ → List Transition → Type 0

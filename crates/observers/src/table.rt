@@ -1,8 +1,8 @@
 //! The table of observers.
 ghost use Rattle.std.specs.Prelude.{◌≡◌, ◌≢◌, ◌↔◌, ℕ, ◌≤◌, ◌<◌, List, [], ◌∷◌, ◌++◌, false, Some};
-ghost use Rattle.std.specs.Prelude.{None, map, find, remove, slice_get, length, option_map, IfOk};
+ghost use Rattle.std.specs.Prelude.{None, true, map, find, remove, slice_get, length, option_map, IfOk};
 ghost use Rattle.std.specs.Prelude.{IfSome, IfNone, OnOk, OnErr, IsErr, IsTrue};
-ghost use Rattle.std.specs.List.{list_any};
+ghost use Rattle.std.specs.List.{list_any, AllByRecursion};
 ghost use Rattle.std.specs.Arc.{arc_value};
 ghost use Rattle.rd_base.specs.declared.queries.Query.{Query};
 ghost use Rattle.event_model.specs.declared.notes.Note.TheVariants as note;
@@ -17,7 +17,7 @@ ghost use Rattle.observers.specs.Standing.{Standing, is_named, has_notice, is_aw
 ghost use Rattle.observers.specs.Standing.{marked, noticed, seen, landed, due_of, timed};
 ghost use Rattle.observers.specs.Standing.{changed_at};
 ghost use Rattle.observers.specs.ObserverEvents.{observer_of, ObserversStandFor, NoneLater};
-ghost use Rattle.observers.specs.ObserverEvents.{notice_due};
+ghost use Rattle.observers.specs.ObserverEvents.{notice_due, IsExactMark, was_looked_at_before};
 
 use crate::Observer;
 use crate::walks::{
@@ -124,7 +124,13 @@ impl Observers {
 
     /// Marks the observers whose query is watched in a slot: they are due.
     pub fn mark(&mut self, slot: u32)
-        ensures { self.new ≡ map (marked slot) self.old }
+        ensures marked { self.new ≡ map (marked slot) self.old }
+        ensures stands { (queries : ℕ → Query) (octets : OctetsSent) (events : List Event)
+            (t : Transition) (transitions : List Transition)
+            → IsExactMark queries t slot self.old
+            → AllByRecursion (λ o. was_looked_at_before t.place events o ≡ true) (observers events)
+            → ObserversStandFor queries octets events transitions self.old
+            → ObserversStandFor queries octets events (t ∷ transitions) self.new }
     {
         mark_all(&mut self.items, slot);
     }

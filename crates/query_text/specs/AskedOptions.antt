@@ -21,17 +21,17 @@ use Rattle.record_model.specs.Criteria.{page, count, is_cut, criterion_of, numbe
 use Rattle.query_text.specs.declared.asked_options.Asked.{Asked}
 use Rattle.query_text.specs.Numbers.{number_in}
 
--- the criteria, the page and the count
+-- What the options of a lookup ask for: the criteria, the page and the count.
 pub record Wanted : Type 0 where
   pub criteria : List Criterion
   pub page : Option ℕ
   pub count : Option ℕ
 
--- what is kept
+-- Returns what was stored.
 abbrev pub wanted_in : Asked → Wanted
 wanted_in asked = record { criteria = asked.criteria.items; page = asked.page; count = asked.count }
 
--- what options ask for
+-- Returns what options ask for.
 unfoldable pub wanted_of : List (List ℕ) → Wanted
 wanted_of queries = record {
   criteria = map criterion_of (filter (λ query. not (is_cut query)) queries);
@@ -39,11 +39,11 @@ wanted_of queries = record {
   count = number_named count queries;
 }
 
--- nothing
+-- What no options ask for.
 abbrev pub nothing_wanted : Wanted
 nothing_wanted = record { criteria = []; page = None; count = None }
 
--- with an option after it
+-- Returns what is asked for with one more option.
 unfoldable pub wanted_with : Wanted → List ℕ → List ℕ → Wanted
 wanted_with w name value =
     if bytes_eq name page then record {
@@ -60,6 +60,6 @@ wanted_with w name value =
       count = w.count;
     })
 
--- the query of that kind that asks for this
+-- Returns the query of that kind that asks for this.
 abbrev pub query_of : Kind → Wanted → Query
 query_of kind w = record { kind = kind; criteria = w.criteria; page = w.page; count = w.count }

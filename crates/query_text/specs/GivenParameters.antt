@@ -29,7 +29,7 @@ use Rattle.record_model.specs.Parameters.{
 use Rattle.query_text.specs.declared.given_parameters.Given.{Given}
 use Rattle.query_text.specs.Numbers.{lifetime_in}
 
--- the values with a meaning of their own, and the others as attributes
+-- What parameters give: the values with a meaning of their own, and the others as attributes.
 pub record GivenValues : Type 0 where
   pub ep : Option (List ℕ)
   pub sector : Option (List ℕ)
@@ -37,7 +37,7 @@ pub record GivenValues : Type 0 where
   pub base : Option (List ℕ)
   pub attributes : List Pair
 
--- what is kept
+-- Returns what was stored.
 abbrev pub values_in : Given → GivenValues
 values_in given = record {
   ep = given.ep;
@@ -47,7 +47,7 @@ values_in given = record {
   attributes = given.attributes.items;
 }
 
--- what parameters give
+-- Returns what parameters give.
 unfoldable pub values_of : List (List ℕ) → GivenValues
 values_of queries = record {
   ep = value_named ep queries;
@@ -57,11 +57,11 @@ values_of queries = record {
   attributes = extra_attributes queries;
 }
 
--- nothing
+-- What no parameters give.
 abbrev pub nothing_given : GivenValues
 nothing_given = record { ep = None; sector = None; lifetime = None; base = None; attributes = [] }
 
--- with a parameter after it
+-- Returns what is given with one more parameter.
 unfoldable pub given_with : GivenValues → List ℕ → List ℕ → GivenValues
 given_with g name value =
     if bytes_eq name ep then record {
@@ -112,7 +112,7 @@ given_with g name value =
           ++ (record { name = name; value = value } ∷ []);
     })))
 
--- the parameters of a registration that give this
+-- Returns the parameters of a registration that give this.
 abbrev pub registration_of : GivenValues → RegParams
 registration_of g = record {
   name = record { ep = unwrap_or g.ep []; sector = g.sector };
@@ -121,6 +121,6 @@ registration_of g = record {
   attrs = g.attributes;
 }
 
--- the parameters of an update that give this
+-- Returns the parameters of an update that give this.
 abbrev pub update_of : GivenValues → UpdateParams
 update_of g = record { lt = g.lifetime; base = g.base; attrs = g.attributes }

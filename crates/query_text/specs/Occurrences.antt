@@ -1,11 +1,11 @@
--- Which options occurred before another.
+-- Which options appeared before another.
 use Rattle.std.specs.Prelude.{ℕ, false, ◌||◌, List, bytes_eq}
 use Rattle.record_model.specs.Options.{has_named}
 use Rattle.record_model.specs.Parameters.{ep, sector, lifetime, base}
 use Rattle.record_model.specs.Criteria.{page, count}
 use Rattle.query_text.specs.declared.occurrences.Occurred.{Occurred}
 
--- which of the names have an option among the others
+-- Returns which of the names have an option among the others.
 abbrev pub occurred_of : List (List ℕ) → Occurred
 occurred_of others = record {
   ep = has_named ep others;
@@ -16,7 +16,7 @@ occurred_of others = record {
   count = has_named count others;
 }
 
--- none of them
+-- The value for no options.
 abbrev pub nothing_occurred : Occurred
 nothing_occurred = record {
   ep = false;
@@ -27,7 +27,7 @@ nothing_occurred = record {
   count = false;
 }
 
--- with an option of this name more
+-- Returns which names appeared, with one more option.
 abbrev pub occurred_with : Occurred → List ℕ → Occurred
 occurred_with occurred name = record {
   ep = bytes_eq name ep || occurred.ep;

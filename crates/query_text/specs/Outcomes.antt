@@ -1,4 +1,4 @@
--- What a call answers, beside what the definition says.
+-- What a call returns, compared with the definition.
 use Rattle.std.specs.Prelude.{◌≡◌, ℕ, List, None, Some, Result, Ok, Err}
 use Rattle.record_model.specs.declared.readings.Reading.{Reading}
 use Rattle.record_model.specs.declared.readings.Reading.TheVariants as reading
@@ -13,24 +13,25 @@ use Rattle.query_text.specs.declared.faults.QueryBad.{QueryBad}
 use Rattle.query_text.specs.declared.faults.QueryBad.TheVariants as bad
 use Rattle.std.specs.Prelude.{Bool, if◌then◌else◌}
 
--- the value that is meant, or the fault that is; or memory runs out
+-- States that the result is the value that is meant, or the fault that is; or memory ran out.
 abbrev pub Answers : {A : Type 0} → Result A QueryBad → Result A Fault → Type 0
 Answers (Ok value) meant = meant ≡ Ok value
 Answers (Err (bad.At index why)) meant = meant ≡ Err (index, why)
 Answers (Err bad.Starved) meant = Unit {0}
 
--- what the parameters of a registration are read as
+-- Returns the kind of request that the parameters of a registration are read for.
 abbrev pub registering : Bool → Reading
 registering simple = if simple then reading.Simple else reading.Register
 
--- all parameters are kept, or there is a first fault; or memory runs out
+-- States that all parameters were stored, or that there is this first fault; or memory ran out.
 abbrev pub Gathers : Reading → List (List ℕ) → Result Given QueryBad → Type 0
 Gathers kind left (Ok given) =
     (parameters_fault kind left ≡ None) × (values_in given ≡ values_of left)
 Gathers kind left (Err (bad.At index why)) = parameters_fault kind left ≡ Some (index, why)
 Gathers kind left (Err bad.Starved) = Unit {0}
 
--- all options of a lookup are kept, or there is a first fault; or memory runs out
+-- States that all options of a lookup were stored, or that there is this first fault; or memory ran
+-- out.
 abbrev pub Asks : List (List ℕ) → Result Asked QueryBad → Type 0
 Asks left (Ok asked) = (lookup_fault left ≡ None) × (wanted_in asked ≡ wanted_of left)
 Asks left (Err (bad.At index why)) = lookup_fault left ≡ Some (index, why)

@@ -1,4 +1,4 @@
--- What an option is refused for, where it is known which names occurred before it.
+-- The reasons why an option is refused, by which names appeared before it.
 use Rattle.std.specs.Prelude.{
   ℕ,
   Bool,
@@ -43,12 +43,12 @@ use Rattle.record_model.specs.Parameters.{
 use Rattle.record_model.specs.Criteria.{page, count}
 use Rattle.query_text.specs.declared.occurrences.Occurred.{Occurred}
 
--- the options are those of a lookup
+-- Returns whether the options are those of a lookup.
 abbrev pub is_lookup : Reading → Bool
 is_lookup reading.Lookup = true
 is_lookup _ = false
 
--- what the name of an endpoint or a sector is refused for
+-- Returns why the name of an endpoint or a sector is refused, if it is.
 abbrev pub name_fault : Reading → Bool → List ℕ → Option Why
 name_fault kind occurred value =
     first_reason ((is_update kind, why.NotHere)
@@ -57,12 +57,12 @@ name_fault kind occurred value =
     ∷ (nat_lt max_name (length value), why.TooLong)
     ∷ [])
 
--- what a lifetime is refused for
+-- Returns why a lifetime is refused, if it is.
 abbrev pub lifetime_fault : Bool → List ℕ → Option Why
 lifetime_fault occurred value =
     first_reason ((occurred, why.Repeated) ∷ (not (is_lifetime value), why.Lt) ∷ [])
 
--- what a base is refused for
+-- Returns why a base is refused, if it is.
 abbrev pub given_base_fault : Reading → Bool → List ℕ → Option Why
 given_base_fault kind occurred value =
     first_reason ((is_simple kind, why.NotHere)
@@ -71,20 +71,20 @@ given_base_fault kind occurred value =
     ∷ (is_link_local value, why.LinkLocal)
     ∷ [])
 
--- what an extra attribute is refused for
+-- Returns why an extra attribute is refused, if it is.
 abbrev pub extra_fault : List ℕ → Option Why
 extra_fault name = first_reason ((not (is_extra_name name), why.Name) ∷ [])
 
--- what a page or a count is refused for
+-- Returns why a page or a count is refused, if it is.
 abbrev pub cut_fault : Bool → List ℕ → Option Why
 cut_fault occurred value =
     first_reason ((occurred, why.Repeated) ∷ (not (is_number value), why.Number) ∷ [])
 
--- what a criterion is refused for
+-- Returns why a criterion is refused, if it is.
 abbrev pub criterion_fault : List ℕ → Option Why
 criterion_fault name = first_reason ((is_empty name, why.Name) ∷ [])
 
--- by the rules of its name
+-- Returns why the rules of its name refuse a parameter, if they do.
 unfoldable pub parameter_rules : Reading → Occurred → List ℕ → List ℕ → Option Why
 parameter_rules kind occurred name value =
     if bytes_eq name ep then name_fault kind occurred.ep value
@@ -93,26 +93,27 @@ parameter_rules kind occurred name value =
     else (if bytes_eq name base then given_base_fault kind occurred.base value
     else extra_fault name)))
 
+-- Returns why the rules of its name refuse an option of a lookup, if they do.
 unfoldable pub option_rules : Occurred → List ℕ → List ℕ → Option Why
 option_rules occurred name value =
     if bytes_eq name page then cut_fault occurred.page value
     else (if bytes_eq name count then cut_fault occurred.count value
     else criterion_fault name)
 
--- by its characters and the rules of its name
+-- Returns why its characters or the rules of its name refuse an option, if they do.
 unfoldable pub named_fault : Reading → Occurred → List ℕ → List ℕ → Option Why
 named_fault kind occurred name value =
     if is_lookup kind then option_rules occurred name value
     else (if has_control value then Some why.Control else parameter_rules kind occurred name value)
 
--- by its octets, its characters and the rules of its name
+-- Returns why its octets, its characters or the rules of its name refuse an option, if they do.
 unfoldable pub fault_after : Reading → Occurred → List ℕ → Option Why
 fault_after kind occurred query =
     if is_utf8 query
     then named_fault kind occurred (option_name query) (option_value query)
     else Some why.Utf8
 
--- what is missing after the last option
+-- Returns why an option is missing after the last, if one is.
 unfoldable pub missing_after : Reading → Occurred → Option Why
 missing_after kind occurred =
     if is_lookup kind

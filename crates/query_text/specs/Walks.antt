@@ -1,4 +1,4 @@
--- The first fault of the options that are left, and one option read.
+-- The first fault of the remaining options, and one option read.
 use Rattle.std.specs.Prelude.{
   ◌≡◌,
   ℕ,
@@ -23,11 +23,11 @@ use Rattle.query_text.specs.declared.walks.Walk.{Walk}
 use Rattle.query_text.specs.Occurrences.{nothing_occurred, occurred_with}
 use Rattle.query_text.specs.Rules.{fault_after, missing_after}
 
--- before the first option
+-- Returns a walk before the first option.
 abbrev pub start_of : Reading → Walk
 start_of kind = record { kind = kind; occurred = nothing_occurred; index = 0 }
 
--- with an option more
+-- Returns the walk with one more option.
 abbrev pub walk_past : Walk → List ℕ → Walk
 walk_past walk query = record {
   kind = walk.kind;
@@ -35,18 +35,18 @@ walk_past walk query = record {
   index = walk.index + 1;
 }
 
--- the reason, with its index
+-- Returns the reason, with its index.
 abbrev pub at_index : ℕ → Option Why → Option Fault
 at_index index reason = option_map (λ why. (index, why)) reason
 
--- the first fault of the options that are left
+-- Returns the first fault of the remaining options.
 unfoldable pub faults_from : Walk → List (List ℕ) → Option Fault
 faults_from walk [] = at_index walk.index (missing_after walk.kind walk.occurred)
 faults_from walk (query ∷ queries) =
     or_else (at_index walk.index (fault_after walk.kind walk.occurred query))
     (faults_from (walk_past walk query) queries)
 
--- the first option that was left is read without a fault, and has this name and value
+-- The first remaining option was read without a fault, and has this name and value.
 pub record IsPast (walk : Walk) (left : List (List ℕ)) (now : Walk) (rest : List (List ℕ))
     (named : Named) : Type 0 where
   pub query : List ℕ
@@ -56,7 +56,8 @@ pub record IsPast (walk : Walk) (left : List (List ℕ)) (now : Walk) (rest : Li
   pub value : named.value.now ≡ option_value query
   pub past : now ≡ walk_past walk query
 
--- one option is read, or none is left and none was refused, or there is a first fault
+-- States that one option was read, or that none is left and none was refused, or that there is this
+-- first fault.
 abbrev pub Stepped : Walk
     → List (List ℕ)
     → Walk

@@ -9,18 +9,18 @@ use crate::rules::Named;
 use rd_base::{Criterion, Starved, Text};
 use std::alloc::Global;
 
-/// What is asked for.
+/// What the options of a lookup ask for.
 #[derive(Drop)]
 pub(crate) struct Asked {
     /// The criteria, in their order.
     pub criteria: Vec<Criterion>,
-    /// Which page.
+    /// The page, from 0.
     pub page: Option<u32>,
-    /// How many lines a page has at most.
+    /// The most lines of a page.
     pub count: Option<u32>,
 }
 
-/// The number of a page or a count, where none was kept.
+/// Returns the number of a page or a count, unless an earlier one is stored.
 fn first_number(kept: Option<u32>, value: &str) -> Option<u32>
     ensures { result ≡ or_else kept (number_in value.now) }
 {
@@ -30,7 +30,7 @@ fn first_number(kept: Option<u32>, value: &str) -> Option<u32>
     }
 }
 
-/// The criterion of this name and pattern.
+/// Returns the criterion with this name and pattern.
 fn criterion_of(alloc: Global, named: &Named<'_>) -> Result<Criterion, Starved>
     ensures { IfOk result (λ criterion. criterion ≡ record
         { name = named.now.name.now; pattern = named.now.value.now }) }
@@ -41,7 +41,7 @@ fn criterion_of(alloc: Global, named: &Named<'_>) -> Result<Criterion, Starved>
 }
 
 impl Asked {
-    /// Nothing asked for.
+    /// Returns what no options ask for.
     pub fn nothing(alloc: Global) -> Asked
         ensures { wanted_in result ≡ nothing_wanted }
     {
@@ -52,7 +52,7 @@ impl Asked {
         }
     }
 
-    /// Keeps an option after these. Of a page and a count the first counts.
+    /// Adds an option after these. Of a page and a count, the first counts.
     #[tactic(auto, unfolding(crate::specs::AskedOptions::wanted_with))]
     pub fn keep(&mut self, alloc: Global, named: &Named<'_>) -> Result<(), Starved>
         ensures { OnOk result (wanted_in self.new ≡ wanted_with (wanted_in self.old)

@@ -1,4 +1,4 @@
-//! What a base is: a URI with a host, and no link-local one (RFC 9176 section 5, base).
+//! The checks of a base: a URI with a host, and no link-local one (RFC 9176 section 5, base).
 ghost use Rattle.std.specs.Prelude.{◌≡◌, ◌<◌, ◌∷◌, [], not, true, false, Some, option_map};
 ghost use Rattle.std.specs.Prelude.{MatchOption};
 ghost use Rattle.std.specs.List.{list_all};
@@ -13,7 +13,7 @@ ghost use Rattle.query_text.specs.Bases.{begins_link_local, base_fault};
 use crate::Why;
 use ref_resolve::{Parts, host, is_uri, parts};
 
-/// What stands before the first of these marks, or the whole text.
+/// Returns what precedes the first of these marks, or the whole text.
 fn before(text: &str, mark: char) -> &str
     requires { mark < 128 }
     ensures { result.now ≡ references.before mark text.now }
@@ -24,7 +24,7 @@ fn before(text: &str, mark: char) -> &str
     }
 }
 
-/// What stands after an opening bracket, where the text begins with it.
+/// Returns what follows an opening bracket, if the text begins with it.
 fn after_bracket(text: &str) -> Option<&str>
     ensures { MatchOption result (references.begins_with left_bracket text.now ≡ false)
         (λ rest. text.now ≡ left_bracket ∷ rest.now) }
@@ -32,7 +32,7 @@ fn after_bracket(text: &str) -> Option<&str>
     text.strip_prefix('[')
 }
 
-/// Whether a text has only hexadecimal digits.
+/// Returns whether a text has only hexadecimal digits.
 fn are_hex_digits(text: &str) -> bool
     ensures { result ≡ list_all is_ascii_hexdigit text.now }
 {
@@ -41,7 +41,7 @@ fn are_hex_digits(text: &str) -> bool
         .all(|octet| octet.is_ascii_hexdigit())
 }
 
-/// Whether the octets are `fe8`, `fe9`, `fea` or `feb`, in either case.
+/// Returns whether the octets are `fe8`, `fe9`, `fea` or `feb`, in either case.
 fn begins_link_local(front: &[u8]) -> bool
     ensures { result ≡ begins_link_local front.now }
 {
@@ -51,7 +51,7 @@ fn begins_link_local(front: &[u8]) -> bool
         || front.eq_ignore_ascii_case(b"feb")
 }
 
-/// Whether four hexadecimal digits begin a link-local address (RFC 4291 section 2.5.6).
+/// Returns whether four hexadecimal digits begin a link-local address (RFC 4291 section 2.5.6).
 fn is_link_local_group(group: &str) -> bool
     ensures { result ≡ parameters.is_link_local_group group.now }
 {
@@ -64,7 +64,7 @@ fn is_link_local_group(group: &str) -> bool
     begins_link_local(&group.as_bytes()[..3])
 }
 
-/// Whether a host is an IP literal of a link-local address.
+/// Returns whether a host is an IP literal of a link-local address.
 fn is_link_local_host(host: Option<&str>) -> bool
     ensures { result ≡ parameters.is_link_local_host (option_map (λ text. text.now) host.entry) }
 {
@@ -77,7 +77,7 @@ fn is_link_local_host(host: Option<&str>) -> bool
     }
 }
 
-/// Whether a host is there and not empty.
+/// Returns whether there is a host that is not empty.
 fn has_host(host: Option<&str>) -> bool
     ensures { result ≡ parameters.has_host (option_map (λ text. text.now) host.entry) }
 {
@@ -87,7 +87,8 @@ fn has_host(host: Option<&str>) -> bool
     }
 }
 
-/// Whether parts are those of a URI with an authority and a host, without query and fragment.
+/// Returns whether parts are those of a URI with an authority and a host, and without query and
+/// fragment.
 fn is_base_of(parts: &Parts<'_>) -> bool
     ensures { result ≡ parameters.is_base_of (Some (components_of parts.now)) }
 {
@@ -100,7 +101,7 @@ fn is_base_of(parts: &Parts<'_>) -> bool
     parts.query.is_none() && parts.fragment.is_none()
 }
 
-/// The parts of a text that is a URI-reference.
+/// Returns the parts of a text that is a URI-reference.
 fn reference(text: &str) -> Option<Parts<'_>>
     ensures { option_map (λ parts. components_of parts) result ≡ references.reference text.now }
 {
@@ -110,7 +111,7 @@ fn reference(text: &str) -> Option<Parts<'_>>
     }
 }
 
-/// What is wrong with a base by itself.
+/// Returns why a base is refused by itself, if it is.
 #[rattlefmt::skip]
 #[tactic(
     auto,

@@ -1,4 +1,4 @@
-//! The first fault of query options, and why they give no value.
+//! The first fault of query options, and the reason why they give no value.
 ghost use Rattle.std.specs.Prelude.{◌≡◌};
 ghost use Rattle.record_model.specs.Criteria.{fault_of};
 
@@ -6,17 +6,17 @@ use crate::walks::Walk;
 use crate::{Pieces, Reading, Why};
 use rd_base::Starved;
 
-/// Why query options give no value.
+/// The reason why query options give no value.
 #[derive(Clone, Copy, Debug, PartialEq, Eq)]
 pub enum QueryBad {
     /// An option is refused, or one is missing after the last.
     At {
-        /// The index of the option, from 0; of what is missing, the number of options.
+        /// The index of the option, from 0, or the number of options if one is missing.
         index: usize,
-        /// Why it is refused.
+        /// The reason for the refusal.
         why: Why,
     },
-    /// Out of memory.
+    /// Memory ran out.
     Starved,
 }
 
@@ -26,7 +26,7 @@ impl From<Starved> for QueryBad {
 
     ghost from_gives = { λ _ e. e ≡ bad.Starved };
 
-    /// Out of memory.
+    /// Returns the error for memory that ran out.
     fn from(_: Starved) -> QueryBad {
         QueryBad::Starved
     }
@@ -38,17 +38,19 @@ impl From<(usize, Why)> for QueryBad {
 
     ghost from_gives = { λ fault e. e ≡ bad.At fault.0 fault.1 };
 
-    /// A fault with its index.
+    /// Returns the error for a fault with its index.
     fn from(fault: (usize, Why)) -> QueryBad {
         let (index, why) = fault;
         QueryBad::At { index, why }
     }
 }
 
-/// The first fault of query options, with its index from 0, by what they are read as: that of
-/// [`reg_params`](crate::reg_params), [`update_params`](crate::update_params) and
-/// [`lookup_query`](crate::lookup_query). What is missing after the last option has the number of
-/// options as its index (RFC 9176 sections 5, 5.1, 5.3.1 and 6.2). Takes no memory.
+/// Returns the first fault of query options, with its index from 0 (RFC 9176 sections 5, 5.1, 5.3.1
+/// and 6.2). Does not allocate.
+///
+/// It is the fault that [`reg_params`](crate::reg_params), [`update_params`](crate::update_params)
+/// and [`lookup_query`](crate::lookup_query) find, by the kind of request that the options are read
+/// for. If an option is missing after the last, the index is the number of options.
 pub fn fault<'a, Q: Pieces<'a> + Drop>(kind: Reading, mut queries: Q) -> Option<(usize, Why)>
     ensures { result ≡ fault_of kind (Q.left queries) }
 {

@@ -18,7 +18,7 @@ pub(crate) struct Given {
     pub ep: Option<Text>,
     /// The value of `d`.
     pub sector: Option<Text>,
-    /// The lifetime.
+    /// The lifetime, in seconds.
     pub lifetime: Option<u32>,
     /// The base.
     pub base: Option<Text>,
@@ -26,7 +26,7 @@ pub(crate) struct Given {
     pub attributes: Vec<Pair>,
 }
 
-/// Keeps a value, where none was kept.
+/// Stores a value, unless an earlier one is stored.
 fn keep_first(alloc: Global, kept: &mut Option<Text>, value: &str) -> Result<(), Starved>
     ensures { OnOk result (kept.new ≡ or_else kept.old (Some value.now)) }
 {
@@ -36,7 +36,7 @@ fn keep_first(alloc: Global, kept: &mut Option<Text>, value: &str) -> Result<(),
     Ok(())
 }
 
-/// The attribute of this name and value.
+/// Returns the attribute with this name and value.
 fn pair_of(alloc: Global, named: &Named<'_>) -> Result<Pair, Starved>
     ensures { IfOk result (λ pair. pair ≡ record
         { name = named.now.name.now; value = named.now.value.now }) }
@@ -47,7 +47,7 @@ fn pair_of(alloc: Global, named: &Named<'_>) -> Result<Pair, Starved>
 }
 
 impl Given {
-    /// Nothing given.
+    /// Returns the parameters of no options.
     pub fn nothing(alloc: Global) -> Given
         ensures { values_in result ≡ nothing_given }
     {
@@ -60,7 +60,7 @@ impl Given {
         }
     }
 
-    /// Keeps a parameter after these. Of the names with a meaning of their own the first value
+    /// Adds a parameter after these. Of the names with a meaning of their own, the first value
     /// counts.
     #[tactic(auto, unfolding(crate::specs::GivenParameters::given_with))]
     pub fn keep(&mut self, alloc: Global, named: &Named<'_>) -> Result<(), Starved>
@@ -89,7 +89,7 @@ impl Given {
     }
 }
 
-/// What the parameters give, or their first fault.
+/// Returns what the parameters give, or their first fault.
 pub(crate) fn gathered<'a, Q: Pieces<'a> + Drop>(
     alloc: Global,
     kind: Reading,

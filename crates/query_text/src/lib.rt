@@ -1,5 +1,5 @@
-//! Query options: the parameters of registrations and updates and the criteria of lookups, read or
-//! refused (RFC 9176).
+//! Query options, read or refused: the parameters of registrations and updates, and the criteria of
+//! lookups (RFC 9176).
 #![tactic(auto)]
 
 mod asked_options;

@@ -1,4 +1,4 @@
-//! What a lookup asks for (RFC 9176 section 6.2).
+//! The queries of lookups (RFC 9176 section 6.2).
 ghost use Rattle.std.specs.Prelude.{◌≡◌};
 ghost use Rattle.record_model.specs.Criteria as criteria;
 ghost use Rattle.query_text.specs.Outcomes.{Answers, Asks};
@@ -10,7 +10,7 @@ use crate::{Pieces, QueryBad, Reading};
 use rd_base::{Criteria, Kind, Query};
 use std::alloc::Global;
 
-/// What the options ask for, or their first fault.
+/// Returns what the options ask for, or their first fault.
 fn all_asked<'a, Q: Pieces<'a> + Drop>(alloc: Global, mut queries: Q) -> Result<Asked, QueryBad>
     ensures { Asks (Q.left queries) result }
 {
@@ -22,7 +22,7 @@ fn all_asked<'a, Q: Pieces<'a> + Drop>(alloc: Global, mut queries: Q) -> Result<
     Ok(asked)
 }
 
-/// The query of that kind that asks for this. Takes no memory.
+/// Returns the query of that kind that asks for this. Does not allocate.
 fn query_of(kind: Kind, asked: Asked) -> Query
     ensures { result ≡ query_of kind (wanted_in asked) }
 {
@@ -34,13 +34,16 @@ fn query_of(kind: Kind, asked: Asked) -> Query
     }
 }
 
-/// What a lookup of that kind asks for: its criteria in their order, and which part of the listing
-/// (RFC 9176 section 6.2). An option without an equals sign has the empty pattern.
+/// Returns the query of a lookup of that kind: its criteria in their order, and its page and count
+/// (RFC 9176 section 6.2).
+///
+/// An option without an equals sign has the empty pattern.
 ///
 /// # Errors
 ///
-/// `At` exactly with the first fault, that of [`fault`](crate::fault): `Starved` may come in its
-/// place. A page without a count is found after the last option.
+/// - `At` with the first fault, that of [`fault`](crate::fault). A page without a count is found
+///   after the last option.
+/// - `Starved` if memory runs out, which can take the place of a fault.
 pub fn lookup_query<'a, Q: Pieces<'a> + Drop>(
     alloc: Global,
     kind: Kind,

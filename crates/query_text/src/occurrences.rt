@@ -1,26 +1,26 @@
-//! Which options occurred before another.
+//! Which options appeared before another.
 ghost use Rattle.std.specs.Prelude.{◌≡◌};
 ghost use Rattle.query_text.specs.Occurrences.{occurred_with, nothing_occurred};
 
-/// Which of the options that may stand once occurred before.
+/// Which of the options that may appear only once appeared before.
 #[derive(Clone, Copy)]
 pub(crate) struct Occurred {
-    /// Whether `ep` occurred there.
+    /// Whether `ep` appeared.
     pub ep: bool,
-    /// Whether `d` did.
+    /// Whether `d` appeared.
     pub sector: bool,
-    /// Whether `lt` did.
+    /// Whether `lt` appeared.
     pub lifetime: bool,
-    /// Whether `base` did.
+    /// Whether `base` appeared.
     pub base: bool,
-    /// Whether `page` did.
+    /// Whether `page` appeared.
     pub page: bool,
-    /// Whether `count` did.
+    /// Whether `count` appeared.
     pub count: bool,
 }
 
 impl Occurred {
-    /// None of them.
+    /// Returns the value for no options.
     pub fn nothing() -> Occurred
         ensures { result ≡ nothing_occurred }
     {
@@ -34,7 +34,7 @@ impl Occurred {
         }
     }
 
-    /// These, and an option of this name.
+    /// Returns these with an option of this name.
     pub fn with(self, name: &str) -> Occurred
         ensures { result ≡ occurred_with self name.now }
     {

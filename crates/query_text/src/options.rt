@@ -1,4 +1,4 @@
-//! What one query option says by itself: its name and value, and the tests of values.
+//! One query option by itself: its name and value, and the tests of values.
 ghost use Rattle.std.specs.Prelude.{◌≡◌, ◌≤◌, ◌&&◌, not, IfSome, unwrap_or, option_map};
 ghost use Rattle.std.specs.List.{list_all};
 ghost use Rattle.std.specs.Char.{is_ascii_digit};
@@ -10,7 +10,8 @@ ghost use Rattle.query_text.specs.Numbers.{number_in};
 
 use ref_resolve::{Parts, host, is_uri, parts};
 
-/// The name of an option and its value: what stands before its first equals sign and after it.
+/// Returns the name of an option and its value: what precedes its first equals sign, and what
+/// follows it.
 pub(crate) fn name_and_value(option: &str) -> (&str, &str)
     ensures name { result.0.now ≡ options.option_name option.now }
     ensures value { result.1.now ≡ options.option_value option.now }
@@ -21,7 +22,7 @@ pub(crate) fn name_and_value(option: &str) -> (&str, &str)
     }
 }
 
-/// Whether a text has a control character, U+0000 to U+001F or U+007F to U+009F.
+/// Returns whether a text has a control character, U+0000 to U+001F or U+007F to U+009F.
 #[tactic(auto, unfolding(record_model::specs::Parameters::has_control))]
 pub(crate) fn has_control(text: &str) -> bool
     ensures { result ≡ parameters.has_control text.now }
@@ -29,14 +30,14 @@ pub(crate) fn has_control(text: &str) -> bool
     text.chars().any(|c| c.is_control())
 }
 
-/// Whether a text has only digits.
+/// Returns whether a text has only digits.
 fn are_digits(text: &str) -> bool
     ensures { result ≡ list_all is_ascii_digit text.now }
 {
     text.as_bytes().iter().all(|octet| octet.is_ascii_digit())
 }
 
-/// The number of 32 bits that 1 to 10 decimal digits write.
+/// Returns the number of 32 bits that 1 to 10 decimal digits spell.
 pub(crate) fn number(text: &str) -> Option<u32>
     ensures { result ≡ number_in text.now }
 {
@@ -55,7 +56,7 @@ pub(crate) fn number(text: &str) -> Option<u32>
     }
 }
 
-/// Whether an octet may stand in the name of an attribute (RFC 8187 section 3.2.1).
+/// Returns whether an octet is a character of an attribute's name (RFC 8187 section 3.2.1).
 fn is_attribute_name_character(octet: u8) -> bool
     ensures { result ≡ characters.is_attribute_name_character octet }
 {
@@ -66,7 +67,7 @@ fn is_attribute_name_character(octet: u8) -> bool
         )
 }
 
-/// Whether all octets may stand in the name of an attribute.
+/// Returns whether all octets are characters of an attribute's name.
 fn are_attribute_name_characters(text: &str) -> bool
     ensures { result ≡ list_all characters.is_attribute_name_character text.now }
 {
@@ -75,14 +76,15 @@ fn are_attribute_name_characters(text: &str) -> bool
         .all(|octet| is_attribute_name_character(*octet))
 }
 
-/// Whether a name means something else in a lookup, and no attribute of an endpoint has it.
+/// Returns whether a name means something else in a lookup, so that no attribute of an endpoint has
+/// it.
 fn is_reserved_name(name: &str) -> bool
     ensures { result ≡ options.is_among parameters.reserved_names name.now }
 {
     name == "href" || name == "anchor" || name == "rt" || name == "page" || name == "count"
 }
 
-/// Whether an extra attribute may have the name.
+/// Returns whether an extra attribute may have the name.
 pub(crate) fn is_extra_name(name: &str) -> bool
     ensures { result ≡ parameters.is_extra_name name.now }
 {

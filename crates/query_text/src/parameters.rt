@@ -15,7 +15,7 @@ use std::alloc::Global;
 /// The lifetime of a registration that gives none, in seconds (RFC 9176 section 5).
 const DEFAULT_LIFETIME: u32 = 90_000;
 
-/// What the parameters of a registration are read as.
+/// Returns the kind of request that the parameters of a registration are read for.
 fn registering(simple: bool) -> Reading
     ensures kind { result ≡ registering simple }
     ensures no_lookup { is_lookup result ≡ false }
@@ -28,7 +28,7 @@ fn registering(simple: bool) -> Reading
     }
 }
 
-/// The parameters of a registration that give this. Takes no memory.
+/// Returns the parameters of a registration that give this. Does not allocate.
 fn registration_of(given: Given) -> RegParams
     ensures { result ≡ registration_of (values_in given) }
 {
@@ -50,7 +50,7 @@ fn registration_of(given: Given) -> RegParams
     }
 }
 
-/// The parameters of an update that give this. Takes no memory.
+/// Returns the parameters of an update that give this. Does not allocate.
 fn update_of(given: Given) -> UpdateParams
     ensures { result ≡ update_of (values_in given) }
 {
@@ -61,15 +61,18 @@ fn update_of(given: Given) -> UpdateParams
     }
 }
 
-/// The parameters of a registration (RFC 9176 section 5), or of a simple one (RFC 9176 section
-/// 5.1).
+/// Returns the parameters of a registration (RFC 9176 section 5), or of a simple one (RFC 9176
+/// section 5.1).
+///
+/// A registration may have these parameters (`AreAllowed`). Without a lifetime, it is 90,000
+/// seconds.
 ///
 /// # Errors
 ///
-/// `At` exactly with the first fault, that of [`fault`](crate::fault): `Starved` may come in its
-/// place. Of one parameter what is no UTF-8 comes first, then a control character in its value,
-/// then the rules of its name. An endpoint that is not named is found after the last parameter.
-/// What is answered with Ok is allowed to a registration.
+/// - `At` with the first fault, that of [`fault`](crate::fault). Of one parameter, the checks are
+///   whether it is UTF-8, then whether its value has a control character, then the rules of its
+///   name. A missing endpoint name is found after the last parameter.
+/// - `Starved` if memory runs out, which can take the place of a fault.
 pub fn reg_params<'a, Q: Pieces<'a> + Drop>(
     alloc: Global,
     queries: Q,
@@ -82,13 +85,15 @@ pub fn reg_params<'a, Q: Pieces<'a> + Drop>(
     Ok(registration_of(given))
 }
 
-/// The parameters of an update (RFC 9176 section 5.3.1).
+/// Returns the parameters of an update (RFC 9176 section 5.3.1).
+///
+/// An update may have these parameters (`IsAllowedChange`).
 ///
 /// # Errors
 ///
-/// `At` exactly with the first fault, that of [`fault`](crate::fault): `Starved` may come in its
-/// place. An update names no endpoint and no sector. What is answered with Ok is allowed to an
-/// update.
+/// - `At` with the first fault, that of [`fault`](crate::fault). An update names no endpoint and no
+///   sector.
+/// - `Starved` if memory runs out, which can take the place of a fault.
 pub fn update_params<'a, Q: Pieces<'a> + Drop>(
     alloc: Global,
     queries: Q,

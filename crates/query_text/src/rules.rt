@@ -1,4 +1,4 @@
-//! What one query option is refused for.
+//! The reasons why one query option is refused.
 ghost use Rattle.std.specs.Prelude.{◌≡◌, None, Some, MatchResult};
 ghost use Rattle.record_model.specs.Parameters as parameters;
 ghost use Rattle.record_model.specs.Options as options;
@@ -14,34 +14,34 @@ use std::str;
 /// An option with its name and its value.
 #[derive(Clone, Copy)]
 pub(crate) struct Named<'a> {
-    /// What stands before its first equals sign.
+    /// The text before the first equals sign.
     pub name: &'a str,
-    /// What stands after it.
+    /// The text after the first equals sign.
     pub value: &'a str,
 }
 
-/// Whether the parameters are those of an update.
+/// Returns whether the parameters are those of an update.
 fn is_update(kind: Reading) -> bool
     ensures { result ≡ parameters.is_update kind }
 {
     matches!(kind, Reading::Update)
 }
 
-/// Whether the parameters are those of a simple registration.
+/// Returns whether the parameters are those of a simple registration.
 fn is_simple(kind: Reading) -> bool
     ensures { result ≡ parameters.is_simple kind }
 {
     matches!(kind, Reading::Simple)
 }
 
-/// Whether the options are those of a lookup.
+/// Returns whether the options are those of a lookup.
 fn is_lookup(kind: Reading) -> bool
     ensures { result ≡ rules.is_lookup kind }
 {
     matches!(kind, Reading::Lookup)
 }
 
-/// The lifetime that a text writes, a number of seconds and not 0 (RFC 9176 section 5, lt).
+/// Returns the lifetime that a text spells, a number of seconds and not 0 (RFC 9176 section 5, lt).
 pub(crate) fn lifetime(text: &str) -> Option<u32>
     ensures { result ≡ lifetime_in text.now }
 {
@@ -54,7 +54,7 @@ pub(crate) fn lifetime(text: &str) -> Option<u32>
     Some(seconds)
 }
 
-/// What the name of an endpoint or a sector is refused for.
+/// Returns why the name of an endpoint or a sector is refused, if it is.
 fn name_fault(kind: Reading, occurred: bool, value: &str) -> Option<Why>
     ensures { result ≡ rules.name_fault kind occurred value.now }
 {
@@ -73,7 +73,7 @@ fn name_fault(kind: Reading, occurred: bool, value: &str) -> Option<Why>
     None
 }
 
-/// What a lifetime is refused for.
+/// Returns why a lifetime is refused, if it is.
 fn lifetime_fault(occurred: bool, value: &str) -> Option<Why>
     ensures { result ≡ rules.lifetime_fault occurred value.now }
 {
@@ -86,7 +86,7 @@ fn lifetime_fault(occurred: bool, value: &str) -> Option<Why>
     None
 }
 
-/// What a base is refused for.
+/// Returns why a base is refused, if it is.
 fn given_base_fault(kind: Reading, occurred: bool, value: &str) -> Option<Why>
     ensures { result ≡ rules.given_base_fault kind occurred value.now }
 {
@@ -99,7 +99,7 @@ fn given_base_fault(kind: Reading, occurred: bool, value: &str) -> Option<Why>
     base_fault(value)
 }
 
-/// What an extra attribute is refused for.
+/// Returns why an extra attribute is refused, if it is.
 fn extra_fault(name: &str) -> Option<Why>
     ensures { result ≡ rules.extra_fault name.now }
 {
@@ -109,7 +109,7 @@ fn extra_fault(name: &str) -> Option<Why>
     None
 }
 
-/// What a page or a count is refused for.
+/// Returns why a page or a count is refused, if it is.
 fn cut_fault(occurred: bool, value: &str) -> Option<Why>
     ensures { result ≡ rules.cut_fault occurred value.now }
 {
@@ -122,7 +122,7 @@ fn cut_fault(occurred: bool, value: &str) -> Option<Why>
     None
 }
 
-/// What a criterion is refused for.
+/// Returns why a criterion is refused, if it is.
 fn criterion_fault(name: &str) -> Option<Why>
     ensures { result ≡ rules.criterion_fault name.now }
 {
@@ -132,7 +132,7 @@ fn criterion_fault(name: &str) -> Option<Why>
     None
 }
 
-/// What a parameter is refused for by the rules of its name (RFC 9176 section 5).
+/// Returns why the rules of its name refuse a parameter, if they do (RFC 9176 section 5).
 #[tactic(auto, unfolding(crate::specs::Rules::parameter_rules))]
 fn parameter_rules(kind: Reading, occurred: &Occurred, name: &str, value: &str) -> Option<Why>
     ensures { result ≡ rules.parameter_rules kind occurred.now name.now value.now }
@@ -152,7 +152,8 @@ fn parameter_rules(kind: Reading, occurred: &Occurred, name: &str, value: &str) 
     extra_fault(name)
 }
 
-/// What an option of a lookup is refused for by the rules of its name (RFC 9176 section 6.2).
+/// Returns why the rules of its name refuse an option of a lookup, if they do (RFC 9176 section
+/// 6.2).
 #[tactic(auto, unfolding(crate::specs::Rules::option_rules))]
 fn option_rules(occurred: &Occurred, name: &str, value: &str) -> Option<Why>
     ensures { result ≡ rules.option_rules occurred.now name.now value.now }
@@ -166,7 +167,7 @@ fn option_rules(occurred: &Occurred, name: &str, value: &str) -> Option<Why>
     criterion_fault(name)
 }
 
-/// What an option is refused for by its characters and the rules of its name.
+/// Returns why its characters or the rules of its name refuse an option, if they do.
 #[tactic(auto, unfolding(crate::specs::Rules::named_fault))]
 fn named_fault(kind: Reading, occurred: &Occurred, name: &str, value: &str) -> Option<Why>
     ensures { result ≡ rules.named_fault kind occurred.now name.now value.now }
@@ -180,7 +181,7 @@ fn named_fault(kind: Reading, occurred: &Occurred, name: &str, value: &str) -> O
     parameter_rules(kind, occurred, name, value)
 }
 
-/// An option with its name and its value, or what it is refused for.
+/// Returns an option with its name and its value, or why it is refused.
 #[tactic(auto, unfolding(crate::specs::Rules::fault_after))]
 pub(crate) fn judged<'a>(
     kind: Reading,
@@ -202,7 +203,7 @@ pub(crate) fn judged<'a>(
     }
 }
 
-/// What is missing after the last option.
+/// Returns why an option is missing after the last, if one is.
 #[tactic(auto, unfolding(crate::specs::Rules::missing_after))]
 pub(crate) fn missing(kind: Reading, occurred: &Occurred) -> Option<Why>
     ensures { result ≡ rules.missing_after kind occurred.now }

@@ -1,4 +1,4 @@
-//! Options judged one after another.
+//! The walk over options, each judged by those before it.
 ghost use Rattle.std.specs.Prelude.{◌≡◌, ◌<◌, ◌+◌, ◌^◌, length, MatchResult, MatchOption};
 ghost use Rattle.query_text.specs.Walks.{start_of, Stepped};
 
@@ -9,16 +9,16 @@ use crate::{Pieces, Reading, Why};
 /// What is known of the options that were read.
 #[derive(Clone, Copy)]
 pub(crate) struct Walk {
-    /// What they are read as.
+    /// The kind of request that they are read for.
     pub kind: Reading,
-    /// Which of them may not come again.
+    /// Which of them may not appear again.
     pub occurred: Occurred,
-    /// How many they are.
+    /// The number of options that were read.
     pub index: usize,
 }
 
 impl Walk {
-    /// Before the first option.
+    /// Starts before the first option.
     pub fn start(kind: Reading) -> Walk
         ensures { result ≡ start_of kind }
     {
@@ -29,7 +29,7 @@ impl Walk {
         }
     }
 
-    /// Reads the next option, where one is left. An error is the first fault, with its index.
+    /// Reads the next option, if one is left. An error is the first fault, with its index.
     pub fn step<'a, Q: Pieces<'a>>(
         &mut self,
         queries: &mut Q,

@@ -1,6 +1,6 @@
--- the octets of a text, wherever they stand
+-- the octets of a text, wherever they lie
 pub mod Spelled
--- what a call on the outside may answer (this project's profile)
+-- what a call of an input or output may return (this project's profile)
 pub mod Outside
 -- peers as text (RFC 5952)
 pub mod Peers
@@ -12,7 +12,7 @@ pub mod Plans
 pub mod Firsts
 -- the line of a link, as it is listed and as it was submitted (RFC 6690 section 2, RFC 9176 6.4)
 pub mod LinkLines
--- parts of a text that grows, links by where their parts stand, what a builder of links holds,
+-- parts of a text that grows, links by the spans of their parts, what a builder of links holds,
 -- borrowed parts (this project's profile)
 pub mod Spans
 pub mod LinkTexts

@@ -6,15 +6,15 @@ use Rattle.rd_base.specs.declared.links_builder.LinkParts.{LinkParts}
 use Rattle.rd_base.specs.declared.link_reading.PairRef.{PairRef}
 use Rattle.rd_base.specs.declared.records.Item.{Item}
 
--- the attribute that is borrowed
+-- Returns the attribute that is borrowed.
 abbrev pub pair_seen : PairRef → Pair
 pair_seen p = record { name = p.name.now; value = p.value.now }
 
--- a text that may be there
+-- Returns a text that may exist.
 abbrev pub text_seen : Option (Bor (List ℕ)) → Option (List ℕ)
 text_seen o = option_map (λ text. text.now) o
 
--- the link with these parts and these attributes
+-- Returns the link with these parts and these attributes.
 abbrev pub link_made : LinkParts → List ℕ → List Pair → Item
 link_made p raw pairs = record {
   target_ref = p.target_ref.now;

@@ -1,4 +1,4 @@
-//! What stands after an address as it is printed (RFC 5952).
+//! What follows an address as it is printed (RFC 5952).
 ghost use Rattle.std.specs.Prelude.{◌≡◌, ◌+◌, ◌≤◌, ◌++◌, length, codes, flat_map, option_map};
 ghost use Rattle.std.specs.Net.Text.{hex, ipv4_text, ipv6_text, groups_text, hex_groups_text};
 ghost use Rattle.std.specs.Net.Text.{zero_run, longest_zero_run};
@@ -7,7 +7,7 @@ ghost use Rattle.rd_base.specs.Prefixes.{after_prefix};
 use crate::prefixes::{after_hex, after_number, after_prefix};
 use std::net::Ipv6Addr;
 
-/// What stands after an IPv4 address.
+/// Returns what follows an IPv4 address, if the text begins with it.
 #[tactic(auto, using(crate::proofs::PrefixLemmas::after_two))]
 pub fn after_ipv4(octets: [u8; 4], text: &[u8]) -> Option<&[u8]>
     ensures { option_map (λ t. t.now) result ≡ after_prefix (ipv4_text octets) text.now }
@@ -22,7 +22,7 @@ pub fn after_ipv4(octets: [u8; 4], text: &[u8]) -> Option<&[u8]>
     after_number(u16::from(d), rest)
 }
 
-/// What stands after groups with a colon before each.
+/// Returns what follows groups with a colon before each.
 #[rattlefmt::skip]
 #[tactic(
     auto,
@@ -40,7 +40,7 @@ fn after_further_groups<'a>(groups: &[u16], text: &'a [u8]) -> Option<&'a [u8]>
     after_further_groups(more, rest)
 }
 
-/// What stands after groups with colons between them.
+/// Returns what follows groups with colons between them.
 #[rattlefmt::skip]
 #[tactic(
     auto,
@@ -56,7 +56,7 @@ fn after_groups<'a>(groups: &[u16], text: &'a [u8]) -> Option<&'a [u8]>
     after_further_groups(more, rest)
 }
 
-/// How many zeros the groups begin with.
+/// Returns how many zeros the groups begin with.
 fn zeros_first(groups: &[u16]) -> usize
     ensures value { result ≡ zero_run groups.now }
     ensures within { result ≤ length groups.now }
@@ -70,7 +70,8 @@ fn zeros_first(groups: &[u16]) -> usize
     1 + zeros_first(more)
 }
 
-/// Where the longest run of zeros begins, and how long it is; of two such runs the first.
+/// Returns where the longest run of zeros begins, and how long it is. Of two such runs it is the
+/// first.
 fn longest_zeros(groups: &[u16]) -> (usize, usize)
     ensures value { result ≡ longest_zero_run groups.now }
     ensures within { result.0 + result.1 ≤ length groups.now }
@@ -86,7 +87,7 @@ fn longest_zeros(groups: &[u16]) -> (usize, usize)
     (start + 1, count)
 }
 
-/// What stands after groups, the longest run of zeros as two colons (RFC 5952 section 4.2).
+/// Returns what follows groups, the longest run of zeros as two colons (RFC 5952 section 4.2).
 #[rattlefmt::skip]
 #[tactic(
     auto,
@@ -105,7 +106,8 @@ fn after_hex_groups<'a>(groups: &[u16], text: &'a [u8]) -> Option<&'a [u8]>
     after_groups(&groups[start + count..], rest)
 }
 
-/// What stands after an IPv6 address, one that maps an IPv4 address with dots (RFC 5952 section 5).
+/// Returns what follows an IPv6 address, if the text begins with it. An address that maps an IPv4
+/// address has dots (RFC 5952 section 5).
 #[rattlefmt::skip]
 #[tactic(
     auto,

@@ -1,4 +1,4 @@
-//! The key of a request, which names uploads, kept answers and watched queries.
+//! The key of a request, which identifies uploads, kept answers and watched queries.
 ghost use Rattle.std.specs.Prelude.{◌≡◌, nat_eq};
 ghost use Rattle.std.proofs.Common.{rules};
 ghost use Rattle.std.specs.Cmp.Rules.{comparing, hashing};
@@ -26,14 +26,14 @@ impl Model for Key {
 }
 
 impl Key {
-    /// The key of these octets. Takes no memory.
+    /// Returns the key with these octets. Does not allocate.
     pub fn of(bytes: Bytes) -> Key
         ensures { result ≡ bytes }
     {
         Key { bytes }
     }
 
-    /// The octets of the key.
+    /// Returns the octets of the key.
     pub fn as_slice(&self) -> &[u8]
         ensures { result.now ≡ self.now }
     {

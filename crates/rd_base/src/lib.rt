@@ -1,5 +1,5 @@
-//! What every crate of the directory speaks of: moments, peers, owned texts and lists, records,
-//! queries, and the outside.
+//! The types that every crate of the directory uses: moments, peers, owned texts and lists,
+//! records, queries, inputs and outputs.
 #![tactic(auto)]
 
 mod addresses;

@@ -1,4 +1,4 @@
-//! Whether links are the same, part by part.
+//! Equality of links, part by part.
 ghost use Rattle.std.specs.Prelude.{◌≡◌, nat_eq};
 ghost use lib.Pointwise.{pointwise};
 ghost use Rattle.rd_base.specs.PairRefs.{pair_seen, text_seen};
@@ -7,7 +7,7 @@ use crate::link_reading::{Link, LinkPairs, Links, PairRef};
 use crate::shared_links::Items;
 use crate::{Item, Pair, Text};
 
-/// Whether two texts are the same, where they are there.
+/// Returns whether two texts are the same, or neither exists.
 fn same_text(one: Option<&str>, other: Option<&str>) -> bool
     ensures { result ≡ ⟦<Option<Text> as PartialEq>⟧.eq (text_seen one.entry)
         (text_seen other.entry) }
@@ -19,14 +19,14 @@ fn same_text(one: Option<&str>, other: Option<&str>) -> bool
     }
 }
 
-/// Whether two attributes are the same.
+/// Returns whether two attributes are the same.
 fn same_pair(one: &PairRef<'_>, other: &PairRef<'_>) -> bool
     ensures { result ≡ ⟦<Pair as PartialEq>⟧.eq (pair_seen one.now) (pair_seen other.now) }
 {
     one.name == other.name && one.value == other.value
 }
 
-/// Whether attributes are the same.
+/// Returns whether attributes are the same, in the same order.
 fn same_pairs(one: LinkPairs<'_>, other: LinkPairs<'_>) -> bool
     ensures { result ≡ pointwise ⟦<Pair as PartialEq>⟧.eq one.entry other.entry }
 {
@@ -43,7 +43,7 @@ fn same_pairs(one: LinkPairs<'_>, other: LinkPairs<'_>) -> bool
     others.is_empty()
 }
 
-/// Whether links are the same.
+/// Returns whether links are the same.
 fn same_link(one: &Link<'_>, other: &Link<'_>) -> bool
     ensures { result ≡ ⟦<Item as PartialEq>⟧.eq one.now other.now }
 {
@@ -55,7 +55,7 @@ fn same_link(one: &Link<'_>, other: &Link<'_>) -> bool
         && one.pairs() == other.pairs()
 }
 
-/// Whether all links are the same, in the same order.
+/// Returns whether all links are the same, in the same order.
 fn same_links(one: Links<'_>, other: Links<'_>) -> bool
     ensures { result ≡ pointwise ⟦<Item as PartialEq>⟧.eq one.entry other.entry }
 {

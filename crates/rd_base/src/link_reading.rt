@@ -1,4 +1,4 @@
-//! Links that are read where they stand: parts of the texts of all links.
+//! Links that are read in place: parts of the texts of all links.
 ghost use Rattle.std.specs.Prelude.{◌≡◌, ◌↔◌, ◌<◌, ◌^◌, ◌∷◌, [], length, slice_get, option_map};
 ghost use Rattle.std.specs.Prelude.{IsTrue, MatchOption};
 ghost use Rattle.rd_base.specs.LinkLines.{link_line};
@@ -10,7 +10,7 @@ use crate::link_texts::{LinkSpans, LinkTexts, PairSpans};
 use crate::spans::{Stretch, at, at_stretch};
 use std::marker::Model;
 
-/// An attribute that is borrowed.
+/// A borrowed attribute.
 #[derive(Clone, Copy, Debug)]
 pub struct PairRef<'a> {
     /// The name.
@@ -19,7 +19,7 @@ pub struct PairRef<'a> {
     pub value: &'a str,
 }
 
-/// Where a text begins in another one, where it stands there.
+/// Returns where a text begins in another one, or 0 if it is apart.
 fn begin(stretch: Stretch) -> usize {
     match stretch {
         Stretch::Here(span) => span.from as usize,
@@ -27,14 +27,14 @@ fn begin(stretch: Stretch) -> usize {
     }
 }
 
-/// The attributes that are left of a link, in order. A contract sees them as their list.
+/// An iterator over the remaining attributes of a link, in order. Contracts see it as their list.
 #[derive(Debug, Drop)]
 pub struct LinkPairs<'a> {
     /// The attributes of the link as they were written.
     raw: &'a str,
-    /// The values that stand apart.
+    /// The values that lie apart.
     apart: &'a str,
-    /// Where those that are left stand.
+    /// The spans of the remaining attributes.
     left: &'a [PairSpans],
 }
 
@@ -52,7 +52,7 @@ impl<'a> Model for LinkPairs<'a> {
 }
 
 impl<'a> LinkPairs<'a> {
-    /// How many are left.
+    /// Returns how many attributes are left.
     pub fn len(&self) -> usize
         ensures value { result ≡ length self.now }
         ensures counted { length self.now < 2 ^ 64 }
@@ -60,14 +60,14 @@ impl<'a> LinkPairs<'a> {
         self.left.len()
     }
 
-    /// Whether none is left.
+    /// Returns whether no attribute is left.
     pub fn is_empty(&self) -> bool
         ensures { IsTrue result ↔ (self.now ≡ []) }
     {
         self.left.is_empty()
     }
 
-    /// The same attributes.
+    /// Returns an iterator over the same attributes.
     pub fn again(&self) -> LinkPairs<'a>
         ensures { result ≡ self.now }
     {
@@ -78,8 +78,8 @@ impl<'a> LinkPairs<'a> {
         }
     }
 
-    /// Where the name and the value of the first begin in the attributes as they were written,
-    /// where they stand there.
+    /// Returns where the name and the value of the first attribute begin in the attributes as they
+    /// were written, or 0 for one that lies apart.
     pub(crate) fn places(&self) -> (usize, usize) {
         match self.left.first() {
             None => (0, 0),
@@ -107,12 +107,12 @@ impl<'a> Iterator for LinkPairs<'a> {
     }
 }
 
-/// A link that is read where it stands. A contract sees it as the link.
+/// A link that is read in place. Contracts see it as the link.
 #[derive(Debug, Drop)]
 pub struct Link<'a> {
     /// The texts of all links.
     texts: &'a LinkTexts,
-    /// Where its parts stand.
+    /// The spans of its parts.
     spans: &'a LinkSpans,
 }
 
@@ -127,7 +127,7 @@ impl<'a> Model for Link<'a> {
     ghost invariant = { λ l. HoldsIn l.texts.now l.spans.now };
 }
 
-/// The text at a stretch, where there is one.
+/// Returns the text at a stretch, if there is one.
 fn at_stretch_if_any<'a>(text: &'a str, apart: &'a str, stretch: Option<Stretch>) -> Option<&'a str>
     requires { IsStretchIfAny text.now apart.now stretch }
     ensures { text_seen result ≡ option_map (placed text.now apart.now) stretch }
@@ -139,14 +139,14 @@ fn at_stretch_if_any<'a>(text: &'a str, apart: &'a str, stretch: Option<Stretch>
 }
 
 impl<'a> Link<'a> {
-    /// The target as it was submitted.
+    /// Returns the target as it was submitted.
     pub fn target_ref(&self) -> &'a str
         ensures { result.now ≡ self.now.target_ref }
     {
         at(self.texts.source.as_str(), self.spans.submitted.target)
     }
 
-    /// The anchor as it was submitted.
+    /// Returns the anchor as it was submitted.
     pub fn anchor_ref(&self) -> Option<&'a str>
         ensures { text_seen result ≡ self.now.anchor_ref }
     {
@@ -158,14 +158,14 @@ impl<'a> Link<'a> {
         )
     }
 
-    /// The target, resolved against the base of the registration.
+    /// Returns the target, resolved against the base of the registration.
     pub fn target(&self) -> &'a str
         ensures { result.now ≡ self.now.target }
     {
         at(self.texts.listed.as_str(), self.spans.listed.target)
     }
 
-    /// The anchor, resolved against the base of the registration.
+    /// Returns the anchor, resolved against the base of the registration.
     pub fn anchor(&self) -> Option<&'a str>
         ensures { text_seen result ≡ self.now.anchor }
     {
@@ -173,21 +173,21 @@ impl<'a> Link<'a> {
         at_stretch_if_any(listed, self.texts.apart.as_str(), self.spans.listed.anchor)
     }
 
-    /// The attributes as they were written, each from its semicolon on, without anchors.
+    /// Returns the attributes as they were written, each from its semicolon on, without anchors.
     pub fn raw(&self) -> &'a str
         ensures { result.now ≡ self.now.raw }
     {
         at(self.texts.source.as_str(), self.spans.submitted.raw)
     }
 
-    /// The line of the link in a listing (RFC 9176 section 6.4).
+    /// Returns the line of the link in a listing (RFC 9176 section 6.4).
     pub fn line(&self) -> &'a str
         ensures { result.now ≡ link_line self.now }
     {
         at(self.texts.listed.as_str(), self.spans.listed.line)
     }
 
-    /// The attributes, without anchors, with their values.
+    /// Returns the attributes, without anchors, with their values.
     pub fn pairs(&self) -> LinkPairs<'a>
         ensures { result ≡ self.now.pairs }
     {
@@ -200,12 +200,12 @@ impl<'a> Link<'a> {
     }
 }
 
-/// The links that are left, in order. A contract sees them as their list.
+/// An iterator over the remaining links, in order. Contracts see it as their list.
 #[derive(Debug, Drop)]
 pub struct Links<'a> {
     /// The texts of all links.
     texts: &'a LinkTexts,
-    /// Where the parts of those that are left stand.
+    /// The spans of the remaining links.
     left: &'a [LinkSpans],
 }
 
@@ -222,7 +222,7 @@ impl<'a> Model for Links<'a> {
     ghost invariant = { λ l. All (HoldsIn l.texts.now) l.left.now };
 }
 
-/// The links of these texts.
+/// Returns the links of these texts.
 pub(crate) fn links_of_texts(texts: &LinkTexts) -> Links<'_>
     requires { AreLinks texts.now }
     ensures { result ≡ links_in texts.now }
@@ -234,7 +234,7 @@ pub(crate) fn links_of_texts(texts: &LinkTexts) -> Links<'_>
 }
 
 impl<'a> Links<'a> {
-    /// How many are left.
+    /// Returns how many links are left.
     pub fn len(&self) -> usize
         ensures value { result ≡ length self.now }
         ensures counted { length self.now < 2 ^ 64 }
@@ -242,14 +242,14 @@ impl<'a> Links<'a> {
         self.left.len()
     }
 
-    /// Whether none is left.
+    /// Returns whether no link is left.
     pub fn is_empty(&self) -> bool
         ensures { IsTrue result ↔ (self.now ≡ []) }
     {
         self.left.is_empty()
     }
 
-    /// The same links.
+    /// Returns an iterator over the same links.
     pub fn again(&self) -> Links<'a>
         ensures { result ≡ self.now }
     {
@@ -259,7 +259,7 @@ impl<'a> Links<'a> {
         }
     }
 
-    /// The first link and those after it, and None where there is none.
+    /// Returns the first link and those after it, or `None` if there is none.
     pub fn split_first(&self) -> Option<(Link<'a>, Links<'a>)>
         ensures { MatchOption result (self.now ≡ []) (λ parts. self.now ≡ parts.0 ∷ parts.1) }
     {
@@ -268,7 +268,7 @@ impl<'a> Links<'a> {
         Some((first, more))
     }
 
-    /// The link at an index, counted from 0.
+    /// Returns the link at an index, counted from 0, if there is one.
     pub fn get(&self, index: usize) -> Option<Link<'a>>
         ensures { result ≡ slice_get self.now index }
     {

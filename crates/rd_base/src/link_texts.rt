@@ -1,4 +1,4 @@
-//! The links of a registration in two texts, and where their parts stand.
+//! The links of a registration in two texts, and the spans of their parts.
 ghost use Rattle.std.specs.Prelude.{◌≡◌, ◌++◌, [], map, option_map, IfOk};
 ghost use Rattle.std.specs.String.{string_bytes};
 ghost use Rattle.rd_base.specs.LinkLines.{anchor_text, line_by};
@@ -8,7 +8,7 @@ ghost use Rattle.rd_base.specs.Spans.{IsPlacedIfAny, kept_apart_if_any};
 use crate::Starved;
 use crate::spans::{Span, Stretch, append, append_escaped, offset, push};
 
-/// Where the parts of a line stand.
+/// The spans of the parts of a line.
 #[derive(Clone, Copy, Debug, Drop)]
 pub(crate) struct LineSpans {
     /// The target, in the text of the line.
@@ -21,7 +21,7 @@ pub(crate) struct LineSpans {
     pub(crate) line: Span,
 }
 
-/// Where an attribute stands: in the attributes of its link as they were written, or apart.
+/// The stretches of an attribute: in the attributes of its link as they were written, or apart.
 #[derive(Clone, Copy, Debug, Drop)]
 pub(crate) struct PairSpans {
     /// The name.
@@ -30,7 +30,7 @@ pub(crate) struct PairSpans {
     pub(crate) value: Stretch,
 }
 
-/// Where the parts of a link stand.
+/// The spans of the parts of a link.
 #[derive(Clone, Copy, Debug, Drop)]
 pub(crate) struct LinkSpans {
     /// Its line as it was submitted, in the source text.
@@ -41,14 +41,14 @@ pub(crate) struct LinkSpans {
     pub(crate) pairs: Span,
 }
 
-/// The texts of links, and where the parts of each link stand in them.
+/// The texts of links, and the spans of the parts of each link.
 #[derive(Debug, Drop)]
 pub(crate) struct LinkTexts {
     /// The lines of the links as they were submitted, with commas between them.
     pub(crate) source: String,
     /// The lines of the links as a listing shows them, with commas between them.
     pub(crate) listed: String,
-    /// Values and anchors that stand with escapes in those lines, without escapes.
+    /// Values and anchors that have escapes in those lines, without escapes.
     pub(crate) apart: String,
     /// The attributes of all links.
     pub(crate) pairs: Vec<PairSpans>,
@@ -56,21 +56,20 @@ pub(crate) struct LinkTexts {
     pub(crate) links: Vec<LinkSpans>,
 }
 
-/// How much room the texts of links take.
+/// The room that the texts of links take.
 #[derive(Clone, Copy, Debug)]
 pub(crate) struct Room {
     /// The octets of the lines as they were submitted.
     pub(crate) submitted: usize,
     /// The octets of the lines of a listing.
     pub(crate) listed: usize,
-    /// How many attributes there are.
+    /// The number of attributes.
     pub(crate) pairs: usize,
-    /// How many links there are.
+    /// The number of links.
     pub(crate) links: usize,
 }
 
-/// Appends the anchor of a line, where there is one, and says where it stands. `Starved`: out of
-/// memory.
+/// Appends the anchor of a line, if there is one, and returns its stretch.
 fn append_anchor(
     text: &mut String,
     anchor: Option<&str>,
@@ -92,8 +91,11 @@ fn append_anchor(
     Ok(Some(stretch))
 }
 
-/// Appends the line of a link, and says where its parts stand. `Starved`: out of memory, or a text
-/// is longer than a `u32` counts.
+/// Appends the line of a link, and returns the spans of its parts.
+///
+/// # Errors
+///
+/// `Starved` if memory runs out, or if a text would have more octets than a `u32` counts.
 pub(crate) fn append_line(
     text: &mut String,
     target: &str,

@@ -1,4 +1,4 @@
-//! Links that are put together, one after the other.
+//! A builder of links, one after the other.
 ghost use Rattle.std.specs.Prelude.{◌≡◌, ◌++◌, ◌∷◌, [], IfOk, OnOk};
 ghost use Rattle.std.specs.String.{string_bytes};
 ghost use Rattle.rd_base.specs.Drafted.{drafted};
@@ -13,7 +13,7 @@ use crate::spans::{Span, offset, push, stretch_of};
 use std::alloc::Global;
 use std::marker::Model;
 
-/// The parts of a link, but for its attributes.
+/// The parts of a link except its attributes.
 #[derive(Clone, Copy, Debug)]
 pub struct LinkParts<'a> {
     /// The target as it was submitted.
@@ -26,16 +26,17 @@ pub struct LinkParts<'a> {
     pub anchor: Option<&'a str>,
 }
 
-/// Links that are put together, and the attributes of the next. Each call takes the builder and
-/// gives it back; where it is out of memory, or a text would be longer than a `u32` counts, the
-/// builder is gone.
+/// A builder of links, with the attributes of the next link.
+///
+/// Each call takes the builder and returns it. After `Starved`, the builder is gone: memory ran
+/// out, or a text would have more octets than a `u32` counts.
 #[derive(Debug, Drop)]
 pub struct LinksBuilder {
     /// The links.
     texts: LinkTexts,
     /// The attributes of the next link as they were written.
     raw: String,
-    /// How many attributes the links have.
+    /// The number of attributes that the links have.
     taken: u32,
 }
 
@@ -50,7 +51,7 @@ impl Model for LinksBuilder {
     ghost invariant = { λ b. IsDrafted b.texts (string_bytes b.raw) b.taken };
 }
 
-/// Appends a comma, unless there is no link yet. `Starved`: out of memory.
+/// Appends a comma, unless there is no link yet.
 #[inline(always)]
 fn separate(text: &mut String, links: &Vec<LinkSpans>) -> Result<(), Starved>
     ensures { OnOk result (string_bytes text.new ≡ string_bytes text.old
@@ -62,8 +63,8 @@ fn separate(text: &mut String, links: &Vec<LinkSpans>) -> Result<(), Starved>
     push(text, ",")
 }
 
-/// Where the value of an attribute is looked for that is written from `from` on: behind its name of
-/// so many octets, the equals sign, and the quote where there is one.
+/// Returns where the value of an attribute is expected that is written from `from` on. This is
+/// after its name of `name` octets, the equals sign, and the quote if there is one.
 #[inline(always)]
 fn value_from(raw: &str, from: usize, name: usize) -> usize {
     let from = from.saturating_add(name).saturating_add(2);
@@ -74,7 +75,7 @@ fn value_from(raw: &str, from: usize, name: usize) -> usize {
 }
 
 impl LinksBuilder {
-    /// No links. Takes no memory.
+    /// Creates a builder without links. Does not allocate.
     #[tactic(auto, unfolding(crate::specs::LinkLines::submitted, crate::specs::LinkLines::listed))]
     pub fn new(alloc: Global) -> LinksBuilder
         ensures { result ≡ drafted [] [] [] }
@@ -92,8 +93,12 @@ impl LinksBuilder {
         }
     }
 
-    /// No links, with room for so many octets in the text of what was submitted, and in that of the
-    /// lines of a listing. `Starved`: out of memory.
+    /// Creates a builder without links. It has room for `submitted` octets in the text of what was
+    /// submitted, and for `listed` octets in that of the lines of a listing.
+    ///
+    /// # Errors
+    ///
+    /// `Starved` if memory runs out.
     pub fn with_room(
         alloc: Global,
         submitted: usize,
@@ -111,7 +116,11 @@ impl LinksBuilder {
         Ok(builder)
     }
 
-    /// No links, with room for as many as these and their attributes. `Starved`: out of memory.
+    /// Creates a builder without links, with room for as many as these and their attributes.
+    ///
+    /// # Errors
+    ///
+    /// `Starved` if memory runs out.
     pub fn with_room_of(alloc: Global, items: &Items) -> Result<LinksBuilder, Starved>
         ensures { IfOk result (λ builder. builder ≡ drafted [] [] []) }
     {
@@ -120,7 +129,7 @@ impl LinksBuilder {
         Ok(builder)
     }
 
-    /// Makes room. `Starved`: out of memory, and the links are as before.
+    /// Makes room. The links do not change, even if memory runs out.
     fn reserve(&mut self, room: Room) -> Result<(), Starved>
         ensures { self.new ≡ self.old }
     {
@@ -131,7 +140,7 @@ impl LinksBuilder {
         Ok(())
     }
 
-    /// These links, where more is written of the attributes of the next.
+    /// Returns the builder with more of the written attributes of the next link.
     #[inline(always)]
     fn with_raw(self, raw: &str) -> Result<LinksBuilder, Starved>
         ensures { IfOk result (λ builder. builder ≡ drafted self.links (self.raw
@@ -150,8 +159,8 @@ impl LinksBuilder {
         })
     }
 
-    /// These links, where the next has one attribute more; its name and its value are looked for at
-    /// these octets of what is written of its attributes.
+    /// Returns the builder with one more attribute of the next link. Its name and its value are
+    /// expected at these octets of the written attributes.
     #[inline(always)]
     fn with_placed(
         self,
@@ -188,8 +197,12 @@ impl LinksBuilder {
         })
     }
 
-    /// These links, where the next has one attribute more: what was written of it, its name and its
-    /// value.
+    /// Adds an attribute to the next link: what was written of it, its name and its value.
+    ///
+    /// # Errors
+    ///
+    /// `Starved` if memory runs out, or if a text would have more octets than a `u32` counts. The
+    /// builder is then gone.
     #[inline(always)]
     pub fn with_pair(self, raw: &str, name: &str, value: &str) -> Result<LinksBuilder, Starved>
         ensures { IfOk result (λ builder. builder ≡ drafted self.links (self.raw
@@ -201,7 +214,12 @@ impl LinksBuilder {
         builder.with_placed(from.saturating_add(1), name, value_from, value)
     }
 
-    /// These links, where the next has the attributes of a link more.
+    /// Adds the attributes of a link to the next link.
+    ///
+    /// # Errors
+    ///
+    /// `Starved` if memory runs out, or if a text would have more octets than a `u32` counts. The
+    /// builder is then gone.
     pub fn with_pairs_of(self, link: &Link<'_>) -> Result<LinksBuilder, Starved>
         ensures { IfOk result (λ builder. builder ≡ drafted self.links (self.raw
             ++ link.now.raw) (self.pairs ++ link.now.pairs)) }
@@ -219,7 +237,12 @@ impl LinksBuilder {
         Ok(builder)
     }
 
-    /// These links and one more, with the attributes that wait for it.
+    /// Adds a link with these parts, and with the attributes that were added for it.
+    ///
+    /// # Errors
+    ///
+    /// `Starved` if memory runs out, or if a text would have more octets than a `u32` counts. The
+    /// builder is then gone.
     pub fn with_link(self, parts: &LinkParts<'_>) -> Result<LinksBuilder, Starved>
         ensures { IfOk result (λ builder. builder ≡ drafted (self.links
             ++ link_made parts.now self.raw self.pairs ∷ []) [] []) }
@@ -270,7 +293,11 @@ impl LinksBuilder {
         })
     }
 
-    /// The links. What waits for a next one is dropped.
+    /// Returns the links. Attributes that were added for a next link are dropped.
+    ///
+    /// # Errors
+    ///
+    /// `Starved` if memory runs out.
     pub fn build(self, alloc: Global) -> Result<Items, Starved>
         ensures { IfOk result (λ items. items ≡ self.links) }
     {

@@ -1,4 +1,4 @@
-//! Lists that are owned, seen by contracts as the list of their elements.
+//! Owned lists, which contracts see as the list of their elements.
 ghost use Rattle.std.specs.Prelude.{◌≡◌, ◌↔◌, ◌<◌, ◌^◌, [], ◌∷◌, ◌++◌, length};
 ghost use Rattle.std.specs.Prelude.{IsTrue, IfOk, OnOk, OnErr, IfSome, IfNone};
 ghost use Rattle.std.specs.List.{AllZip};
@@ -12,7 +12,7 @@ use std::alloc::{AllocError, Global};
 use std::hash::{Hash, Hasher};
 use std::marker::Model;
 
-/// A list that is owned. A contract sees it as the list of what its elements are.
+/// An owned list. Contracts see it as the list of what its elements are.
 #[derive(Debug, Drop)]
 pub struct List<T> {
     items: Vec<T>,
@@ -30,7 +30,7 @@ impl<T> Model for List<T> {
 }
 
 impl<T> List<T> {
-    /// An empty list. Takes no memory.
+    /// Creates an empty list. Does not allocate.
     pub fn new(alloc: Global) -> List<T>
         ensures { result ≡ [] }
     {
@@ -39,14 +39,14 @@ impl<T> List<T> {
         }
     }
 
-    /// These, in order. Takes no memory.
+    /// Returns the list of these elements, in order. Does not allocate.
     pub fn of(items: Vec<T>) -> List<T>
         ensures { result ≡ items.items }
     {
         List { items }
     }
 
-    /// How many there are.
+    /// Returns the number of elements.
     pub fn len(&self) -> usize
         ensures value { result ≡ length self.now }
         ensures counted { length self.now < 2 ^ 64 }
@@ -54,21 +54,21 @@ impl<T> List<T> {
         self.items.len()
     }
 
-    /// Whether there are none.
+    /// Returns whether there are no elements.
     pub fn is_empty(&self) -> bool
         ensures { IsTrue result ↔ (self.now ≡ []) }
     {
         self.items.is_empty()
     }
 
-    /// Those that are there, in order.
+    /// Returns the elements, in order.
     pub fn as_slice(&self) -> &[T]
         ensures { result.now ≡ self.now }
     {
         self.items.as_slice()
     }
 
-    /// Gives the vector back. Takes no memory.
+    /// Returns the vector of the elements. Does not allocate.
     pub fn into_vec(self) -> Vec<T>
         ensures { result.items ≡ self }
     {
@@ -76,7 +76,7 @@ impl<T> List<T> {
         items
     }
 
-    /// Moves out the first, if one is left.
+    /// Removes and returns the first element, if there is one.
     pub fn take_first(&mut self) -> Option<T>
         ensures some { IfSome result (λ first. self.old ≡ first ∷ self.new) }
         ensures none { IfNone result ((self.old ≡ []) × (self.new ≡ [])) }
@@ -89,7 +89,11 @@ impl<T> List<T> {
 }
 
 impl<T: Drop> List<T> {
-    /// Appends an element. `Starved`: out of memory, and the list is as before.
+    /// Appends an element.
+    ///
+    /// # Errors
+    ///
+    /// `Starved` if memory runs out. The list does not change.
     pub fn push(&mut self, item: T) -> Result<(), Starved>
         ensures ok { OnOk result (self.new ≡ self.old ++ item ∷ []) }
         ensures err { OnErr result (self.new ≡ self.old) }

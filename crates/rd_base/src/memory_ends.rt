@@ -1,4 +1,4 @@
-//! A source and a sink in memory, of which chosen calls fail.
+//! A source and a sink in memory, of which planned calls fail.
 ghost use Rattle.std.specs.Prelude.{◌≡◌, ◌↔◌, ◌-◌, ◌^◌, ◌<◌, ◌≤◌, true, Some, [], length, take};
 ghost use Rattle.std.specs.Prelude.{drop, min};
 ghost use Rattle.rd_base.specs.Outside.{IsWithinRoom, Gives, RunsDown, CountsRead, IsWithinPiece};
@@ -8,7 +8,7 @@ ghost use Rattle.rd_base.specs.Plans.{is_planned, Advanced};
 use crate::{Bytes, Got, Put, Sink, Source};
 use std::alloc::Global;
 
-/// Which calls fail: a counter of calls, and the numbers, from 0, of those that do.
+/// The calls that fail: a counter of calls, and the numbers, from 0, of those that fail.
 #[derive(Debug, Drop)]
 struct Plan {
     calls: u64,
@@ -16,14 +16,14 @@ struct Plan {
 }
 
 impl Plan {
-    /// A plan before the first call.
+    /// Creates a plan before the first call.
     fn of(fail: Bytes) -> Plan
         ensures { result ≡ record { calls = 0; fail = fail } }
     {
         Plan { calls: 0, fail }
     }
 
-    /// Counts a call: true where it is one of those that fail.
+    /// Counts a call, and returns whether it is one of those that fail.
     fn fails_now(&mut self) -> bool
         ensures value { result ≡ is_planned self.old }
         ensures advanced { Advanced self.old self.new }
@@ -34,8 +34,8 @@ impl Plan {
     }
 }
 
-/// Copies octets of `bytes` from offset `at` on to the beginning of `into`, as many as there are
-/// and fit.
+/// Copies octets of `bytes` from offset `at` on to the beginning of `into`, as many as exist and
+/// fit. Returns their number.
 pub(crate) fn copy_at(bytes: &[u8], at: usize, into: &mut [u8]) -> usize
     requires { at ≤ length bytes.now }
     ensures count { result ≡ min (length bytes.now - at) (length into.old) }
@@ -47,7 +47,7 @@ pub(crate) fn copy_at(bytes: &[u8], at: usize, into: &mut [u8]) -> usize
     n
 }
 
-/// Octets in memory as a source.
+/// A source of octets in memory.
 #[derive(Debug, Drop)]
 pub struct MemSource {
     bytes: Bytes,
@@ -58,8 +58,8 @@ pub struct MemSource {
 }
 
 impl MemSource {
-    /// A source that gives `bytes`. `fail` lists the numbers, from 0 and up to 255, of the calls
-    /// that fail.
+    /// Creates a source of `bytes`. `fail` lists the numbers, from 0 to 255, of the calls that
+    /// fail.
     pub fn of(bytes: Bytes, fail: Bytes) -> MemSource
         ensures told { ⟦<MemSource as Source>⟧.left result ≡ Some bytes }
         ensures planned { result.plan ≡ record { calls = 0; fail = fail } }
@@ -81,7 +81,7 @@ impl Source for MemSource {
 
     ghost turns = { λ s. length s.bytes - s.at };
 
-    /// Gives as many octets as are left and fit. The planned calls fail, and no others.
+    /// Reads as many octets as are left and fit. The planned calls fail, and no others.
     fn read(&mut self, into: &mut [u8]) -> Got
         ensures within { IsWithinRoom result (length into.old) }
         ensures bytes { Gives (Some (drop self.old.at self.old.bytes))
@@ -104,7 +104,7 @@ impl Source for MemSource {
     }
 }
 
-/// A sink that keeps what it takes.
+/// A sink that stores what it takes.
 #[derive(Debug, Drop)]
 pub struct MemSink {
     bytes: Bytes,
@@ -113,7 +113,7 @@ pub struct MemSink {
 }
 
 impl MemSink {
-    /// An empty sink. `fail` lists the numbers, from 0 and up to 255, of the calls that fail.
+    /// Creates an empty sink. `fail` lists the numbers, from 0 to 255, of the calls that fail.
     pub fn of(alloc: Global, fail: Bytes) -> MemSink
         ensures told { ⟦<MemSink as Sink>⟧.holds result ≡ Some [] }
         ensures planned { result.plan ≡ record { calls = 0; fail = fail } }
@@ -126,7 +126,7 @@ impl MemSink {
         }
     }
 
-    /// What was taken so far.
+    /// Returns the octets that were taken so far.
     pub fn as_slice(&self) -> &[u8]
         ensures { ⟦<MemSink as Sink>⟧.holds self.now ≡ Some result.now }
     {
@@ -139,7 +139,7 @@ impl Sink for MemSink {
 
     ghost faults = { λ s. s.faults };
 
-    /// Takes the whole piece. The planned calls fail, and so does a call that is out of memory.
+    /// Takes the whole piece. The planned calls fail, and so does a call for which memory runs out.
     fn write(&mut self, piece: &[u8]) -> Put
         ensures within { IsWithinPiece result (length piece.now) }
         ensures bytes { Takes (Some self.old.bytes) (Some self.new.bytes) result piece.now }

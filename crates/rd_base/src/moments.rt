@@ -1,12 +1,12 @@
 //! Moments, in milliseconds.
 ghost use Rattle.std.specs.Prelude.{◌≡◌, max};
 
-/// A moment in milliseconds. One that is handed in is at most 10^15.
+/// A moment in milliseconds. One that is passed in is at most 10^15.
 #[derive(Clone, Copy, Debug, PartialEq, Eq, PartialOrd, Ord, Hash)]
 pub struct Moment(pub u64);
 
 impl Moment {
-    /// The later of two moments.
+    /// Returns the later of two moments.
     pub fn later(self, other: Moment) -> Moment
         ensures { result.0 ≡ max other.0 self.0 }
     {

@@ -1,4 +1,4 @@
-//! Owned octets, seen by contracts as their list.
+//! Owned octets, which contracts see as their list.
 ghost use Rattle.std.specs.Prelude.{◌≡◌, ◌↔◌, ◌^◌, ◌<◌, [], ◌∷◌, ◌++◌, length, take, IsTrue, IfOk};
 ghost use Rattle.std.specs.Prelude.{OnOk, OnErr, nat_eq};
 ghost use Rattle.std.proofs.Common.{rules};
@@ -16,7 +16,7 @@ use std::cmp::Ordering;
 use std::hash::{Hash, Hasher};
 use std::marker::Model;
 
-/// Octets that are owned, such as a datagram or a body.
+/// Owned octets, such as a datagram or a body.
 #[derive(Debug, Drop)]
 pub struct Bytes {
     items: Vec<u8>,
@@ -31,14 +31,14 @@ impl Model for Bytes {
 }
 
 impl Bytes {
-    /// These octets. Takes no memory.
+    /// Returns these octets. Does not allocate.
     pub fn of(items: Vec<u8>) -> Bytes
         ensures { result ≡ items.items }
     {
         Bytes { items }
     }
 
-    /// No octets. Takes no memory.
+    /// Returns no octets. Does not allocate.
     pub fn new(alloc: Global) -> Bytes
         ensures { result ≡ [] }
     {
@@ -47,7 +47,11 @@ impl Bytes {
         }
     }
 
-    /// A copy of the octets of a slice. `Starved`: out of memory.
+    /// Returns a copy of the octets of a slice.
+    ///
+    /// # Errors
+    ///
+    /// `Starved` if memory runs out.
     pub fn copy_of(alloc: Global, slice: &[u8]) -> Result<Bytes, Starved>
         ensures { IfOk result (λ b. b ≡ slice.now) }
     {
@@ -55,7 +59,7 @@ impl Bytes {
         Ok(Bytes { items })
     }
 
-    /// The octets.
+    /// Returns the octets.
     pub fn as_slice(&self) -> &[u8]
         ensures value { result.now ≡ self.now }
         ensures counted { length self.now < 2 ^ 63 }
@@ -63,7 +67,7 @@ impl Bytes {
         self.items.as_slice()
     }
 
-    /// How many octets there are.
+    /// Returns the number of octets.
     pub fn len(&self) -> usize
         ensures value { result ≡ length self.now }
         ensures counted { length self.now < 2 ^ 63 }
@@ -71,14 +75,14 @@ impl Bytes {
         self.items.as_slice().len()
     }
 
-    /// Whether there are none.
+    /// Returns whether there are no octets.
     pub fn is_empty(&self) -> bool
         ensures { IsTrue result ↔ (self.now ≡ []) }
     {
         self.items.is_empty()
     }
 
-    /// Gives the vector back. Takes no memory.
+    /// Returns the vector of the octets. Does not allocate.
     pub fn into_vec(self) -> Vec<u8>
         ensures { result.items ≡ self }
     {
@@ -86,14 +90,18 @@ impl Bytes {
         items
     }
 
-    /// Keeps the first `len` octets, if there are more.
+    /// Removes all octets after the first `len`.
     pub fn truncate(&mut self, len: usize)
         ensures { self.new ≡ take len self.old }
     {
         self.items.truncate(len);
     }
 
-    /// Appends an octet. `Starved`: out of memory, and the octets are as before.
+    /// Appends an octet.
+    ///
+    /// # Errors
+    ///
+    /// `Starved` if memory runs out. The octets do not change.
     pub fn push(&mut self, octet: u8) -> Result<(), Starved>
         ensures ok { OnOk result (self.new ≡ self.old ++ octet ∷ []) }
         ensures err { OnErr result (self.new ≡ self.old) }
@@ -102,7 +110,11 @@ impl Bytes {
         Ok(())
     }
 
-    /// Appends the octets of a slice. `Starved`: out of memory, and the octets are as before.
+    /// Appends the octets of a slice.
+    ///
+    /// # Errors
+    ///
+    /// `Starved` if memory runs out. The octets do not change.
     pub fn append(&mut self, slice: &[u8]) -> Result<(), Starved>
         ensures ok { OnOk result (self.new ≡ self.old ++ slice.now) }
         ensures err { OnErr result (self.new ≡ self.old) }

@@ -1,27 +1,28 @@
-//! The outside: where octets come from and go to.
-ghost use Rattle.std.specs.Prelude.{ℕ, List, Option, true, false, length, take, ◌≡◌, ◌<◌, ◌^◌, IfSome};
+//! Inputs and outputs of octets.
+ghost use Rattle.std.specs.Prelude.{ℕ, List, Option, true, false, length, take, ◌≡◌, ◌<◌, ◌^◌};
+ghost use Rattle.std.specs.Prelude.{IfSome};
 ghost use Rattle.std.specs.Io.KnownBytes.{Appends};
 ghost use Rattle.rd_base.specs.Outside.{IsWithinRoom, Gives, RunsDown, CountsRead, IsWithinPiece};
 ghost use Rattle.rd_base.specs.Outside.{Takes, CountsWritten, CountsAll};
 
-/// What a call of `Source::read` gave.
+/// The result of a call of [`Source::read`].
 #[derive(Clone, Copy, Debug, PartialEq, Eq)]
 pub enum Got {
-    /// So many octets came. None into a piece that is not empty is the end of the input.
+    /// This many octets arrived. 0 for a buffer that is not empty means the end of the input.
     Bytes(usize),
-    /// The reading failed, and the source has counted it.
+    /// The read failed, and the source has counted it.
     Failed,
 }
 
-/// Where octets come from.
+/// An input of octets.
 pub trait Source {
-    /// The octets that are left, where they are known; then they are fewer than 2^64.
+    /// The octets that are left, if contracts see them; then they are fewer than 2^64.
     ghost left: { Self → Option (List ℕ) };
 
-    /// How many calls failed so far. It never falls, and stands at the last value of 64 bits.
+    /// The number of calls that failed so far. It never falls, and stops at 2^64 - 1.
     ghost faults: { Self → ℕ };
 
-    /// At most how many calls will still give octets.
+    /// The most calls that will still return octets.
     ghost turns: { Self → ℕ };
 
     /// Reads octets to the beginning of `into`.
@@ -33,21 +34,21 @@ pub trait Source {
         ensures cause { CountsRead (faults self.old) (faults self.new) result };
 }
 
-/// What a call of `Sink::write` did.
+/// The result of a call of [`Sink::write`].
 #[derive(Clone, Copy, Debug, PartialEq, Eq)]
 pub enum Put {
-    /// So many octets were taken, at least one of a piece that is not empty.
+    /// This many octets were taken, at least one of a piece that is not empty.
     Took(usize),
-    /// The writing failed, and the sink has counted it. Nothing was taken.
+    /// The write failed, and the sink has counted it. Nothing was taken.
     Failed,
 }
 
-/// Where octets go to.
+/// An output of octets.
 pub trait Sink {
-    /// The octets that were taken so far, where they are known.
+    /// The octets that were taken so far, if contracts see them.
     ghost holds: { Self → Option (List ℕ) };
 
-    /// How many calls failed so far. It never falls, and stands at the last value of 64 bits.
+    /// The number of calls that failed so far. It never falls, and stops at 2^64 - 1.
     ghost faults: { Self → ℕ };
 
     /// Takes octets from the beginning of `piece`.
@@ -57,8 +58,9 @@ pub trait Sink {
         ensures cause { CountsWritten (faults self.old) (faults self.new) result };
 }
 
-/// Writes all of some octets, in as many pieces as the sink takes them. False where a writing
-/// failed; then the sink took a front of them, and not all.
+/// Writes all octets, in as many pieces as the sink takes them. Returns whether no write failed.
+///
+/// After a failed write, the sink has taken a proper prefix of the octets.
 pub fn write_all<K: Sink>(out: &mut K, octets: &[u8]) -> bool
     ensures all { result ≡ true → Appends (K.holds out.old) (K.holds out.new) octets.now }
     ensures front { (n : ℕ) × Appends (K.holds out.old) (K.holds out.new) (take n octets.now) }

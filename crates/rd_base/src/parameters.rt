@@ -11,7 +11,7 @@ pub struct RegParams {
     pub name: Name,
     /// The lifetime `lt` in seconds.
     pub lt: u32,
-    /// The base, where it is given.
+    /// The base, if it is given.
     pub base: Option<Text>,
     /// The extra attributes, in their order.
     pub attrs: Pairs,
@@ -36,9 +36,9 @@ impl Clone for RegParams {
 /// The parameters of an update (RFC 9176 section 5.3.1).
 #[derive(Debug, PartialEq, Eq, Drop)]
 pub struct UpdateParams {
-    /// The lifetime `lt` in seconds, where it is given.
+    /// The lifetime `lt` in seconds, if it is given.
     pub lt: Option<u32>,
-    /// The base, where it is given.
+    /// The base, if it is given.
     pub base: Option<Text>,
     /// The extra attributes, in their order.
     pub attrs: Pairs,

@@ -1,4 +1,4 @@
-//! How a peer is written: its one text is printed, and read (RFC 5952 sections 4 to 6).
+//! The one text of a peer, printed and read (RFC 5952 sections 4 to 6).
 ghost use Rattle.std.specs.Prelude.{◌≡◌, ◌↔◌, Ok, option_map, IfOk, ok_or, bytes_eq, decimal};
 ghost use Rattle.std.specs.String.{string_bytes};
 ghost use Rattle.rd_base.specs.Peers as peers;
@@ -12,11 +12,11 @@ use crate::{Host, Peer, Starved, Text};
 use std::alloc::Global;
 use std::net::{Ipv4Addr, Ipv6Addr, SocketAddr, SocketAddrV4, SocketAddrV6};
 
-/// A text that prints no peer.
+/// The error of a text that prints no peer.
 #[derive(Clone, Copy, Debug, PartialEq, Eq)]
 pub struct PeerBad;
 
-/// The socket address of a peer, with no flow information and no zone.
+/// Returns the socket address of a peer, with no flow information and no zone.
 fn socket_of(peer: &Peer) -> SocketAddr
     ensures { result ≡ peers.socket_of peer.now.host peer.now.port }
 {
@@ -28,8 +28,12 @@ fn socket_of(peer: &Peer) -> SocketAddr
     }
 }
 
-/// A peer as text, as 192.0.2.1:5683 or [2001:db8::1]:61616. An IPv6 address is dotted where it
-/// maps an IPv4 address. `Starved`: out of memory.
+/// Returns a peer as text, as 192.0.2.1:5683 or [2001:db8::1]:61616 (RFC 5952). An IPv6 address has
+/// dots if it maps an IPv4 address.
+///
+/// # Errors
+///
+/// `Starved` if memory runs out.
 #[tactic(auto, unfolding(crate::specs::Peers::peer_text))]
 pub fn peer_text(alloc: Global, peer: &Peer) -> Result<Text, Starved>
     ensures { IfOk result (λ text. text ≡ peers.peer_text peer.now) }
@@ -38,7 +42,7 @@ pub fn peer_text(alloc: Global, peer: &Peer) -> Result<Text, Starved>
     Ok(Text::of(text))
 }
 
-/// The peer that a text names in any spelling that the standard library takes.
+/// Returns the peer that a text names in any spelling that the standard library accepts.
 #[tactic(auto, unfolding(crate::specs::Peers::named_peer))]
 fn named_peer(text: &[u8]) -> Option<Peer>
     ensures { result ≡ peers.named_peer text.now }
@@ -58,7 +62,7 @@ fn named_peer(text: &[u8]) -> Option<Peer>
     None
 }
 
-/// What stands after an address as a host, an IPv6 address in brackets.
+/// Returns what follows an address as a host, an IPv6 address in brackets.
 #[tactic(auto, using(crate::proofs::PrefixLemmas::after_two))]
 fn after_host(host: Host, text: &[u8]) -> Option<&[u8]>
     ensures { option_map (λ t. t.now) result ≡ after_prefix (bases.host_text host) text.now }
@@ -73,7 +77,7 @@ fn after_host(host: Host, text: &[u8]) -> Option<&[u8]>
     }
 }
 
-/// What stands after a peer.
+/// Returns what follows a peer.
 fn after_peer<'a>(peer: &Peer, text: &'a [u8]) -> Option<&'a [u8]>
     ensures { option_map (λ t. t.now) result ≡ after_prefix (peers.peer_text peer.now) text.now }
 {
@@ -82,7 +86,7 @@ fn after_peer<'a>(peer: &Peer, text: &'a [u8]) -> Option<&'a [u8]>
     after_number(peer.port, rest)
 }
 
-/// Whether a text is that of a peer.
+/// Returns whether a text is that of a peer.
 fn is_printed(text: &[u8], peer: &Peer) -> bool
     ensures { result ≡ bytes_eq text.now (peers.peer_text peer.now) }
 {
@@ -92,9 +96,11 @@ fn is_printed(text: &[u8], peer: &Peer) -> bool
     }
 }
 
-/// The peer that a text prints, for a port of 1 to 65,535. Takes no memory.
-/// `PeerBad` comes exactly where the text is not what [`peer_text`] prints for any peer with such a
-/// port.
+/// Returns the peer that a text prints, for a port of 1 to 65,535. Does not allocate.
+///
+/// # Errors
+///
+/// `PeerBad` if the text is not what [`peer_text`] prints for any peer with such a port.
 pub fn peer_read(text: &str) -> Result<Peer, PeerBad>
     ensures value { result ≡ ok_or (peers.peer_of text.now) (record {}) }
     ensures printed { (peer : Peer) → (result ≡ Ok peer) ↔ peers.IsPeerText text.now peer }
@@ -102,7 +108,11 @@ pub fn peer_read(text: &str) -> Result<Peer, PeerBad>
     peer_read_ascii(text.as_bytes())
 }
 
-/// As [`peer_read`], of octets.
+/// Returns the peer that octets print, as [`peer_read`] does for a text.
+///
+/// # Errors
+///
+/// `PeerBad` as of [`peer_read`].
 #[tactic(auto, unfolding(crate::specs::Peers::peer_of))]
 pub fn peer_read_ascii(text: &[u8]) -> Result<Peer, PeerBad>
     ensures value { result ≡ ok_or (peers.peer_of text.now) (record {}) }
@@ -119,7 +129,7 @@ pub fn peer_read_ascii(text: &[u8]) -> Result<Peer, PeerBad>
     Ok(peer)
 }
 
-/// An address as a host, an IPv6 address in brackets (RFC 3986 section 3.2.2).
+/// Returns an address as a host, an IPv6 address in brackets (RFC 3986 section 3.2.2).
 fn host_text(alloc: Global, host: Host) -> Result<String, Starved>
     ensures text { IfOk result (λ text. string_bytes text ≡ bases.host_text host) }
     ensures fits { peers.IsHost host }
@@ -139,7 +149,7 @@ fn host_text(alloc: Global, host: Host) -> Result<String, Starved>
 /// The port of CoAP (RFC 7252 section 6.1).
 const COAP_PORT: u16 = 5683;
 
-/// A colon and a port, or nothing for the port of CoAP.
+/// Returns a colon and a port, or nothing for the port of CoAP.
 fn port_text(alloc: Global, port: u16) -> Result<String, Starved>
     ensures { IfOk result (λ text. string_bytes text ≡ bases.port_text port) }
 {
@@ -149,8 +159,12 @@ fn port_text(alloc: Global, port: u16) -> Result<String, Starved>
     Ok(format!(in alloc; ":{port}")?)
 }
 
-/// The base of what a peer registers without giving one (RFC 9176 section 5): `coap://` and its
-/// address, and its port where that is not 5683. `Starved`: out of memory.
+/// Returns the base of a registration that gives none (RFC 9176 section 5): `coap://`, the peer's
+/// address, and its port if that is not 5683.
+///
+/// # Errors
+///
+/// `Starved` if memory runs out.
 #[tactic(auto, unfolding(crate::specs::Bases::base_of))]
 pub fn base_of(alloc: Global, peer: &Peer) -> Result<Text, Starved>
     ensures text { IfOk result (λ text. text ≡ bases.base_of peer.now) }

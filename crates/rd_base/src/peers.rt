@@ -1,6 +1,6 @@
-//! Where a datagram comes from and goes to.
+//! The peers that send and receive datagrams.
 
-/// An address of the Internet Protocol. IPv4 stands before IPv6 in the order.
+/// An address of the Internet Protocol. In the order, IPv4 precedes IPv6.
 #[derive(Clone, Copy, Debug, PartialEq, Eq, PartialOrd, Ord, Hash)]
 pub enum Host {
     /// The four octets of an IPv4 address.

@@ -1,4 +1,4 @@
-//! What stands after the prefix of a text.
+//! What follows the prefix of a text.
 ghost use Rattle.std.specs.Prelude.{◌≡◌, ◌<◌, option_map, decimal};
 ghost use Rattle.std.specs.Char.{digit_char};
 ghost use Rattle.std.specs.Net.Text.{hex, leading_zero_digits};
@@ -6,7 +6,7 @@ ghost use Rattle.rd_base.specs.Prefixes.{after_prefix};
 
 use itoa::Buffer;
 
-/// What stands after a prefix, where the text begins with it.
+/// Returns what follows a prefix, if the text begins with it.
 #[rattlefmt::skip]
 #[tactic(
     auto,
@@ -18,7 +18,7 @@ pub fn after_prefix<'a>(prefix: &[u8], text: &'a [u8]) -> Option<&'a [u8]>
     text.strip_prefix(prefix)
 }
 
-/// What stands after a number in decimal.
+/// Returns what follows a number in decimal, if the text begins with it.
 pub fn after_number(n: u16, text: &[u8]) -> Option<&[u8]>
     ensures { option_map (λ t. t.now) result ≡ after_prefix (decimal n) text.now }
 {
@@ -26,7 +26,7 @@ pub fn after_number(n: u16, text: &[u8]) -> Option<&[u8]>
     after_prefix(buffer.format(n).as_bytes(), text)
 }
 
-/// The hexadecimal digit of a number below 16, in lower case.
+/// Returns the hexadecimal digit of a number below 16, in lower case.
 fn hex_digit(n: u16) -> u8
     requires { n < 16 }
     ensures { result ≡ digit_char n }
@@ -38,7 +38,8 @@ fn hex_digit(n: u16) -> u8
     }
 }
 
-/// How many of the four hexadecimal digits of a number are leading zeros, the last digit apart.
+/// Returns how many of the four hexadecimal digits of a number are leading zeros. The last digit
+/// never counts.
 fn leading_zeros(n: u16) -> usize
     ensures value { result ≡ leading_zero_digits n }
     ensures within { result < 4 }
@@ -55,7 +56,8 @@ fn leading_zeros(n: u16) -> usize
     3
 }
 
-/// What stands after a number in hexadecimal digits of lower case, without leading zeros.
+/// Returns what follows a number in lower-case hexadecimal digits without leading zeros, if the
+/// text begins with it.
 #[tactic(auto, unfolding(std::specs::Net::Text::hex))]
 pub fn after_hex(n: u16, text: &[u8]) -> Option<&[u8]>
     ensures { option_map (λ t. t.now) result ≡ after_prefix (hex n) text.now }

@@ -1,4 +1,4 @@
-//! What a lookup asks for (RFC 9176 section 6).
+//! The queries of lookups (RFC 9176 section 6).
 ghost use Rattle.std.specs.Prelude.{◌≡◌};
 ghost use lib.Pointwise.{pointwise};
 ghost use Rattle.std.proofs.Common.{rules};
@@ -7,7 +7,7 @@ ghost use Rattle.std.specs.Cmp.Rules.{comparing, hashing};
 use crate::{List, Text};
 use std::alloc::AllocError;
 
-/// What is looked up.
+/// The kind of a lookup.
 #[derive(Clone, Copy, Debug, PartialEq, Eq, Hash)]
 pub enum Kind {
     /// Links (RFC 9176 section 6, resource lookup).
@@ -40,16 +40,16 @@ impl Clone for Criterion {
 /// Criteria, in their order.
 pub type Criteria = List<Criterion>;
 
-/// What a lookup asks for.
+/// The query of a lookup.
 #[derive(Debug, PartialEq, Eq, Hash, Drop)]
 pub struct Query {
-    /// What is looked up.
+    /// The kind of the lookup.
     pub kind: Kind,
-    /// Each has to be met.
+    /// The criteria, each of which has to be met.
     pub criteria: Criteria,
-    /// Which page, counted from 0.
+    /// The page, counted from 0.
     pub page: Option<u32>,
-    /// At most how many lines a page has.
+    /// The most lines of a page.
     pub count: Option<u32>,
 }
 

@@ -8,12 +8,12 @@ ghost use Rattle.std.specs.Cmp.Rules.{comparing};
 use crate::{Items, Moment, Pairs, Text};
 use std::alloc::AllocError;
 
-/// The name of an endpoint: no two live registrations have the same.
+/// The name of an endpoint. No two live registrations have the same name.
 #[derive(Debug, PartialEq, Eq, PartialOrd, Ord, Hash, Drop)]
 pub struct Name {
     /// The endpoint name (RFC 9176 section 5, `ep`).
     pub ep: Text,
-    /// The sector (RFC 9176 section 5, `d`). None differs from every sector.
+    /// The sector (RFC 9176 section 5, `d`). No sector differs from every sector.
     pub sector: Option<Text>,
 }
 
@@ -27,8 +27,8 @@ impl Clone for Name {
     }
 }
 
-/// A link of a registration, part by part: what contracts say of the links that lie in
-/// [`Items`](crate::Items).
+/// A link of a registration, part by part. Contracts describe the links in [`Items`](crate::Items)
+/// by it.
 #[derive(Debug, PartialEq, Eq, Drop)]
 pub struct Item {
     /// The target as it was submitted.
@@ -45,16 +45,16 @@ pub struct Item {
     pub pairs: Pairs,
 }
 
-/// A registration as the directory has it.
+/// A registration as the directory stores it.
 #[derive(Debug, PartialEq, Eq, Drop)]
 pub struct Record {
-    /// The number in its location `/rd/<number>`, never used again.
+    /// The number in its location `/rd/<number>`, which is never used again.
     pub number: u64,
     /// The name of the endpoint.
     pub name: Name,
     /// The lifetime in seconds.
     pub lt: u32,
-    /// When the lease began.
+    /// The moment at which the lease began.
     pub granted: Moment,
     /// The base against which references are resolved.
     pub base: Text,
@@ -67,7 +67,11 @@ pub struct Record {
 }
 
 impl Record {
-    /// The moment at which the lease lapses: `granted` and `lt` seconds more.
+    /// Returns the moment at which the lease lapses: `lt` seconds after `granted`.
+    ///
+    /// # Requires
+    ///
+    /// `granted` is at most 10^15 milliseconds.
     pub fn lapse(&self) -> Moment
         requires { self.now.granted.0 ≤ 10 ^ 15 }
         ensures { result.0 ≡ self.now.granted.0 + 1000 * self.now.lt }

@@ -1,4 +1,4 @@
-//! The links of a registration in one piece of memory that is shared.
+//! The links of a registration in one shared piece of memory.
 ghost use Rattle.std.specs.Prelude.{◌≡◌, ◌↔◌, ◌<◌, ◌^◌, [], length, IsTrue, IfOk};
 ghost use Rattle.rd_base.specs.LinkLines.{listed, submitted};
 ghost use Rattle.rd_base.specs.LinkTexts.{AreLinks, links_in};
@@ -12,8 +12,8 @@ use std::alloc::Global;
 use std::marker::Model;
 use std::sync::Arc;
 
-/// The links of a registration, in the order of the body, in one piece of memory that is shared. A
-/// contract sees them as their list.
+/// The links of a registration, in the order of the body, in one shared piece of memory. Contracts
+/// see them as their list.
 #[derive(Debug, Drop)]
 pub struct Items {
     texts: Arc<LinkTexts>,
@@ -34,7 +34,7 @@ impl Model for Items {
 }
 
 impl Items {
-    /// The links of these texts. `Starved`: out of memory.
+    /// Returns the links of these texts.
     pub(crate) fn of_texts(alloc: Global, texts: LinkTexts) -> Result<Items, Starved>
         requires { AreLinks texts }
         ensures { IfOk result (λ items. items ≡ links_in texts) }
@@ -43,14 +43,22 @@ impl Items {
         Ok(Items { texts })
     }
 
-    /// No links. `Starved`: out of memory.
+    /// Returns no links.
+    ///
+    /// # Errors
+    ///
+    /// `Starved` if memory runs out.
     pub fn none(alloc: Global) -> Result<Items, Starved>
         ensures { IfOk result (λ items. items ≡ []) }
     {
         LinksBuilder::new(alloc).build(alloc)
     }
 
-    /// The same links, without a copy. `Starved`: as many share them as can be counted.
+    /// Returns the same links, without a copy.
+    ///
+    /// # Errors
+    ///
+    /// `Starved` if as many share them as can be counted.
     pub fn share(&self) -> Result<Items, Starved>
         ensures { IfOk result (λ items. items ≡ self.now) }
     {
@@ -58,7 +66,7 @@ impl Items {
         Ok(Items { texts })
     }
 
-    /// How much room they take.
+    /// Returns how much room the links take.
     pub(crate) fn room(&self) -> Room {
         let texts: &LinkTexts = &*self.texts;
         Room {
@@ -69,7 +77,7 @@ impl Items {
         }
     }
 
-    /// How many there are.
+    /// Returns the number of links.
     pub fn len(&self) -> usize
         ensures value { result ≡ length self.now }
         ensures counted { length self.now < 2 ^ 64 }
@@ -78,7 +86,7 @@ impl Items {
         texts.links.len()
     }
 
-    /// Whether there are none.
+    /// Returns whether there are no links.
     pub fn is_empty(&self) -> bool
         ensures { IsTrue result ↔ (self.now ≡ []) }
     {
@@ -86,7 +94,7 @@ impl Items {
         texts.links.is_empty()
     }
 
-    /// Those that are there, in order.
+    /// Returns the links, in order.
     pub fn links(&self) -> Links<'_>
         ensures { result ≡ self.now }
     {
@@ -94,7 +102,8 @@ impl Items {
         links_of_texts(texts)
     }
 
-    /// Their lines in a listing, with commas between them (RFC 9176 section 6.4).
+    /// Returns the lines of the links in a listing, with commas between them (RFC 9176 section
+    /// 6.4).
     pub fn listed(&self) -> &str
         ensures { result.now ≡ listed self.now }
     {
@@ -102,8 +111,8 @@ impl Items {
         texts.listed.as_str()
     }
 
-    /// Their lines as they were submitted, with commas between them: a document of theirs (RFC 6690
-    /// section 2).
+    /// Returns the lines of the links as they were submitted, with commas between them: a document
+    /// of these links (RFC 6690 section 2).
     pub fn source(&self) -> &str
         ensures { result.now ≡ submitted self.now }
     {

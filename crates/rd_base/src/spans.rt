@@ -1,4 +1,4 @@
-//! Where a part of a text stands that grows.
+//! The spans of parts of a text that grows.
 ghost use Rattle.std.specs.Prelude.{◌≡◌, ◌<◌, ◌++◌, ◌==◌, ◌||◌, length, flat_map, IfOk, IfSome};
 ghost use Rattle.std.specs.Prelude.{OnOk, encode_utf8};
 ghost use Rattle.std.specs.List.{list_any};
@@ -12,22 +12,22 @@ use crate::Starved;
 /// A part of a text, in octets.
 #[derive(Clone, Copy, Debug, Drop)]
 pub(crate) struct Span {
-    /// The first octet.
+    /// The offset of the first octet.
     pub(crate) from: u32,
-    /// The octet behind the last.
+    /// The offset after the last octet.
     pub(crate) upto: u32,
 }
 
-/// Where a text stands that is mostly a part of another one.
+/// The span of a text that is mostly a part of another one.
 #[derive(Clone, Copy, Debug, Drop)]
 pub(crate) enum Stretch {
-    /// In the other text.
+    /// A span of the other text.
     Here(Span),
-    /// In a text of its own, since the other has it with escapes.
+    /// A span of a text of its own, since the other has it with escapes.
     Apart(Span),
 }
 
-/// A number that a span can hold. `Starved`: it is more than a `u32` counts.
+/// Returns a number that a span can hold. Returns `Starved` if it is more than a `u32` counts.
 #[inline(always)]
 pub(crate) fn offset(octets: usize) -> Result<u32, Starved>
     ensures { IfOk result (λ offset. offset ≡ octets) }
@@ -38,7 +38,7 @@ pub(crate) fn offset(octets: usize) -> Result<u32, Starved>
     }
 }
 
-/// Appends a text. `Starved`: out of memory.
+/// Appends a text.
 #[inline(always)]
 pub(crate) fn push(text: &mut String, more: &str) -> Result<(), Starved>
     ensures { OnOk result (string_bytes text.new ≡ string_bytes text.old ++ more.now) }
@@ -47,8 +47,8 @@ pub(crate) fn push(text: &mut String, more: &str) -> Result<(), Starved>
     Ok(())
 }
 
-/// Appends a text, and says where it stands. `Starved`: out of memory, or the text is longer than a
-/// `u32` counts.
+/// Appends a text, and returns its span. Returns `Starved` also if the text is longer than a `u32`
+/// counts.
 #[inline(always)]
 pub(crate) fn append(text: &mut String, more: &str) -> Result<Span, Starved>
     ensures text { IfOk result (λ _. string_bytes text.new ≡ string_bytes text.old ++ more.now) }
@@ -60,7 +60,7 @@ pub(crate) fn append(text: &mut String, more: &str) -> Result<Span, Starved>
     Ok(Span { from, upto })
 }
 
-/// The part of a text at a span.
+/// Returns the part of a text at a span.
 #[inline(always)]
 pub(crate) fn at(text: &str, span: Span) -> &str
     requires { IsText text.now span }
@@ -70,7 +70,7 @@ pub(crate) fn at(text: &str, span: Span) -> &str
     unsafe { str::from_utf8_unchecked(octets) }
 }
 
-/// The text at a stretch.
+/// Returns the text at a stretch.
 #[inline(always)]
 pub(crate) fn at_stretch<'a>(text: &'a str, apart: &'a str, stretch: Stretch) -> &'a str
     requires { IsStretch text.now apart.now stretch }
@@ -82,7 +82,7 @@ pub(crate) fn at_stretch<'a>(text: &'a str, apart: &'a str, stretch: Stretch) ->
     }
 }
 
-/// Where a part of a text stands, if it stands at this octet.
+/// Returns the span of a part of a text, if the part is at this octet.
 #[inline(always)]
 fn found(text: &str, from: usize, part: &str) -> Option<Span>
     ensures { IfSome result (λ span. IsTextAt text.now span part.now) }
@@ -96,8 +96,8 @@ fn found(text: &str, from: usize, part: &str) -> Option<Span>
     Some(Span { from, upto })
 }
 
-/// A stretch for a text: this octet of another one if it stands there, else apart. `Starved`: out
-/// of memory.
+/// Returns a stretch for a text: this octet of another one if the text is there, and otherwise
+/// apart.
 #[inline(always)]
 pub(crate) fn stretch_of(
     text: &str,
@@ -116,21 +116,21 @@ pub(crate) fn stretch_of(
     }
 }
 
-/// Whether an octet has a backslash before it in quotes.
+/// Returns whether an octet has a backslash before it in quotes.
 fn is_escaped(octet: u8) -> bool
     ensures { result ≡ (octet == quote_mark || octet == backslash) }
 {
     octet == b'"' || octet == b'\\'
 }
 
-/// Whether a text stands in quotes with a backslash.
+/// Returns whether a text has backslashes in quotes.
 fn has_escaped(text: &str) -> bool
     ensures { result ≡ list_any (λ c. c == quote_mark || c == backslash) text.now }
 {
     text.as_bytes().iter().any(|octet| is_escaped(*octet))
 }
 
-/// Appends a character of a text in quotes. `Starved`: out of memory.
+/// Appends a character as in quotes.
 fn push_escaped(text: &mut String, character: char) -> Result<(), Starved>
     ensures { OnOk result (string_bytes text.new ≡ string_bytes text.old
         ++ flat_map escaped_character (encode_utf8 character)) }
@@ -144,7 +144,7 @@ fn push_escaped(text: &mut String, character: char) -> Result<(), Starved>
     Ok(())
 }
 
-/// Appends a text with a backslash before each quote and each backslash. `Starved`: out of memory.
+/// Appends a text with a backslash before each quote and each backslash.
 fn push_escaped_text(text: &mut String, more: &str) -> Result<(), Starved>
     ensures { OnOk result (string_bytes text.new ≡ string_bytes text.old
         ++ flat_map escaped_character more.now) }
@@ -156,8 +156,8 @@ fn push_escaped_text(text: &mut String, more: &str) -> Result<(), Starved>
     Ok(())
 }
 
-/// Appends a text with a backslash before each quote and each backslash, and says where it stands
-/// without them. `Starved`: out of memory, or one of both is longer than a `u32` counts.
+/// Appends a text with a backslash before each quote and each backslash, and returns its stretch
+/// without them. Returns `Starved` also if one of both is longer than a `u32` counts.
 pub(crate) fn append_escaped(
     text: &mut String,
     more: &str,

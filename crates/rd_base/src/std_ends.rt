@@ -5,11 +5,11 @@ ghost use Rattle.rd_base.specs.Outside.{told_below};
 use crate::{Got, Put, Sink, Source};
 use std::io::{Read, Write};
 
-/// How many calls of one source may give octets.
+/// The number of calls of one source that may return octets.
 const TURNS: u64 = 1 << 40;
 
-/// A reader of std as a source. It tells what the reader tells: nothing, for files, sockets and
-/// standard input.
+/// A reader of std as a source. Contracts see what the reader exposes, which is nothing for files,
+/// sockets and standard input.
 #[derive(Debug, Drop)]
 pub struct StdSource<R> {
     reader: R,
@@ -18,7 +18,8 @@ pub struct StdSource<R> {
 }
 
 impl<R: Read> StdSource<R> {
-    /// The source that reads from `reader`. After 2^40 calls that gave octets each call fails.
+    /// Creates the source that reads from `reader`. After 2^40 calls that returned octets, each
+    /// call fails.
     pub fn of(reader: R) -> StdSource<R>
         ensures told { ⟦<StdSource<R> as Source>⟧.left result
             ≡ told_below (2 ^ 64) (R.remaining reader) }
@@ -52,8 +53,8 @@ impl<R: Read> Source for StdSource<R> {
     }
 }
 
-/// A writer of std as a sink. It tells what the writer tells: nothing, for files, sockets and
-/// standard output.
+/// A writer of std as a sink. Contracts see what the writer exposes, which is nothing for files,
+/// sockets and standard output.
 #[derive(Debug, Drop)]
 pub struct StdSink<W> {
     writer: W,
@@ -61,7 +62,7 @@ pub struct StdSink<W> {
 }
 
 impl<W: Write> StdSink<W> {
-    /// The sink that writes to `writer`.
+    /// Creates the sink that writes to `writer`.
     pub fn of(writer: W) -> StdSink<W>
         ensures told { ⟦<StdSink<W> as Sink>⟧.holds result ≡ W.contents writer }
         ensures unfailed { ⟦<StdSink<W> as Sink>⟧.faults result ≡ 0 }

@@ -1,15 +1,13 @@
-//! A count of steps, which contracts alone see.
+//! A count of steps, which only contracts see.
 ghost use Rattle.std.specs.Prelude.{◌≡◌, ◌+◌, ◌<◌};
 
 use std::marker::Model;
 use std::sync::ledger::{Blank, Book, Ledger, Share};
 
-/// How many steps were taken. It has no bytes at run time, so that its number is seen by contracts
-/// alone.
+/// A count of steps. It has no bytes at run time, and only contracts see its number.
 ///
-/// A call that is counted takes it by `&mut` and calls [`Steps::tick`] for each step: nothing else
-/// changes the number.
-/// `L` is the ledger in which it is kept, and any ledger serves.
+/// A counted call takes it by `&mut` and calls [`Steps::tick`] for each step. Nothing else changes
+/// the number. `L` is the ledger that holds it, and any ledger serves.
 #[derive(Drop)]
 pub struct Steps<L: Ledger> {
     book: Book<L>,
@@ -27,11 +25,15 @@ impl<L: Ledger> Model for Steps<L> {
 }
 
 impl<L: Ledger> Steps<L> {
-    /// A count that starts at 0. Takes no memory.
+    /// Creates a count at 0. Does not allocate.
     ///
-    /// A count cannot begin out of nothing, so it takes a blank page for its ledger, which has no
-    /// bytes either. A function that counts for itself takes a `blank` with these conditions, and
-    /// who calls it at the ledger `Brand` hands it `Blank::new(1)`.
+    /// A count cannot begin out of nothing, so this call takes a blank page for its ledger, which
+    /// has no bytes either. A function that counts for itself takes a `blank` with these
+    /// conditions. Its caller passes `Blank::new(1)` at the ledger `Brand`.
+    ///
+    /// # Requires
+    ///
+    /// The blank page has the name and the parts of the ledger, which has some parts.
     pub fn new(blank: Blank) -> Steps<L>
         requires name { blank.name ≡ L.name }
         requires parts { blank.parts ≡ L.parts }

@@ -6,7 +6,7 @@ use crate::memory_ends::copy_at;
 use crate::{Bytes, Got, Put, Sink, Source};
 use std::marker::Model;
 
-/// Octets in memory as a source that never fails.
+/// A source of octets in memory that never fails.
 #[derive(Debug, Drop)]
 pub struct SureSource {
     bytes: Bytes,
@@ -15,7 +15,7 @@ pub struct SureSource {
 }
 
 impl SureSource {
-    /// A source that gives `bytes`.
+    /// Creates a source of `bytes`.
     pub fn of(bytes: Bytes) -> SureSource
         ensures { ⟦<SureSource as Source>⟧.left result ≡ Some bytes }
     {
@@ -37,7 +37,7 @@ impl Source for SureSource {
     }
 }
 
-/// A sink that never fails, and keeps only how many octets it took.
+/// A sink that never fails, and only counts the octets that it took.
 #[derive(Debug, Drop)]
 pub struct SureSink {
     taken: u64,
@@ -52,14 +52,14 @@ impl Model for SureSink {
 }
 
 impl SureSink {
-    /// A sink that took nothing yet.
+    /// Creates a sink that has taken nothing.
     pub fn new() -> SureSink
         ensures { result ≡ 0 }
     {
         SureSink { taken: 0 }
     }
 
-    /// How many octets were taken so far. The count stands at the last value of 64 bits.
+    /// Returns the number of octets that were taken so far. The count stops at 2^64 - 1.
     pub fn taken(&self) -> u64
         ensures { result ≡ self.now }
     {

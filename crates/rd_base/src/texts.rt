@@ -1,4 +1,4 @@
-//! Owned UTF-8 text, seen by contracts as its list of octets.
+//! Owned UTF-8 text, which contracts see as its list of octets.
 ghost use Rattle.std.specs.Prelude.{◌≡◌, ◌↔◌, ◌^◌, ◌<◌, ◌≤◌, [], ◌++◌, length, IsTrue, IfOk, OnOk};
 ghost use Rattle.std.specs.Prelude.{OnErr, nat_eq, encode_utf8};
 ghost use Rattle.std.specs.String.{string_bytes};
@@ -19,25 +19,25 @@ use std::cmp::Ordering;
 use std::hash::{Hash, Hasher};
 use std::marker::Model;
 
-/// How many octets a text has at most that stands in the value itself.
+/// The most octets of a text that lies in the value itself.
 const SHORT: usize = 16;
 
-/// Where the octets of a text stand.
+/// The place of the octets of a text.
 #[derive(Debug, Drop)]
 enum Spelled {
-    /// In the value itself, which takes no memory.
+    /// In the value itself, which does not allocate.
     Short(ArrayString<SHORT>),
     /// In memory of its own.
     Long(String),
 }
 
-/// A text that is owned. A copy of at most 16 octets takes no memory.
+/// An owned text. A copy of at most 16 octets does not allocate.
 #[derive(Debug, Drop)]
 pub struct Text {
     spelled: Spelled,
 }
 
-/// Texts in order, seen by contracts as the list of them.
+/// Texts in order. Contracts see them as their list.
 pub type Texts = List<Text>;
 
 impl Model for Text {
@@ -50,8 +50,8 @@ impl Model for Text {
 }
 
 impl Spelled {
-    /// A copy of a text, in the value itself if it has at most 16 octets. `AllocError`: out of
-    /// memory, for a longer one alone.
+    /// Returns a copy of a text, in the value itself if it has at most 16 octets. Only a longer one
+    /// can fail, if memory runs out.
     fn of(alloc: Global, text: &str) -> Result<Spelled, AllocError>
         ensures ok { IfOk result (λ spelled. octets_of spelled ≡ text.now) }
         ensures short { OnErr result (16 < length text.now) }
@@ -62,7 +62,7 @@ impl Spelled {
         }
     }
 
-    /// The text.
+    /// Returns the text.
     fn as_str(&self) -> &str
         ensures { result.now ≡ octets_of self.now }
     {
@@ -86,7 +86,7 @@ impl Clone for Spelled {
     }
 }
 
-/// Two texts, one after the other, in memory of their own.
+/// Returns two texts, one after the other, in memory of their own.
 fn joined(alloc: Global, text: &str, more: &str) -> Result<String, Starved>
     ensures { IfOk result (λ whole. string_bytes whole ≡ text.now ++ more.now) }
 {
@@ -97,7 +97,7 @@ fn joined(alloc: Global, text: &str, more: &str) -> Result<String, Starved>
 }
 
 impl Text {
-    /// This text. Takes no memory.
+    /// Returns this text. Does not allocate.
     pub fn of(text: String) -> Text
         ensures { result ≡ string_bytes text }
     {
@@ -106,7 +106,7 @@ impl Text {
         }
     }
 
-    /// The empty text. Takes no memory.
+    /// Returns the empty text. Does not allocate.
     pub fn new() -> Text
         ensures { result ≡ [] }
     {
@@ -115,7 +115,11 @@ impl Text {
         }
     }
 
-    /// A copy of a text. `Starved`: out of memory, for a text of more than 16 octets alone.
+    /// Returns a copy of a text.
+    ///
+    /// # Errors
+    ///
+    /// `Starved` if memory runs out, and only for a text of more than 16 octets.
     pub fn copy_of(alloc: Global, text: &str) -> Result<Text, Starved>
         ensures ok { IfOk result (λ t. t ≡ text.now) }
         ensures short { OnErr result (16 < length text.now) }
@@ -124,21 +128,21 @@ impl Text {
         Ok(Text { spelled })
     }
 
-    /// The text.
+    /// Returns the text.
     pub fn as_str(&self) -> &str
         ensures { result.now ≡ self.now }
     {
         self.spelled.as_str()
     }
 
-    /// The octets of the text.
+    /// Returns the octets of the text.
     pub fn as_bytes(&self) -> &[u8]
         ensures { result.now ≡ self.now }
     {
         self.as_str().as_bytes()
     }
 
-    /// How many octets the text has.
+    /// Returns the number of octets.
     pub fn len(&self) -> usize
         ensures value { result ≡ length self.now }
         ensures counted { length self.now < 2 ^ 63 }
@@ -146,14 +150,18 @@ impl Text {
         self.as_str().len()
     }
 
-    /// Whether the text is empty.
+    /// Returns whether the text is empty.
     pub fn is_empty(&self) -> bool
         ensures { IsTrue result ↔ (self.now ≡ []) }
     {
         self.as_bytes().is_empty()
     }
 
-    /// Appends a character. `Starved`: out of memory, and the text is as before.
+    /// Appends a character.
+    ///
+    /// # Errors
+    ///
+    /// `Starved` if memory runs out. The text does not change.
     pub fn push(&mut self, alloc: Global, character: char) -> Result<(), Starved>
         ensures ok { OnOk result (self.new ≡ self.old ++ encode_utf8 character) }
         ensures err { OnErr result (self.new ≡ self.old) }
@@ -162,7 +170,11 @@ impl Text {
         self.append(alloc, character.encode_utf8(&mut octets))
     }
 
-    /// Appends a text. `Starved`: out of memory, and this text is as before.
+    /// Appends a text.
+    ///
+    /// # Errors
+    ///
+    /// `Starved` if memory runs out. The text does not change.
     pub fn append(&mut self, alloc: Global, more: &str) -> Result<(), Starved>
         ensures ok { OnOk result (self.new ≡ self.old ++ more.now) }
         ensures err { OnErr result (self.new ≡ self.old) }
@@ -184,7 +196,7 @@ impl Text {
     }
 }
 
-/// A clone of at most 16 octets takes no memory.
+/// A clone of at most 16 octets does not allocate.
 impl Clone for Text {
     ghost is_clone = { λ text copy. copy ≡ text };
 

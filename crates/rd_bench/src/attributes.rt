@@ -1,14 +1,14 @@
-//! The index of attributes: a put and a take, where so many records carry each value.
+//! The index of attributes: a put and a take, if a given number of records carry each value.
 
 use attribute_index::AttributeIndex;
 use bench_rows::{Sample, Trouble};
 use rd_base::{Pair, PairRef, Text};
 use std::alloc::Global;
 
-/// How many calls a round makes.
+/// The number of calls in a round.
 const CALLS: u64 = 1_000;
 
-/// A resource type of a number.
+/// Returns the resource type with this number.
 fn type_of(alloc: Global, number: u64) -> Result<Pair, Trouble> {
     let value = format!(in alloc; "core.light-{number}")?;
     Ok(Pair {
@@ -17,7 +17,7 @@ fn type_of(alloc: Global, number: u64) -> Result<Pair, Trouble> {
     })
 }
 
-/// An attribute, borrowed.
+/// Returns an attribute, borrowed.
 fn borrowed(pair: &Pair) -> PairRef<'_> {
     PairRef {
         name: pair.name.as_str(),
@@ -25,8 +25,8 @@ fn borrowed(pair: &Pair) -> PairRef<'_> {
     }
 }
 
-/// The resource types that a round puts and takes: those of the index where many records carry
-/// one, else new ones.
+/// Returns the resource types that a round puts and takes: those of the index if more than one
+/// record carries each, and new ones otherwise.
 fn types_of(alloc: Global, size: u64, carriers: u64) -> Result<Vec<Pair>, Trouble> {
     let values = size.checked_div(carriers).unwrap_or(0);
     let mut types = Vec::new(alloc);
@@ -43,7 +43,7 @@ fn types_of(alloc: Global, size: u64, carriers: u64) -> Result<Vec<Pair>, Troubl
     Ok(types)
 }
 
-/// An index in which so many records carry each value, and the values that are put and taken.
+/// An index in which `CARRIERS` records carry each value, and the values that are put and taken.
 #[derive(Drop)]
 pub struct Carried<const CARRIERS: u64> {
     index: AttributeIndex,
@@ -68,7 +68,7 @@ impl<const CARRIERS: u64> Sample for Carried<CARRIERS> {
         })
     }
 
-    /// Puts and takes each value under a number of its own.
+    /// Puts and takes each value under a record number of its own. Returns the number of calls.
     fn round(&mut self) -> Result<u64, Trouble> {
         let mut number = 1_000_000;
         for pair in self.types.as_slice() {

@@ -8,13 +8,13 @@ use std::alloc::Global;
 use std::sync::Arc;
 use transfers::{Answer, Answers, Transfers, Upload};
 
-/// How many answers are kept.
+/// The number of kept answers.
 const KEPT: u16 = 64;
 
-/// The octets of a block.
+/// The octets of the largest block.
 const PIECE: [u8; 1_024] = [b'x'; 1_024];
 
-/// Who asks, at a port.
+/// Returns the peer at a port.
 fn peer_at(port: u16) -> Peer {
     Peer {
         host: Host::V4([192, 0, 2, 10]),
@@ -22,18 +22,18 @@ fn peer_at(port: u16) -> Peer {
     }
 }
 
-/// The key of the requests.
+/// Returns the key of the requests.
 fn key(alloc: Global) -> Result<Key, Trouble> {
     Ok(Key::of(Bytes::copy_of(alloc, b"\x02\x02\x05ep=n1")?))
 }
 
-/// A table for uploads in blocks of a size.
+/// A table for uploads in blocks of one size.
 #[derive(Drop)]
 pub struct Uploads {
     table: Transfers,
     alloc: Global,
     key: Key,
-    /// How many octets a block has, 16 or 1,024.
+    /// The length of a block in octets, 16 or 1,024.
     size: u64,
     /// The exponent of that size.
     szx: u8,
@@ -42,7 +42,7 @@ pub struct Uploads {
 }
 
 impl Uploads {
-    /// One upload; how many octets the whole has.
+    /// Makes one upload. Returns the length of the whole body in octets.
     fn upload(&mut self) -> u64 {
         let piece = PIECE.as_slice().get(..self.size as usize).unwrap_or(b"");
         let mut whole = 0;
@@ -95,7 +95,7 @@ impl Sample for Uploads {
     }
 }
 
-/// As many kept answers as are kept, each of a peer at a port of its own.
+/// A table with as many kept answers as there is room for, each of a peer at its own port.
 #[derive(Drop)]
 pub struct KeptBodies {
     table: Transfers,
@@ -123,7 +123,8 @@ impl Sample for KeptBodies {
         Ok(KeptBodies { table, key })
     }
 
-    /// Reads the answer that was used longest ago, again and again; how many octets they have.
+    /// Reads kept answers, always the one that was used longest ago. Returns the sum of their
+    /// lengths in octets.
     fn round(&mut self) -> Result<u64, Trouble> {
         let mut octets = 0;
         'calls: for call in 0..Self::CALLS {
@@ -139,7 +140,7 @@ impl Sample for KeptBodies {
     }
 }
 
-/// A body of a multiple of 1,024 octets.
+/// Returns a body of a multiple of 1,024 octets.
 fn body_of(alloc: Global, size: u64) -> Result<Arc<Bytes>, Trouble> {
     let mut octets = Bytes::new(alloc);
     'octets: for _ in 0..size / 1_024 {

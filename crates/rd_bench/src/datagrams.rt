@@ -6,10 +6,10 @@ use std::net::{Net, UdpSocket};
 use std::sync::Arc;
 use udp_link::{Came, Link, UdpLink, Went};
 
-/// How many octets a datagram has.
+/// The length of a datagram in octets.
 const OCTETS: usize = 64;
 
-/// How many datagrams are sent and received in a round.
+/// The number of datagrams that are sent and received in a round.
 const DATAGRAMS: u64 = 2_000;
 
 /// A link that sends to its own address.
@@ -20,7 +20,7 @@ struct Linked {
 }
 
 impl Linked {
-    /// Sends datagrams and receives each; how many came back whole.
+    /// Sends datagrams and receives each. Returns how many came back complete.
     fn round(&mut self) -> u64 {
         let piece = [7u8; OCTETS];
         let mut into = [0u8; 4097];
@@ -37,6 +37,11 @@ impl Linked {
 }
 
 /// Measures a link.
+///
+/// # Errors
+///
+/// `Starved` if memory runs out; `Outside` if the clock or a socket fails, or a stream cannot be
+/// written.
 pub fn measured<R: Net>(rt: &HostRuntime, net: &R) -> Result<(), Trouble> {
     let mut row = Row::new(rt.alloc());
     let socket = UdpSocket::bind(net, "127.0.0.1:0")?;

@@ -1,4 +1,4 @@
-//! A desk alone: what it costs to look at its version, and to admit a datagram.
+//! A desk by itself: the cost of a look at its version, and of admitting a datagram.
 
 use crate::requests::{CALLS, Look, Other, PEER};
 use bench_rows::{Sample, Trouble};
@@ -17,7 +17,7 @@ struct Lone {
 }
 
 impl Lone {
-    /// A desk to which the registration came.
+    /// Creates a desk on which the endpoint has registered.
     fn make(alloc: Global) -> Result<Lone, Trouble> {
         let mut lone = Lone {
             alloc,
@@ -39,7 +39,7 @@ impl Lone {
         }
     }
 
-    /// A datagram comes.
+    /// Admits a datagram.
     fn admit(&mut self, asked: &Other) -> Admitted {
         let (mids, out) = (&mut self.mids, &mut self.out);
         out.clear();
@@ -47,7 +47,7 @@ impl Lone {
             .admit(Moment(1_000), 0, mids, PEER, asked.datagram, out)
     }
 
-    /// A look is answered from the version now.
+    /// Answers a look from the current version.
     fn look(&mut self, asked: &Look) -> Looked {
         let now = self.desk.moment();
         let version = &**self.desk.version();
@@ -57,7 +57,7 @@ impl Lone {
     }
 }
 
-/// A desk at whose version is looked.
+/// A desk whose version is looked at.
 #[derive(Drop)]
 pub struct Looks {
     lone: Lone,
@@ -74,7 +74,7 @@ impl Sample for Looks {
         })
     }
 
-    /// How many looks were answered.
+    /// Answers looks. Returns how many were answered.
     fn round(&mut self) -> Result<u64, Trouble> {
         let mut answered = 0;
         for _ in 0..CALLS {
@@ -86,7 +86,7 @@ impl Sample for Looks {
     }
 }
 
-/// A desk to which pings come.
+/// A desk that receives pings.
 #[derive(Drop)]
 pub struct Admits {
     lone: Lone,
@@ -103,7 +103,7 @@ impl Sample for Admits {
         })
     }
 
-    /// How many pings were answered.
+    /// Admits pings. Returns how many were answered.
     fn round(&mut self) -> Result<u64, Trouble> {
         let mut answered = 0;
         for _ in 0..CALLS {

@@ -1,4 +1,4 @@
-//! The table of exchanges: a repeat of the oldest write, and settling it.
+//! The table of exchanges: a duplicate of the oldest write, and settling that write.
 ghost use Rattle.std.specs.Prelude.{◌≤◌, IfOk};
 
 use bench_rows::{Sample, Trouble};
@@ -6,16 +6,16 @@ use exchange_core::{Exchanges, Keyed, Reply};
 use rd_base::{Host, Moment, Peer, Starved};
 use std::alloc::Global;
 
-/// How many calls a round makes.
+/// The number of calls in a round.
 const CALLS: u64 = 2_000;
 
-/// Who writes.
+/// The peer that writes.
 const PEER: Peer = Peer {
     host: Host::V4([192, 0, 2, 10]),
     port: 5683,
 };
 
-/// A table with so many writes, all admitted at moment 1,000.
+/// Returns a table with this number of writes, all admitted at moment 1,000.
 fn filled(alloc: Global, size: u64) -> Result<Exchanges, Starved>
     ensures { IfOk result (λ table. table.moment ≤ 1_000) }
 {
@@ -26,7 +26,7 @@ fn filled(alloc: Global, size: u64) -> Result<Exchanges, Starved>
     Ok(table)
 }
 
-/// A table whose oldest write is repeated.
+/// A table whose oldest write is received again.
 #[derive(Drop)]
 pub struct Repeats {
     table: Exchanges,
@@ -42,7 +42,7 @@ impl Sample for Repeats {
         })
     }
 
-    /// The oldest write comes again and again; how often it is recognized.
+    /// Receives the oldest write again and again. Returns how often it is recognized.
     fn round(&mut self) -> Result<u64, Trouble> {
         let mut recognized = 0;
         'calls: for _ in 0..CALLS {
@@ -70,7 +70,7 @@ impl Sample for Settles {
         })
     }
 
-    /// The oldest write is settled again and again.
+    /// Settles the oldest write again and again. Returns the number of calls.
     fn round(&mut self) -> Result<u64, Trouble> {
         'calls: for _ in 0..CALLS {
             self.table

@@ -1,24 +1,24 @@
-//! Messages of 64 octets that are fed to a reader.
+//! Messages of 64 octets, fed to a reader.
 
 use bench_rows::{Sample, Trouble};
 use rd_base::Bytes;
 use std::alloc::Global;
 use stream_reader::{Fed, StreamReader};
 
-/// How many messages a round feeds.
+/// The number of messages that a round feeds.
 const MESSAGES: u64 = 16_384;
 
-/// How many octets that is.
+/// The number of octets that a round feeds.
 const OCTETS: u64 = MESSAGES * 64;
 
 /// A CSM (RFC 8323 section 5.3).
 const SETTINGS: [u8; 2] = [0x00, 0xe1];
 
-/// A lookup with two queries and a payload that nothing asks for, of 64 octets.
+/// A lookup of 64 octets with two queries, and a payload that has no meaning for it.
 const LOOKUP: [u8; 64] =
     *b"\xd2\x2e\x01\x00\x01\xb9rd-lookup\x03res\x4d\x08rt=core.rd-lookup-res\x06d=dom1\xffabcdefghijklmn";
 
-/// The messages of a round.
+/// Returns the messages of a round.
 fn messages(alloc: Global) -> Result<Bytes, Trouble> {
     let mut octets = Bytes::new(alloc);
     for _ in 0..MESSAGES {
@@ -27,7 +27,7 @@ fn messages(alloc: Global) -> Result<Bytes, Trouble> {
     Ok(octets)
 }
 
-/// Feeds a piece until it is taken; how many messages it made whole.
+/// Feeds a piece until all of it is taken. Returns how many messages it completed.
 fn feed_all(reader: &mut StreamReader, piece: &[u8]) -> u64 {
     let mut rest = piece;
     let mut whole = 0;
@@ -47,7 +47,7 @@ fn feed_all(reader: &mut StreamReader, piece: &[u8]) -> u64 {
     whole
 }
 
-/// Feeds octets in pieces of a size; how many messages they made whole.
+/// Feeds octets in pieces of one size. Returns how many messages they completed.
 fn feed_in_pieces(octets: &[u8], size: usize) -> u64 {
     let mut reader = StreamReader::new();
     let mut whole = feed_all(&mut reader, &SETTINGS);
@@ -57,7 +57,7 @@ fn feed_in_pieces(octets: &[u8], size: usize) -> u64 {
     whole
 }
 
-/// Messages in pieces, of which the time of a message counts.
+/// Messages in pieces; the time of a message is measured.
 #[derive(Drop)]
 pub struct Pieces {
     octets: Bytes,
@@ -80,7 +80,7 @@ impl Sample for Pieces {
     }
 }
 
-/// Messages in pieces, of which the time of an octet counts.
+/// Messages in pieces; the time of an octet is measured.
 #[derive(Drop)]
 pub struct Octets {
     octets: Bytes,

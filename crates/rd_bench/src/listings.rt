@@ -1,4 +1,5 @@
-//! Lines of one registration: whether a change matters to a query, and the lines that it lists.
+//! Lines of one registration: whether a change matters to a query, and the lines that it
+//! contributes to a listing.
 
 use crate::registrations::{body_of, draft_of};
 use bench_rows::{Sample, Trouble};
@@ -6,10 +7,10 @@ use listing::{lines, same_part};
 use rd_base::{Bytes, Criteria, Criterion, Kind, Moment, Query, Record, Text};
 use std::alloc::Global;
 
-/// How many calls a round makes.
+/// The number of calls in a round.
 const CALLS: u64 = 20;
 
-/// A registration of so many links.
+/// Returns a registration with this number of links.
 fn record_of(alloc: Global, size: u64) -> Result<Record, Trouble> {
     let body = body_of(alloc, size)?;
     let draft = draft_of(alloc, body.as_str())?;
@@ -25,7 +26,7 @@ fn record_of(alloc: Global, size: u64) -> Result<Record, Trouble> {
     })
 }
 
-/// A lookup of links by their resource type.
+/// Returns a lookup of links by their resource type.
 fn query_of(alloc: Global, pattern: &str) -> Result<Query, Trouble> {
     let criterion = Criterion {
         name: Text::copy_of(alloc, "rt")?,
@@ -39,8 +40,8 @@ fn query_of(alloc: Global, pattern: &str) -> Result<Query, Trouble> {
     })
 }
 
-/// A registration before and after a change that changes nothing, and a query that lists all of
-/// its links, or none.
+/// A registration before and after an update that changes nothing, and a query that lists all of
+/// its links or none.
 #[derive(Drop)]
 pub struct Unchanged<const LISTED: bool> {
     query: Query,
@@ -59,7 +60,7 @@ impl<const LISTED: bool> Sample for Unchanged<LISTED> {
         Ok(Unchanged { query, old, new })
     }
 
-    /// How often the parts are the same.
+    /// Compares the lines before and after the update. Returns how often they are the same.
     fn round(&mut self) -> Result<u64, Trouble> {
         let mut same = 0;
         for _ in 0..CALLS {
@@ -94,7 +95,7 @@ impl Sample for Listed {
         })
     }
 
-    /// How many lines were written.
+    /// Appends the lines to listings. Returns how many were written.
     fn round(&mut self) -> Result<u64, Trouble> {
         let mut all = 0;
         for _ in 0..CALLS {

@@ -1,4 +1,4 @@
-//! The board of versions: a look while one worker publishes, and publishing.
+//! The board of versions: a look while a worker publishes, and publishing.
 
 use crate::sample_boards::SampleBoard;
 use bench_rows::{Row, Trouble};
@@ -9,16 +9,16 @@ use std::sync::atomic::{AtomicU64, Ordering};
 use std::thread::{Threads, join};
 use version_board::Looker;
 
-/// How often the version is read in a round.
+/// The number of looks in a round.
 const LOOKS: u64 = 200_000;
 
-/// How many versions are made in a round of looks at most.
+/// The maximum number of versions that are published in a round of looks.
 const VERSIONS: u64 = 100_000_000;
 
-/// How many versions are made in a round of publishing.
+/// The number of versions that are published in a round of publishing.
 const PUBLISHED: u64 = 2_000;
 
-/// Looks at what is published again and again.
+/// Looks at the latest version again and again.
 fn looks(looker: &mut Looker) -> Result<(), Starved> {
     for _ in 0..LOOKS {
         let _version = looker.look()?;
@@ -26,7 +26,7 @@ fn looks(looker: &mut Looker) -> Result<(), Starved> {
     Ok(())
 }
 
-/// Publishes so many versions one after another, or fewer where it is told to stop.
+/// Publishes `versions` versions one after another, or fewer if `stop` is set.
 fn publishes<R: Wait>(
     alloc: Global,
     waits: &R,
@@ -43,7 +43,7 @@ fn publishes<R: Wait>(
     Ok(())
 }
 
-/// Looks while the publisher publishes, until it is told to stop; how many looks.
+/// Looks while the publisher publishes, and then stops the publisher. Returns the number of looks.
 fn looks_beside<R: Threads + Wait + Sync>(
     alloc: Global,
     waits: &R,
@@ -67,6 +67,10 @@ fn looks_beside<R: Threads + Wait + Sync>(
 }
 
 /// Measures a look.
+///
+/// # Errors
+///
+/// `Starved` if memory runs out; `Outside` if the clock fails or a stream cannot be written.
 pub fn measure_look<R: Threads + Wait + Sync>(rt: &HostRuntime, waits: &R) -> Result<(), Trouble> {
     let alloc = rt.alloc();
     let mut row = Row::new(alloc);
@@ -84,6 +88,10 @@ pub fn measure_look<R: Threads + Wait + Sync>(rt: &HostRuntime, waits: &R) -> Re
 }
 
 /// Measures publishing.
+///
+/// # Errors
+///
+/// `Starved` if memory runs out; `Outside` if the clock fails or a stream cannot be written.
 pub fn measure_publishing<R: Wait>(rt: &HostRuntime, waits: &R) -> Result<(), Trouble> {
     let alloc = rt.alloc();
     let mut row = Row::new(alloc);

@@ -1,9 +1,9 @@
-//! `rd_bench`: what calls cost that no trace isolates, at growing sizes. It measures, and never
-//! fails. (`bench/traces.py` measures what a trace can, on `rd_replay`.)
+//! `rd_bench`: measures the cost of calls that no trace isolates, at growing sizes. A measurement
+//! never fails. `bench/traces.py` measures what a trace can, on `rd_replay`.
 //!
-//! Times go to standard error, a line for each call: nanoseconds at each size, the least of
-//! several rounds, and in parentheses how many times that at the first size it is. Standard output
-//! has what the calls counted, which is the same in each run.
+//! Times go to standard error, a line for each call: nanoseconds at each size, the least of several
+//! rounds, and in parentheses the ratio to the time at the first size. Standard output has what the
+//! calls counted, which is the same in each run.
 #![tactic(auto)]
 
 mod attributes;
@@ -35,13 +35,13 @@ use std::net::Net;
 use std::sync::Wait;
 use std::thread::Threads;
 
-/// How many writes stand in the table of exchanges.
+/// The numbers of writes in the table of exchanges.
 const WRITES: [u64; 3] = [64, 1_024, 4_096];
 
-/// How many pairs stand in a map, and entries in an index.
+/// The numbers of pairs in a map, and of entries in an index.
 const PAIRS: [u64; 5] = [64, 1_024, 4_096, 25_000, 100_000];
 
-/// How many links a registration has.
+/// The numbers of links of a registration.
 const LINKS: [u64; 3] = [64, 256, 1_000];
 
 /// Measures the calls of tables.
@@ -93,7 +93,7 @@ fn registrations_and_listings(rt: &HostRuntime) -> Result<(), Trouble> {
     measure::<Listed>(rt, "listing lines, of so many links", &LINKS)
 }
 
-/// Measures a desk, and seats beside it.
+/// Measures a desk, and seats compared with it.
 fn seats<R: Threads + Wait + Sync>(rt: &HostRuntime, ends: &R) -> Result<(), Trouble> {
     measure::<Looks>(rt, "rd_desk look, the version at hand, one listed of", &[1])?;
     measure_looks(rt, ends, "rd_seat lookup, by so many seats at once")?;

@@ -5,15 +5,15 @@ use chunk_map::ChunkMap;
 use rd_base::Starved;
 use std::alloc::Global;
 
-/// How many calls a round makes.
+/// The number of calls in a round.
 const CALLS: u64 = 2_000;
 
-/// The key of a number: spread over the map.
+/// Returns the key of a number, so that keys are spread over the map.
 fn key_of(number: u64) -> u64 {
     u64::wrapping_mul(number, 7_919) % 1_000_003
 }
 
-/// A map of so many pairs.
+/// Returns a map with this number of pairs.
 fn filled(alloc: Global, size: u64) -> Result<ChunkMap<u64, u64>, Starved> {
     let mut map = ChunkMap::empty(alloc)?;
     for number in 0..size {
@@ -37,7 +37,7 @@ impl Sample for Puts {
         })
     }
 
-    /// Puts new keys, each into the same version; how many pairs all versions have.
+    /// Puts new keys, each into the same version. Returns how many pairs all versions have.
     fn round(&mut self) -> Result<u64, Trouble> {
         let mut pairs = 0;
         for call in 0..CALLS {
@@ -50,7 +50,7 @@ impl Sample for Puts {
     }
 }
 
-/// A map from which keys are taken that are there.
+/// A map from which keys that it has are taken.
 #[derive(Drop)]
 pub struct Takes {
     map: ChunkMap<u64, u64>,
@@ -65,7 +65,7 @@ impl Sample for Takes {
         })
     }
 
-    /// Takes keys, each from the same version; how many pairs all versions have.
+    /// Takes keys, each from the same version. Returns how many pairs all versions have.
     fn round(&mut self) -> Result<u64, Trouble> {
         let size = self.map.len();
         let mut pairs = 0;

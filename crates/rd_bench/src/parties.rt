@@ -1,4 +1,5 @@
-//! Seats of one hall: what it costs to look, by one and by several at once, and to hear a datagram.
+//! Seats of one hall: the cost of a look, by one and by several at once, and of handling a
+//! datagram.
 ghost use Rattle.std.specs.Prelude.{◌≡◌, ◌≤◌, All};
 
 use crate::requests::{CALLS, LOOKUPS, Look, Other, PEER};
@@ -11,7 +12,7 @@ use std::sync::Wait;
 use std::thread;
 use std::thread::Threads;
 
-/// A seat with what it asks.
+/// A seat with its requests.
 #[derive(Drop)]
 struct Party<'a> {
     hall: &'a Hall,
@@ -24,7 +25,7 @@ struct Party<'a> {
 }
 
 impl<'a> Party<'a> {
-    /// Looks again and again, and counts what is answered.
+    /// Makes lookups, and counts how many are answered.
     fn looks(&mut self) {
         for _ in 0..LOOKUPS {
             self.out.clear();
@@ -37,14 +38,14 @@ impl<'a> Party<'a> {
         }
     }
 
-    /// A datagram is heard.
+    /// Handles a datagram.
     fn hear<R: Wait>(&mut self, rt: &R, datagram: &[u8]) -> SeatHeard {
         let (hall, seat, out) = (self.hall, &mut self.seat, &mut self.out);
         out.clear();
         seat.hear(rt, hall, &OpenGate, Moment(1_000), 0, PEER, datagram, out)
     }
 
-    /// Hears pings again and again; how many were answered.
+    /// Handles pings. Returns how many were answered.
     fn hears<R: Wait>(&mut self, rt: &R) -> u64 {
         let mut answered = 0;
         for _ in 0..CALLS {
@@ -57,7 +58,7 @@ impl<'a> Party<'a> {
     }
 }
 
-/// A party for each seat of the hall.
+/// Returns a party for each seat of the hall.
 fn parties<'a>(alloc: Global, hall: &'a Hall, seats: Seats) -> Result<Vec<Party<'a>>, Trouble>
     requires hall { All (λ seat. seat.hall ≡ hall.now) seats }
 {
@@ -96,7 +97,7 @@ fn register<R: Wait>(rt: &R, party: &mut Party<'_>) -> Result<(), Trouble> {
     }
 }
 
-/// Times looks of all parties at once.
+/// Times lookups by all parties at once.
 fn add_looks<R: Threads + Wait + Sync>(
     rt: &HostRuntime,
     ends: &R,
@@ -110,7 +111,7 @@ fn add_looks<R: Threads + Wait + Sync>(
     })
 }
 
-/// Times looks of all seats of a hall at once, at one of which an endpoint is registered.
+/// Registers an endpoint, and times lookups by all seats of a hall at once.
 fn time_looks<R: Threads + Wait + Sync>(
     rt: &HostRuntime,
     ends: &R,
@@ -127,7 +128,7 @@ fn time_looks<R: Threads + Wait + Sync>(
     add_looks(rt, ends, row, parties.as_mut_slice())
 }
 
-/// Measures looks of so many seats of one hall.
+/// Measures lookups by `count` seats of one hall.
 fn looks_of<R: Threads + Wait + Sync>(
     rt: &HostRuntime,
     ends: &R,
@@ -142,7 +143,12 @@ fn looks_of<R: Threads + Wait + Sync>(
     timed
 }
 
-/// Measures looks of one, two and four seats of one hall.
+/// Measures lookups by one, two and four seats of one hall.
+///
+/// # Errors
+///
+/// `Starved` if memory runs out; `Outside` if the clock fails, a stream cannot be written, or the
+/// registration is not admitted.
 pub fn measure_looks<R: Threads + Wait + Sync>(
     rt: &HostRuntime,
     ends: &R,
@@ -155,7 +161,7 @@ pub fn measure_looks<R: Threads + Wait + Sync>(
     row.print(rt, name)
 }
 
-/// Times what the one seat of a hall hears.
+/// Registers an endpoint, and times how the one seat of a hall handles pings.
 fn time_hearing<R: Wait>(
     rt: &HostRuntime,
     ends: &R,
@@ -173,7 +179,12 @@ fn time_hearing<R: Wait>(
     row.add(rt, 1, CALLS, || Ok(party.hears(ends)))
 }
 
-/// Measures what a seat hears that holds the turn alone.
+/// Measures how a seat that holds the turn alone handles pings.
+///
+/// # Errors
+///
+/// `Starved` if memory runs out; `Outside` if the clock fails, a stream cannot be written, or the
+/// registration is not admitted.
 pub fn measure_hearing<R: Wait>(rt: &HostRuntime, ends: &R, name: &str) -> Result<(), Trouble> {
     let mut row = Row::new(rt.alloc());
     let (hall, seats) = Hall::make(rt.alloc(), ends, 1)?;

@@ -1,4 +1,4 @@
-//! Bodies of registrations: the draft of a body.
+//! Bodies of registrations, and their drafts.
 ghost use Rattle.std.specs.Prelude.{◌≡◌, IfOk};
 ghost use Rattle.version_board.specs.Samples.{sample_params};
 
@@ -7,13 +7,17 @@ use rd_base::{Host, Name, Pairs, Peer, RegParams, Starved, Text};
 use registration::{Draft, DraftFault, build};
 use std::alloc::Global;
 
-/// Where registrations come from.
+/// The peer that registers.
 pub const PEER: Peer = Peer {
     host: Host::V4([192, 0, 2, 10]),
     port: 5683,
 };
 
-/// The parameters of registrations, without a base.
+/// Returns the parameters of registrations, without a base.
+///
+/// # Errors
+///
+/// `Starved` if memory runs out.
 pub fn params_of(alloc: Global) -> Result<RegParams, Starved>
     ensures { IfOk result (λ params. params ≡ sample_params) }
 {
@@ -28,7 +32,11 @@ pub fn params_of(alloc: Global) -> Result<RegParams, Starved>
     })
 }
 
-/// A body of so many links.
+/// Returns a body with this number of links.
+///
+/// # Errors
+///
+/// `Starved` if memory runs out.
 pub fn body_of(alloc: Global, size: u64) -> Result<String, Trouble> {
     let mut body = String::new(alloc);
     for number in 0..size {
@@ -41,7 +49,11 @@ pub fn body_of(alloc: Global, size: u64) -> Result<String, Trouble> {
     Ok(body)
 }
 
-/// The draft of a body.
+/// Returns the draft of a body.
+///
+/// # Errors
+///
+/// `Starved` if memory runs out; `Outside` if the body is refused.
 pub fn draft_of(alloc: Global, body: &str) -> Result<Draft, Trouble> {
     match build(alloc, params_of(alloc)?, PEER, body.as_bytes()) {
         Ok(draft) => Ok(draft),
@@ -50,7 +62,7 @@ pub fn draft_of(alloc: Global, body: &str) -> Result<Draft, Trouble> {
     }
 }
 
-/// A body that is built.
+/// A body of which drafts are built.
 #[derive(Drop)]
 pub struct Body {
     body: String,
@@ -67,7 +79,7 @@ impl Sample for Body {
         })
     }
 
-    /// How many links the drafts have.
+    /// Builds drafts. Returns how many links they have.
     fn round(&mut self) -> Result<u64, Trouble> {
         let mut links = 0;
         for _ in 0..Self::CALLS {

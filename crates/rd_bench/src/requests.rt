@@ -1,4 +1,4 @@
-//! What is asked.
+//! The datagrams that are measured.
 ghost use Rattle.std.specs.Prelude.{◌≡◌, true, false};
 ghost use Rattle.journal_model.specs.Machine.{is_look_datagram};
 
@@ -6,14 +6,14 @@ use bench_rows::Trouble;
 use rd_base::{Host, Peer};
 use rd_desk::is_look;
 
-/// How many calls a round makes.
+/// The number of calls in a round.
 pub const CALLS: u64 = 20_000;
 
-/// How many lookups each seat makes in a round: so many that the system has spread the threads of
-/// the seats over its processors long before the round is over.
+/// The number of lookups that each seat makes in a round. It is so great that the system spreads
+/// the threads of the seats over its processors long before the round ends.
 pub const LOOKUPS: u64 = 200_000;
 
-/// Who asks.
+/// The peer that sends.
 pub const PEER: Peer = Peer {
     host: Host::V4([192, 0, 2, 10]),
     port: 5683,
@@ -28,7 +28,7 @@ const LOOKUP: &[u8] = b"\x41\x01\x00\x02\xb2\xb9rd-lookup\x03res\x4crt=light-lux
 /// A ping (RFC 7252 section 4.3).
 const PING: &[u8] = b"\x40\x00\x00\x03";
 
-/// A request that only looks.
+/// A look.
 #[derive(Drop)]
 pub struct Look {
     /// Its datagram.
@@ -36,7 +36,7 @@ pub struct Look {
     ghost look: { is_look_datagram datagram.now ≡ true },
 }
 
-/// A datagram that is no look.
+/// A datagram that is not a look.
 #[derive(Drop)]
 pub struct Other {
     /// The datagram.
@@ -45,7 +45,11 @@ pub struct Other {
 }
 
 impl Look {
-    /// The lookup.
+    /// Returns the lookup.
+    ///
+    /// # Errors
+    ///
+    /// `Outside` if it is not a look.
     pub fn lookup() -> Result<Look, Trouble> {
         if is_look(LOOKUP) {
             return Ok(Look { datagram: LOOKUP });
@@ -55,7 +59,7 @@ impl Look {
 }
 
 impl Other {
-    /// A datagram that is no look.
+    /// Returns a datagram that is not a look.
     fn of(datagram: &'static [u8]) -> Result<Other, Trouble> {
         if is_look(datagram) {
             return Err(Trouble::Outside);
@@ -63,12 +67,20 @@ impl Other {
         Ok(Other { datagram })
     }
 
-    /// The registration.
+    /// Returns the registration.
+    ///
+    /// # Errors
+    ///
+    /// `Outside` if it is a look.
     pub fn registration() -> Result<Other, Trouble> {
         Other::of(REGISTRATION)
     }
 
-    /// The ping.
+    /// Returns the ping.
+    ///
+    /// # Errors
+    ///
+    /// `Outside` if it is a look.
     pub fn ping() -> Result<Other, Trouble> {
         Other::of(PING)
     }

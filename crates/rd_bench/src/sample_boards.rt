@@ -1,5 +1,5 @@
-//! Where published versions come from: an endpoint that registers again and again, at the moments
-//! 1, 2, 3 and so on.
+//! A source of published versions: an endpoint that registers again and again, at the moments 1, 2,
+//! 3 and so on, in milliseconds.
 ghost use Rattle.std.specs.Prelude.{◌≡◌, ◌≤◌, ◌^◌, ◌++◌, ◌∷◌, [], List};
 ghost use Rattle.std.specs.Prelude.{None, IfOk, IsSome, IfSome};
 ghost use Rattle.std.specs.Arc.{arc_value};
@@ -26,7 +26,7 @@ pub struct SampleBoard {
     ghost unswept: { (arc_value last).swept ≡ 0 },
 }
 
-/// The draft of the endpoint.
+/// Returns the draft of the endpoint.
 #[rattlefmt::skip]
 #[tactic(
     auto,
@@ -46,7 +46,7 @@ fn draft_of(alloc: Global) -> Result<Draft, Starved>
     Ok(draft)
 }
 
-/// The version in which the endpoint registers at a moment.
+/// Returns the version in which the endpoint registers at a moment.
 fn registered(alloc: Global, last: &Directory, now: Moment) -> Result<Directory, Starved>
     requires at { last.now.at ≤ now.0 }
     requires swept { last.now.swept ≤ now.0 }
@@ -62,7 +62,11 @@ fn registered(alloc: Global, last: &Directory, now: Moment) -> Result<Directory,
     Ok(version)
 }
 
-/// The empty version.
+/// Returns the empty version.
+///
+/// # Errors
+///
+/// `Starved` if memory runs out.
 pub fn empty(alloc: Global) -> Result<Arc<Directory>, Starved>
     ensures stands { IfOk result (λ version. VersionStandsFor 0 [] (arc_value version)) }
     ensures unswept { IfOk result (λ version. (arc_value version).swept ≡ 0) }
@@ -83,7 +87,15 @@ fn publish_at<E: Entering, R: Wait>(rt: &R, publisher: &mut Publisher, now: Mome
 }
 
 impl SampleBoard {
-    /// A board with so many lookers, which shows the empty version.
+    /// Opens a board with this number of lookers, which shows the empty version.
+    ///
+    /// # Requires
+    ///
+    /// There are 1 to 16 lookers.
+    ///
+    /// # Errors
+    ///
+    /// `Starved` if memory runs out.
     pub fn open<R: Wait>(
         alloc: Global,
         rt: &R,
@@ -98,6 +110,10 @@ impl SampleBoard {
     }
 
     /// Publishes the next version.
+    ///
+    /// # Errors
+    ///
+    /// `Starved` if memory runs out.
     pub fn publish_next<R: Wait>(&mut self, alloc: Global, rt: &R) -> Result<(), Starved> {
         let now = Moment(self.last.entries().min(1_000_000) + 1);
         if now < self.last.at() {

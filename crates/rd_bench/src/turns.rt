@@ -1,4 +1,4 @@
-//! The turn lock: a take and a give of one worker and of four at once.
+//! The turn lock: taking and returning the turn, by one worker and by four at once.
 ghost use Rattle.std.specs.Prelude.{◌≡◌, ℕ, ◌+◌, ◌%◌, ◌^◌, true, false, length, All};
 ghost use Rattle.turn_lock.specs.Shown.{id_of, lock_of, is_holding, seen_of};
 
@@ -9,10 +9,10 @@ use std::thread;
 use std::thread::Threads;
 use turn_lock::{Pass, Replays, TurnLock};
 
-/// How many workers there are at once.
+/// The numbers of workers.
 const WORKERS: [u32; 2] = [1, 4];
 
-/// How many steps a worker makes in a round.
+/// The number of steps of a worker in a round.
 const STEPS: u64 = 20_000;
 
 /// One step of a worker. No value of it is made.
@@ -21,7 +21,7 @@ pub struct Tick {
     pub by: u64,
 }
 
-/// How many steps there were, up to 2^64.
+/// The number of steps so far, modulo 2^64.
 #[derive(Drop)]
 pub struct Counter {
     /// The number of steps.
@@ -42,7 +42,7 @@ impl Replays for Counter {
     ghost label = { λ counter. tt };
 }
 
-/// Gives the counter back, one step further.
+/// Returns the counter to the lock, one step further.
 fn give_back(lock: &TurnLock<Counter>, pass: &mut Pass<Counter>, counter: Counter)
     requires lock { lock_of pass.old ≡ id_of lock.now }
     requires holding { is_holding pass.old ≡ true }
@@ -53,7 +53,7 @@ fn give_back(lock: &TurnLock<Counter>, pass: &mut Pass<Counter>, counter: Counte
     lock.give::<Brand>(pass, counter);
 }
 
-/// Takes the turn so many times, and gives it back one step further.
+/// Takes the turn `STEPS` times, and returns it one step further each time.
 fn take_turns<R: Wait>(rt: &R, lock: &TurnLock<Counter>, pass: &mut Pass<Counter>)
     requires lock { lock_of pass.old ≡ id_of lock.now }
     requires idle { is_holding pass.old ≡ false }
@@ -67,7 +67,7 @@ fn take_turns<R: Wait>(rt: &R, lock: &TurnLock<Counter>, pass: &mut Pass<Counter
     }
 }
 
-/// All workers at once take turns.
+/// Has all workers take turns at once.
 fn take_turns_at_once<R: Threads + Wait + Sync>(
     rt: &R,
     lock: &TurnLock<Counter>,
@@ -96,7 +96,7 @@ struct Workers {
 }
 
 impl Workers {
-    /// All workers at once take turns; how many steps each makes.
+    /// Has all workers take turns at once. Returns the number of steps of each.
     fn round<R: Threads + Wait + Sync>(&mut self, rt: &R) -> u64 {
         take_turns_at_once(rt, &self.lock, self.passes.as_mut_slice());
         STEPS
@@ -104,6 +104,10 @@ impl Workers {
 }
 
 /// Measures the turn lock.
+///
+/// # Errors
+///
+/// `Starved` if memory runs out; `Outside` if the clock fails or a stream cannot be written.
 pub fn measured<R: Threads + Wait + Sync>(rt: &HostRuntime, waits: &R) -> Result<(), Trouble> {
     let mut row = Row::new(rt.alloc());
     for count in WORKERS {

@@ -1,4 +1,4 @@
-//! `rd_capture`: reads a capture of what a server heard and sent as a trace and its output, and
+//! `rd_capture`: reads a capture of what a server received and sent as a trace and its output, and
 //! writes these as a capture.
 #![tactic(auto)]
 
@@ -7,8 +7,8 @@ use recording::{Status, record, report};
 use std::process::ExitCode;
 use std::{env, io};
 
-/// The words of the command line, without the program's name. One that is not UTF-8 is none of
-/// the program's words.
+/// Returns the arguments of the command line, without the program's name. Returns `Usage` if one of
+/// them is not UTF-8.
 fn words_of(rt: &HostRuntime) -> Result<Vec<String>, Status> {
     let mut args = match env::args(rt) {
         Ok(args) => args,

@@ -14,18 +14,18 @@ use udp_link::{UdpClock, UdpLink};
 /// How the program ends.
 #[derive(Clone, Copy, Debug, PartialEq, Eq)]
 enum Ending {
-    /// The list was made, or not, and the call said so.
+    /// The call ended with this status, and has reported it.
     Said(CommissionStatus),
-    /// Memory ran out before.
+    /// Memory ran out before the call.
     Memory,
-    /// A word is not UTF-8.
+    /// An argument is not UTF-8.
     Usage,
     /// The socket could not be made.
     Socket,
 }
 
 impl Ending {
-    /// The exit status.
+    /// Returns the exit status.
     fn code(self) -> u8 {
         match self {
             Ending::Said(status) => status.code(),
@@ -35,7 +35,7 @@ impl Ending {
         }
     }
 
-    /// What is still to be said on standard error.
+    /// Returns what is still to be reported on standard error.
     fn text(self) -> &'static str {
         match self {
             Ending::Said(_) => "",
@@ -46,7 +46,7 @@ impl Ending {
     }
 }
 
-/// The words of the command line, without the program's name.
+/// Returns the arguments of the command line, without the program's name.
 fn words_of(rt: &HostRuntime) -> Result<Vec<String>, Ending> {
     let mut args = match env::args(rt) {
         Ok(args) => args,
@@ -57,7 +57,7 @@ fn words_of(rt: &HostRuntime) -> Result<Vec<String>, Ending> {
     args.collect(rt.alloc()).map_err(|_| Ending::Memory)
 }
 
-/// A link over a socket of loopback, at a port that the system picks.
+/// Creates a link over a socket of loopback, at a port that the system chooses.
 fn link_of(rt: &HostRuntime) -> Result<UdpLink, Ending> {
     let Ok(socket) = UdpSocket::bind(rt, (Ipv4Addr::LOCALHOST, 0)) else {
         return Err(Ending::Socket);
@@ -68,7 +68,7 @@ fn link_of(rt: &HostRuntime) -> Result<UdpLink, Ending> {
     }
 }
 
-/// The words of the command line, and the link.
+/// Returns the arguments of the command line, and the link.
 fn prepared(rt: &HostRuntime) -> Result<(Vec<String>, UdpLink), Ending> {
     let words = words_of(rt)?;
     Ok((words, link_of(rt)?))

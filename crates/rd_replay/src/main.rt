@@ -1,4 +1,4 @@
-//! `rd_replay`: runs a recorded trace to an exact output.
+//! `rd_replay`: replays a recorded trace to an exact output.
 #![tactic(auto)]
 
 use rd_base::{StdSink, StdSource};

@@ -1,5 +1,5 @@
-//! What stands in braces in a line of a case: a number that the line is repeated for, or a text so
-//! many times.
+//! The forms in braces in a line of a case: the number that the line is repeated for, or a text
+//! several times.
 
 use crate::faults::Fault;
 use std::alloc::Global;
@@ -14,7 +14,7 @@ fn write_digits(text: &mut String, alloc: Global, number: u64) -> Result<(), Fau
     Ok(())
 }
 
-/// Writes a number in the form that is named, if it is one.
+/// Writes a number in the form with this name. Returns whether there is such a form.
 fn write_number(text: &mut String, alloc: Global, form: &str, number: u64) -> Result<bool, Fault> {
     match form {
         "n" => write!(text, "{number}")?,
@@ -29,7 +29,7 @@ fn write_number(text: &mut String, alloc: Global, form: &str, number: u64) -> Re
     Ok(true)
 }
 
-/// Writes a text as often as is said, if that is a number.
+/// Writes a text `times` times. Returns whether `times` is a number.
 fn write_times(text: &mut String, repeated: &str, times: &str) -> Result<bool, Fault> {
     let Ok(times) = times.parse::<u64>() else {
         return Ok(false);
@@ -40,7 +40,7 @@ fn write_times(text: &mut String, repeated: &str, times: &str) -> Result<bool, F
     Ok(true)
 }
 
-/// Writes what stands in braces, if it has one of the forms.
+/// Writes what the text in braces stands for. Returns whether it has one of the forms.
 fn write_inside(
     text: &mut String,
     alloc: Global,
@@ -56,10 +56,16 @@ fn write_inside(
     }
 }
 
-/// A text with what stands in its braces written out: `{n}` is the number that the line is
-/// repeated for, `{n:04x}` and `{n:02x}` its two octets and its low one in hexadecimal,
-/// `{n:digits}` its decimal digits as octets, and `{3c3e*9}` is `3c3e` nine times. `Form`, with
-/// the number of the line: a brace has none of these forms.
+/// Returns a text with the forms in its braces replaced.
+///
+/// `{n}` is the number that the line is repeated for. `{n:04x}` is its two octets in hexadecimal,
+/// `{n:02x}` its low octet, and `{n:digits}` its decimal digits as octets. `{3c3e*9}` is `3c3e`
+/// nine times.
+///
+/// # Errors
+///
+/// `Form` with the number of the line if a brace has none of these forms; `Starved` if memory runs
+/// out.
 pub fn expand(alloc: Global, line: u64, text: &str, number: Option<u64>) -> Result<String, Fault> {
     let mut parts = text.split('{');
     let mut written = String::new(alloc);

@@ -1,23 +1,23 @@
-//! The lines that come of a case, one after the other, beside those that are written.
+//! The actual lines of a case, compared one after the other with the expected ones.
 
 use crate::case::CaseLine;
 use crate::faults::Fault;
 use rd_base::Starved;
 use std::alloc::Global;
 
-/// Lines that came, and how many of them were told.
+/// Actual lines, and how many of them were compared.
 #[derive(Drop)]
 pub struct Came {
-    /// Where its memory comes from.
+    /// The allocator of its memory.
     alloc: Global,
-    /// The lines.
+    /// The actual lines.
     lines: Vec<String>,
-    /// How many of them were told.
+    /// The number of lines that were compared.
     told: usize,
 }
 
 impl Came {
-    /// Nothing came yet.
+    /// Creates an empty list of actual lines.
     pub fn new(alloc: Global) -> Came {
         Came {
             alloc,
@@ -26,7 +26,11 @@ impl Came {
         }
     }
 
-    /// These lines come behind the others.
+    /// Appends the lines of these octets.
+    ///
+    /// # Errors
+    ///
+    /// `Starved` if memory runs out.
     pub fn add(&mut self, octets: &[u8]) -> Result<(), Starved> {
         let text = String::from_utf8_lossy(self.alloc, octets)?;
         'lines: for line in text.as_str().lines() {
@@ -35,13 +39,13 @@ impl Came {
         Ok(())
     }
 
-    /// The line that was not told yet.
+    /// Returns the next line that was not compared, if there is one.
     fn next(&self) -> Option<&str> {
         let line = self.lines.get(self.told)?;
         Some(line.as_str())
     }
 
-    /// What differs at a line of the file.
+    /// Returns the difference at a line of the file.
     fn difference(&self, line: u64, written: &str) -> Result<Fault, Starved> {
         Ok(Fault::Differs {
             line,
@@ -50,8 +54,12 @@ impl Came {
         })
     }
 
-    /// The next line is told, which stands in this line of a file. `Differs`: it is not the one
-    /// that is written.
+    /// Compares the next actual line with `written`, which is the expected line with this number in
+    /// its file.
+    ///
+    /// # Errors
+    ///
+    /// `Differs` if they are not the same; `Starved` if memory runs out.
     pub fn tell_line(&mut self, number: u64, written: &str) -> Result<(), Fault> {
         if self.next() != Some(written) {
             return Err(self.difference(number, written)?);
@@ -60,12 +68,20 @@ impl Came {
         Ok(())
     }
 
-    /// The next line is told. `Differs`: it is not the one that is written.
+    /// Compares the next actual line with an expected line of a case.
+    ///
+    /// # Errors
+    ///
+    /// `Differs` if they are not the same; `Starved` if memory runs out.
     pub fn tell(&mut self, line: &CaseLine) -> Result<(), Fault> {
         self.tell_line(line.number, line.text.as_str())
     }
 
-    /// No line is left before this line of the file. `Differs`: there is one.
+    /// Checks that no actual line is left at this line of the file.
+    ///
+    /// # Errors
+    ///
+    /// `Differs` if one is left; `Starved` if memory runs out.
     pub fn end(&self, line: u64) -> Result<(), Fault> {
         if self.next().is_some() {
             return Err(self.difference(line, "nothing")?);

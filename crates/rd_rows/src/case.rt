@@ -1,4 +1,4 @@
-//! A case: the words and the trace that a replay is given, and the lines that are to come.
+//! A case: the arguments and the trace of a replay, and the expected lines.
 
 use crate::braces::expand;
 use crate::faults::Fault;
@@ -22,7 +22,7 @@ pub enum Kind {
     Output,
 }
 
-/// A line of a case, as it stands for one number of its `for`.
+/// A line of a case. In a `for`, it exists once for each number.
 #[derive(Drop)]
 pub struct CaseLine {
     /// The number of the line in the file.
@@ -36,23 +36,23 @@ pub struct CaseLine {
 /// A case.
 #[derive(Drop)]
 pub struct Case {
-    /// The words of the command line.
+    /// The arguments of the command line.
     pub words: Vec<String>,
     /// The trace.
     pub trace: String,
     /// The lines of the trace and of the output, in the order of the file.
     pub lines: Vec<CaseLine>,
-    /// How many lines the trace has.
+    /// The number of lines of the trace.
     pub steps: u64,
-    /// Whether a line of the output stands before a line of the trace: then it is told step by
-    /// step too.
+    /// Whether a line of the output precedes a line of the trace. The case is then also run step by
+    /// step.
     pub is_story: bool,
     /// Whether the trace ends without a line feed, so that no line may follow.
     is_cut: bool,
 }
 
 impl Case {
-    /// A case that says nothing yet.
+    /// Creates an empty case.
     pub fn new(alloc: Global) -> Case {
         Case {
             words: Vec::new(alloc),
@@ -64,7 +64,7 @@ impl Case {
         }
     }
 
-    /// Takes the words of the command line.
+    /// Adds the arguments of the command line.
     fn take_words(&mut self, alloc: Global, line: FileLine<'_>, words: &str) -> Result<(), Fault> {
         if !self.words.is_empty() {
             return Err(Fault::Form(line.number));
@@ -75,7 +75,7 @@ impl Case {
         Ok(())
     }
 
-    /// Takes a line of the trace, and whether a line feed stands behind it.
+    /// Adds a line of the trace. `is_cut` says that it has no line feed.
     fn take_step(&mut self, number: u64, text: String, is_cut: bool) -> Result<(), Fault> {
         if self.is_cut {
             return Err(Fault::Form(number));
@@ -102,7 +102,7 @@ impl Case {
         )
     }
 
-    /// Takes a line of the output, or the status.
+    /// Adds a line of the output, or the status.
     fn take_output(&mut self, number: u64, text: String) -> Result<(), Fault> {
         Ok(
             self.lines.push(CaseLine {
@@ -113,8 +113,11 @@ impl Case {
         )
     }
 
-    /// Takes a line of the file, which stands for a number where it is repeated. `Form`: it has
-    /// none of the forms.
+    /// Adds a line of the file. `repeated` is the number that it is repeated for, if it is.
+    ///
+    /// # Errors
+    ///
+    /// `Form` if the line has none of the forms; `Starved` if memory runs out.
     pub fn take(
         &mut self,
         alloc: Global,

@@ -1,4 +1,4 @@
-//! Stored tables of a desk, with what no datagram shows.
+//! Stored tables of a desk, which test what no datagram shows.
 
 mod station;
 mod tables;
@@ -7,7 +7,7 @@ use rd_base::Starved;
 use std::alloc::Global;
 use tables::{Tables, Tally};
 
-/// Adds how a table came out, where one has ended.
+/// Appends the result of a table, if one has ended.
 fn add(text: &mut String, ended: Option<String>) -> Result<(), Starved> {
     if let Some(outcome) = ended {
         text.push_str(outcome.as_str())?;
@@ -16,7 +16,7 @@ fn add(text: &mut String, ended: Option<String>) -> Result<(), Starved> {
     Ok(())
 }
 
-/// Takes these lines, and adds how each table came out.
+/// Handles these lines, and appends the result of each table.
 fn take_all(text: &mut String, told: &mut Tables, lines: &str) -> Result<(), Starved> {
     'lines: for line in lines.lines() {
         add(text, told.take(line)?)?;
@@ -24,8 +24,8 @@ fn take_all(text: &mut String, told: &mut Tables, lines: &str) -> Result<(), Sta
     add(text, told.end()?)
 }
 
-/// How the tables came out that these lines say: a line `desk NAME` begins one, and its lines
-/// follow. Empty lines and those that begin with `#` are passed over.
+/// Returns the results of the tables in these lines. A line `desk NAME` begins a table, and its
+/// lines follow. Empty lines and those that begin with `#` are ignored.
 pub(crate) fn coming(alloc: Global, lines: &str) -> Result<String, Starved> {
     let mut text = String::new(alloc);
     let mut told = Tables::new(alloc);

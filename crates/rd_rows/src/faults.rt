@@ -1,25 +1,25 @@
-//! Why a case is not as it is written.
+//! Why a case is not as expected.
 
 use rd_base::Starved;
 use std::alloc::{AllocError, AllocFailed};
 use std::{fmt, fs, io};
 
-/// Why a case is not as it is written.
+/// Why a case is not as expected.
 #[derive(Drop)]
 pub enum Fault {
     /// Its file cannot be read as text.
     Unread,
     /// There is no such kind of list.
     Kind,
-    /// This line of its file has not the form of a case.
+    /// This line of its file does not have the form of a case.
     Form(u64),
-    /// This line of its file says something else than what came.
+    /// This line of its file is not the actual line.
     Differs {
         /// The number of the line.
         line: u64,
-        /// What it says.
+        /// The expected line.
         written: String,
-        /// What came.
+        /// The actual line.
         came: String,
     },
     /// Memory ran out.
@@ -60,7 +60,7 @@ impl fmt::Display for Fault {
     }
 }
 
-/// Why a file is not read: `Starved` for want of memory, or else `Unread`.
+/// Returns why a file could not be read: `Starved` if memory ran out, and `Unread` otherwise.
 fn unread(error: &io::Error) -> Fault {
     match error.kind() {
         io::ErrorKind::OutOfMemory => Fault::Starved,
@@ -68,7 +68,11 @@ fn unread(error: &io::Error) -> Fault {
     }
 }
 
-/// The text of a file.
+/// Returns the text of a file.
+///
+/// # Errors
+///
+/// `Unread` if the file cannot be read as text; `Starved` if memory runs out.
 pub fn text_of(rt: &HostRuntime, path: &str) -> Result<String, Fault> {
     match fs::read_to_string(rt, path) {
         Ok(text) => Ok(text),
@@ -76,7 +80,11 @@ pub fn text_of(rt: &HostRuntime, path: &str) -> Result<String, Fault> {
     }
 }
 
-/// The octets of a file.
+/// Returns the octets of a file.
+///
+/// # Errors
+///
+/// `Unread` if the file cannot be read; `Starved` if memory runs out.
 pub fn octets_of(rt: &HostRuntime, path: &str) -> Result<Vec<u8>, Fault> {
     match fs::read(rt, path) {
         Ok(octets) => Ok(octets),

@@ -1,4 +1,4 @@
-//! Lists of lines, with what is to come of all of them in a file beside them.
+//! Lists of lines, with the expected results of all of them in a file alongside.
 
 use crate::came::Came;
 use crate::faults::{Fault, text_of};
@@ -6,7 +6,7 @@ use crate::{desks, recordings, talks};
 use std::alloc::Global;
 use std::sync::Wait;
 
-/// What comes of the lines of a list. `Kind`: there is no such kind of list.
+/// Returns the actual results of the lines of a list, or `Kind` if there is no such kind of list.
 fn coming<R: Wait + AllocGlobal>(
     rt: &HostRuntime,
     waits: &R,
@@ -22,7 +22,8 @@ fn coming<R: Wait + AllocGlobal>(
     }
 }
 
-/// Compares what came with what is written. `Differs`: the first line that is not the same.
+/// Compares the actual results with the expected ones. Returns `Differs` with the first line that
+/// is not the same.
 fn compare(alloc: Global, written: &str, text: &str) -> Result<(), Fault> {
     let mut came = Came::new(alloc);
     came.add(text.as_bytes())?;
@@ -34,8 +35,13 @@ fn compare(alloc: Global, written: &str, text: &str) -> Result<(), Fault> {
     came.end(number.saturating_add(1))
 }
 
-/// Runs the list of a kind that stands in a file. `Differs`: the first line of what is written that
-/// is not what came.
+/// Runs the list in a file, which is of this kind.
+///
+/// # Errors
+///
+/// `Kind` if there is no such kind of list; `Form` if a line has none of the forms; `Unread` if a
+/// file cannot be read; `Differs` with the first expected line that is not the actual one;
+/// `Starved` if memory runs out.
 pub fn check<R: Wait + AllocGlobal>(
     rt: &HostRuntime,
     waits: &R,

@@ -1,11 +1,11 @@
-//! `rd_rows`: runs what is stored of the directory, and tells of each whether what comes is as it
-//! is written.
+//! `rd_rows`: runs what is stored of the directory, and reports of each case or list whether its
+//! results are as expected.
 //!
-//! Standard input names what is run, one a line. `registration/repeated` is the case of the file
-//! `registration/repeated.case`, in the folder where the program runs. `desks FILE` are tables of a
-//! desk, `talks FILE` connections, and `recordings FILE` captures: FILE has a line for each step or
-//! call, and FILE.out what is to come of them. Empty lines and those that begin with `#` are passed
-//! over.
+//! Each line of standard input names one. `registration/repeated` is the case of the file
+//! `registration/repeated.case`, in the folder where the program runs. `desks FILE` is a list of
+//! tables of a desk, `talks FILE` one of connections, and `recordings FILE` one of captures. FILE
+//! has a line for each step or call, and FILE.out the expected results. Empty lines and those that
+//! begin with `#` are ignored.
 #![tactic(auto)]
 
 mod braces;
@@ -25,12 +25,12 @@ use std::io;
 use std::process::ExitCode;
 use std::sync::Wait;
 
-/// How many cases and lists were run, and how many of them differ.
+/// The number of cases and lists that were run, and of those that differ.
 #[derive(Drop)]
 struct Tally {
-    /// How many were run.
+    /// The number that were run.
     cases: u64,
-    /// How many of these differ or have a fault.
+    /// The number of these that differ or have a fault.
     differ: u64,
 }
 
@@ -42,7 +42,7 @@ fn run<R: Wait + AllocGlobal>(rt: &HostRuntime, waits: &R, line: &str) -> Result
     }
 }
 
-/// Runs what a line names, and prints how it came out. Answers whether it is as written.
+/// Runs what a line names, and prints the result. Returns whether it is as expected.
 fn tell<R: Wait + AllocGlobal>(rt: &HostRuntime, waits: &R, line: &str) -> io::Result<bool> {
     match run(rt, waits, line) {
         Ok(()) => {

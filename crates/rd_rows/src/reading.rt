@@ -4,7 +4,7 @@ use crate::case::{Case, FileLine};
 use crate::faults::Fault;
 use std::alloc::Global;
 
-/// Lines that stand between `for` and `next`.
+/// Lines between `for` and `next`.
 #[derive(Drop)]
 struct Repeat<'a> {
     /// The first number that they are repeated for.
@@ -15,20 +15,20 @@ struct Repeat<'a> {
     lines: Vec<FileLine<'a>>,
 }
 
-/// A file in the middle of being read.
+/// A file that is being read.
 #[derive(Drop)]
 struct Reader<'a> {
-    /// Where its memory comes from.
+    /// The allocator of its memory.
     alloc: Global,
-    /// What the case says so far.
+    /// The case so far.
     case: Case,
-    /// The lines that are to be repeated, behind a `for`.
+    /// The lines after a `for`, which are to be repeated.
     repeat: Option<Repeat<'a>>,
-    /// How many lines were read.
+    /// The number of lines that were read.
     lines: u64,
 }
 
-/// The two numbers of `1..=9`.
+/// Returns the two numbers of a range such as `1..=9`.
 fn numbers_of(range: &str) -> Option<(u64, u64)> {
     let (first, last) = range.split_once("..=")?;
     let Ok(first) = first.parse::<u64>() else {
@@ -41,7 +41,7 @@ fn numbers_of(range: &str) -> Option<(u64, u64)> {
 }
 
 impl<'a> Reader<'a> {
-    /// A reader that read nothing.
+    /// Creates a reader that has read nothing.
     fn new(alloc: Global) -> Reader<'a> {
         Reader {
             alloc,
@@ -51,7 +51,7 @@ impl<'a> Reader<'a> {
         }
     }
 
-    /// A `for` comes: the lines behind it are to be repeated.
+    /// Handles a `for`: the lines after it are to be repeated.
     fn begin(&mut self, range: &str) -> Result<(), Fault> {
         let Some((first, last)) = numbers_of(range) else {
             return Err(Fault::Form(self.lines));
@@ -67,7 +67,7 @@ impl<'a> Reader<'a> {
         Ok(())
     }
 
-    /// A `next` comes: the lines since `for` stand once for each number.
+    /// Handles a `next`: the lines since `for` are added once for each number.
     fn end(&mut self) -> Result<(), Fault> {
         let Some(repeat) = self.repeat.take() else {
             return Err(Fault::Form(self.lines));
@@ -80,7 +80,7 @@ impl<'a> Reader<'a> {
         Ok(())
     }
 
-    /// A line comes.
+    /// Handles a line.
     fn read(&mut self, text: &'a str) -> Result<(), Fault> {
         self.lines = self.lines.saturating_add(1);
         if let Some(range) = text.strip_prefix("for ") {
@@ -99,7 +99,7 @@ impl<'a> Reader<'a> {
         }
     }
 
-    /// All lines come.
+    /// Handles all lines.
     fn read_all(&mut self, text: &'a str) -> Result<(), Fault> {
         'lines: for line in text.split('\n') {
             self.read(line)?;
@@ -111,8 +111,13 @@ impl<'a> Reader<'a> {
     }
 }
 
-/// The case that a file says. `Form`, with the number of the line: the file does not begin with a
-/// comment, does not end with a line feed, or has a line that no case has.
+/// Returns the case in the text of a file.
+///
+/// # Errors
+///
+/// - `Form` with the number of the line if a line is not of a case. Also if the file does not begin
+///   with a comment, or does not end with a line feed.
+/// - `Starved` if memory runs out.
 pub fn read_case(alloc: Global, text: &str) -> Result<Case, Fault> {
     let Some(lines) = text.strip_suffix('\n') else {
         return Err(Fault::Form(1));

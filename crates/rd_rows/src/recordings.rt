@@ -1,9 +1,9 @@
 //! Stored captures, with what `rd_capture` makes of them.
 //!
-//! `read FILE WORDS` gives what is written for the file and these words of the command line, a
-//! capture in hexadecimal digits; `fronts FILE` for each length how what comes of so many octets of
-//! the file ends, where it differs from one octet less; `replay FILE WORDS` replays the trace of a
-//! capture and compares what the directory sends with what was captured.
+//! `read FILE WORDS` gives the result of the file and these arguments; a capture is printed in
+//! hexadecimal digits. `fronts FILE` gives how the result of each prefix of the file ends, if it
+//! differs from that of the prefix with one octet less. `replay FILE WORDS` replays the trace of a
+//! capture, and compares what the directory sends with what was captured.
 
 mod case;
 mod fronts;
@@ -16,7 +16,7 @@ use fronts::fronts_text;
 use replays::replay_text;
 use runs::run_text;
 
-/// What comes of a case whose file lies in a folder.
+/// Returns the result of a case whose file is in a folder.
 fn text_of(rt: &HostRuntime, folder: &str, case: &Case) -> Result<String, Fault> {
     let name = case.file.as_str();
     let path = format!(in rt.alloc(); "{folder}/{name}")?;
@@ -29,7 +29,7 @@ fn text_of(rt: &HostRuntime, folder: &str, case: &Case) -> Result<String, Fault>
     }
 }
 
-/// Adds a line, and what comes of it.
+/// Appends a line and its result.
 fn add(
     rt: &HostRuntime,
     text: &mut String,
@@ -44,8 +44,9 @@ fn add(
     Ok(())
 }
 
-/// What comes of the lines of a list, in whose folder their files lie. Empty lines and those that
-/// begin with `#` are passed over. `Form`, with the number of the line: it is no case.
+/// Returns the results of the lines of a list, whose files are in the same folder. Empty lines and
+/// those that begin with `#` are ignored. Returns `Form` with the number of a line that is not a
+/// case.
 pub(crate) fn coming(rt: &HostRuntime, list: &str, lines: &str) -> Result<String, Fault> {
     let (folder, _) = list.split_once('/').unwrap_or((".", list));
     let mut text = String::new(rt.alloc());

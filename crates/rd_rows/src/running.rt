@@ -1,4 +1,4 @@
-//! A case, run as a whole and, where it is a story, step by step.
+//! A case, run as a whole and, if it is a story, step by step.
 
 use crate::came::Came;
 use crate::case::{Case, Kind};
@@ -9,7 +9,8 @@ use rd_base::{Bytes, MemSink, MemSource};
 use std::alloc::Global;
 use trace_replay::{Status, replay};
 
-/// The status of a replay and what it said, as a case writes them: nothing where all is well.
+/// Returns the status of a replay and its error text, as a case writes them; nothing if all is
+/// well.
 fn status_text(alloc: Global, status: Status, said: &[u8]) -> Result<String, Fault> {
     if status == Status::Done && said.is_empty() {
         return Ok(String::new(alloc));
@@ -19,7 +20,7 @@ fn status_text(alloc: Global, status: Status, said: &[u8]) -> Result<String, Fau
     Ok(format!(in alloc; "status {code} {said}")?)
 }
 
-/// Replays the trace of a case over ends in memory, and answers what came and how it ended.
+/// Replays the trace of a case over ends in memory. Returns the actual lines and the status.
 fn replayed(alloc: Global, case: &Case) -> Result<(Came, Status), Fault> {
     let trace = Bytes::copy_of(alloc, case.trace.as_bytes())?;
     let mut source = MemSource::of(trace, Bytes::new(alloc));
@@ -38,7 +39,7 @@ fn replayed(alloc: Global, case: &Case) -> Result<(Came, Status), Fault> {
     Ok((came, status))
 }
 
-/// The line of the trace that is bad, where there is one.
+/// Returns the number of the bad line of the trace, if there is one.
 fn bad_line(status: Status) -> Option<u64> {
     match status {
         Status::Line(bad) => Some(bad.line),
@@ -46,7 +47,7 @@ fn bad_line(status: Status) -> Option<u64> {
     }
 }
 
-/// Tells the lines that are written.
+/// Compares the lines of a case.
 fn check_lines(case: &Case, came: &mut Came) -> Result<(), Fault> {
     let mut last = 0;
     'lines: for line in case.lines.iter() {
@@ -58,7 +59,7 @@ fn check_lines(case: &Case, came: &mut Came) -> Result<(), Fault> {
     came.end(last)
 }
 
-/// Runs the case that a text says. `Differs`: the first line that is not as it is written.
+/// Runs the case in a text. Returns `Differs` with the first line that is not as expected.
 fn check(alloc: Global, text: &str) -> Result<(), Fault> {
     let case = read_case(alloc, text)?;
     let (mut came, status) = replayed(alloc, &case)?;
@@ -69,8 +70,12 @@ fn check(alloc: Global, text: &str) -> Result<(), Fault> {
     Ok(())
 }
 
-/// Runs the case of a name, which is that of its file without `.case`. `Differs`: the first line
-/// that is not as it is written.
+/// Runs the case with this name, which is that of its file without `.case`.
+///
+/// # Errors
+///
+/// `Unread` if the file cannot be read as text; `Form` if it is not a case; `Differs` with the
+/// first line that is not as expected; `Starved` if memory runs out.
 pub fn check_file(rt: &HostRuntime, name: &str) -> Result<(), Fault> {
     let path = format!(in rt.alloc(); "{name}.case")?;
     let text = text_of(rt, path.as_str())?;

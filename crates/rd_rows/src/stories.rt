@@ -1,4 +1,4 @@
-//! A case whose output stands between its steps: each line stands behind the step that writes it.
+//! A case whose output is between its steps: each line follows the step that writes it.
 ghost use Rattle.std.specs.Prelude.{IfOk};
 ghost use Rattle.line_model.specs.Lines.{IsLine};
 ghost use Rattle.trace_replay.specs.Machines.{IsMachine};
@@ -11,10 +11,10 @@ use std::alloc::Global;
 use trace_replay::{Machine, Trouble};
 use trace_text::{Line, LineFault, line_read};
 
-/// The workers of the directory: the most that a trace may name.
+/// The number of workers of the directory: the most that a trace can name.
 const WORKERS: u8 = 16;
 
-/// The worker that a line names.
+/// Returns the worker that a line names.
 fn worker_of(line: &Line) -> u8 {
     match line {
         Line::Come { worker, .. } => *worker,
@@ -24,7 +24,7 @@ fn worker_of(line: &Line) -> u8 {
     }
 }
 
-/// Does what a line says, and answers whether it was done. A bad line does nothing.
+/// Does what a line says. Returns whether it was done; a bad line does nothing.
 fn is_done(machine: &mut Machine, line: Line) -> Result<bool, Starved>
     requires stands { IsMachine machine.old }
     requires line { IsLine line }
@@ -37,7 +37,7 @@ fn is_done(machine: &mut Machine, line: Line) -> Result<bool, Starved>
     }
 }
 
-/// Does a line of the trace, and answers which worker it names. None: the line is bad.
+/// Does a line of the trace. Returns the worker that it names, or `None` if the line is bad.
 fn perform(alloc: Global, machine: &mut Machine, line: &str) -> Result<Option<u8>, Starved>
     requires { IsMachine machine.old }
     ensures { IfOk result (λ _. IsMachine machine.new) }
@@ -54,7 +54,7 @@ fn perform(alloc: Global, machine: &mut Machine, line: &str) -> Result<Option<u8
     Ok(Some(worker))
 }
 
-/// Does a step, and answers what came of it; of the last one also the line that ends the output.
+/// Does a step. Returns its lines, for the last step with the line that ends the output.
 fn step(alloc: Global, machine: &mut Machine, line: &str, is_last: bool) -> Result<Came, Starved>
     requires { IsMachine machine.old }
     ensures { IfOk result (λ _. IsMachine machine.new) }
@@ -70,8 +70,7 @@ fn step(alloc: Global, machine: &mut Machine, line: &str, is_last: bool) -> Resu
     Ok(came)
 }
 
-/// Does the steps of a case up to its bad one, and tells of each the lines that are written behind
-/// it.
+/// Does the steps of a case up to the bad one, and compares the lines after each.
 fn tell(alloc: Global, machine: &mut Machine, case: &Case, bad: Option<u64>) -> Result<(), Fault>
     requires { IsMachine machine.old }
 {
@@ -92,8 +91,12 @@ fn tell(alloc: Global, machine: &mut Machine, case: &Case, bad: Option<u64>) -> 
     Ok(())
 }
 
-/// Runs a case step by step, up to the line of its trace that is bad, if there is one. `Differs`:
-/// the first line that does not stand behind the step that writes it.
+/// Runs a case step by step, up to the bad line of its trace if there is one.
+///
+/// # Errors
+///
+/// `Differs` with the first line that does not follow the step that writes it; `Starved` if memory
+/// runs out.
 pub fn check_steps(alloc: Global, case: &Case, bad: Option<u64>) -> Result<(), Fault> {
     let mut machine = Machine::make(alloc, WORKERS)?;
     tell(alloc, &mut machine, case, bad)

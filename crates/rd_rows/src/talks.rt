@@ -1,4 +1,4 @@
-//! Stored connections, with what a directory answers to them.
+//! Stored connections, with the answers of a directory.
 
 mod connections;
 mod pieces;
@@ -8,7 +8,7 @@ use rd_base::Starved;
 use std::sync::Wait;
 use vector_words::{NoAnswer, cut};
 
-/// What a call answers; nothing where there is no such call.
+/// Returns the answer of a call, or `None` if there is no such call.
 fn answer<R: Wait + AllocGlobal>(
     rt: &R,
     call: &str,
@@ -22,7 +22,7 @@ fn answer<R: Wait + AllocGlobal>(
     Ok(Some(answer))
 }
 
-/// Adds a line, and after an arrow what its call answers; an empty line and a heading as they are.
+/// Appends a line, an arrow and the answer of its call; an empty line or a heading as it is.
 fn add<R: Wait + AllocGlobal>(rt: &R, text: &mut String, line: &str) -> Result<(), Starved> {
     text.push_str(line)?;
     if line.is_empty() || line.starts_with('#') {
@@ -38,7 +38,8 @@ fn add<R: Wait + AllocGlobal>(rt: &R, text: &mut String, line: &str) -> Result<(
     Ok(())
 }
 
-/// What comes of lines, each of which is the name of a call and the octets of connections.
+/// Returns the answers of lines, each of which has the name of a call and the octets of
+/// connections.
 pub(crate) fn coming<R: Wait + AllocGlobal>(rt: &R, lines: &str) -> Result<String, Starved> {
     let mut text = String::new(rt.alloc());
     'lines: for line in lines.lines() {

@@ -15,7 +15,7 @@ use rd_desk::{Admitted, Arrival, Mids, Outbox};
 use std::marker::Brand;
 use std::snapshot::Snapshot;
 use std::sync::Wait;
-use turn_lock::TurnLock;
+use turn_lock::{TurnLock, Wake};
 
 /// All that the row is made of.
 #[derive(Drop)]
@@ -33,6 +33,15 @@ fn is_starved(admitted: &Admitted) -> bool
         Admitted::Done => false,
         Admitted::Held(_) => false,
         Admitted::Starved => true,
+    }
+}
+
+/// Whom the end of the turn wakes: nobody where this worker has a job now, for which it takes the
+/// turn again.
+fn wake_after(admitted: &Admitted) -> Wake {
+    match admitted {
+        Admitted::Held(_) => Wake::Nobody,
+        Admitted::Done | Admitted::Starved => Wake::One,
     }
 }
 
@@ -68,7 +77,15 @@ impl Share {
             arrival,
             is_starved: is_starved(&admitted),
         };
-        end::<Brand, Brand, R, Parts>(rt, lock, &mut self.pass, &mut self.looker, shared, &parts);
+        end::<Brand, Brand, R, Parts>(
+            rt,
+            lock,
+            &mut self.pass,
+            &mut self.looker,
+            shared,
+            wake_after(&admitted),
+            &parts,
+        );
         gate.pass(rt, Place::AfterGive);
         admitted
     }

@@ -15,7 +15,7 @@ use rd_desk::{Mids, Outbox, Stepped, WriteJob};
 use std::marker::Brand;
 use std::snapshot::Snapshot;
 use std::sync::Wait;
-use turn_lock::TurnLock;
+use turn_lock::{TurnLock, Wake};
 
 /// All that the row is made of, but for the place of the admission, which contracts alone see.
 #[derive(Drop)]
@@ -61,7 +61,15 @@ impl Share {
             job: kept,
             stepped,
         };
-        end::<Brand, Brand, R, Parts>(rt, lock, &mut self.pass, &mut self.looker, shared, &parts);
+        end::<Brand, Brand, R, Parts>(
+            rt,
+            lock,
+            &mut self.pass,
+            &mut self.looker,
+            shared,
+            Wake::One,
+            &parts,
+        );
         gate.pass(rt, Place::AfterGive);
         stepped
     }

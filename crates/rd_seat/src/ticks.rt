@@ -14,7 +14,7 @@ use rd_desk::{Mids, Outbox, Stepped};
 use std::marker::Brand;
 use std::snapshot::Snapshot;
 use std::sync::Wait;
-use turn_lock::TurnLock;
+use turn_lock::{TurnLock, Wake};
 
 /// All that the row is made of.
 #[derive(Drop)]
@@ -55,7 +55,15 @@ impl Share {
             word,
             stepped,
         };
-        end::<Brand, Brand, R, Parts>(rt, lock, &mut self.pass, &mut self.looker, shared, &parts);
+        end::<Brand, Brand, R, Parts>(
+            rt,
+            lock,
+            &mut self.pass,
+            &mut self.looker,
+            shared,
+            Wake::One,
+            &parts,
+        );
         gate.pass(rt, Place::AfterGive);
         stepped
     }

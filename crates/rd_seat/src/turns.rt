@@ -11,7 +11,7 @@ use crate::publishing::{meet, publish_made};
 use crate::shared_desk::SharedDesk;
 use journal_model::Row;
 use std::sync::Wait;
-use turn_lock::{Added, Pass, TurnLock};
+use turn_lock::{Added, Pass, TurnLock, Wake};
 use version_board::{Entering, Looker};
 
 /// Takes the turn, and meets what is published.
@@ -40,6 +40,7 @@ pub(crate) fn end<S: Added<Row>, E: Entering, R: Wait, P>(
     pass: &mut Pass<SharedDesk>,
     looker: &mut Looker,
     shared: SharedDesk,
+    wake: Wake,
     _parts: &P,
 )
     requires lock { lock_of pass.old ≡ id_of lock.now }
@@ -54,5 +55,5 @@ pub(crate) fn end<S: Added<Row>, E: Entering, R: Wait, P>(
     let mut shared = shared;
     publish_made::<E, R>(rt, &mut shared.desk);
     meet(looker, &mut shared.desk);
-    lock.give::<S>(pass, shared);
+    lock.give_back::<S>(pass, shared, wake);
 }

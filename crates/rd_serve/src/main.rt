@@ -1,4 +1,4 @@
-//! `rd_serve`: a directory that serves clients on loopback: over UDP by many workers, or over TCP.
+//! `rd_serve`: serves a directory to clients on loopback, over UDP by many workers or over TCP.
 #![tactic(auto)]
 
 ghost use Rattle.std.specs.Prelude.{◌≡◌, ◌≤◌, IfOk, IfSome, vec_len};
@@ -21,9 +21,9 @@ type Ends<'a> = Vec<End<UdpLink, UdpClock<&'a HostRuntime>>>;
 /// How the program ends.
 #[derive(Clone, Copy, Debug, PartialEq, Eq)]
 enum Ending {
-    /// It served, and the server ended so.
+    /// It served, and the server ended like this.
     Served(ServeStatus),
-    /// The words are not those of the program.
+    /// The arguments are not those of the program.
     Usage,
     /// The socket could not be made.
     Socket,
@@ -45,7 +45,7 @@ impl From<AllocError> for Ending {
 }
 
 impl Ending {
-    /// The exit status.
+    /// Returns the exit status.
     fn code(self) -> u8 {
         match self {
             Ending::Served(ServeStatus::Done) => 0,
@@ -57,7 +57,7 @@ impl Ending {
         }
     }
 
-    /// What is said on standard error.
+    /// Returns what is reported on standard error.
     fn text(self) -> &'static str {
         match self {
             Ending::Served(ServeStatus::Done) => "",
@@ -70,7 +70,7 @@ impl Ending {
     }
 }
 
-/// What the words of the command line ask for.
+/// Returns what the arguments of the command line ask for.
 fn plan_of(rt: &HostRuntime) -> Result<ServePlan, Ending>
     ensures { IfOk result IsPlan }
 {
@@ -78,7 +78,7 @@ fn plan_of(rt: &HostRuntime) -> Result<ServePlan, Ending>
     Ok(serve_words(rt.alloc(), words.as_slice())?)
 }
 
-/// An end for each worker, over one socket of loopback.
+/// Creates an end for each worker, all over one socket of loopback.
 fn ends_of(rt: &HostRuntime, plan: ServePlan) -> Result<Ends<'_>, Ending>
     ensures { IfOk result (λ ends. vec_len ends ≡ plan.workers) }
 {
@@ -99,7 +99,7 @@ fn ends_of(rt: &HostRuntime, plan: ServePlan) -> Result<Ends<'_>, Ending>
 /// The connections that are made to a port of loopback.
 type Door<'a> = TcpAccept<&'a HostRuntime>;
 
-/// A listener on a port of loopback.
+/// Opens a listener on a port of loopback.
 fn door_of(rt: &HostRuntime, port: u16) -> Result<Door<'_>, Ending> {
     let Ok(listener) = TcpListener::bind(rt, (Ipv4Addr::LOCALHOST, port)) else {
         return Err(Ending::Socket);
@@ -107,8 +107,8 @@ fn door_of(rt: &HostRuntime, port: u16) -> Result<Door<'_>, Ending> {
     Ok(TcpAccept::of(rt, rt.alloc(), listener))
 }
 
-/// Says on standard error how many connections were passed over and how often the system had no
-/// room for one, where there is something to say.
+/// Reports on standard error how many connections were skipped and how often the system had no room
+/// for one, unless both are zero.
 fn tell_counts(rt: &HostRuntime, door: &Door<'_>) {
     let (passed, waits) = (door.passed(), door.waits());
     if passed == 0 && waits == 0 {
@@ -137,7 +137,7 @@ fn over_udp<R: Threads + Wait + Sync + AllocGlobal>(
     }
 }
 
-/// The status of the same name.
+/// Returns the status of the same name.
 fn status_of(status: StreamsStatus) -> ServeStatus {
     match status {
         StreamsStatus::Done => ServeStatus::Done,
@@ -147,7 +147,7 @@ fn status_of(status: StreamsStatus) -> ServeStatus {
     }
 }
 
-/// Serves so many connections over TCP.
+/// Serves `count` connections over TCP.
 fn over_tcp<R: Wait + AllocGlobal>(rt: &HostRuntime, handles: &R, port: u16, count: u64) -> Ending
     requires { count ≤ 1_000_000 }
 {
@@ -164,7 +164,7 @@ fn over_tcp<R: Wait + AllocGlobal>(rt: &HostRuntime, handles: &R, port: u16, cou
     }
 }
 
-/// How many connections over TCP a plan asks for, where it asks for any.
+/// Returns the number of connections over TCP that a plan asks for, if it asks for any.
 fn streams_of(plan: ServePlan) -> Option<u64>
     requires { IsPlan plan }
     ensures { IfSome result (λ count. count ≤ 1_000_000) }

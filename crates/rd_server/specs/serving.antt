@@ -1,4 +1,4 @@
--- Serving: the turns of workers, what they send, what they count, and how a server ends.
+-- Serving: the receives of workers, what they send, what they count, and how a server ends.
 pub mod Sendings
 pub mod Calls
 pub mod Workers

@@ -1,5 +1,5 @@
-//! What the programs of the directory do: a trace replayed to its output (`trace_replay`), and a
-//! directory served over links by many workers.
+//! The library behind the programs: the replay of a trace (`trace_replay`), and a directory served
+//! over links by many workers.
 #![tactic(auto)]
 
 mod serving;

@@ -5,23 +5,23 @@ use super::serving::Serving;
 use rd_base::{Moment, Peer};
 use trace_text::Line;
 
-/// What a line changes of what is known of the conversation.
+/// What a line changes in what is known of the conversation.
 #[derive(Clone, Copy, Debug)]
 pub(crate) struct Change {
-    /// The moment of the step that it makes; none where it makes none.
+    /// The moment of the step that the line makes, or `None` if it makes no step.
     pub moment: Option<Moment>,
-    /// The worker that may hold another job since, or none.
+    /// The worker whose job may have changed, if any.
     pub worker: Option<u8>,
-    /// Who sends the datagram that comes.
+    /// The sender of the datagram that was received, if there is one.
     pub sender: Option<Peer>,
-    /// The message that comes.
+    /// The message that was received, if there is one.
     pub message: Option<MessageName>,
 }
 
 impl Change {
-    /// What a line changes, by what each worker serves before it: a datagram that comes may leave
-    /// its worker a job, and a worker that does its job holds none. One that has none makes no
-    /// step.
+    /// Returns what a line changes, given what each worker serves before it. A received datagram
+    /// may leave its worker a job. A worker that does its job holds none afterwards, and a worker
+    /// without a job makes no step.
     pub(crate) fn of(serving: &Serving, line: &Line) -> Change {
         match line {
             Line::Come {

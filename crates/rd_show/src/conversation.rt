@@ -14,30 +14,30 @@ use std::alloc::Global;
 use trace_replay::{Machine, Status, Trouble};
 use trace_text::{Line, LineBad, LineFault, Reason, line_read};
 
-/// A trace in the middle of being shown.
+/// A trace that is being shown.
 #[derive(Drop)]
 pub(crate) struct Conversation {
-    /// Where its memory comes from.
+    /// The allocator of its memory.
     alloc: Global,
-    /// In which form it is shown.
+    /// The form in which it is shown.
     form: Form,
     /// The directory that answers.
     machine: Machine,
     /// The request that each worker serves.
     serving: Serving,
-    /// The messages that came.
+    /// The messages that were received.
     arrivals: Arrivals,
     /// The messages that the directory sent.
     sendings: Sendings,
-    /// What has come of the next line.
+    /// The part of the next line that was read so far.
     pending: Pending,
-    /// How many lines were shown.
+    /// The number of lines that were shown.
     lines: u64,
-    /// The first line that was bad.
+    /// The first bad line.
     first_bad: Option<LineBad>,
 }
 
-/// Does what a line says, and answers why it is bad where it is.
+/// Does what a line says. Returns why the line is bad, or `None` if it is not.
 fn done(machine: &mut Machine, line: Line) -> Result<Option<Reason>, Starved>
     requires stands { IsMachine machine.old }
     requires line { IsLine line }
@@ -51,8 +51,8 @@ fn done(machine: &mut Machine, line: Line) -> Result<Option<Reason>, Starved>
 }
 
 impl Conversation {
-    /// A conversation that nobody began yet, with a directory of so many workers and in the form
-    /// that is asked for. `Starved`: out of memory.
+    /// Creates a conversation in which nothing was said, with a directory of this number of
+    /// workers, in the form that is asked for.
     pub(crate) fn make(alloc: Global, asked: Asked) -> Result<Conversation, Starved>
         requires { asked.workers ≤ 16 }
         ensures { IfOk result (λ conversation. IsMachine conversation.machine) }
@@ -70,7 +70,7 @@ impl Conversation {
         })
     }
 
-    /// Writes that the line with the number that is reached is bad, and remembers the first.
+    /// Writes that the current line is bad, and remembers the first bad one.
     fn tell_bad(&mut self, page: &mut String, why: Reason) -> Result<(), Starved>
         requires { IsMachine self.old.machine }
         ensures { IfOk result (λ _. IsMachine self.new.machine) }
@@ -98,8 +98,8 @@ impl Conversation {
             .write_done(page, self.alloc, said, change, &mut self.sendings, sent)
     }
 
-    /// Does what a line says, and writes that and what the directory sends; of a bad line only that
-    /// it is one.
+    /// Does what a line says, and writes that and what the directory sends. Of a bad line, writes
+    /// only that it is bad.
     fn tell(&mut self, page: &mut String, line: Line) -> Result<(), Starved>
         requires stands { IsMachine self.old.machine }
         requires line { IsLine line }
@@ -116,8 +116,8 @@ impl Conversation {
         }
     }
 
-    /// Writes what a line of the trace says and what the directory sends then; of a bad line its
-    /// number and why. The conversation goes on after a bad line, which changes nothing.
+    /// Writes what a line of the trace says and what the directory then sends; of a bad line, its
+    /// number and the reason. The conversation goes on after a bad line, which changes nothing.
     fn show(&mut self, page: &mut String, line: &[u8]) -> Result<(), Starved>
         requires { IsMachine self.old.machine }
         ensures { IfOk result (λ _. IsMachine self.new.machine) }
@@ -131,7 +131,7 @@ impl Conversation {
         }
     }
 
-    /// More of a line comes, which is bad as soon as it is too long.
+    /// Adds a part of a line, which is bad as soon as it is too long.
     fn go_on(&mut self, page: &mut String, part: &[u8]) -> Result<(), Starved>
         requires { IsMachine self.old.machine }
         ensures { IfOk result (λ _. IsMachine self.new.machine) }
@@ -143,7 +143,7 @@ impl Conversation {
         self.tell_bad(page, Reason::Long)
     }
 
-    /// A line feed comes.
+    /// Handles a line feed.
     fn end_line(&mut self, page: &mut String) -> Result<(), Starved>
         requires { IsMachine self.old.machine }
         ensures { IfOk result (λ _. IsMachine self.new.machine) }
@@ -154,16 +154,16 @@ impl Conversation {
         }
     }
 
-    /// What stands before all that is shown. `Starved`: out of memory.
+    /// Returns the text before all that is shown.
     pub(crate) fn begin(&self) -> Result<String, Starved> {
         let mut page = String::new(self.alloc);
         self.form.write_head(&mut page)?;
         Ok(page)
     }
 
-    /// What the lines say that end in a piece of the trace, and what the directory sends then. The
-    /// beginning of the next line is kept. `Starved`: out of memory; then the conversation is not
-    /// to be used any more.
+    /// Returns what the lines that end in a piece of the trace say, and what the directory then
+    /// sends. Stores the beginning of the next line. After `Starved`, the conversation must not be
+    /// used any more.
     pub(crate) fn hear(&mut self, piece: &[u8]) -> Result<String, Starved>
         requires { IsMachine self.old.machine }
         ensures { IfOk result (λ _. IsMachine self.new.machine) }
@@ -180,8 +180,8 @@ impl Conversation {
         Ok(page)
     }
 
-    /// The trace ends: what its last line says, if it lacks its line feed, and what the line that
-    /// ends the output of a replay tells. `Starved`: out of memory.
+    /// Ends the trace. Returns what its last line says, if it has no line feed, and the counts that
+    /// end the output of a replay.
     pub(crate) fn finish(&mut self) -> Result<String, Starved>
         requires { IsMachine self.old.machine }
     {
@@ -196,7 +196,8 @@ impl Conversation {
         Ok(page)
     }
 
-    /// How the program ends where all was read and shown: by the first bad line, if there is one.
+    /// Returns how the program ends if all was read and shown: with the first bad line, if there is
+    /// one.
     pub(crate) fn status(&self) -> Status {
         match self.first_bad {
             Some(bad) => Status::Line(bad),

@@ -1,4 +1,4 @@
-//! A trace as a sequence diagram, in the text that Mermaid draws.
+//! A trace as a sequence diagram, in Mermaid's text.
 
 use super::changes::Change;
 use super::lines;
@@ -13,13 +13,13 @@ use show_text::write_escaped;
 use std::alloc::Global;
 use trace_text::{Line, LineBad};
 
-/// What a diagram begins with.
+/// The beginning of a diagram.
 const HEAD: &str = "sequenceDiagram\n    participant directory\n";
 
-/// What parts the lines of a text in a diagram.
+/// The separator of lines of a text in a diagram.
 const BREAK: &str = "<br/>";
 
-/// Writes what a diagram begins with.
+/// Writes the beginning of a diagram.
 pub(crate) fn write_head(page: &mut String) -> Result<(), Starved> {
     Ok(page.push_str(HEAD)?)
 }
@@ -50,7 +50,7 @@ fn write_message(page: &mut String, alloc: Global, datagram: &[u8]) -> Result<()
     Ok(page.push_str("\n")?)
 }
 
-/// Writes the arrow of a datagram that comes to a worker.
+/// Writes the arrow of a datagram that a worker receives.
 fn write_arrival(
     page: &mut String,
     alloc: Global,
@@ -65,7 +65,7 @@ fn write_arrival(
     write_message(page, alloc, datagram)
 }
 
-/// When and to which worker a datagram comes, and whether it is a repeat.
+/// Returns when and by which worker a datagram is received, and whether it is a duplicate.
 fn arrival_label(
     alloc: Global,
     moment: Moment,
@@ -79,7 +79,7 @@ fn arrival_label(
     Ok(label)
 }
 
-/// Writes what a line says: a datagram that comes as an arrow, all else as a note.
+/// Writes what a line says: a received datagram as an arrow, anything else as a note.
 pub(crate) fn write_line(
     page: &mut String,
     alloc: Global,
@@ -106,7 +106,7 @@ pub(crate) fn write_line(
     }
 }
 
-/// Writes the arrow of a datagram that the directory sends, and whether it is sent again.
+/// Writes the arrow of a datagram that the directory sends.
 fn write_answer(
     page: &mut String,
     alloc: Global,
@@ -121,7 +121,7 @@ fn write_answer(
     write_message(page, alloc, datagram)
 }
 
-/// When a datagram is sent, and whether it is sent again.
+/// Returns when a datagram is sent, and whether it is retransmitted.
 fn answer_label(alloc: Global, change: &Change, is_again: bool) -> Result<String, Starved> {
     let mut label = String::new(alloc);
     if let Some(moment) = change.moment {
@@ -133,7 +133,7 @@ fn answer_label(alloc: Global, change: &Change, is_again: bool) -> Result<String
     Ok(label)
 }
 
-/// Writes what the directory sends at a change, by what it sent before.
+/// Writes what the directory sends at a change. What it sent before shows what is retransmitted.
 fn write_sent(
     page: &mut String,
     alloc: Global,
@@ -153,8 +153,8 @@ fn write_sent(
     Ok(())
 }
 
-/// Writes what a line said that was done, and what the directory sends then. Where it sends
-/// something the arrows tell that the directory goes on or that time passes.
+/// Writes what a line that was done says, and what the directory then sends. If the directory sends
+/// something, the arrows show that a worker goes on or that time passes, and the note is left out.
 pub(crate) fn write_done(
     page: &mut String,
     alloc: Global,
@@ -180,7 +180,7 @@ pub(crate) fn write_bad(page: &mut String, alloc: Global, bad: LineBad) -> Resul
     write_note(page, said.as_str())
 }
 
-/// Writes what the line that ends the output of a replay tells.
+/// Writes the counts of the line that ends the output of a replay.
 pub(crate) fn write_end(page: &mut String, alloc: Global, line: &str) -> Result<(), Starved> {
     let mut said = String::new(alloc);
     lines::write_end(&mut said, line)?;

@@ -1,4 +1,4 @@
-//! In which form a trace is shown.
+//! The form in which a trace is shown.
 
 use super::changes::Change;
 use super::participants::Participants;
@@ -10,7 +10,7 @@ use rd_desk::Outbox;
 use std::alloc::Global;
 use trace_text::{Line, LineBad};
 
-/// In which form a trace is shown.
+/// The form in which a trace is shown.
 #[derive(Drop)]
 pub(crate) enum Form {
     /// As a conversation, line by line.
@@ -20,8 +20,7 @@ pub(crate) enum Form {
 }
 
 impl Form {
-    /// The form of a diagram that nobody takes part in yet, or that of a conversation. `Starved`:
-    /// out of memory.
+    /// Creates the form of a diagram without participants, or that of a conversation.
     pub(crate) fn make(alloc: Global, is_diagram: bool) -> Result<Form, Starved> {
         if is_diagram {
             return Ok(Form::Diagram(Participants::make(alloc)?));
@@ -29,7 +28,7 @@ impl Form {
         Ok(Form::Conversation)
     }
 
-    /// Writes what stands before all that is shown.
+    /// Writes the text before all that is shown.
     pub(crate) fn write_head(&self, page: &mut String) -> Result<(), Starved> {
         match self {
             Form::Conversation => Ok(()),
@@ -37,8 +36,8 @@ impl Form {
         }
     }
 
-    /// Writes what a line says, by what each worker serves before it, and whether a message that
-    /// comes is a repeat.
+    /// Writes what a line says, given what each worker serves before it, and whether a received
+    /// message is a duplicate.
     pub(crate) fn write_line(
         &self,
         page: &mut String,
@@ -53,7 +52,7 @@ impl Form {
         }
     }
 
-    /// Writes what a line said that was done, and what the directory sends then.
+    /// Writes what a line that was done says, and what the directory then sends.
     pub(crate) fn write_done(
         &mut self,
         page: &mut String,
@@ -87,7 +86,7 @@ impl Form {
         }
     }
 
-    /// Writes what the line that ends the output of a replay tells.
+    /// Writes the counts of the line that ends the output of a replay.
     pub(crate) fn write_end(
         &self,
         page: &mut String,

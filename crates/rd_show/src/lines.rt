@@ -9,7 +9,7 @@ use rd_desk::Outbox;
 use std::alloc::Global;
 use trace_text::{Line, LineBad, Reason};
 
-/// What stands before the lines of a message.
+/// The indentation of the lines of a message.
 const INDENT: &str = "    ";
 
 /// Writes a datagram on lines of its own.
@@ -19,7 +19,7 @@ fn write_message(page: &mut String, datagram: &[u8]) -> Result<(), Starved> {
     Ok(page.push_str("\n")?)
 }
 
-/// Writes from whom a datagram comes to which worker, and whether it is a repeat.
+/// Writes who sends a datagram to which worker, and whether it is a duplicate.
 fn write_sender(
     page: &mut String,
     alloc: Global,
@@ -33,8 +33,8 @@ fn write_sender(
     Ok(writeln!(page, "{from} → directory (worker {worker}{mark})")?)
 }
 
-/// Writes what a line says, by what each worker serves before it, and whether a message that comes
-/// is a repeat.
+/// Writes what a line says, given what each worker serves before it, and whether a received message
+/// is a duplicate.
 pub(crate) fn write_line(
     page: &mut String,
     alloc: Global,
@@ -69,7 +69,7 @@ pub(crate) fn write_line(
     }
 }
 
-/// Writes a datagram that the directory sends, and whether it is sent again.
+/// Writes a datagram that the directory sends, and whether it is retransmitted.
 fn write_answer(
     page: &mut String,
     alloc: Global,
@@ -84,7 +84,7 @@ fn write_answer(
     write_message(page, datagram)
 }
 
-/// Writes what the directory sends, by what it sent before.
+/// Writes what the directory sends. What it sent before shows what is retransmitted.
 pub(crate) fn write_sent(
     page: &mut String,
     alloc: Global,
@@ -112,7 +112,8 @@ pub(crate) fn write_bad(page: &mut String, bad: LineBad) -> Result<(), Starved> 
     Ok(writeln!(page, "line {line}: {why}")?)
 }
 
-/// Writes what the line that ends the output of a replay tells: three numbers after its name.
+/// Writes the counts of the line that ends the output of a replay: the three numbers after its
+/// name.
 pub(crate) fn write_end(page: &mut String, line: &str) -> Result<(), Starved> {
     let mut words = line.trim_end().split(' ').skip(1);
     let changes = words.next().unwrap_or_default();

@@ -26,7 +26,7 @@ use std::process::ExitCode;
 use stops::Stop;
 use trace_replay::{Status, WordsFault, given_words, report};
 
-/// What is said where the words are not those of the program.
+/// The text on standard error if the arguments are not those of the program.
 const USAGE: &str = "usage: rd_show [--workers N] [--mermaid]\n";
 
 /// Shows the trace piece by piece.
@@ -49,7 +49,7 @@ fn show_trace<S: Source>(
     Ok(rt.print(shown.finish()?)?)
 }
 
-/// Shows the trace of standard input as it is asked for.
+/// Shows the trace of standard input in the form that is asked for.
 fn show_all(rt: &HostRuntime, asked: Asked) -> Status
     requires { asked.workers ≤ 16 }
 {
@@ -63,7 +63,7 @@ fn show_all(rt: &HostRuntime, asked: Asked) -> Status
     }
 }
 
-/// Prints what is said about the program.
+/// Prints a text about the program.
 fn tell(rt: &HostRuntime, text: &Error) -> Status {
     match rt.print(text) {
         Ok(()) => Status::Done,
@@ -71,7 +71,7 @@ fn tell(rt: &HostRuntime, text: &Error) -> Status {
     }
 }
 
-/// Does what words ask for that do not ask for a trace to be shown.
+/// Does what arguments ask for that do not ask for a trace to be shown.
 fn do_otherwise(rt: &HostRuntime, otherwise: &Otherwise) -> Status {
     match otherwise {
         Otherwise::Say(text) => tell(rt, text),
@@ -80,7 +80,7 @@ fn do_otherwise(rt: &HostRuntime, otherwise: &Otherwise) -> Status {
     }
 }
 
-/// Does what the words of the command line ask for.
+/// Does what the arguments of the command line ask for.
 fn run(rt: &HostRuntime) -> Status {
     match given_words(rt) {
         Ok(words) => match words_read(rt.alloc(), words.as_slice()) {
@@ -92,7 +92,7 @@ fn run(rt: &HostRuntime) -> Status {
     }
 }
 
-/// Says on standard error how the program ended.
+/// Reports on standard error how the program ended.
 fn say(rt: &HostRuntime, status: Status) {
     match status {
         Status::Usage => {

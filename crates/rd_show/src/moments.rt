@@ -1,4 +1,4 @@
-//! A moment, as text.
+//! Moments as text.
 
 use rd_base::{Moment, Starved};
 
@@ -9,7 +9,7 @@ pub(crate) fn write_seconds(page: &mut String, moment: Moment) -> Result<(), Sta
     Ok(write!(page, "{seconds}.{rest:03} s")?)
 }
 
-/// Writes the moment that stands before what is said of it.
+/// Writes the moment at the beginning of a line.
 pub(crate) fn write_moment(page: &mut String, moment: Moment) -> Result<(), Starved> {
     write_seconds(page, moment)?;
     Ok(page.push_str("  ")?)

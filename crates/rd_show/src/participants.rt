@@ -5,15 +5,15 @@ use lru::LruCache;
 use rd_base::{Peer, Starved, peer_text};
 use std::alloc::Global;
 
-/// The peers that a diagram introduced.
+/// The peers that a diagram has introduced.
 #[derive(Drop)]
 pub(crate) struct Participants {
-    /// Those that it introduced last.
+    /// The peers that it introduced most recently.
     introduced: LruCache<Peer, ()>,
 }
 
-/// The identifier of a peer, by how it is spelled: its letters, digits and dots, and underscores in
-/// place of colons and brackets.
+/// Writes the identifier of a peer, from its spelling: the letters, digits and dots, with
+/// underscores in place of colons and brackets.
 fn write_identifier(page: &mut String, spelled: &str) -> Result<(), Starved> {
     page.push('p')?;
     'characters: for character in spelled.chars() {
@@ -34,8 +34,8 @@ pub(crate) fn write_participant(
     write_identifier(page, peer_text(alloc, peer)?.as_str())
 }
 
-/// Writes that a peer takes part, and how it is spelled: Mermaid reads a name to the end of its
-/// line, and nothing in an address and a port as its own.
+/// Writes that a peer takes part, and its spelling. Mermaid reads a name to the end of its line,
+/// and takes nothing in an address and a port for its own text.
 fn write_introduction(page: &mut String, alloc: Global, peer: &Peer) -> Result<(), Starved> {
     let spelled = peer_text(alloc, peer)?;
     page.push_str("    participant ")?;
@@ -46,15 +46,15 @@ fn write_introduction(page: &mut String, alloc: Global, peer: &Peer) -> Result<(
 }
 
 impl Participants {
-    /// None was introduced yet. `Starved`: out of memory.
+    /// Creates an empty set of participants.
     pub(crate) fn make(alloc: Global) -> Result<Participants, Starved> {
         Ok(Participants {
             introduced: LruCache::new(alloc, room())?,
         })
     }
 
-    /// Writes that a peer takes part, unless that was written before. Behind as many others it is
-    /// written again, of the same participant. `Starved`: out of memory.
+    /// Writes that a peer takes part, unless that was written before. A peer is introduced again,
+    /// as the same participant, after as many others as there is room for.
     pub(crate) fn introduce(
         &mut self,
         page: &mut String,

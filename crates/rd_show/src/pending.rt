@@ -1,21 +1,21 @@
-//! A line of the trace of which not all has come yet.
+//! A line of the trace that was not read to its end.
 
 use line_model::limits::MAX_LINE;
 use rd_base::{Bytes, Starved};
 use std::alloc::Global;
 use std::mem;
 
-/// What has come of a line.
+/// The part of a line that was read so far.
 #[derive(Drop)]
 pub(crate) struct Pending {
-    /// Its octets so far, none where it is too long.
+    /// Its octets so far; none if it is too long.
     octets: Bytes,
     /// Whether it is too long.
     is_long: bool,
 }
 
 impl Pending {
-    /// Nothing came yet.
+    /// Creates an empty line.
     pub(crate) fn make(alloc: Global) -> Pending {
         Pending {
             octets: Bytes::new(alloc),
@@ -23,8 +23,7 @@ impl Pending {
         }
     }
 
-    /// More of the line comes. Answers whether the line is too long now, and was not before.
-    /// `Starved`: out of memory.
+    /// Adds a part of the line. Returns whether the line is too long now, and was not before.
     pub(crate) fn add(&mut self, part: &[u8]) -> Result<bool, Starved> {
         if self.is_long {
             return Ok(false);
@@ -38,12 +37,12 @@ impl Pending {
         Ok(false)
     }
 
-    /// Whether nothing of a line came that may be done.
+    /// Returns whether no octet of a line is stored.
     pub(crate) fn is_empty(&self) -> bool {
         self.octets.is_empty()
     }
 
-    /// The line ends, and the next begins. None where it was too long.
+    /// Ends the line and begins the next. Returns its octets, or `None` if it was too long.
     pub(crate) fn end(&mut self, alloc: Global) -> Option<Bytes> {
         if self.is_long {
             self.is_long = false;

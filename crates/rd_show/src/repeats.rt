@@ -1,4 +1,4 @@
-//! Which messages come again, and which the directory sends again.
+//! Which messages are duplicates, and which the directory retransmits.
 
 use super::changes::Change;
 use super::names::{MessageName, confirmable_to};
@@ -9,12 +9,12 @@ use rd_base::{Bytes, Moment, Peer, Starved};
 use std::alloc::Global;
 use std::num::NonZeroUsize;
 
-/// The messages that came, each with the moment at which it came first.
+/// The received messages, each with the moment at which it was first received.
 #[derive(Drop)]
 pub(crate) struct Arrivals {
-    /// The greatest moment that was handed in.
+    /// The greatest moment so far.
     latest: Moment,
-    /// When each message came first.
+    /// The moment at which each message was first received.
     firsts: LruCache<MessageName, Moment>,
 }
 
@@ -25,13 +25,13 @@ pub(crate) struct Sendings {
     octets: LruCache<MessageName, Bytes>,
 }
 
-/// How many messages have room.
+/// Returns the number of messages that are remembered.
 pub(crate) fn room() -> NonZeroUsize {
     NonZeroUsize::new(MAX_EXCHANGES).unwrap_or(NonZeroUsize::MIN)
 }
 
 impl Arrivals {
-    /// Nothing came yet. `Starved`: out of memory.
+    /// Creates an empty set of received messages.
     pub(crate) fn make(alloc: Global) -> Result<Arrivals, Starved> {
         Ok(Arrivals {
             latest: Moment(0),
@@ -39,8 +39,8 @@ impl Arrivals {
         })
     }
 
-    /// Whether a message that comes at a moment is the repeat of one that is remembered. A moment
-    /// is lifted to the greatest that was handed in before.
+    /// Returns whether a message is a duplicate of a remembered one, at this moment or the greatest
+    /// so far, whichever is later.
     fn is_repeat_at(&self, message: MessageName, moment: Moment) -> bool {
         let now = self.latest.later(moment);
         match self.firsts.peek(&message) {
@@ -49,7 +49,7 @@ impl Arrivals {
         }
     }
 
-    /// Whether the message that comes by a change is the repeat of one that is remembered.
+    /// Returns whether the message that a change received is a duplicate of a remembered one.
     pub(crate) fn is_repeat(&self, change: &Change) -> bool {
         match (change.message, change.moment) {
             (Some(message), Some(moment)) => self.is_repeat_at(message, moment),
@@ -57,7 +57,7 @@ impl Arrivals {
         }
     }
 
-    /// What a change brings. A repeat does not count anew. `Starved`: out of memory.
+    /// Records a change. A duplicate does not count anew.
     pub(crate) fn note(&mut self, change: &Change) -> Result<(), Starved> {
         let is_repeat = self.is_repeat(change);
         if let Some(moment) = change.moment {
@@ -73,14 +73,14 @@ impl Arrivals {
 }
 
 impl Sendings {
-    /// Nothing was sent yet. `Starved`: out of memory.
+    /// Creates an empty set of sent messages.
     pub(crate) fn make(alloc: Global) -> Result<Sendings, Starved> {
         Ok(Sendings {
             octets: LruCache::new(alloc, room())?,
         })
     }
 
-    /// Whether a message with these octets was sent before under its name.
+    /// Returns whether a message with this name was sent before with these octets.
     fn was_sent(&mut self, message: MessageName, datagram: &[u8]) -> bool {
         match self.octets.get(&message) {
             Some(octets) => octets.as_slice() == datagram,
@@ -88,8 +88,8 @@ impl Sendings {
         }
     }
 
-    /// The directory sends a datagram. Answers whether it is sent again, the same octets to the
-    /// same peer (RFC 7252 section 4.2). `Starved`: out of memory.
+    /// Records a datagram that the directory sends. Returns whether it is retransmitted: a
+    /// confirmable message with the same octets as before, to the same peer (RFC 7252 section 4.2).
     pub(crate) fn note(
         &mut self,
         alloc: Global,

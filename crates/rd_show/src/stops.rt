@@ -1,17 +1,17 @@
-//! Why the program stops before the trace ends.
+//! Why the program stops before the end of the trace.
 
 use rd_base::Starved;
 use std::io::{self, ErrorKind};
 use trace_replay::Status;
 
-/// Why the program stops before all of the trace is shown.
+/// Why the program stops before the whole trace is shown.
 #[derive(Clone, Copy, Debug, PartialEq, Eq)]
 pub(crate) enum Stop {
     /// The trace cannot be read.
     ReadFault,
     /// The conversation cannot be written.
     WriteFault,
-    /// Nobody reads the conversation any more.
+    /// The reader of the conversation has closed it.
     ReaderGone,
     /// Memory ran out.
     Starved,
@@ -34,7 +34,7 @@ impl From<io::Error> for Stop {
 }
 
 impl Stop {
-    /// How the program ends: a reader that goes away has seen what it wanted.
+    /// Returns how the program ends. It is done if the reader has closed the conversation.
     pub(crate) fn status(self) -> Status {
         match self {
             Stop::ReadFault => Status::ReadFault,

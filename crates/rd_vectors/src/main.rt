@@ -1,5 +1,5 @@
-//! `rd_vectors`: shows what the calls of the directory's crates answer, line by line. A line is
-//! the name of a call and what it is given; headings begin with `#`.
+//! `rd_vectors`: shows the answers of the calls of the directory's crates, line by line. A line has
+//! the name of a call and its arguments. Headings begin with `#`.
 #![tactic(auto)]
 
 mod shows;
@@ -9,7 +9,7 @@ use std::io;
 use std::process::ExitCode;
 use vectors::{Shown, Vectors};
 
-/// Shows the lines one after the other, and tells whether each was answered.
+/// Shows the lines one after the other. Returns whether each was answered.
 fn show_all(rt: &HostRuntime) -> io::Result<bool> {
     let Ok(mut vectors) = Vectors::new(rt.alloc()) else {
         return Err(io::Error::from(io::ErrorKind::OutOfMemory));

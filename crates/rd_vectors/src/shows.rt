@@ -1,11 +1,11 @@
-//! What the words of `rd_show` ask for, and text in its diagrams.
+//! The arguments of `rd_show`, and text in its diagrams.
 
 use rd_base::Starved;
 use show_text::{Otherwise, words_read, write_escaped};
 use std::alloc::Global;
 use vector_words::{NoAnswer, shown, text_of};
 
-/// Words that are parted by spaces.
+/// Returns the arguments of a text, which are separated by spaces.
 fn words_of(alloc: Global, said: &str) -> Result<Vec<String>, Starved> {
     let mut words = Vec::new(alloc);
     'words: for word in said.split_whitespace() {
@@ -14,8 +14,9 @@ fn words_of(alloc: Global, said: &str) -> Result<Vec<String>, Starved> {
     Ok(words)
 }
 
-/// `show_words WORD ..`: how many workers the words of `rd_show` ask for, with `d` behind them
-/// where they ask for a diagram; the text, where they ask about the program; or `refused`.
+/// Answers `show_words WORD ..`: the number of workers that the arguments of `rd_show` ask for,
+/// followed by `d` if they ask for a diagram; the text about the program, if they ask for it; or
+/// `refused`.
 fn show_words(alloc: Global, said: &str) -> Result<String, NoAnswer> {
     let words = words_of(alloc, said)?;
     match words_read(alloc, words.as_slice()) {
@@ -33,7 +34,7 @@ fn show_words(alloc: Global, said: &str) -> Result<String, NoAnswer> {
     }
 }
 
-/// `diagram LINE`: how a line of text stands in a diagram.
+/// Answers `diagram LINE`: a line of text as it appears in a diagram.
 fn diagram(alloc: Global, said: &str) -> Result<String, NoAnswer> {
     let line = text_of(alloc, said)?;
     let mut page = String::new(alloc);
@@ -41,8 +42,8 @@ fn diagram(alloc: Global, said: &str) -> Result<String, NoAnswer> {
     Ok(shown(alloc, page.as_bytes())?)
 }
 
-/// What a call answers to what it is given; nothing where it is none of these. `Form`: what it is
-/// given has not the form of the call. `Starved`: out of memory.
+/// Returns the answer of a call to its arguments, or `None` if it is not one of these calls.
+/// Returns `Form` if the arguments do not have the form of the call.
 pub(crate) fn answer(alloc: Global, call: &str, said: &str) -> Result<Option<String>, NoAnswer> {
     let answer = match call {
         "show_words" => show_words(alloc, said)?,

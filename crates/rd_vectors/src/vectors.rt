@@ -9,7 +9,7 @@ use vector_words::{NoAnswer, cut};
 /// All calls.
 #[derive(Drop)]
 pub(crate) struct Vectors {
-    /// Where their memory comes from.
+    /// The allocator of their memory.
     alloc: Global,
     /// The tables, as the lines so far left them.
     tables: Tables,
@@ -18,20 +18,24 @@ pub(crate) struct Vectors {
 /// A line as it is shown.
 #[derive(Drop)]
 pub(crate) struct Shown {
-    /// The line, with the answer after it.
+    /// The line, followed by the answer.
     pub line: String,
     /// Whether it was answered. A heading is.
     pub answered: bool,
 }
 
 impl Vectors {
-    /// All calls, with their tables empty. `Starved`: out of memory.
+    /// Creates all calls, with empty tables.
+    ///
+    /// # Errors
+    ///
+    /// `Starved` if memory runs out.
     pub fn new(alloc: Global) -> Result<Vectors, Starved> {
         let tables = Tables::new(alloc)?;
         Ok(Vectors { alloc, tables })
     }
 
-    /// What a call answers; nothing where there is no such call.
+    /// Returns the answer of a call, or `None` if there is no such call.
     fn answer(&mut self, call: &str, said: &str) -> Result<Option<String>, NoAnswer> {
         if let Some(answer) = wire_vectors::answer(self.alloc, call, said)? {
             return Ok(Some(answer));
@@ -48,7 +52,7 @@ impl Vectors {
         self.tables.answer(call, said)
     }
 
-    /// A line with what stands after its arrow.
+    /// Returns a line, an arrow and the answer.
     fn shown(&self, line: &str, answer: &str, answered: bool) -> Result<Shown, Starved> {
         Ok(Shown {
             line: format!(in self.alloc; "{line} => {answer}")?,
@@ -56,8 +60,11 @@ impl Vectors {
         })
     }
 
-    /// A line, and what its call answers; an empty line and a heading as they are. `Starved`: out
-    /// of memory.
+    /// Returns a line and the answer of its call; an empty line or a heading as it is.
+    ///
+    /// # Errors
+    ///
+    /// `Starved` if memory runs out.
     pub fn show(&mut self, line: &str) -> Result<Shown, Starved> {
         if line.is_empty() || line.starts_with('#') {
             return Ok(Shown {

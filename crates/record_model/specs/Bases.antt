@@ -1,4 +1,5 @@
--- The base of a registration: given, or that of the peer that it comes from (RFC 9176 section 5).
+-- The base of a registration: the one that is given, or that of the peer that sent it (RFC 9176
+-- section 5).
 use Rattle.std.specs.Prelude.{
   ℕ,
   Bool,
@@ -15,17 +16,17 @@ use Rattle.std.specs.Prelude.{
 use Rattle.rd_base.specs.declared.peers.Peer.{Peer}
 use Rattle.rd_base.specs.Bases.{base_of}
 
--- the base of a registration: the one that is given, else that of the peer
+-- Returns the base of a registration: the one that is given, or else that of the peer.
 abbrev pub registered_base : Option (List ℕ) → Peer → List ℕ
 registered_base given peer = unwrap_or given (base_of peer)
 
--- the base after an update: one that the update gives; else one that was given stays, and another
--- becomes that of the peer
+-- Returns the base after an update: the one that the update gives. Otherwise a base that was given
+-- stays, and any other becomes that of the peer.
 abbrev pub updated_base : Option (List ℕ) → Bool → List ℕ → Peer → List ℕ
 updated_base (Some text) was_given old peer = text
 updated_base None true old peer = old
 updated_base None false old peer = base_of peer
 
--- the base is then one that was given
+-- Returns whether the base after an update is one that was given.
 abbrev pub updated_base_given : Option (List ℕ) → Bool → Bool
 updated_base_given given was_given = is_some given || was_given

@@ -1,4 +1,4 @@
--- Which bodies a registration may have: documents of references in the Limited Link Format (RFC
+-- The bodies that a registration may have: documents of references in the Limited Link Format (RFC
 -- 9176 appendix C).
 use Rattle.std.specs.Prelude.{
   ℕ,
@@ -20,11 +20,11 @@ use Rattle.rd_base.specs.declared.submitted_links.SubmittedLink.{SubmittedLink}
 use Rattle.reference_model.specs.References.{Components, reference, where_present, has_scheme}
 use Rattle.link_model.specs.Quoting.{submitted_links}
 
--- the text is a URI-reference
+-- Returns whether a text is a URI-reference.
 abbrev pub is_reference : List ℕ → Bool
 is_reference text = is_some (reference text)
 
--- the text is a URI-reference with a scheme
+-- Returns whether a text is a URI-reference with a scheme.
 unfoldable pub is_uri : List ℕ → Bool
 is_uri text = is_uri_where (reference text)
   where
@@ -32,18 +32,18 @@ is_uri text = is_uri_where (reference text)
     is_uri_where None = false
     is_uri_where (Some c) = has_scheme c
 
--- a link's target is a URI-reference, and so is its anchor, where it has one
+-- Returns whether a link's target is a URI-reference, and its anchor too, if it has one.
 abbrev pub has_references : SubmittedLink → Bool
 has_references l = is_reference l.target_ref && where_present is_reference l.anchor_ref
 
--- the links of a body whose targets and anchors are URI-references; None where the body is no
--- document or has another target or anchor
+-- Returns the links of a body whose targets and anchors are URI-references, or `None` if the body
+-- is no document or has another target or anchor.
 unfoldable pub linked_references : List ℕ → Option (List SubmittedLink)
 linked_references body =
     option_and_then (λ links. if list_all has_references links then Some links else None)
     (submitted_links body)
 
--- a link without a scheme in its target has none in its anchor: the one rule of the Limited Link
--- Format that is asked
+-- Returns whether a link is limited: if its target has no scheme, its anchor has none either. This
+-- is the only rule of the Limited Link Format that is checked.
 abbrev pub is_limited : SubmittedLink → Bool
 is_limited l = is_uri l.target_ref || where_present (λ anchor. not (is_uri anchor)) l.anchor_ref

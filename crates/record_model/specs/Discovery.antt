@@ -8,13 +8,13 @@ use Rattle.link_model.specs.Quoting.{submitted_links}
 use Rattle.record_model.specs.Matching.{link_matches}
 use Rattle.record_model.specs.ListingLines.{link_line, shown}
 
--- the document of the directory's own resources
+-- The document of the directory's own resources.
 abbrev pub own_document : List ℕ
 own_document =
     codes
     "</rd>;rt=\"core.rd\";ct=40,</rd-lookup/ep>;rt=\"core.rd-lookup-ep\";ct=40;obs,</rd-lookup/res>;rt=\"core.rd-lookup-res\";ct=40;obs"
 
--- a link as it is printed, resolved against nothing
+-- Returns a link as it is printed, with its target and anchor unresolved.
 abbrev pub as_printed : SubmittedLink → Item
 as_printed link = record {
   target_ref = link.target_ref;
@@ -25,14 +25,14 @@ as_printed link = record {
   pairs = link.pairs;
 }
 
--- the links of that document
+-- The links of that document.
 unfoldable pub own_items : List Item
 own_items = map as_printed (unwrap_or (submitted_links own_document) [])
 
--- each criterion matches the link by itself
+-- Returns whether each criterion matches the link by itself.
 unfoldable pub own_link_listed : Query → Item → Bool
 own_link_listed query item = list_all (λ criterion. link_matches criterion item) query.criteria
 
--- the answer to discovery: the links that each criterion matches, cut by page and count
+-- Returns the answer to discovery: the links that all criteria match, cut by page and count.
 unfoldable pub discovery : Query → List ℕ
 discovery query = shown query (map link_line (filter (own_link_listed query) own_items))

@@ -1,4 +1,4 @@
--- which bodies are refused, the place of the fault (RFC 6690 section 2, RFC 3986 section 4.1, RFC
+-- which bodies are refused, the offset of the fault (RFC 6690 section 2, RFC 3986 section 4.1, RFC
 -- 9176 appendix C)
 pub mod Bodies
 pub mod Refusals

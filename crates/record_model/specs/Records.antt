@@ -1,4 +1,4 @@
--- A record: what a registration makes, and what an update makes of it (RFC 9176 sections 5 and
+-- The record that a registration makes, and what an update makes of it (RFC 9176 sections 5 and
 -- 5.3.1).
 use Rattle.std.specs.Prelude.{
   ℕ,
@@ -27,12 +27,12 @@ use Rattle.record_model.specs.Bodies.{is_uri}
 use Rattle.reference_model.specs.Resolution.{resolved}
 use Rattle.record_model.specs.Bases.{registered_base, updated_base, updated_base_given}
 
--- a target or an anchor against a base: unchanged where it has a scheme, else resolved (RFC 3986
--- section 5.2)
+-- Returns a target or an anchor against a base: unchanged if it has a scheme, and otherwise
+-- resolved (RFC 3986 section 5.2).
 unfoldable pub based : List ℕ → List ℕ → List ℕ
 based base text = if is_uri text then text else resolved base text
 
--- a submitted link as an item of a record with this base
+-- Returns a submitted link as an item of a record with this base.
 unfoldable pub item_of : List ℕ → SubmittedLink → Item
 item_of base link = record {
   target_ref = link.target_ref;
@@ -43,27 +43,27 @@ item_of base link = record {
   pairs = link.pairs;
 }
 
--- the items of a record with this base, in the order of the body
+-- Returns the items of a record with this base, in the order of the body.
 abbrev pub items_of : List ℕ → List SubmittedLink → List Item
 items_of base links = map (item_of base) links
 
--- an item against another base
+-- Returns an item with its target and anchor against another base.
 unfoldable pub rebased : List ℕ → Item → Item
 rebased base item = record item {
   target = based base item.target_ref;
   anchor = option_map (based base) item.anchor_ref;
 }
 
--- the attribute is replaced: an update gives one of its name
+-- Returns whether the attribute is replaced: an update gives one with its name.
 abbrev pub is_replaced : List Pair → Pair → Bool
 is_replaced given pair = list_any (λ other. bytes_eq pair.name other.name) given
 
--- the extra attributes after an update: those of a name that it gives are dropped, and its own are
--- appended
+-- Returns the extra attributes after an update. Those with a name that the update gives are
+-- removed, and its own are appended.
 unfoldable pub updated_attributes : List Pair → List Pair → List Pair
 updated_attributes given attrs = filter (λ pair. not (is_replaced given pair)) attrs ++ given
 
--- the record of a registration of this number at this moment
+-- Returns the record of a registration with this number at this moment.
 unfoldable pub registered : ℕ → Moment → Peer → RegParams → List SubmittedLink → Record
 registered number now peer params links = record {
   number = number;
@@ -76,8 +76,8 @@ registered number now peer params links = record {
   items = items_of (registered_base params.base peer) links;
 }
 
--- the record after an update: its lease starts anew, and its items are resolved against its base as
--- it is then
+-- Returns the record after an update. Its lease starts anew, and its items are resolved against its
+-- new base.
 unfoldable pub updated : Moment → Peer → UpdateParams → Record → Record
 updated now peer change r =
     let base = updated_base change.base r.base_given r.base peer in

@@ -1,5 +1,7 @@
-//! Definitions of what registrations and lookups mean: query options, bodies, records, matching and
-//! the lines of a listing (RFC 9176). No function.
+//! Definitions of the meaning of registrations and lookups: query options, bodies, records,
+//! matching and the lines of a listing (RFC 9176).
+//!
+//! The crate has no functions.
 #![tactic(auto)]
 
 mod readings;

@@ -1,22 +1,22 @@
-//! What query options are read as, and what is wrong with one.
+//! The kinds of query options, and the reasons why one is refused.
 
-/// What query options are read as.
+/// The kind of request that query options are read for.
 #[derive(Clone, Copy, Debug, PartialEq, Eq)]
 pub enum Reading {
-    /// The parameters of a registration (RFC 9176 section 5).
+    /// A registration: its parameters (RFC 9176 section 5).
     Register,
-    /// The parameters of a simple registration (RFC 9176 section 5.1).
+    /// A simple registration: its parameters (RFC 9176 section 5.1).
     Simple,
-    /// The parameters of an update (RFC 9176 section 5.3.1).
+    /// An update: its parameters (RFC 9176 section 5.3.1).
     Update,
-    /// The criteria of a lookup (RFC 9176 section 6.2).
+    /// A lookup: its criteria (RFC 9176 section 6.2).
     Lookup,
 }
 
-/// Why query options are refused.
+/// The reason why query options are refused.
 #[derive(Clone, Copy, Debug, PartialEq, Eq)]
 pub enum Why {
-    /// The endpoint's name is missing.
+    /// The name of the endpoint is missing.
     NoEp,
     /// The name of an endpoint or a sector is empty.
     Empty,
@@ -26,20 +26,20 @@ pub enum Why {
     Control,
     /// The parameter is not UTF-8.
     Utf8,
-    /// The parameter was given before and may stand once.
+    /// The parameter appeared before and may appear only once.
     Repeated,
     /// The lifetime is no number of seconds from 1 to 4,294,967,295.
     Lt,
-    /// The base is no URI with an authority and a host, without query and fragment.
+    /// The base is no URI with an authority and a host, and without query and fragment.
     Base,
     /// The host of the base is a link-local IPv6 address.
     LinkLocal,
-    /// The name is none that an attribute or a criterion can have.
+    /// No attribute or criterion can have the name.
     Name,
-    /// A page is asked for without a count.
+    /// A page is given without a count.
     PageAlone,
     /// The page or the count is no number of 32 bits.
     Number,
-    /// The parameter is not one of this request.
+    /// The request does not have this parameter.
     NotHere,
 }

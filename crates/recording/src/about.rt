@@ -1,6 +1,6 @@
-//! What is said about the program.
+//! Texts about the program.
 
-/// What is said where help is asked for.
+/// The text of `--help`.
 const HELP: &str = "\
 Reads a capture of the network as a trace, or writes a trace and its output as a capture
 
@@ -16,10 +16,10 @@ Options:
   -V, --version   Print version
 ";
 
-/// What is said where the version is asked for.
+/// The text of `--version`.
 const VERSION: &str = "rd_capture 0.1.0\n";
 
-/// What is to be said about the program, where a word that stands alone asks for that.
+/// Returns the text about the program that the only argument asks for, if it asks for one.
 pub(crate) fn text_about(words: &[String]) -> Option<&'static str> {
     match words {
         [word] => match word.as_str() {

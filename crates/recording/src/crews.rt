@@ -1,4 +1,4 @@
-//! The workers of a server: which of them heard each datagram of a capture, and which let time
+//! The workers of a server: which of them received each datagram of a capture, and which let time
 //! pass.
 ghost use Rattle.std.specs.Prelude.{◌≤◌, length, IfOk};
 ghost use Rattle.rd_base.specs.Peers.{IsPeer};
@@ -14,47 +14,51 @@ use rd_base::{Moment, Peer, Starved};
 use std::alloc::Global;
 use std::mem;
 
-/// The milliseconds of a second, at each of which time passes while nothing comes and nothing is
-/// sent.
+/// The number of milliseconds in a second. Time passes at each second in which nothing is received
+/// or sent.
 const SECOND: u64 = 1_000;
 
-/// The milliseconds in which a server sends what is due, whichever of its workers comes first.
+/// The number of milliseconds within which a server sends what is due, whichever worker comes
+/// first.
 const LATE: u64 = 100;
 
-/// The milliseconds in which a server answers.
+/// The number of milliseconds within which a server answers.
 const ANSWERED: u64 = 1_000;
 
-/// The most seconds behind which time passes each second; of more the first are leapt over.
+/// The maximum number of seconds in a gap at each of which time passes. In a longer gap the first
+/// are skipped.
 const LONGEST_GAP: u64 = 86_400;
 
-/// The most steps of which something is still to come.
+/// The maximum number of steps that wait for an answer or a request.
 const MAX_WAITING: usize = 64;
 
-/// The most steps that are kept behind a tick that may go on.
+/// The maximum number of steps that are stored after a tick that may go on.
 const MAX_DONE: usize = 256;
 
-/// The most messages whose Message IDs are kept.
+/// The maximum number of messages whose Message IDs are stored.
 const MAX_DRAWN: usize = 1_024;
 
 /// The workers of a server, as far as a capture was read.
 #[derive(Drop)]
 pub(crate) struct Crew {
-    /// Where its memory comes from.
+    /// The allocator of its memory.
     alloc: Global,
     /// Which datagrams are written.
     written: Way,
-    /// When something was heard or sent last; none where nothing was.
+    /// The moment at which something was last received or sent, if anything was.
     now: Option<Moment>,
-    /// The steps of which something is still to come, in the order in which they began.
+    /// The steps that wait for an answer or a request, in the order in which they began.
     waiting: Vec<Step>,
-    /// The steps that are done, in the order in which they were, and not yet written.
+    /// The steps that are done, in order, and not yet written.
     done: Vec<Step>,
-    /// The Message IDs that were drawn last for messages that may be sent again, with their peers.
+    /// The Message IDs that were last drawn for messages that can be retransmitted, with their
+    /// peers.
     drawn: Vec<(Peer, u16)>,
 }
 
 impl Crew {
-    /// The workers of a server before a capture, of which what came or what was sent is written.
+    /// Creates the workers of a server at the beginning of a capture. `written` says whether
+    /// received or sent datagrams are written.
     pub(crate) fn new(alloc: Global, written: Way) -> Crew {
         Crew {
             alloc,
@@ -75,7 +79,7 @@ impl Crew {
         pages.out.append(text.as_slice())
     }
 
-    /// Writes the steps that are done, up to the first tick that may go on; all of them where there
+    /// Writes the steps that are done, up to the first tick that may go on; all of them if there
     /// are too many.
     fn write_done(&mut self, now: Moment, pages: &mut Pages) -> Result<(), Starved> {
         let count = if self.done.len() > MAX_DONE {
@@ -94,7 +98,7 @@ impl Crew {
         Ok(())
     }
 
-    /// Nothing is to come any more of the steps that waited for too long.
+    /// Ends the steps that have waited for too long.
     fn give_up(&mut self, now: Moment) -> Result<(), Starved> {
         'waiting: for _ in 0..self.waiting.len() {
             let old = self
@@ -110,8 +114,8 @@ impl Crew {
         Ok(())
     }
 
-    /// Writes a tick at each whole second of a time in which nothing came and nothing was sent,
-    /// but for its first and its last.
+    /// Writes a tick at each whole second of a time in which nothing was received or sent, except
+    /// for the first and the last.
     fn idle(&self, from: Moment, until: Moment, pages: &mut Pages) -> Result<(), Starved> {
         let last = until.0.saturating_sub(SECOND + LATE) / SECOND;
         let first = from.0.saturating_add(LATE) / SECOND;
@@ -123,7 +127,7 @@ impl Crew {
         Ok(())
     }
 
-    /// Time passes up to a moment, or none where that is past. Answers how far it has passed.
+    /// Lets time pass up to a moment, unless that is past. Returns the moment that it has reached.
     fn reach(&mut self, moment: Moment, pages: &mut Pages) -> Result<Moment, Starved>
         ensures { IfOk result (λ now. now.0 ≤ MAX_MOMENT) }
     {
@@ -140,7 +144,7 @@ impl Crew {
         Ok(now)
     }
 
-    /// A step is done as far as is known.
+    /// Stores a step as done, or as waiting.
     fn put(&mut self, step: Step) -> Result<(), Starved> {
         if !step.is_awaited() {
             self.done.push(step)?;
@@ -154,7 +158,7 @@ impl Crew {
         Ok(())
     }
 
-    /// A datagram came to the server.
+    /// Handles a datagram that the server received.
     pub(crate) fn hear(
         &mut self,
         moment: Moment,
@@ -171,7 +175,8 @@ impl Crew {
         self.write_done(now, pages)
     }
 
-    /// Whether a message to this peer with a Message ID was sent before. It is kept.
+    /// Returns whether a message to this peer with this Message ID was sent before. Stores the
+    /// Message ID.
     fn is_again(&mut self, peer: Peer, mid: u16) -> Result<bool, Starved> {
         if self.drawn.contains(&(peer, mid)) {
             return Ok(true);
@@ -183,8 +188,8 @@ impl Crew {
         Ok(false)
     }
 
-    /// A worker let time pass, and sent a message: what was sent before, to be sent again by
-    /// whichever worker, or one more with a Message ID that it drew.
+    /// Handles a message of a tick. It is a retransmission by an unknown worker, one more message
+    /// of a tick, or the first message of a new one.
     fn tick(&mut self, now: Moment, peer: Peer, mid: u16, payload: &[u8]) -> Result<(), Starved> {
         let alloc = self.alloc;
         if self.is_again(peer, mid)? {
@@ -208,7 +213,7 @@ impl Crew {
         Ok(())
     }
 
-    /// A message was sent that a step at a place among those that wait waits for.
+    /// Handles a message for which the waiting step at an index waits.
     fn take(
         &mut self,
         place: usize,
@@ -229,7 +234,7 @@ impl Crew {
         self.put(step)
     }
 
-    /// A message was sent.
+    /// Handles a message that was sent.
     fn send_message(
         &mut self,
         now: Moment,
@@ -250,7 +255,7 @@ impl Crew {
         }
     }
 
-    /// A datagram was sent that nothing accounts for.
+    /// Handles a sent datagram that no step explains.
     fn send_unknown(&mut self, now: Moment, peer: Peer, payload: &[u8]) -> Result<(), Starved> {
         let mut step = Step::unknown(self.alloc, now);
         step.send(self.alloc, now, peer, payload)?;
@@ -258,7 +263,7 @@ impl Crew {
         Ok(())
     }
 
-    /// The server sent a datagram.
+    /// Handles a datagram that the server sent.
     pub(crate) fn send(
         &mut self,
         moment: Moment,
@@ -274,7 +279,7 @@ impl Crew {
         self.write_done(now, pages)
     }
 
-    /// The capture ends: nothing more is to come of any step.
+    /// Ends the capture, so that no step waits any longer.
     pub(crate) fn end(&mut self, pages: &mut Pages) -> Result<(), Starved> {
         let done = mem::replace(&mut self.done, Vec::new(self.alloc));
         'done: for step in &done {

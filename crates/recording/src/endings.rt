@@ -5,10 +5,10 @@ use rd_base::Starved;
 use std::alloc::AllocError;
 use trace_text::LineBad;
 
-/// Why a run stops before its input is done.
+/// Why a run stops before the end of its input.
 #[derive(Clone, Copy, Debug, PartialEq, Eq)]
 pub(crate) enum Stop {
-    /// The input is no capture.
+    /// The input is not a capture.
     NoCapture,
     /// A line is bad.
     Line(LineBad),
@@ -31,15 +31,15 @@ impl From<AllocError> for Stop {
 /// How a run ends, with its exit status.
 #[derive(Clone, Copy, Debug, PartialEq, Eq)]
 pub enum Status {
-    /// 0: the input was read to its end, or as far as it can be, and all was written.
+    /// 0: the input was read to its end, or as far as possible, and all was written.
     Done,
     /// 1: the source failed.
     ReadFault,
     /// 2: the output failed.
     WriteFault,
-    /// 3: the words are not those of the program.
+    /// 3: the arguments are not those of the program.
     Usage,
-    /// 4: the input is no capture.
+    /// 4: the input is not a capture.
     NoCapture,
     /// 4: a line of the input is bad.
     Line(LineBad),
@@ -48,7 +48,7 @@ pub enum Status {
 }
 
 impl Status {
-    /// The exit status of the program.
+    /// Returns the exit status of the program.
     pub fn code(&self) -> u8 {
         match self {
             Status::Done => 0,

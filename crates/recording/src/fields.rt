@@ -1,7 +1,8 @@
 //! Texts between separators.
 ghost use Rattle.std.specs.Prelude.{◌<◌, length, IfSome};
 
-/// What stands before the first separator, and what stands behind it. None: there is none.
+/// Returns the text before the first separator and the text after it, or `None` if there is no
+/// separator.
 pub(crate) fn cut(separator: u8, text: &[u8]) -> Option<(&[u8], &[u8])>
     ensures { IfSome result (λ parts. length parts.1.now < length text.now) }
 {
@@ -9,7 +10,7 @@ pub(crate) fn cut(separator: u8, text: &[u8]) -> Option<(&[u8], &[u8])>
     Some((&text[..at], &text[at + 1..]))
 }
 
-/// Where the first separator stands.
+/// Returns the index of the first separator, or `None` if there is none.
 fn place_of(separator: u8, text: &[u8]) -> Option<usize>
     ensures { IfSome result (λ at. at < length text.now) }
 {

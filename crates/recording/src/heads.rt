@@ -1,4 +1,4 @@
-//! What stands first in a message, and which messages make a server ask.
+//! The beginning of a message, and which messages can make a server send a request.
 
 use coap_message::{Kind4, View, options_of, view};
 use message_model::codes::{EMPTY, LAST_REQUEST, POST};
@@ -7,10 +7,10 @@ use message_model::options::{BLOCK2, ETAG, URI_PATH};
 /// The first segment of the path of a simple registration (RFC 9176 section 5.1).
 const WELL_KNOWN: &[u8] = b".well-known";
 
-/// The bit of a block option that says that more blocks follow (RFC 7959 section 2.2).
+/// The bit of a block option that is set if more blocks follow (RFC 7959 section 2.2).
 const MORE: u8 = 8;
 
-/// What stands first in a message, whatever stands behind it (RFC 7252 section 3).
+/// The beginning of a message, whatever follows it (RFC 7252 section 3).
 #[derive(Clone, Copy, Debug)]
 pub(crate) struct Head<'a> {
     /// Its type.
@@ -19,23 +19,23 @@ pub(crate) struct Head<'a> {
     pub code: u8,
     /// Its Message ID.
     pub mid: u16,
-    /// Its token, as far as it is there.
+    /// Its token, as far as its octets exist.
     pub token: &'a [u8],
 }
 
 impl Head<'_> {
-    /// Whether it is a request by its code.
+    /// Returns whether it is a request by its code.
     pub(crate) fn is_request(&self) -> bool {
         self.code > EMPTY && self.code <= LAST_REQUEST
     }
 
-    /// Whether it is a response by its code.
+    /// Returns whether it is a response by its code.
     pub(crate) fn is_response(&self) -> bool {
         self.code > LAST_REQUEST
     }
 }
 
-/// The type that the first octet of a message says.
+/// Returns the type in the first octet of a message.
 fn kind_of(first: u8) -> Kind4 {
     match first / 16 % 4 {
         0 => Kind4::Con,
@@ -45,7 +45,8 @@ fn kind_of(first: u8) -> Kind4 {
     }
 }
 
-/// What stands first in a datagram. None: it is too short for that, or of another version.
+/// Returns the beginning of a message in a datagram, or `None` if the datagram is too short or of
+/// another version.
 pub(crate) fn head_of(payload: &[u8]) -> Option<Head<'_>> {
     let [first, code, high, low, rest @ ..] = payload else {
         return None;
@@ -62,12 +63,12 @@ pub(crate) fn head_of(payload: &[u8]) -> Option<Head<'_>> {
     })
 }
 
-/// Whether a message is for a path that begins as that of a simple registration.
+/// Returns whether a message has a path segment of a simple registration.
 fn is_well_known(message: &View<'_>) -> bool {
     options_of(message).any(|option| option.number == URI_PATH && option.value == WELL_KNOWN)
 }
 
-/// Whether more blocks follow that of a response.
+/// Returns whether more blocks follow that of a response.
 fn has_more(response: &View<'_>) -> bool {
     let Some(block) = options_of(response).find(|option| option.number == BLOCK2) else {
         return false;
@@ -78,7 +79,7 @@ fn has_more(response: &View<'_>) -> bool {
     }
 }
 
-/// The entity tag of a message, where it has one of eight octets, as this server's are.
+/// Returns the entity tag of a message if it has one of eight octets, as this server's have.
 pub(crate) fn tag_of(payload: &[u8]) -> Option<[u8; 8]> {
     let message = view(payload).ok()?;
     let tag = options_of(&message).find(|option| option.number == ETAG)?;
@@ -88,8 +89,9 @@ pub(crate) fn tag_of(payload: &[u8]) -> Option<[u8; 8]> {
     }
 }
 
-/// Whether a datagram may make the server ask its peer for links: a simple registration, or a
-/// response that more blocks follow (RFC 9176 section 5.1, RFC 7959 section 2.4).
+/// Returns whether a datagram can make the server request links from its peer: a simple
+/// registration, or a response that more blocks follow (RFC 9176 section 5.1, RFC 7959 section
+/// 2.4).
 pub(crate) fn may_ask(payload: &[u8]) -> bool {
     match view(payload) {
         Ok(message) if message.code == POST => is_well_known(&message),

@@ -1,4 +1,4 @@
-//! A datagram that came to the server, and which datagram is its answer.
+//! A datagram that the server received, and which datagram answers it.
 ghost use Rattle.std.specs.Prelude.{◌≤◌, length};
 ghost use Rattle.rd_base.specs.Peers.{IsPeer};
 
@@ -11,12 +11,12 @@ use std::alloc::Global;
 use std::marker::Model;
 use trace_text::line_print;
 
-/// A datagram that came to the server. Contracts see who sent it.
+/// A datagram that the server received. Contracts see its sender.
 #[derive(Drop)]
 pub(crate) struct Heard {
-    /// When it came.
+    /// The moment at which it was received.
     moment: Moment,
-    /// Who sent it.
+    /// Its sender.
     peer: Peer,
     /// Its octets.
     datagram: Bytes,
@@ -37,8 +37,9 @@ impl Model for Heard {
         × (length heard.datagram ≤ MAX_DATAGRAM) };
 }
 
-/// Whether an answer is that to a message, from and to the same peer: an acknowledgement or a Reset
-/// by its Message ID, and another response by its token (RFC 7252 sections 4.2 and 5.3.2).
+/// Returns whether a message answers another, if both are of the same peer. An acknowledgement or a
+/// Reset does by its Message ID; a non-confirmable response answers a non-confirmable message by
+/// its token (RFC 7252 sections 4.2 and 5.3.2).
 fn answers(message: &Head<'_>, answer: &Head<'_>) -> bool {
     match answer.kind {
         Kind4::Ack | Kind4::Rst => message.mid == answer.mid,
@@ -50,7 +51,7 @@ fn answers(message: &Head<'_>, answer: &Head<'_>) -> bool {
 }
 
 impl Heard {
-    /// A datagram that came at a moment from a peer. `Starved`: out of memory.
+    /// Creates a datagram that was received at a moment from a peer.
     pub(crate) fn new(
         alloc: Global,
         moment: Moment,
@@ -69,12 +70,12 @@ impl Heard {
         })
     }
 
-    /// When it came.
+    /// Returns the moment at which it was received.
     pub(crate) fn moment(&self) -> Moment {
         self.moment
     }
 
-    /// Whether the server answers it: it is confirmable, or a request that is not.
+    /// Returns whether the server answers it: it is confirmable, or a non-confirmable request.
     pub(crate) fn is_to_be_answered(&self) -> bool {
         match head_of(self.datagram.as_slice()) {
             Some(head) => {
@@ -84,7 +85,7 @@ impl Heard {
         }
     }
 
-    /// Whether a datagram to this peer is its answer.
+    /// Returns whether a datagram to this peer answers it.
     pub(crate) fn is_answered(&self, peer: Peer, answer: &Head<'_>) -> bool {
         match head_of(self.datagram.as_slice()) {
             Some(head) => self.peer == peer && answers(&head, answer),
@@ -92,18 +93,18 @@ impl Heard {
         }
     }
 
-    /// Whether a datagram to this peer may be what it made the server ask.
+    /// Returns whether a datagram to this peer can be the request that it made the server send.
     pub(crate) fn is_asked(&self, peer: Peer, question: &Head<'_>) -> bool {
         self.peer == peer && question.kind == Kind4::Con && question.is_request()
     }
 
-    /// Whether it may make the server ask its peer.
+    /// Returns whether it can make the server send a request to its sender.
     pub(crate) fn may_ask(&self) -> bool {
         may_ask(self.datagram.as_slice())
     }
 
-    /// The lines of the step of a worker that it came to, with the word that the step is handed: it
-    /// comes, and its job is done where it may leave one. `Starved`: out of memory.
+    /// Returns the lines of the step in which a worker received it, with this random word. If it
+    /// can leave a job, a line that does the job follows.
     pub(crate) fn text(&self, alloc: Global, worker: u8, word: u32) -> Result<Bytes, Starved> {
         let datagram = self.datagram.as_slice();
         let line = come_line(alloc, worker, self.moment, self.peer, datagram, word)?;

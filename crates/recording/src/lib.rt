@@ -1,5 +1,5 @@
-//! Recordings: what a server heard and sent, read from a capture as a trace and its output, and a
-//! trace and its output written as a capture.
+//! Recordings: what a server received and sent, read from a capture as a trace and its output, and
+//! a trace and its output written as a capture.
 #![tactic(auto)]
 
 mod about;

@@ -9,10 +9,10 @@ use rd_base::{Bytes, Moment, Peer, Starved};
 use std::alloc::Global;
 use trace_text::Line;
 
-/// The one worker of a recording, where it is not asked for several.
+/// The one worker of a recording, if several are not asked for.
 pub(crate) const WORKER: u8 = 0;
 
-/// The line of a datagram that comes to a worker, with the word that its step is handed.
+/// Returns the line of a datagram that a worker receives, with the random word of its step.
 pub(crate) fn come_line(
     alloc: Global,
     worker: u8,
@@ -36,7 +36,7 @@ pub(crate) fn come_line(
     })
 }
 
-/// The line of time that passes at a worker.
+/// Returns the line of time that passes at a worker.
 pub(crate) fn tick_line(worker: u8, moment: Moment) -> Line
     requires { moment.0 ≤ MAX_MOMENT }
     ensures { IsLine result }
@@ -48,7 +48,7 @@ pub(crate) fn tick_line(worker: u8, moment: Moment) -> Line
     }
 }
 
-/// The line of a worker's job that is done.
+/// Returns the line of a worker that does its job.
 pub(crate) fn go_line(worker: u8, moment: Moment) -> Line
     requires { moment.0 ≤ MAX_MOMENT }
     ensures { IsLine result }
@@ -56,7 +56,7 @@ pub(crate) fn go_line(worker: u8, moment: Moment) -> Line
     Line::Go(worker, moment)
 }
 
-/// The line of a run that begins above a number, before anything comes.
+/// Returns the line of a run that begins above a number, before anything else.
 pub(crate) fn begin_line(first: u64) -> Line
     requires { first ≤ MAX_FIRST }
     ensures { IsLine result }
@@ -68,7 +68,8 @@ pub(crate) fn begin_line(first: u64) -> Line
     }
 }
 
-/// Whether a datagram is a request by its code, so that it may leave a job (RFC 7252 section 3).
+/// Returns whether a datagram is a request by its code, so that it can leave a job (RFC 7252
+/// section 3).
 pub(crate) fn is_request(payload: &[u8]) -> bool {
     match payload {
         [_, code, ..] => *code > EMPTY && *code <= LAST_REQUEST,

@@ -1,29 +1,29 @@
-//! What is to be written.
+//! Text that is to be written.
 
 use crate::waiting::Waiting;
 use rd_base::{Bytes, Peer, Sink, Starved, write_all};
 use std::alloc::Global;
 use std::mem;
 
-/// The most requests that wait for their answers.
+/// The maximum number of requests that wait for their answers.
 const MAX_WAITING: usize = 16;
 
-/// What is to be written, and was not yet.
+/// Text that is to be written, and has not been written.
 #[derive(Drop)]
 pub(crate) struct Pages {
-    /// What goes to the output.
+    /// The text for the output.
     pub out: Bytes,
-    /// What goes to the error sink.
+    /// The text for the error sink.
     pub err: Bytes,
-    /// The requests that wait for their answers, in the order in which they came: what goes to the
-    /// output behind `out`.
+    /// The requests that wait for their answers, in the order in which they were received. Their
+    /// text follows `out`.
     waiting: Vec<Waiting>,
-    /// Where its memory comes from.
+    /// The allocator of their memory.
     alloc: Global,
 }
 
 impl Pages {
-    /// Nothing is to be written.
+    /// Creates empty pages.
     pub(crate) fn new(alloc: Global) -> Pages {
         Pages {
             out: Bytes::new(alloc),
@@ -33,7 +33,7 @@ impl Pages {
         }
     }
 
-    /// Adds a line to the output, behind the requests that wait.
+    /// Appends a line to the output, after the requests that wait.
     pub(crate) fn put_line(&mut self, line: &[u8]) -> Result<(), Starved> {
         let Some(last) = self.waiting.last_mut() else {
             self.out.append(line)?;
@@ -44,8 +44,8 @@ impl Pages {
         self.release_if(is_long)
     }
 
-    /// Adds the line of a request that waits for its answer. Where too many wait, none of those
-    /// waits any more.
+    /// Appends the line of a request that waits for its answer. If too many wait, those stop
+    /// waiting first.
     pub(crate) fn put_request(&mut self, request: Waiting) -> Result<(), Starved> {
         if self.waiting.len() == MAX_WAITING {
             self.release()?;
@@ -54,7 +54,7 @@ impl Pages {
         Ok(())
     }
 
-    /// An answer was sent to a peer: the first request that waits for it has its word.
+    /// Gives the word of an answer to the first request that waits for it.
     pub(crate) fn answer(&mut self, peer: Peer, token: &[u8], word: u32) -> Result<(), Starved> {
         let place = self
             .waiting
@@ -73,7 +73,7 @@ impl Pages {
         self.release_if(is_long)
     }
 
-    /// No request waits any more where too much stands behind one.
+    /// Ends the waiting of all requests if too much text follows one of them.
     fn release_if(&mut self, is_long: bool) -> Result<(), Starved> {
         if is_long {
             return self.release();
@@ -81,7 +81,7 @@ impl Pages {
         Ok(())
     }
 
-    /// No request waits any more.
+    /// Ends the waiting of all requests.
     pub(crate) fn release(&mut self) -> Result<(), Starved> {
         let waiting = mem::replace(&mut self.waiting, Vec::new(self.alloc));
         'requests: for request in &waiting {
@@ -91,14 +91,14 @@ impl Pages {
         Ok(())
     }
 
-    /// Adds a line that says why a packet was not read.
+    /// Appends a line that says why a packet was not read.
     pub(crate) fn say(&mut self, alloc: Global, packet: u64, why: &str) -> Result<(), Starved> {
         let line = format!(in alloc; "packet {packet}: {why}\n")?;
         self.err.append(line.as_bytes())
     }
 
-    /// Writes what is to be written, and answers whether the output took it. What the error sink
-    /// does not take is lost.
+    /// Writes the text, and empties it. Returns whether the output accepted it. Text that the error
+    /// sink does not accept is lost.
     pub(crate) fn write<K: Sink, E: Sink>(&mut self, out: &mut K, err: &mut E) -> bool {
         let _ = write_all(err, self.err.as_slice());
         self.err.truncate(0);

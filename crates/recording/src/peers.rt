@@ -5,7 +5,7 @@ ghost use Rattle.rd_base.specs.Peers.{IsHost};
 use rd_base::{Host, Peer};
 use std::net::SocketAddr;
 
-/// The peer at an address, without flow information and zone.
+/// Returns the peer at an address, without flow information and zone.
 pub(crate) fn peer_of(address: SocketAddr) -> Peer
     ensures host { IsHost result.host }
     ensures port { result.port < 2 ^ 16 }

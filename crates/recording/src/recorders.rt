@@ -21,36 +21,36 @@ use std::alloc::Global;
 use std::mem;
 use trace_text::{line_print, out_print};
 
-/// A capture in the middle of being read.
+/// A capture that is being read.
 #[derive(Drop)]
 pub(crate) struct Recorder {
-    /// Where its memory comes from.
+    /// The allocator of its memory.
     alloc: Global,
-    /// Which datagrams are written: those that came as lines of a trace, or those that were sent
-    /// as lines of its output.
+    /// Which datagrams are written: received ones as lines of a trace, or sent ones as lines of its
+    /// output.
     written: Way,
     /// The server of the recording.
     server: Server,
-    /// The number above which the run begins, where that is known.
+    /// The number above which the run begins, if it is given.
     first: Option<First>,
     /// The time of the recording.
     timeline: Timeline,
-    /// The workers of the server, where each datagram is put at the worker that answered it.
+    /// The workers of the server, if each datagram is given to the worker that answered it.
     crew: Option<Crew>,
-    /// How many packets were read.
+    /// The number of packets that were read.
     packets: u64,
-    /// What reads the capture.
+    /// The reader of the capture.
     reader: Reader,
-    /// What has come of the next part of the capture, as far as it is kept.
+    /// The octets of the next part of the capture so far, as far as they are stored.
     part: Bytes,
-    /// How many octets are still to come of that part.
+    /// The number of octets of that part that are missing.
     missing: usize,
     /// Whether nothing is read any more.
     is_over: bool,
     ghost present: { 1 ≤ missing },
 }
 
-/// Why a packet is not read, as it is said.
+/// Returns the name of the reason why a packet is not read.
 fn name_of(fault: PacketFault) -> &'static str {
     match fault {
         PacketFault::Interface => "interface",
@@ -63,15 +63,15 @@ fn name_of(fault: PacketFault) -> &'static str {
     }
 }
 
-/// What is said of a block behind which nothing can be found.
+/// The name of the reason if nothing can be found after a block.
 const BLOCK: &str = "block";
 
-/// What is said of a datagram from or to port 0, which no line names.
+/// The name of the reason for a datagram from or to port 0, which no line names.
 const PORT: &str = "port";
 
 impl Recorder {
-    /// A recorder before a capture, of what came to the port that the words ask for, or of what was
-    /// sent from it.
+    /// Creates a recorder at the beginning of a capture, of the datagrams to the given port or from
+    /// it.
     pub(crate) fn new(alloc: Global, words: &Words, written: Way) -> Recorder {
         let reader = Reader::new(alloc);
         let missing = reader.wanted();
@@ -95,7 +95,8 @@ impl Recorder {
         }
     }
 
-    /// The capture begins: a trace first says above which number its run does, where that is known.
+    /// Begins the recording. A trace first says above which number its run begins, if that is
+    /// given.
     pub(crate) fn begin(&self, pages: &mut Pages) -> Result<(), Starved> {
         match (self.written, self.first) {
             (Way::Came, Some(first)) => {
@@ -106,8 +107,8 @@ impl Recorder {
         }
     }
 
-    /// A datagram that came to the server is written; a request that may be challenged waits for
-    /// its answer.
+    /// Writes a datagram that the server received. A request that can be challenged waits for its
+    /// answer.
     fn write_heard(
         &self,
         moment: Moment,
@@ -127,7 +128,7 @@ impl Recorder {
         pages.put_request(Waiting::new(self.alloc, moment, peer, payload, token)?)
     }
 
-    /// A datagram that came to the server is written, with the end of its job where it may leave
+    /// Writes a datagram that the server received, and a line that does its job if it can leave
     /// one.
     fn write_come(
         &mut self,
@@ -148,8 +149,9 @@ impl Recorder {
         Ok(())
     }
 
-    /// A datagram that can stand in a line is written by one worker, where those on its way are.
-    /// Others let time pass.
+    /// Writes a datagram that can appear in a line, for one worker, if datagrams in its direction
+    /// are written. In a trace, a sent datagram lets time pass, and gives its word to the request
+    /// that it answers.
     fn write_alone(
         &mut self,
         moment: Moment,
@@ -178,8 +180,8 @@ impl Recorder {
         }
     }
 
-    /// A datagram that can stand in a line is written, by the workers of the server where they
-    /// are asked for.
+    /// Writes a datagram that can appear in a line, for the workers of the server if they are asked
+    /// for.
     fn write_datagram(
         &mut self,
         moment: Moment,
@@ -200,7 +202,7 @@ impl Recorder {
         }
     }
 
-    /// A datagram to or from the port of the server is met.
+    /// Handles a datagram to or from the port of the server.
     fn meet_datagram(
         &mut self,
         moment: Moment,
@@ -221,12 +223,12 @@ impl Recorder {
         self.write_datagram(moment, way, peer, datagram.payload, pages)
     }
 
-    /// Says of the last packet why it was not read.
+    /// Reports why the last packet was not read.
     fn say(&self, why: &str, pages: &mut Pages) -> Result<(), Starved> {
         pages.say(self.alloc, self.packets, why)
     }
 
-    /// A packet is met.
+    /// Handles a packet.
     fn meet_packet(&mut self, packet: Packet<'_>, pages: &mut Pages) -> Result<(), Starved> {
         match datagram_of(self.server.port(), packet) {
             Ok(Some(datagram)) => self.meet_datagram(packet.moment, &datagram, pages),
@@ -235,12 +237,12 @@ impl Recorder {
         }
     }
 
-    /// A packet is counted.
+    /// Counts a packet.
     fn count(&mut self) {
         self.packets = self.packets.saturating_add(1);
     }
 
-    /// What a part of the capture is.
+    /// Handles what a part of the capture contains.
     fn meet(&mut self, found: Found<'_>, pages: &mut Pages) -> Result<(), Starved> {
         match found {
             Found::NoPacket => Ok(()),
@@ -257,13 +259,13 @@ impl Recorder {
 }
 
 impl Recorder {
-    /// The first octets of a part, as far as it is kept, come behind those that came before.
+    /// Appends the first octets of a part to those so far, up to the number that is stored.
     fn keep(&mut self, octets: &[u8]) -> Result<(), Starved> {
         let room = MAX_PART.saturating_sub(self.part.len());
         self.part.append(&octets[..octets.len().min(room)])
     }
 
-    /// Behind what was read no packet can be found: the capture is over, and it is said why.
+    /// Ends the capture and reports why: no packet can be found after what was read.
     fn give_up(&mut self, why: &str, pages: &mut Pages) -> Result<(), Starved> {
         self.is_over = true;
         self.count();
@@ -280,7 +282,7 @@ impl Recorder {
         }
     }
 
-    /// Reads the part that has come whole.
+    /// Reads the part that is complete.
     fn read_part(&mut self, pages: &mut Pages) -> Result<(), Stop> {
         let mut part = mem::replace(&mut self.part, Bytes::new(self.alloc));
         self.read(part.as_slice(), pages)?;
@@ -290,7 +292,7 @@ impl Recorder {
         Ok(())
     }
 
-    /// The next octets of the capture come.
+    /// Handles the next octets of the capture.
     pub(crate) fn feed(&mut self, piece: &[u8], pages: &mut Pages) -> Result<(), Stop> {
         let mut rest = piece;
         'parts: while self.missing <= rest.len() {
@@ -306,12 +308,12 @@ impl Recorder {
         Ok(self.keep(rest)?)
     }
 
-    /// Whether the capture ends in the middle of something.
+    /// Returns whether the capture ends in the middle of a part.
     fn is_cut(&self) -> bool {
         self.missing != self.reader.wanted() || !self.reader.may_end()
     }
 
-    /// The capture ends.
+    /// Ends the capture.
     pub(crate) fn finish(&mut self, pages: &mut Pages) -> Result<(), Stop> {
         if !self.reader.is_capture() {
             return Err(Stop::NoCapture);

@@ -1,4 +1,4 @@
-//! A run: from words and octets to an output and a status.
+//! A run: from arguments and octets to an output and a status.
 
 use crate::about::text_about;
 use crate::endings::{Status, Stop};
@@ -12,10 +12,10 @@ use rd_base::{Got, Sink, Source, write_all};
 use std::alloc::Global;
 use trace_text::{LineBad, Reason};
 
-/// How many octets of the input are read at once.
+/// The number of octets of the input that are read at once.
 const PIECE: usize = 4_096;
 
-/// What is done with the input.
+/// The task of a run.
 #[derive(Drop)]
 enum Task {
     /// A capture is read as a recording.
@@ -25,7 +25,7 @@ enum Task {
 }
 
 impl Task {
-    /// What words ask for.
+    /// Returns the task that arguments ask for.
     fn of(alloc: Global, words: Words) -> Task {
         match words.output {
             Output::Trace => Task::Record(Recorder::new(alloc, &words, Way::Came)),
@@ -34,7 +34,7 @@ impl Task {
         }
     }
 
-    /// The input begins.
+    /// Begins the task.
     fn begin(&self, pages: &mut Pages) -> Result<(), Stop> {
         match self {
             Task::Record(recorder) => Ok(recorder.begin(pages)?),
@@ -42,7 +42,7 @@ impl Task {
         }
     }
 
-    /// The next octets of the input come.
+    /// Handles the next octets of the input.
     fn feed(&mut self, piece: &[u8], pages: &mut Pages) -> Result<(), Stop> {
         match self {
             Task::Record(recorder) => recorder.feed(piece, pages),
@@ -50,7 +50,7 @@ impl Task {
         }
     }
 
-    /// The input ends.
+    /// Ends the input.
     fn finish(&mut self, pages: &mut Pages) -> Result<(), Stop> {
         match self {
             Task::Record(recorder) => recorder.finish(pages),
@@ -59,7 +59,7 @@ impl Task {
     }
 }
 
-/// Writes what is to be written after a step, and answers how the run ends if it does.
+/// Writes the text of a step. Returns how the run ends, if it does.
 fn write_pages<K: Sink, E: Sink>(
     step: Result<(), Stop>,
     pages: &mut Pages,
@@ -108,7 +108,7 @@ fn do_task<S: Source, K: Sink, E: Sink>(
     write_pages(finished, pages, out, err).unwrap_or(Status::Done)
 }
 
-/// Says texts one after the other, or a front of them where the sink fails.
+/// Writes texts one after the other, or a prefix of them if the sink fails.
 fn say<E: Sink>(err: &mut E, texts: &[&[u8]]) {
     'texts: for text in texts {
         if !write_all(err, text) {
@@ -117,7 +117,7 @@ fn say<E: Sink>(err: &mut E, texts: &[&[u8]]) {
     }
 }
 
-/// The name of a reason.
+/// Returns the name of a reason.
 fn name_of(why: Reason) -> &'static [u8] {
     match why {
         Reason::Long => b"long",
@@ -127,7 +127,7 @@ fn name_of(why: Reason) -> &'static [u8] {
     }
 }
 
-/// Says which line is bad, and why.
+/// Reports which line is bad, and why.
 fn say_line<E: Sink>(err: &mut E, bad: LineBad) {
     let why = name_of(bad.why);
     let mut buffer = Buffer::new();
@@ -135,7 +135,7 @@ fn say_line<E: Sink>(err: &mut E, bad: LineBad) {
     say(err, &[b"line ", line, b": ", why, b"\n"]);
 }
 
-/// Says on the error sink how a run ended: nothing for `Done`. Takes no memory.
+/// Reports on the error sink how a run ended: nothing for `Done`. Does not allocate.
 pub fn report<E: Sink>(err: &mut E, status: Status) {
     match status {
         Status::Done => {}
@@ -160,7 +160,7 @@ fn tell<K: Sink>(out: &mut K, text: &str) -> Status {
     }
 }
 
-/// Does what the words ask for with the input.
+/// Does what the arguments ask for with the input.
 fn run<S: Source, K: Sink, E: Sink>(
     alloc: Global,
     words: &[String],
@@ -179,15 +179,18 @@ fn run<S: Source, K: Sink, E: Sink>(
     do_task(&mut task, &mut pages, source, out, err)
 }
 
-/// Reads a capture from `source` and writes to `out` the trace of what came to a port, or with
-/// `--replies` the lines of the output for what was sent from it; with `--pcap` it reads a trace
-/// and its output and writes a capture. `--port` names the port, 5683 where it is not named. With
-/// `--workers` each datagram stands at the worker that answered it, and with `--begin` the trace
-/// first says above which number its run begins.
-/// `--help` and `--version`, as the only word, write a text about the program and read nothing.
-/// What cannot be read is said on `err`, and so is how the run ends.
+/// Reads a capture from `source`, and writes to `out` the trace of the datagrams that a port
+/// received. Reports on `err` what cannot be read, and how the run ends.
 ///
-/// `words` are those of the command line, without the program's name.
+/// `words` are the arguments of the command line, without the program's name.
+/// - `--replies` writes instead the lines of the output for the datagrams that were sent from the
+///   port.
+/// - `--pcap` reads a trace and its output, and writes a capture.
+/// - `--port` gives the port. It is 5683 by default.
+/// - `--workers` gives each datagram to the worker that answered it.
+/// - `--begin` makes the trace first say above which number its run begins.
+/// - `--help` and `--version`, as the only argument, write a text about the program and read
+///   nothing.
 pub fn record<S: Source, K: Sink, E: Sink>(
     alloc: Global,
     words: &[String],

@@ -1,20 +1,20 @@
-//! Which datagrams of a capture came to the server, and which it sent.
+//! Which datagrams of a capture the server received, and which it sent.
 
 use capture_file::Datagram;
 use rd_base::Starved;
 use std::alloc::Global;
 use std::net::IpAddr;
 
-/// On which way a datagram was.
+/// The direction of a datagram.
 #[derive(Clone, Copy, Debug, PartialEq, Eq)]
 pub(crate) enum Way {
-    /// It came to the server.
+    /// The server received it.
     Came,
     /// The server sent it.
     Sent,
 }
 
-/// The server of a recording, by its port and the addresses that it was met at.
+/// The server of a recording, by its port and the addresses at which it was seen.
 #[derive(Drop)]
 pub(crate) struct Server {
     /// Its port.
@@ -24,7 +24,7 @@ pub(crate) struct Server {
 }
 
 impl Server {
-    /// A server at this port that was not met yet.
+    /// Creates a server at this port that was not seen yet.
     pub(crate) fn new(alloc: Global, port: u16) -> Server {
         Server {
             port,
@@ -32,12 +32,12 @@ impl Server {
         }
     }
 
-    /// Its port.
+    /// Returns its port.
     pub(crate) fn port(&self) -> u16 {
         self.port
     }
 
-    /// The server is met at an address.
+    /// Records an address of the server.
     fn meet(&mut self, address: IpAddr) -> Result<(), Starved> {
         if !self.addresses.contains(&address) {
             self.addresses.push(address)?;
@@ -45,8 +45,8 @@ impl Server {
         Ok(())
     }
 
-    /// On which way a datagram is both of whose ports are that of the server: it was sent where
-    /// it comes from an address that the server was met at, and does not go to one.
+    /// Returns the direction of a datagram both of whose ports are that of the server. It was sent
+    /// if it comes from a known address of the server and does not go to one.
     fn way_between(&self, datagram: &Datagram<'_>) -> Way {
         if self.addresses.contains(&datagram.destination.ip()) {
             return Way::Came;
@@ -57,7 +57,7 @@ impl Server {
         Way::Came
     }
 
-    /// On which way a datagram to or from the port of the server is.
+    /// Returns the direction of a datagram to or from the port of the server.
     fn way_by_port(&self, datagram: &Datagram<'_>) -> Way {
         if datagram.destination.port() != self.port {
             return Way::Sent;
@@ -68,7 +68,8 @@ impl Server {
         self.way_between(datagram)
     }
 
-    /// On which way a datagram to or from the port of the server is. It meets the server there.
+    /// Returns the direction of a datagram to or from the port of the server, and records the
+    /// address of the server.
     pub(crate) fn way(&mut self, datagram: &Datagram<'_>) -> Result<Way, Starved> {
         let way = self.way_by_port(datagram);
         match way {

@@ -11,30 +11,30 @@ use rd_base::{Bytes, Moment, Peer, Starved};
 use std::alloc::Global;
 use trace_text::{line_print, out_print};
 
-/// How many Message IDs each worker has (docs/PROFILE.md).
+/// The number of Message IDs of each worker (docs/PROFILE.md).
 const WORKER_MIDS: u16 = 4_096;
 
-/// The milliseconds behind a datagram of a tick in which one more may be of the same tick: a worker
-/// waits for longer before it lets time pass again.
+/// The number of milliseconds after a datagram of a tick within which one more can be of the same
+/// tick. A worker waits longer before it lets time pass again.
 const TICK: u64 = 40;
 
 /// What a worker did.
 #[derive(Drop)]
 enum Deed {
-    /// It heard a datagram, and did the job that this left.
+    /// It received a datagram, and did the job that this left.
     Heard(Heard),
     /// It let time pass.
     Ticked,
-    /// It sent a datagram that nothing accounts for.
+    /// It sent a datagram that no step explains.
     Unknown,
 }
 
-/// What is still to come of a step.
+/// What a step waits for.
 #[derive(Clone, Copy, Debug, PartialEq, Eq)]
 enum Awaited {
-    /// The answer to what was heard.
+    /// The answer to the datagram that was received.
     Answer,
-    /// What the server asks the peer behind that answer.
+    /// The request that the server sends to the peer after that answer.
     Question,
     /// Nothing.
     Nothing,
@@ -43,7 +43,7 @@ enum Awaited {
 /// A datagram that was sent.
 #[derive(Drop)]
 struct Sent {
-    /// Where it went.
+    /// Its receiver.
     peer: Peer,
     /// Its octets.
     datagram: Bytes,
@@ -54,41 +54,42 @@ struct Sent {
 pub(crate) struct Step {
     /// What the worker did.
     deed: Deed,
-    /// The worker, as far as a Message ID that was drawn has told.
+    /// The worker, as far as a drawn Message ID shows it.
     worker: u8,
-    /// The word that the step was handed, as far as a challenge has told.
+    /// The random word of the step, as far as a challenge shows it.
     word: u32,
-    /// When its first datagram was heard or sent.
+    /// The moment at which its first datagram was received or sent.
     begun: Moment,
-    /// When its last one was.
+    /// The moment of its last datagram.
     last: Moment,
-    /// What is still to come of it.
+    /// What it waits for.
     awaited: Awaited,
-    /// The last Message ID that it drew, where it is a tick.
+    /// The last Message ID that it drew, if it is a tick.
     drawn: Option<u16>,
-    /// The entity tag of its notifications, where it is a tick.
+    /// The entity tag of its notifications, if it is a tick.
     tag: Option<[u8; 8]>,
-    /// What it sent.
+    /// The datagrams that it sent.
     sent: Vec<Sent>,
 }
 
-/// The worker that drew a Message ID.
+/// Returns the worker that drew a Message ID.
 fn worker_of(mid: u16) -> u8 {
     (mid / WORKER_MIDS) as u8
 }
 
-/// The Message ID that the same worker draws next.
+/// Returns the Message ID that the same worker draws next.
 fn next_mid(mid: u16) -> u16 {
     mid / WORKER_MIDS * WORKER_MIDS + (mid % WORKER_MIDS + 1) % WORKER_MIDS
 }
 
-/// Whether a message that was sent has a Message ID that was drawn, not that of what it answers.
+/// Returns whether the Message ID of a sent message was drawn, and is not that of the message that
+/// it answers.
 fn is_drawn(message: &Head<'_>) -> bool {
     message.kind == Kind4::Con || message.kind == Kind4::Non
 }
 
 impl Step {
-    /// A step in which something was done, at a moment.
+    /// Creates a step that began at a moment.
     fn of(alloc: Global, deed: Deed, worker: u8, begun: Moment, awaited: Awaited) -> Step {
         Step {
             deed,
@@ -103,7 +104,7 @@ impl Step {
         }
     }
 
-    /// The step in which a datagram was heard.
+    /// Creates the step in which a datagram was received.
     pub(crate) fn heard(alloc: Global, heard: Heard) -> Step {
         let moment = heard.moment();
         let awaited = if heard.is_to_be_answered() {
@@ -116,8 +117,8 @@ impl Step {
         Step::of(alloc, Deed::Heard(heard), WORKER, moment, awaited)
     }
 
-    /// The step of a worker that let time pass, and sent a notification first, with a Message ID
-    /// that it drew.
+    /// Creates the step of a worker that let time pass, and first sent a notification with a
+    /// Message ID that it drew.
     pub(crate) fn ticked(alloc: Global, mid: u16, moment: Moment, payload: &[u8]) -> Step {
         let worker = worker_of(mid);
         let mut step = Step::of(alloc, Deed::Ticked, worker, moment, Awaited::Nothing);
@@ -126,27 +127,27 @@ impl Step {
         step
     }
 
-    /// A step in which time passed, of no worker that is known.
+    /// Creates a step in which time passed, of an unknown worker.
     pub(crate) fn passed(alloc: Global, moment: Moment) -> Step {
         Step::of(alloc, Deed::Ticked, WORKER, moment, Awaited::Nothing)
     }
 
-    /// The step of a datagram that nothing accounts for.
+    /// Creates the step of a datagram that no step explains.
     pub(crate) fn unknown(alloc: Global, moment: Moment) -> Step {
         Step::of(alloc, Deed::Unknown, WORKER, moment, Awaited::Nothing)
     }
 
-    /// Whether something is still to come of it.
+    /// Returns whether it waits for a message.
     pub(crate) fn is_awaited(&self) -> bool {
         self.awaited != Awaited::Nothing
     }
 
-    /// Whether it waited for so many milliseconds and more.
+    /// Returns whether its last datagram is more than `than` milliseconds old.
     pub(crate) fn is_older(&self, than: u64, now: Moment) -> bool {
         self.last.0.saturating_add(than) < now.0
     }
 
-    /// Whether a message to this peer is what is still to come of it.
+    /// Returns whether it waits for this message to this peer.
     pub(crate) fn awaits(&self, peer: Peer, message: &Head<'_>) -> bool {
         let Deed::Heard(heard) = &self.deed else {
             return false;
@@ -158,8 +159,8 @@ impl Step {
         }
     }
 
-    /// What is still to come of it behind an answer: a simple registration that is granted, and a
-    /// block that is acknowledged, may make the server ask.
+    /// Returns what it waits for after an answer. A granted simple registration or an acknowledged
+    /// block can make the server send a request.
     fn awaited_behind(&self, answer: &Head<'_>) -> Awaited {
         let Deed::Heard(heard) = &self.deed else {
             return Awaited::Nothing;
@@ -172,7 +173,7 @@ impl Step {
         Awaited::Nothing
     }
 
-    /// Whether a notification that was sent at a moment is one more of it: its Message ID is the
+    /// Returns whether a notification at a moment is one more of this tick: its Message ID is the
     /// next, and its entity tag is the same, since a tick lists all from one state.
     pub(crate) fn is_going_on(&self, mid: u16, now: Moment, payload: &[u8]) -> bool {
         let Some(last) = self.drawn else {
@@ -184,12 +185,12 @@ impl Step {
         self.tag == tag_of(payload)
     }
 
-    /// Whether one more notification of it may be sent yet.
+    /// Returns whether one more notification of this tick can still be sent.
     pub(crate) fn may_go_on(&self, now: Moment) -> bool {
         self.drawn.is_some() && !self.is_older(TICK, now)
     }
 
-    /// A datagram was sent in it. `Starved`: out of memory.
+    /// Adds a datagram that it sent.
     pub(crate) fn send(
         &mut self,
         alloc: Global,
@@ -203,12 +204,12 @@ impl Step {
         Ok(())
     }
 
-    /// One more notification was sent in it, with a Message ID that was drawn.
+    /// Records the Message ID of one more notification.
     pub(crate) fn go_on(&mut self, mid: u16) {
         self.drawn = Some(mid);
     }
 
-    /// What was to come of it has come. It may tell the worker, and a word.
+    /// Records the message that it waited for, which may show its worker and its word.
     pub(crate) fn take(&mut self, message: &Head<'_>, payload: &[u8]) {
         if is_drawn(message) {
             self.worker = worker_of(message.mid);
@@ -219,7 +220,7 @@ impl Step {
         self.awaited = self.awaited_behind(message);
     }
 
-    /// Its lines in a trace. `Starved`: out of memory.
+    /// Returns its lines in a trace.
     pub(crate) fn trace(&self, alloc: Global) -> Result<Bytes, Starved> {
         match &self.deed {
             Deed::Heard(heard) => heard.text(alloc, self.worker, self.word),
@@ -233,7 +234,7 @@ impl Step {
         }
     }
 
-    /// The lines of the output for what was sent in it. `Starved`: out of memory.
+    /// Returns the lines of the output for the datagrams that it sent.
     pub(crate) fn replies(&self, alloc: Global) -> Result<Bytes, Starved> {
         let mut text = Bytes::new(alloc);
         'sent: for sent in &self.sent {

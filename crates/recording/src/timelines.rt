@@ -8,32 +8,33 @@ use rd_base::{Moment, Starved};
 use std::alloc::Global;
 use trace_text::line_print;
 
-/// The milliseconds of a second, at each of which time passes.
+/// The number of milliseconds in a second. Time passes at each second.
 const SECOND: u64 = 1_000;
 
-/// The milliseconds that a server waits for a datagram before it lets time pass.
+/// The number of milliseconds that a server waits for a datagram before it lets time pass.
 const PAUSE: u64 = 50;
 
-/// The most seconds behind which time passes each second; of more the first are leapt over.
+/// The maximum number of seconds in a gap at each of which time passes. In a longer gap the first
+/// are skipped.
 const LONGEST_GAP: u64 = 86_400;
 
-/// The time of a recording: how far it has passed, and which ticks were written.
+/// The time of a recording: the moment that it has reached, and the last tick.
 #[derive(Drop)]
 pub(crate) struct Timeline {
-    /// Where its memory comes from.
+    /// The allocator of its memory.
     alloc: Global,
-    /// Whether a datagram was met.
+    /// Whether there was a datagram.
     is_begun: bool,
-    /// How far time has passed.
+    /// The moment that it has reached.
     now: Moment,
-    /// When the server will have waited for long enough, behind a datagram.
+    /// The moment at which the server will have waited for long enough after a datagram.
     pause: Option<Moment>,
     /// The moment of the last tick.
     ticked: Option<Moment>,
 }
 
 impl Timeline {
-    /// The time of a recording in which nothing was met.
+    /// Creates the time of a recording without datagrams.
     pub(crate) fn new(alloc: Global) -> Timeline {
         Timeline {
             alloc,
@@ -69,7 +70,7 @@ impl Timeline {
         Ok(())
     }
 
-    /// Lets time pass up to a moment, with a tick where the server has waited for long enough.
+    /// Lets time pass up to a moment, with a tick when the server has waited for long enough.
     fn pass_pause(&mut self, until: Moment, pages: &mut Pages) -> Result<(), Starved>
         requires { until.0 ≤ MAX_MOMENT }
     {
@@ -83,7 +84,7 @@ impl Timeline {
         self.pass(until, pages)
     }
 
-    /// Time passes up to a moment, or none where that is past. Answers how far it has passed.
+    /// Lets time pass up to a moment, unless that is past. Returns the moment that it has reached.
     pub(crate) fn reach(&mut self, moment: Moment, pages: &mut Pages) -> Result<Moment, Starved>
         ensures { IfOk result (λ now. now.0 ≤ MAX_MOMENT) }
     {
@@ -97,7 +98,8 @@ impl Timeline {
         Ok(until)
     }
 
-    /// Time passes up to a moment, as by [`Timeline::reach`], and a datagram comes to the server.
+    /// Lets time pass up to a moment, as [`Timeline::reach`] does, at which the server receives a
+    /// datagram.
     pub(crate) fn hear(&mut self, moment: Moment, pages: &mut Pages) -> Result<Moment, Starved>
         ensures { IfOk result (λ now. now.0 ≤ MAX_MOMENT) }
     {
@@ -106,8 +108,8 @@ impl Timeline {
         Ok(now)
     }
 
-    /// The recording ends: a second passes, and a tick comes. Nothing passes where nothing was
-    /// met.
+    /// Ends the recording: a second passes, followed by a tick. Does nothing if there was no
+    /// datagram.
     pub(crate) fn end(&mut self, pages: &mut Pages) -> Result<(), Starved> {
         if !self.is_begun {
             return Ok(());

@@ -12,36 +12,36 @@ use std::alloc::Global;
 use std::mem;
 use trace_text::{Line, LineBad, LineFault, Reason, line_read, number_read};
 
-/// The address of the server of a capture that is written, where its peers have IPv4 addresses
-/// (RFC 5737).
+/// The address of the server in a capture that is written, for peers with IPv4 addresses (RFC
+/// 5737).
 const SERVER_V4: [u8; 4] = [192, 0, 2, 1];
 
-/// The address of the server of a capture that is written, where its peers have IPv6 addresses
-/// (RFC 3849).
+/// The address of the server in a capture that is written, for peers with IPv6 addresses (RFC
+/// 3849).
 const SERVER_V6: [u16; 8] = [0x2001, 0xdb8, 0, 0, 0, 0, 0, 1];
 
-/// What a line of the output begins with.
+/// The beginning of a line of the output.
 const OUT: &[u8] = b"out ";
 
-/// What the line that ends the output begins with.
+/// The beginning of the line that ends the output.
 const END: &[u8] = b"end ";
 
-/// A trace and its output in the middle of being read.
+/// A trace and its output that are being read.
 #[derive(Drop)]
 pub(crate) struct Transcript {
-    /// Where its memory comes from.
+    /// The allocator of its memory.
     alloc: Global,
     /// The port of the server.
     port: u16,
-    /// The last moment of a line of the trace.
+    /// The moment of the last line of the trace.
     moment: Moment,
-    /// How many lines were read.
+    /// The number of lines that were read.
     lines: u64,
-    /// What has come of the next line.
+    /// The octets of the next line so far.
     pending: Bytes,
 }
 
-/// The route of a datagram from a host to the server.
+/// Returns the route of a datagram from a host to the server.
 fn route_from(host: Host) -> Route {
     match host {
         Host::V4(octets) => Route::V4 {
@@ -55,7 +55,7 @@ fn route_from(host: Host) -> Route {
     }
 }
 
-/// The route of a datagram from the server to a host.
+/// Returns the route of a datagram from the server to a host.
 fn route_to(host: Host) -> Route {
     match host {
         Host::V4(octets) => Route::V4 {
@@ -69,12 +69,12 @@ fn route_to(host: Host) -> Route {
     }
 }
 
-/// Whether a text is a number, as the line that ends the output has them.
+/// Returns whether a text is a number, as in the line that ends the output.
 fn is_number(text: &[u8]) -> bool {
     number_read(u64::MAX, text).is_some()
 }
 
-/// Whether these are the three numbers of the line that ends the output.
+/// Returns whether a text is the three numbers of the line that ends the output.
 fn are_counts(text: &[u8]) -> bool {
     let Some((entries, rest)) = cut(b' ', text) else {
         return false;
@@ -85,7 +85,8 @@ fn are_counts(text: &[u8]) -> bool {
     is_number(entries) && is_number(live) && is_number(observers)
 }
 
-/// The line of a datagram that comes to a worker at the moment 0, with a peer and octets.
+/// Returns the line of a datagram that a worker receives at the moment 0, with this peer and these
+/// octets.
 fn as_come(alloc: Global, worker: &[u8], rest: &[u8]) -> Result<Bytes, Starved> {
     let mut line = Bytes::copy_of(alloc, b"in ")?;
     line.append(worker)?;
@@ -94,8 +95,8 @@ fn as_come(alloc: Global, worker: &[u8], rest: &[u8]) -> Result<Bytes, Starved> 
     Ok(line)
 }
 
-/// What a line of the output says behind its first word, read as the line of a datagram that
-/// comes from where it goes to.
+/// Reads a line of the output after its first word, as the line of a datagram that comes from where
+/// it goes to.
 fn sent_read(alloc: Global, fields: &[u8]) -> Result<Line, LineFault>
     ensures { IfOk result IsLine }
 {
@@ -109,7 +110,7 @@ fn sent_read(alloc: Global, fields: &[u8]) -> Result<Line, LineFault>
 }
 
 impl Transcript {
-    /// A trace that nobody began to read, of a server at this port.
+    /// Creates a transcript of which nothing was read, of a server at this port.
     pub(crate) fn new(alloc: Global, port: u16) -> Transcript {
         Transcript {
             alloc,
@@ -139,7 +140,7 @@ impl Transcript {
         pages.out.append(octets.as_slice())
     }
 
-    /// Writes a datagram that comes from a peer.
+    /// Writes a datagram that a peer sent.
     fn write_come(&self, peer: Peer, datagram: &[u8], pages: &mut Pages) -> Result<(), Starved>
         requires { length datagram.now ≤ MAX_PAYLOAD }
     {
@@ -161,12 +162,12 @@ impl Transcript {
         self.write(route_to(peer.host), ports, datagram, pages)
     }
 
-    /// A moment comes; one before the last is lifted to it.
+    /// Records a moment. A moment earlier than the last is raised to it.
     fn reach(&mut self, moment: Moment) {
         self.moment = self.moment.later(moment);
     }
 
-    /// What a line of the trace says.
+    /// Does what a line of the trace says.
     fn do_step(&mut self, line: Line, pages: &mut Pages) -> Result<(), Starved>
         requires { IsLine line }
     {
@@ -187,7 +188,7 @@ impl Transcript {
         Ok(())
     }
 
-    /// What a line of the output says, read as that of a datagram that comes.
+    /// Does what a line of the output says, which was read as that of a received datagram.
     fn do_sent(&self, line: Line, pages: &mut Pages) -> Result<(), Starved>
         requires { IsLine line }
     {
@@ -202,7 +203,7 @@ impl Transcript {
         Ok(())
     }
 
-    /// What a whole line says.
+    /// Does what a complete line says.
     fn say_line(&mut self, line: &[u8], pages: &mut Pages) -> Result<(), LineFault> {
         if let Some(fields) = line.strip_prefix(OUT) {
             let sent = sent_read(self.alloc, fields)?;
@@ -218,7 +219,7 @@ impl Transcript {
         }
     }
 
-    /// Does a whole line, and counts it.
+    /// Does a complete line, and counts it.
     fn do_line(&mut self, line: &[u8], pages: &mut Pages) -> Result<(), Stop> {
         self.lines = self.lines.saturating_add(1);
         match self.say_line(line, pages) {
@@ -229,7 +230,7 @@ impl Transcript {
         }
     }
 
-    /// The last line is bad.
+    /// Returns that the last line is bad.
     fn bad(&self, why: Reason) -> Stop {
         Stop::Line(LineBad {
             line: self.lines,
@@ -237,7 +238,7 @@ impl Transcript {
         })
     }
 
-    /// A line feed comes: what is pending and this are a whole line.
+    /// Handles a line feed: the pending octets and `line` are a complete line.
     fn end_line(&mut self, line: &[u8], pages: &mut Pages) -> Result<(), Stop> {
         if self.pending.is_empty() {
             return self.do_line(line, pages);
@@ -246,13 +247,13 @@ impl Transcript {
         self.last_line(pages)
     }
 
-    /// Does what is pending as a whole line.
+    /// Does the pending octets as a complete line.
     fn last_line(&mut self, pages: &mut Pages) -> Result<(), Stop> {
         let line = mem::replace(&mut self.pending, Bytes::new(self.alloc));
         self.do_line(line.as_slice(), pages)
     }
 
-    /// Keeps the beginning of a line, if no line is longer.
+    /// Stores the beginning of a line. Stops if the line is too long.
     fn keep(&mut self, rest: &[u8]) -> Result<(), Stop> {
         if self.pending.len() + rest.len() > MAX_LINE {
             self.lines = self.lines.saturating_add(1);
@@ -261,7 +262,7 @@ impl Transcript {
         Ok(self.pending.append(rest)?)
     }
 
-    /// The next octets of the trace come.
+    /// Handles the next octets of the trace.
     pub(crate) fn feed(&mut self, piece: &[u8], pages: &mut Pages) -> Result<(), Stop> {
         let mut rest = piece;
         'lines: while let Some((line, behind)) = cut(b'\n', rest) {
@@ -271,7 +272,7 @@ impl Transcript {
         self.keep(rest)
     }
 
-    /// The trace ends.
+    /// Ends the trace.
     pub(crate) fn finish(&mut self, pages: &mut Pages) -> Result<(), Stop> {
         if self.pending.is_empty() {
             return Ok(());

@@ -9,22 +9,22 @@ use std::alloc::Global;
 use std::marker::Model;
 use trace_text::line_print;
 
-/// The octets of lines behind a request from which on its answer is not waited for.
+/// The number of octets of lines after a request beyond which it stops waiting for its answer.
 const MAX_BEHIND: usize = 65_536;
 
-/// A request that came to the server, whose line is written when its answer has come, since a
-/// challenge tells the word that the server drew. Contracts see who asked.
+/// A request that the server received. Its line is written when its answer was sent, since a
+/// challenge shows the random word that the server drew. Contracts see its sender.
 #[derive(Drop)]
 pub(crate) struct Waiting {
-    /// When it came.
+    /// The moment at which it was received.
     moment: Moment,
-    /// Who asked.
+    /// Its sender.
     peer: Peer,
     /// Its octets.
     datagram: Bytes,
     /// Its token.
     token: Bytes,
-    /// The lines behind its own.
+    /// The lines after its own.
     behind: Bytes,
 }
 
@@ -44,8 +44,7 @@ impl Model for Waiting {
 }
 
 impl Waiting {
-    /// A request that came at a moment from a peer, with its octets and its token. `Starved`: out
-    /// of memory.
+    /// Creates a request that was received at a moment from a peer, with its octets and its token.
     pub(crate) fn new(
         alloc: Global,
         moment: Moment,
@@ -68,28 +67,28 @@ impl Waiting {
         })
     }
 
-    /// Whether an answer to this peer with this token is that to the request.
+    /// Returns whether an answer to this peer with this token answers the request.
     pub(crate) fn is_answered(&self, peer: Peer, token: &[u8]) -> bool {
         self.peer == peer && self.token.as_slice() == token
     }
 
-    /// Adds a line behind its own. `Starved`: out of memory.
+    /// Appends a line after its own.
     pub(crate) fn put_line(&mut self, line: &[u8]) -> Result<(), Starved> {
         self.behind.append(line)?;
         self.behind.push(b'\n')
     }
 
-    /// Adds lines behind its own. `Starved`: out of memory.
+    /// Appends lines after its own.
     pub(crate) fn put_text(&mut self, text: &[u8]) -> Result<(), Starved> {
         self.behind.append(text)
     }
 
-    /// Whether too much stands behind its line for its answer to be waited for.
+    /// Returns whether too much text follows its line, so that it must stop waiting.
     pub(crate) fn is_long(&self) -> bool {
         self.behind.len() > MAX_BEHIND
     }
 
-    /// Its line with a word, and the lines behind it. `Starved`: out of memory.
+    /// Returns its line with a random word, and the lines after it.
     pub(crate) fn text(&self, alloc: Global, word: u32) -> Result<Bytes, Starved> {
         let line = come_line(
             alloc,

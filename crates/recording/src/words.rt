@@ -1,4 +1,4 @@
-//! The words of the command line.
+//! The arguments of the command line.
 ghost use Rattle.std.specs.Prelude.{◌≤◌, ◌<◌, length, IfSome};
 ghost use Rattle.line_model.specs.Numbers.{max_first};
 
@@ -14,7 +14,7 @@ const MAX_PORT: u64 = 65_535;
 /// What is written.
 #[derive(Clone, Copy, Debug, PartialEq, Eq)]
 pub(crate) enum Output {
-    /// The trace of what came to the server of a capture.
+    /// The trace of the datagrams that the server of a capture received.
     Trace,
     /// The lines of the output for what the server of a capture sent.
     Replies,
@@ -30,39 +30,39 @@ pub(crate) struct First {
     ghost within: { number ≤ max_first },
 }
 
-/// What the words ask for.
+/// What the arguments ask for.
 #[derive(Clone, Copy, Debug)]
 pub(crate) struct Words {
     /// The port of the server.
     pub port: u16,
     /// What is written.
     pub output: Output,
-    /// The number above which the run of a trace begins, where it was said.
+    /// The number above which the run of a trace begins, if it is given.
     pub first: Option<First>,
-    /// Whether each datagram is put at the worker that answered it.
+    /// Whether each datagram is given to the worker that answered it.
     pub has_workers: bool,
 }
 
-/// What words said so far.
+/// What was asked for so far.
 #[derive(Clone, Copy, Debug)]
 struct Said {
-    /// The port, where it was said.
+    /// The port, if it is given.
     port: Option<u16>,
-    /// What is written, where it was said.
+    /// What is written, if it is given.
     output: Option<Output>,
-    /// The number above which the run begins, where it was said.
+    /// The number above which the run begins, if it is given.
     first: Option<First>,
-    /// Whether several workers were said.
+    /// Whether several workers were asked for.
     has_workers: bool,
 }
 
-/// A word that a value follows.
+/// An option with a value: the port.
 const PORT: &str = "--port";
 
-/// Another one.
+/// An option with a value: the number above which the run begins.
 const BEGIN: &str = "--begin";
 
-/// The port that a text names in decimal, without a leading zero: 1 to 65,535.
+/// Returns the port that a text names in decimal, without a leading zero: 1 to 65,535.
 fn port_of(text: &str) -> Option<u16> {
     let port = number_read(MAX_PORT, text.as_bytes())?;
     if port == 0 {
@@ -71,14 +71,15 @@ fn port_of(text: &str) -> Option<u16> {
     Some(port as u16)
 }
 
-/// The number above which a run may begin that a text names in decimal, without a leading zero.
+/// Returns the number above which a run may begin that a text names in decimal, without a leading
+/// zero.
 fn first_of(text: &str) -> Option<First> {
     let number = number_read(MAX_FIRST, text.as_bytes())?;
     Some(First { number })
 }
 
 impl Said {
-    /// Nothing.
+    /// Returns that nothing was asked for.
     fn nothing() -> Said {
         Said {
             port: None,
@@ -88,7 +89,7 @@ impl Said {
         }
     }
 
-    /// With a port more. None: one was said before, or it is none.
+    /// Adds a port. Returns `None` if one was given before, or the text is not a port.
     fn with_port(mut self, text: &str) -> Option<Said> {
         if self.port.is_some() {
             return None;
@@ -97,7 +98,8 @@ impl Said {
         Some(self)
     }
 
-    /// With the number above which the run begins. None: one was said before, or it is none.
+    /// Adds the number above which the run begins. Returns `None` if one was given before, or the
+    /// text is not such a number.
     fn with_first(mut self, text: &str) -> Option<Said> {
         if self.first.is_some() {
             return None;
@@ -106,7 +108,7 @@ impl Said {
         Some(self)
     }
 
-    /// With what is written more. None: it was said before.
+    /// Adds what is written. Returns `None` if it was given before.
     fn with_output(mut self, output: Output) -> Option<Said> {
         if self.output.is_some() {
             return None;
@@ -115,7 +117,7 @@ impl Said {
         Some(self)
     }
 
-    /// With several workers. None: they were said before.
+    /// Adds several workers. Returns `None` if they were asked for before.
     fn with_workers(mut self) -> Option<Said> {
         if self.has_workers {
             return None;
@@ -124,7 +126,7 @@ impl Said {
         Some(self)
     }
 
-    /// With the value of a word: of one that a value follows.
+    /// Adds an option that takes a value, with its value.
     fn with_value(self, word: &str, value: &str) -> Option<Said> {
         if word == PORT {
             return self.with_port(value);
@@ -132,7 +134,7 @@ impl Said {
         self.with_first(value)
     }
 
-    /// With a word and its value, joined by `=`.
+    /// Adds an option and its value, joined by `=`.
     fn with_joined(self, text: &str) -> Option<Said> {
         let (word, value) = text.split_once('=')?;
         if !takes_value(word) {
@@ -141,7 +143,7 @@ impl Said {
         self.with_value(word, value)
     }
 
-    /// With a word more that stands for itself.
+    /// Adds an argument that is complete by itself.
     fn with_word(self, word: &str) -> Option<Said> {
         match word {
             "--replies" => self.with_output(Output::Replies),
@@ -151,7 +153,8 @@ impl Said {
         }
     }
 
-    /// What was asked for. None: of what is written as a capture more was asked.
+    /// Returns what was asked for, or `None` if a capture is to be written and more than its port
+    /// is given.
     fn words(self) -> Option<Words> {
         let output = self.output.unwrap_or(Output::Trace);
         if output == Output::Pcap && (self.first.is_some() || self.has_workers) {
@@ -166,14 +169,16 @@ impl Said {
     }
 }
 
-/// Whether a value follows a word.
+/// Returns whether an option takes a value.
 fn takes_value(word: &str) -> bool {
     word == PORT || word == BEGIN
 }
 
-/// What the words ask for: `--port` with a port from 1 to 65,535 and `--begin` with a number of at
-/// most 2^48 - 1, each as two words or joined by `=`, `--workers`, and `--replies` or `--pcap`,
-/// each once at most, in any order; with `--pcap` the port alone. None: they are others.
+/// Returns what the arguments ask for, or `None` if they are not those of the program.
+///
+/// They are `--port` with a port from 1 to 65,535, and `--begin` with a number of at most 2^48 - 1.
+/// Each of these is two arguments, or joined by `=`. The others are `--workers`, and `--replies` or
+/// `--pcap`. Each is given at most once, in any order. With `--pcap` only the port can be given.
 pub(crate) fn words_read(words: &[String]) -> Option<Words> {
     let mut said = Said::nothing();
     let mut left = words;

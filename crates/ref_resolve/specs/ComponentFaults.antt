@@ -1,4 +1,4 @@
--- What is tested of components that a text is taken apart into, and how many octets they spell.
+-- What is checked of the components of a text, and how many octets they spell.
 use Rattle.std.specs.Prelude.{ℕ, ◌+◌, length, Bool, ◌&&◌}
 use Rattle.reference_model.specs.References.{
   Components,
@@ -13,7 +13,7 @@ use Rattle.reference_model.specs.References.{
 }
 use Rattle.link_model.specs.Characters.{is_path_character, is_query_character}
 
--- each component has only characters that may stand in it
+-- Returns whether each component has only characters that it may have.
 abbrev pub have_no_fault : Components → Bool
 have_no_fault c =
     where_present is_scheme c.scheme
@@ -22,7 +22,7 @@ have_no_fault c =
     && where_present (is_text_of is_query_character) c.query
     && where_present (is_text_of is_query_character) c.fragment
 
--- how many octets the components have with their delimiters
+-- Returns how many octets the components have with their delimiters.
 abbrev pub size_of : Components → ℕ
 size_of c =
     length (scheme_text c.scheme)

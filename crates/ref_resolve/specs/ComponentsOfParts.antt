@@ -3,7 +3,7 @@ use Rattle.std.specs.Prelude.{option_map}
 use Rattle.reference_model.specs.References.{Components}
 use Rattle.ref_resolve.specs.declared.components.Parts.{Parts}
 
--- the components, as octets
+-- Returns the components, as octets.
 abbrev pub components_of : Parts → Components
 components_of parts = record {
   scheme = option_map (λ text. text.now) parts.scheme;

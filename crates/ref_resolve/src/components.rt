@@ -1,4 +1,4 @@
-//! The five components of a text, before they are judged.
+//! The five components of a text, before they are checked.
 ghost use Rattle.std.specs.Prelude.{◌≡◌, option_map};
 ghost use Rattle.reference_model.specs.References as references;
 ghost use Rattle.ref_resolve.specs.ComponentsOfParts.{components_of};
@@ -9,19 +9,19 @@ use crate::cuts::{after_two_slashes, around, split_from};
 /// The components of a reference (RFC 3986 section 3), as they are spelled.
 #[derive(Clone, Copy, Debug)]
 pub struct Parts<'a> {
-    /// What stands before the colon that ends it.
+    /// The text before the colon that ends it.
     pub scheme: Option<&'a str>,
-    /// What stands after two slashes.
+    /// The text after two slashes.
     pub authority: Option<&'a str>,
     /// The path, which may be empty.
     pub path: &'a str,
-    /// What stands after the first question mark.
+    /// The text after the first question mark.
     pub query: Option<&'a str>,
-    /// What stands after the first number sign.
+    /// The text after the first number sign.
     pub fragment: Option<&'a str>,
 }
 
-/// What stands before a colon in the first segment, and what is left.
+/// Returns what precedes a colon in the first segment, and the rest.
 #[tactic(auto, using(crate::proofs::CutLaws::colon_before_slash))]
 fn scheme_of(text: &str) -> (Option<&str>, &str)
     ensures scheme { option_map (λ scheme. scheme.now) result.0 ≡ references.scheme_in text.now }
@@ -40,7 +40,7 @@ fn scheme_of(text: &str) -> (Option<&str>, &str)
     }
 }
 
-/// What stands between two slashes at the beginning and the next slash, and what is left.
+/// Returns what is between two slashes at the beginning and the next slash, and the rest.
 fn authority_of(text: &str) -> (Option<&str>, &str)
     ensures authority { option_map (λ authority. authority.now) result.0
         ≡ references.authority_in text.now }
@@ -55,7 +55,7 @@ fn authority_of(text: &str) -> (Option<&str>, &str)
     }
 }
 
-/// A text taken apart, whatever its characters (RFC 3986 appendix B).
+/// Splits a text into its components, whatever its characters (RFC 3986 appendix B).
 #[tactic(auto, unfolding(reference_model::specs::References::components))]
 pub(crate) fn apart(text: &str) -> Parts<'_>
     ensures { components_of result ≡ references.components text.now }
@@ -73,7 +73,7 @@ pub(crate) fn apart(text: &str) -> Parts<'_>
     }
 }
 
-/// The components of a text that is a path.
+/// Returns the components of a text that is a path.
 pub(crate) fn with_path_alone(text: &str) -> Parts<'_>
     ensures { components_of result ≡ with_path_alone text.now }
 {

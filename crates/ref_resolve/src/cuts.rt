@@ -1,8 +1,8 @@
-//! Cutting a text at its first octet of a kind.
+//! Cuts of a text at its first octet of a kind.
 ghost use Rattle.std.specs.Prelude.{◌≡◌, ◌<◌, ◌+◌, ◌∷◌, length, option_map, MatchOption, false};
 ghost use Rattle.reference_model.specs.References as references;
 
-/// What stands before the first of these marks, or the whole text, and what stands after it, if
+/// Returns what precedes the first of these marks, or the whole text, and what follows the mark if
 /// there is one.
 pub(crate) fn around(text: &str, mark: char) -> (&str, Option<&str>)
     requires { mark < 128 }
@@ -17,7 +17,7 @@ pub(crate) fn around(text: &str, mark: char) -> (&str, Option<&str>)
     }
 }
 
-/// What stands before the first of these marks, and the text from it on.
+/// Returns what precedes the first of these marks, and the text from it on.
 pub(crate) fn split_from(text: &str, mark: char) -> (&str, &str)
     requires { mark < 128 }
     ensures before { result.0.now ≡ references.before mark text.now }
@@ -30,7 +30,7 @@ pub(crate) fn split_from(text: &str, mark: char) -> (&str, &str)
     }
 }
 
-/// The text up to and with the first of these marks, or the whole text.
+/// Returns the text up to and with the first of these marks, or the whole text.
 pub(crate) fn through(text: &str, mark: char) -> &str
     requires { mark < 128 }
     ensures { result.now ≡ references.through mark text.now }
@@ -41,7 +41,7 @@ pub(crate) fn through(text: &str, mark: char) -> &str
     }
 }
 
-/// What stands after the mark, where the text begins with it.
+/// Returns what follows the mark, if the text begins with it.
 pub(crate) fn after_first(text: &str, mark: char) -> Option<&str>
     requires { mark < 128 }
     ensures { MatchOption result (references.begins_with mark text.now ≡ false)
@@ -50,7 +50,7 @@ pub(crate) fn after_first(text: &str, mark: char) -> Option<&str>
     text.strip_prefix(mark)
 }
 
-/// What stands after two slashes at the beginning, where they stand there.
+/// Returns what follows two slashes at the beginning, if the text begins with them.
 pub(crate) fn after_two_slashes(text: &str) -> Option<&str>
     ensures { option_map (λ rest. rest.now) result ≡ references.after_two_slashes text.now }
 {

@@ -1,4 +1,4 @@
-//! Removing the dot segments of a path (RFC 3986 section 5.2.4).
+//! Removal of the dot segments of a path (RFC 3986 section 5.2.4).
 ghost use Rattle.std.specs.Prelude.{◌≡◌, ◌<◌, ◌≤◌, [], ◌∷◌, ◌++◌, ◌||◌, ◌&&◌, ◌==◌, true, false};
 ghost use Rattle.std.specs.Prelude.{fold, length, take, drop, slice_index, MatchOption, IfSome};
 ghost use Rattle.std.specs.Prelude.{OnOk};
@@ -13,28 +13,28 @@ ghost use Rattle.ref_resolve.specs.PlainPaths.{has_no_dot_after_slash};
 use crate::cuts::{after_first, split_from};
 use rd_base::Starved;
 
-/// Whether a segment is one dot.
+/// Returns whether a segment is one dot.
 fn is_single_dot(segment: &str) -> bool
     ensures { result ≡ resolution.is_single_dot segment.now }
 {
     segment == "."
 }
 
-/// Whether a segment is two dots.
+/// Returns whether a segment is two dots.
 fn is_double_dot(segment: &str) -> bool
     ensures { result ≡ resolution.is_double_dot segment.now }
 {
     segment == ".."
 }
 
-/// Whether a segment is one dot or two.
+/// Returns whether a segment is one dot or two.
 fn is_dot_segment(segment: &str) -> bool
     ensures { result ≡ resolution.is_dot_segment segment.now }
 {
     is_single_dot(segment) || is_double_dot(segment)
 }
 
-/// A path without the dot segments at its beginning that no slash stands before.
+/// Returns a path without the dot segments at its beginning, before any slash.
 fn without_leading_dots(path: &str) -> &str
     ensures same { resolution.without_leading_dots (resolution.with_closing_slash
         (resolution.segments_of path.now))
@@ -54,7 +54,7 @@ fn without_leading_dots(path: &str) -> &str
     }
 }
 
-/// The offset of the last slash.
+/// Returns the offset of the last slash.
 fn last_slash(text: &[u8]) -> Option<usize>
     ensures before { MatchOption result (before_last slash text.now ≡ [])
         (λ offset. before_last slash text.now ≡ take offset text.now) }
@@ -86,8 +86,8 @@ fn drop_last_segment(text: &mut String, start: usize)
     }
 }
 
-/// Appends a segment to the path that begins at `start`: two dots take the last segment away, and
-/// one dot is left out.
+/// Appends a segment to the path that begins at `start`. Two dots remove the last segment instead,
+/// and one dot is left out.
 fn append_segment(text: &mut String, start: usize, segment: &str) -> Result<(), Starved>
     requires within { start ≤ length (string_bytes text.old) }
     requires utf8 { IsUtf8 (take start (string_bytes text.old)) }
@@ -109,7 +109,7 @@ fn append_segment(text: &mut String, start: usize, segment: &str) -> Result<(), 
     Ok(())
 }
 
-/// Appends the last segment: after a dot segment a slash stands.
+/// Appends the last segment, with a slash after it if it is a dot segment.
 fn append_last_segment(text: &mut String, start: usize, segment: &str) -> Result<(), Starved>
     requires within { start ≤ length (string_bytes text.old) }
     requires utf8 { IsUtf8 (take start (string_bytes text.old)) }
@@ -126,8 +126,8 @@ fn append_last_segment(text: &mut String, start: usize, segment: &str) -> Result
     Ok(())
 }
 
-/// Appends the segments of a path that is empty or begins with a slash, to the path that begins at
-/// `start`.
+/// Appends the segments of a path to the path that begins at `start`. The appended path is empty or
+/// begins with a slash.
 fn append_segments(text: &mut String, start: usize, path: &str) -> Result<(), Starved>
     requires within { start ≤ length (string_bytes text.old) }
     requires utf8 { IsUtf8 (take start (string_bytes text.old)) }
@@ -149,14 +149,14 @@ fn append_segments(text: &mut String, start: usize, path: &str) -> Result<(), St
     Ok(())
 }
 
-/// Whether an octet is a slash, and what stands after it begins with a full stop.
+/// Returns whether an octet is a slash, and what follows it begins with a full stop.
 fn is_slash_before_dot(octet: u8, rest: &[u8]) -> bool
     ensures { result ≡ (octet == slash && references.begins_with full_stop rest.now) }
 {
     octet == b'/' && rest.starts_with(b".")
 }
 
-/// Whether no slash stands before a full stop. Most paths have no full stop at all.
+/// Returns whether no slash precedes a full stop. Most paths have no full stop at all.
 fn has_no_dot_after_slash(path: &[u8]) -> bool
     ensures { result ≡ has_no_dot_after_slash path.now }
 {
@@ -173,7 +173,7 @@ fn has_no_dot_after_slash(path: &[u8]) -> bool
     true
 }
 
-/// Whether a path begins with a slash, and none of its segments begins with a full stop.
+/// Returns whether a path begins with a slash, and none of its segments begins with a full stop.
 fn has_no_dots(path: &str) -> bool
     ensures { result ≡ (references.begins_with slash path.now && has_no_dot_after_slash path.now) }
 {

@@ -1,5 +1,5 @@
-//! References: a text is taken apart into its components, and a reference is resolved against a
-//! base (RFC 3986).
+//! References: a text is split into its components, and a reference is resolved against a base (RFC
+//! 3986).
 #![tactic(auto)]
 
 mod components;

@@ -1,5 +1,4 @@
-//! How far the text of a component goes before an octet that cannot stand there (RFC 3986 section
-//! 3).
+//! How far the text of a component goes before an octet that it may not have (RFC 3986 section 3).
 ghost use Rattle.std.specs.Prelude.{◌≡◌, ◌≤◌, ◌+◌, ◌∷◌, length};
 ghost use Rattle.std.specs.List.{prefix_len, list_all};
 ghost use Rattle.std.specs.Char.{is_ascii_digit};
@@ -13,13 +12,13 @@ use crate::cuts::{after_first, around, split_from};
 /// How far a text goes as the beginning of a component, and whether all of it is one.
 #[derive(Clone, Copy)]
 pub(crate) struct Reach {
-    /// How many octets stand at its beginning that some component begins with.
+    /// The number of octets at its beginning with which some component begins.
     pub at: usize,
     /// Whether the text is such a component.
     pub whole: bool,
 }
 
-/// Which characters a text has, beside percent escapes.
+/// The characters that a text may have, apart from percent escapes.
 #[derive(Clone, Copy)]
 pub(crate) enum Class {
     /// Those of a registered name (RFC 3986 section 3.2.2).
@@ -32,7 +31,7 @@ pub(crate) enum Class {
     Query,
 }
 
-/// Whether an octet is unreserved or a delimiter inside components (RFC 3986 section 2).
+/// Returns whether an octet is unreserved or a delimiter within components (RFC 3986 section 2).
 fn is_name_character(octet: u8) -> bool
     ensures { result ≡ characters.is_name_character octet }
 {
@@ -56,8 +55,8 @@ fn is_name_character(octet: u8) -> bool
         )
 }
 
-/// Whether an octet is a character of a path, beside percent escapes (RFC 3986 section 3.3). Small
-/// letters come first, since most are.
+/// Returns whether an octet is a character of a path, apart from percent escapes (RFC 3986 section
+/// 3.3). Lower-case letters come first, since most are.
 fn is_path_character(octet: u8) -> bool
     ensures { result ≡ characters.is_path_character octet }
 {
@@ -66,14 +65,15 @@ fn is_path_character(octet: u8) -> bool
         || matches!(octet, b'=' | b'_' | b'~' | b'!' | b'$')
 }
 
-/// Whether an octet may stand in a scheme after its first letter (RFC 3986 section 3.1).
+/// Returns whether an octet is a character of a scheme after its first letter (RFC 3986 section
+/// 3.1).
 fn is_scheme_character(octet: u8) -> bool
     ensures { result ≡ characters.is_scheme_character octet }
 {
     octet.is_ascii_alphanumeric() || matches!(octet, b'+' | b'-' | b'.')
 }
 
-/// Whether an octet may stand between the brackets of an IP literal.
+/// Returns whether an octet is a character between the brackets of an IP literal.
 fn is_literal_character(octet: u8) -> bool
     ensures { result ≡ characters.is_literal_character octet }
 {
@@ -81,7 +81,7 @@ fn is_literal_character(octet: u8) -> bool
 }
 
 impl Class {
-    /// Whether the octet is such a character.
+    /// Returns whether the octet is such a character.
     fn has(self, octet: u8) -> bool
         ensures { result ≡ stands_in self octet }
     {
@@ -93,7 +93,8 @@ impl Class {
         }
     }
 
-    /// How many hexadecimal digits must follow, if the octet may stand where `digits` of them must.
+    /// Returns how many hexadecimal digits must follow, if the octet is allowed where `digits` of
+    /// them must.
     fn next_digits(self, digits: u8, octet: u8) -> Option<u8>
         ensures { result ≡ next_digits (stands_in self) digits octet }
     {
@@ -111,14 +112,14 @@ impl Class {
     }
 }
 
-/// Whether each octet is a character of a path, without percent escapes.
+/// Returns whether each octet is a character of a path, without percent escapes.
 pub(crate) fn are_path_characters(text: &[u8]) -> bool
     ensures { result ≡ list_all characters.is_path_character text.now }
 {
     text.iter().all(|c| is_path_character(*c))
 }
 
-/// How far a text has only such characters and percent escapes.
+/// Returns how far a text has only such characters and percent escapes.
 pub(crate) fn text_reach(class: Class, text: &str) -> Reach
     ensures whole { result.whole ≡ references.is_text_of (stands_in class) text.now }
     ensures at { result.at ≡ faults.text_prefix (stands_in class) text.now }
@@ -141,7 +142,7 @@ pub(crate) fn text_reach(class: Class, text: &str) -> Reach
     }
 }
 
-/// How many decimal digits stand at the beginning.
+/// Returns how many decimal digits are at the beginning.
 fn digits_at(text: &str) -> usize
     ensures value { result ≡ prefix_len is_ascii_digit text.now }
     ensures bound { result ≤ length text.now }
@@ -152,7 +153,7 @@ fn digits_at(text: &str) -> usize
         .count()
 }
 
-/// How many characters of an IP literal stand at the beginning.
+/// Returns how many characters of an IP literal are at the beginning.
 fn literal_at(text: &str) -> usize
     ensures value { result ≡ prefix_len characters.is_literal_character text.now }
     ensures bound { result ≤ length text.now }
@@ -163,7 +164,7 @@ fn literal_at(text: &str) -> usize
         .count()
 }
 
-/// Whether a text is the inside of an IP literal.
+/// Returns whether a text is the inside of an IP literal.
 #[tactic(auto, using(crate::proofs::ReachLaws::run_of))]
 fn is_literal(text: &str) -> bool
     ensures { result ≡ characters.is_run_of characters.is_literal_character text.now }
@@ -171,7 +172,7 @@ fn is_literal(text: &str) -> bool
     !text.is_empty() && literal_at(text) == text.len()
 }
 
-/// A port with its colon, or nothing (RFC 3986 section 3.2.3).
+/// Returns the reach of a port with its colon, or of nothing (RFC 3986 section 3.2.3).
 #[rattlefmt::skip]
 #[tactic(
     auto,
@@ -197,7 +198,8 @@ fn port_reach(text: &str) -> Reach
     }
 }
 
-/// An IP literal after its opening bracket, and a port or none (RFC 3986 section 3.2.2).
+/// Returns the reach of an IP literal after its opening bracket, and of a port or none (RFC 3986
+/// section 3.2.2).
 #[tactic(auto, using(crate::proofs::ReachLaws::octet_after))]
 fn literal_reach(text: &str) -> Reach
     ensures whole { result.whole
@@ -227,7 +229,7 @@ fn literal_reach(text: &str) -> Reach
     }
 }
 
-/// A registered name, and a port or none (RFC 3986 section 3.2.2).
+/// Returns the reach of a registered name, and of a port or none (RFC 3986 section 3.2.2).
 fn name_reach(text: &str) -> Reach
     ensures whole { result.whole ≡ references.is_name_and_port text.now }
     ensures at { result.at ≡ faults.name_prefix text.now }
@@ -245,7 +247,7 @@ fn name_reach(text: &str) -> Reach
     }
 }
 
-/// A host, and a port or none.
+/// Returns the reach of a host, and of a port or none.
 #[rattlefmt::skip]
 #[tactic(
     auto,
@@ -268,7 +270,8 @@ fn host_reach(text: &str) -> Reach
     }
 }
 
-/// An authority: user information or none, a host, and a port or none (RFC 3986 section 3.2).
+/// Returns the reach of an authority: user information or none, a host, and a port or none (RFC
+/// 3986 section 3.2).
 #[rattlefmt::skip]
 #[tactic(
     auto,
@@ -311,14 +314,14 @@ pub(crate) fn authority_reach(text: &str) -> Reach
     }
 }
 
-/// Whether each octet may stand in a scheme after its first letter.
+/// Returns whether each octet is a character of a scheme after its first letter.
 fn are_scheme_characters(text: &[u8]) -> bool
     ensures { result ≡ list_all characters.is_scheme_character text.now }
 {
     text.iter().all(|c| is_scheme_character(*c))
 }
 
-/// Whether a text is a scheme (RFC 3986 section 3.1).
+/// Returns whether a text is a scheme (RFC 3986 section 3.1).
 #[tactic(auto, using(crate::proofs::ReachLaws::scheme_cons))]
 pub(crate) fn is_scheme(text: &str) -> bool
     ensures { result ≡ references.is_scheme text.now }

@@ -1,4 +1,5 @@
-//! A text read as a URI-reference, or the offset of its first fault (RFC 3986 section 4.1).
+//! The reading of a text as a URI-reference, or the offset of its first fault (RFC 3986 section
+//! 4.1).
 ghost use Rattle.std.specs.Prelude.{◌≡◌, ◌+◌, ◌<◌, ◌≤◌, ◌^◌, ℕ, length, option_map, Some};
 ghost use Rattle.std.specs.Prelude.{is_some, IfSome, IfOk, IfErr, IsOkAnd, MatchOption, true};
 ghost use Rattle.std.specs.Prelude.{false};
@@ -12,7 +13,7 @@ use crate::components::{Parts, apart, with_path_alone};
 use crate::cuts::{around, through};
 use crate::reach::{Class, are_path_characters, authority_reach, is_scheme, text_reach};
 
-/// A text is no URI-reference.
+/// The error of a text that is no URI-reference.
 #[derive(Clone, Copy, Debug, PartialEq, Eq)]
 pub struct RefBad {
     /// The offset of the first octet that no URI-reference with the same octets before it can have
@@ -20,18 +21,18 @@ pub struct RefBad {
     pub at: usize,
 }
 
-/// A part of a reference, with its delimiters.
+/// The span of a part of a reference, with its delimiters.
 #[derive(Clone, Copy)]
 struct Span {
-    /// How many octets it has.
+    /// The number of its octets.
     size: usize,
-    /// Whether it may stand there.
+    /// Whether the part is allowed there.
     whole: bool,
-    /// How many octets stand at its beginning that may stand there.
+    /// The number of octets at its beginning that are allowed there.
     at: usize,
 }
 
-/// The part that spells a scheme.
+/// Returns the span of a scheme.
 fn scheme_span(scheme: Option<&str>) -> Span
     ensures size { result.size
         ≡ length (faults.scheme_part (option_map (λ text. text.now) scheme.entry)).text }
@@ -55,7 +56,7 @@ fn scheme_span(scheme: Option<&str>) -> Span
     }
 }
 
-/// The part that spells an authority.
+/// Returns the span of an authority.
 fn authority_span(authority: Option<&str>) -> Span
     ensures size { result.size
         ≡ length (faults.authority_part (option_map (λ text. text.now) authority.entry)).text }
@@ -83,7 +84,7 @@ fn authority_span(authority: Option<&str>) -> Span
     }
 }
 
-/// The part that spells a query or a fragment, after its mark.
+/// Returns the span of a query or a fragment, after its mark.
 fn marked_span(text: Option<&str>) -> Span
     ensures query { result.size
         ≡ length (faults.query_part (option_map (λ text. text.now) text.entry)).text }
@@ -112,8 +113,8 @@ fn marked_span(text: Option<&str>) -> Span
     }
 }
 
-/// The offset of the first fault of the parts of a text of that many octets, if one may not stand
-/// there.
+/// Returns the offset of the first fault in the components of a text with `size` octets, if a
+/// component has a fault.
 fn fault_of(parts: &Parts<'_>, size: usize) -> Option<usize>
     requires { size_of (components_of parts.now) ≡ size }
     ensures { MatchOption result (have_no_fault (components_of parts.now) ≡ true)
@@ -145,8 +146,7 @@ fn fault_of(parts: &Parts<'_>, size: usize) -> Option<usize>
     None
 }
 
-/// Whether a text is a path that begins with one slash and has no percent escapes, and nothing
-/// else.
+/// Returns whether a text is only a path that begins with one slash and has no percent escapes.
 fn is_path_alone(text: &str) -> bool
     ensures { result ≡ is_path_alone text.now }
 {
@@ -156,13 +156,12 @@ fn is_path_alone(text: &str) -> bool
     }
 }
 
-/// Reads a URI-reference (RFC 3986 section 4.1). Takes no memory.
+/// Returns the components of a URI-reference (RFC 3986 section 4.1). Does not allocate.
 ///
 /// # Errors
 ///
-/// `RefBad` exactly where the text is no URI-reference: a colon stands before the first slash,
-/// question mark or number sign and what is before it is no scheme, or a component has a character
-/// that may not stand there.
+/// `RefBad` if the text is no URI-reference. Either a component has a character that it may not
+/// have, or the text before a colon in the first segment is no scheme.
 pub fn parts(text: &str) -> Result<Parts<'_>, RefBad>
     ensures found { IfOk result (λ read. references.IsReference text.now (components_of read)) }
     ensures only { (c : references.Components)
@@ -181,15 +180,17 @@ pub fn parts(text: &str) -> Result<Parts<'_>, RefBad>
     }
 }
 
-/// Whether a reference is a URI: whether it has a scheme (RFC 3986 section 4.3).
+/// Returns whether a reference has a scheme, which makes it a URI (RFC 3986 section 4.3).
 pub fn is_uri(parts: &Parts<'_>) -> bool
     ensures { result ≡ references.has_scheme (components_of parts.now) }
 {
     parts.scheme.is_some()
 }
 
-/// The host of a reference as it is spelled, an IP literal with its brackets, where there is an
-/// authority (RFC 3986 section 3.2.2). An empty host is the empty text.
+/// Returns the host of a reference as it is spelled, an IP literal with its brackets (RFC 3986
+/// section 3.2.2).
+///
+/// Returns `None` if the reference has no authority. An empty host is the empty text.
 pub fn host<'a>(parts: &Parts<'a>) -> Option<&'a str>
     ensures { option_map (λ text. text.now) result ≡ references.host (components_of parts.now) }
 {
@@ -199,7 +200,7 @@ pub fn host<'a>(parts: &Parts<'a>) -> Option<&'a str>
     }
 }
 
-/// What stands after the user information of an authority (RFC 3986 section 3.2.1).
+/// Returns what follows the user information of an authority (RFC 3986 section 3.2.1).
 fn after_userinfo(authority: &str) -> &str
     ensures { result.now ≡ references.after_userinfo authority.now }
 {
@@ -210,7 +211,7 @@ fn after_userinfo(authority: &str) -> &str
     }
 }
 
-/// The host in an authority.
+/// Returns the host in an authority.
 #[tactic(auto, unfolding(reference_model::specs::References::host_of))]
 fn host_of(authority: &str) -> &str
     ensures { result.now ≡ references.host_of authority.now }
@@ -218,7 +219,7 @@ fn host_of(authority: &str) -> &str
     host_in(after_userinfo(authority))
 }
 
-/// The host at the beginning of a text.
+/// Returns the host at the beginning of a text.
 fn host_in(text: &str) -> &str
     ensures { result.now ≡ references.host_in text.now }
 {

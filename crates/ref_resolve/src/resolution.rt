@@ -1,4 +1,4 @@
-//! Resolving a reference against a base (RFC 3986 section 5.2, strict).
+//! The resolution of a reference against a base (RFC 3986 section 5.2, strict).
 ghost use Rattle.std.specs.Prelude.{◌≡◌, ◌++◌, ◌∷◌, [], ◌<◌, ℕ, List, option_map, OnOk, IfOk};
 ghost use Rattle.std.specs.String.{string_bytes};
 ghost use Rattle.link_model.specs.Characters.{slash, is_empty};
@@ -12,11 +12,11 @@ use crate::dot_segments::append_without_dots;
 use rd_base::{Starved, Text};
 use std::alloc::Global;
 
-/// How many octets stand between the components of a reference at most: a colon, two slashes, a
-/// slash of the path, a question mark and a number sign.
+/// The most octets between the components of a reference: a colon, two slashes, a slash of the
+/// path, a question mark and a number sign.
 const DELIMITERS: usize = 6;
 
-/// The scheme of the reference, or else that of the base.
+/// Returns the scheme of the reference, or else that of the base.
 #[tactic(auto, unfolding(reference_model::specs::Resolution::resolution))]
 fn target_scheme<'a>(base: &Parts<'a>, reference: &Parts<'a>) -> Option<&'a str>
     ensures { option_map (λ text. text.now) result
@@ -28,7 +28,8 @@ fn target_scheme<'a>(base: &Parts<'a>, reference: &Parts<'a>) -> Option<&'a str>
     base.scheme
 }
 
-/// The authority of a reference that has a scheme or an authority, or else that of the base.
+/// Returns the authority of a reference that has a scheme or an authority, or else that of the
+/// base.
 #[tactic(auto, unfolding(reference_model::specs::Resolution::resolution))]
 fn target_authority<'a>(base: &Parts<'a>, reference: &Parts<'a>) -> Option<&'a str>
     ensures { option_map (λ text. text.now) result
@@ -43,7 +44,7 @@ fn target_authority<'a>(base: &Parts<'a>, reference: &Parts<'a>) -> Option<&'a s
     }
 }
 
-/// The query of the reference, or that of the base where the reference has nothing before its
+/// Returns the query of the reference, or that of the base if the reference has nothing before its
 /// fragment.
 #[tactic(auto, unfolding(reference_model::specs::Resolution::resolution))]
 fn target_query<'a>(base: &Parts<'a>, reference: &Parts<'a>) -> Option<&'a str>
@@ -65,7 +66,7 @@ fn target_query<'a>(base: &Parts<'a>, reference: &Parts<'a>) -> Option<&'a str>
     base.query
 }
 
-/// A path up to its last slash, with it.
+/// Returns a path up to its last slash, with it.
 fn directory(path: &str) -> &str
     ensures { result.now ≡ resolution.up_to_last_slash path.now }
 {
@@ -75,7 +76,7 @@ fn directory(path: &str) -> &str
     }
 }
 
-/// The path of a reference after that of the base (RFC 3986 section 5.2.3).
+/// Returns the path of a reference after that of the base (RFC 3986 section 5.2.3).
 #[tactic(auto, unfolding(reference_model::specs::Resolution::merged))]
 fn merged(alloc: Global, base: &Parts<'_>, path: &str) -> Result<String, Starved>
     ensures { IfOk result (λ text. string_bytes text ≡ resolution.merged (components_of base.now)
@@ -87,8 +88,8 @@ fn merged(alloc: Global, base: &Parts<'_>, path: &str) -> Result<String, Starved
     Ok(text)
 }
 
-/// What stands before the path of a reference when it is merged: a slash where the base has an
-/// authority and no path.
+/// Returns what precedes the path of a reference when it is merged. This is a slash if the base has
+/// an authority and no path, and otherwise the base's path up to its last slash.
 fn front_of_merged<'a>(base: &Parts<'a>) -> &'a str
     ensures { result.now ≡ front_of (components_of base.now) }
 {
@@ -126,7 +127,7 @@ fn append_path(
     append_without_dots(text, path.as_str())
 }
 
-/// Appends a scheme with its colon, where there is one.
+/// Appends a scheme with its colon, if there is one.
 fn append_scheme(text: &mut String, scheme: Option<&str>) -> Result<(), Starved>
     ensures { OnOk result (string_bytes text.new ≡ string_bytes text.old ++ references.scheme_text
         (option_map (λ part. part.now) scheme.entry)) }
@@ -138,7 +139,7 @@ fn append_scheme(text: &mut String, scheme: Option<&str>) -> Result<(), Starved>
     Ok(())
 }
 
-/// Appends an authority after two slashes, where there is one.
+/// Appends an authority after two slashes, if there is one.
 fn append_authority(text: &mut String, authority: Option<&str>) -> Result<(), Starved>
     ensures { OnOk result (string_bytes text.new ≡ string_bytes text.old ++
         references.authority_text (option_map (λ part. part.now) authority.entry)) }
@@ -150,7 +151,7 @@ fn append_authority(text: &mut String, authority: Option<&str>) -> Result<(), St
     Ok(())
 }
 
-/// Appends a scheme and an authority with their marks, where they are there.
+/// Appends a scheme and an authority with their marks, if they exist.
 fn append_front(
     text: &mut String,
     scheme: Option<&str>,
@@ -170,7 +171,7 @@ fn append_front(
     append_authority(text, authority)
 }
 
-/// Appends a query after its question mark, where there is one.
+/// Appends a query after its question mark, if there is one.
 fn append_query(text: &mut String, query: Option<&str>) -> Result<(), Starved>
     ensures { OnOk result (string_bytes text.new ≡ string_bytes text.old ++ references.query_text
         (option_map (λ part. part.now) query.entry)) }
@@ -182,7 +183,7 @@ fn append_query(text: &mut String, query: Option<&str>) -> Result<(), Starved>
     Ok(())
 }
 
-/// Appends a fragment after its number sign, where there is one.
+/// Appends a fragment after its number sign, if there is one.
 fn append_fragment(text: &mut String, fragment: Option<&str>) -> Result<(), Starved>
     ensures { OnOk result (string_bytes text.new ≡ string_bytes text.old ++ references.fragment_text
         (option_map (λ part. part.now) fragment.entry)) }
@@ -194,13 +195,13 @@ fn append_fragment(text: &mut String, fragment: Option<&str>) -> Result<(), Star
     Ok(())
 }
 
-/// How many octets some text has, where there is one.
+/// Returns how many octets a text has, if there is one.
 fn octets_of(part: Option<&str>) -> usize {
     part.map_or(0, |text| text.len())
 }
 
-/// How much room a path takes at most, with that of the base before it where it does not begin with
-/// a slash.
+/// Returns how much room a path takes at most, in octets. The base's path is included if the path
+/// does not begin with a slash.
 fn room_for_path(base: &str, path: &str) -> usize {
     if path.as_bytes().starts_with(b"/") {
         return path.len();
@@ -208,8 +209,8 @@ fn room_for_path(base: &str, path: &str) -> usize {
     usize::saturating_add(base.len(), path.len())
 }
 
-/// How much room parts and a path take, with their delimiters. It is asked for at once, and changes
-/// no text.
+/// Returns how much room parts and a path take with their delimiters, in octets. The room is only
+/// reserved, and changes no text.
 fn room_for(parts: [Option<&str>; 4], path: usize) -> usize {
     let mut room = usize::saturating_add(path, DELIMITERS);
     for part in parts {
@@ -218,13 +219,15 @@ fn room_for(parts: [Option<&str>; 4], path: usize) -> usize {
     room
 }
 
-/// Writes the text of a reference, resolved against a base (RFC 3986 sections 5.2.2 and 5.3,
-/// strict), in place of another text. Dot segments are removed of a reference with a scheme too. A
-/// base has a scheme and an authority; where it has none, the answer has none from it.
+/// Replaces a text by a reference, resolved against a base (RFC 3986 sections 5.2.2 and 5.3,
+/// strict).
+///
+/// Dot segments are removed from a reference with a scheme, too. A base should have a scheme and an
+/// authority. If it has none, the result has none from it.
 ///
 /// # Errors
 ///
-/// `Starved` where memory runs out, and for nothing else; what the text is then is not said.
+/// `Starved` if memory runs out, and for no other reason. No clause says what the text then is.
 pub fn resolve_into(
     alloc: Global,
     base: &Parts<'_>,
@@ -252,11 +255,11 @@ pub fn resolve_into(
     Ok(())
 }
 
-/// The text of a reference, resolved against a base, as [`resolve_into`] writes it.
+/// Returns the text of a reference, resolved against a base, as [`resolve_into`] writes it.
 ///
 /// # Errors
 ///
-/// `Starved` where memory runs out, and for nothing else.
+/// `Starved` if memory runs out, and for no other reason.
 pub fn resolve(alloc: Global, base: &Parts<'_>, reference: &Parts<'_>) -> Result<Text, Starved>
     ensures value { IfOk result (λ text. text ≡ references.recomposed
         (resolution.resolution (components_of base.now) (components_of reference.now))) }

@@ -1,3 +1,5 @@
-//! Definitions of URI-references as octets: their components, the offset at which one goes wrong,
-//! and their resolution (RFC 3986). No function.
+//! Definitions of URI-references as octets: their components, the offset of their first fault, and
+//! their resolution (RFC 3986).
+//!
+//! The crate has no functions.
 #![tactic(auto)]

@@ -1,4 +1,4 @@
--- An ask with what a directory challenged (RFC 9175 section 2).
+-- A request with the Echo value of a challenge (RFC 9175 section 2).
 use Rattle.std.specs.Prelude.{
   ℕ,
   ◌&&◌,
@@ -20,12 +20,12 @@ use Rattle.client_model.specs.declared.asks.AskBad.TheVariants as bad
 use Rattle.client_model.specs.Asks.{if_short}
 use Rattle.registrant.specs.declared.echoes.TheConstants.{MAX_ECHO}
 
--- the ask with an Echo option of this value behind its options (RFC 9175 section 2.2.1)
+-- the request with an Echo option of this value after its options (RFC 9175 section 2.2.1)
 abbrev pub with_echo : Ask → List ℕ → Ask
 with_echo ask value = record ask { options = ask.options ++ (table.echo, value) ∷ [] }
 
--- that ask, where the value has 1 to 40 octets, no option of the ask has a higher number, and its
--- datagram is not too long
+-- that request, if the value has 1 to 40 octets, no option of the request has a higher number than
+-- Echo, and its datagram is not too long
 abbrev pub echoed : Ask → List ℕ → Result Ask AskBad
 echoed ask value =
     if nat_le 1 (length value)

@@ -1,4 +1,4 @@
--- What a registrant gives.
+-- What the future of a request gives.
 use Rattle.std.specs.Prelude.{
   ◌≡◌,
   ℕ,
@@ -24,7 +24,7 @@ use Rattle.registrant.specs.declared.turns.TellFault.TheVariants as fault
 use Rattle.registrant.specs.Talking.{Talking, StandsFor}
 use Rattle.registrant.specs.Turns.{Outside, Sends, Happens, Fails, Loses}
 
--- the request went first, where it had not gone before
+-- the request was sent first, unless it had been sent before
 pub record GoesFirst (a : Asked) (octets : List ℕ) (before after : Outside) : Type 0 where
   pub coming : Stays before.coming after.coming
   pub sends :
@@ -42,7 +42,7 @@ abbrev pub Begins : Asked → List ℕ → Bool → Outside → Outside → Type
 Begins a octets true before after = after ≡ before
 Begins a octets false before after = GoesFirst a octets before after
 
--- these events happened, one after the other, after those that stand newest first
+-- these events happened in order, after the past events, which are newest first
 abbrev pub HappensAll : Asked
     → List ℕ
     → List Event
@@ -56,21 +56,21 @@ HappensAll a octets past (e ∷ events) before after =
     × Happens a octets past e before between
     × HappensAll a octets (e ∷ past) events between after
 
--- events in order, after those that stand newest first
+-- the past events, newest first, with these events added in order
 abbrev pub and_then : List Event → List Event → List Event
 and_then past [] = past
 and_then past (e ∷ events) = and_then (e ∷ past) events
 
--- how it ended after these events: they decide it; or they do not, and a receive failed, or what
--- came could not be heard
+-- how the request ended after these events: they decide it; or they do not, and a receive failed or
+-- a datagram could not be handled
 abbrev pub Ends : Asked → List Event → Result Outcome TellFault → Outside → Outside
     → Type 0
 Ends a past (Ok o) before after = (verdict a past ≡ Some o) × (after ≡ before)
 Ends a past (Err fault.Link) before after = (verdict a past ≡ None) × Fails before after
 Ends a past (Err fault.Starved) before after = (verdict a past ≡ None) × Loses before after
 
--- what a request came to over a link and a clock: it went, then these events happened, and so it
--- ended
+-- what became of a request over a link and a clock: it was sent, then these events happened, and so
+-- it ended
 pub record Comes
     (a : Asked)
     (octets : List ℕ)
@@ -86,7 +86,7 @@ pub record Comes
   pub happens : HappensAll a octets past more begun last
   pub ends : Ends a (and_then past more) outcome last after
 
--- whatever request and events the talk stands for, so it comes
+-- whatever request and events the pending request stands for, this became of it
 abbrev pub IsGiven : Talking → Bool → Result Outcome TellFault → Outside → Outside
     → Type 0
 IsGiven talk is_sent outcome before after =

@@ -1,4 +1,4 @@
--- What a request that waits hears, and how its answers stand to the verdict.
+-- What a datagram and a tick mean for a pending request, and how that relates to the verdict.
 use Rattle.std.specs.Prelude.{
   ◌≡◌,
   ℕ,
@@ -41,19 +41,19 @@ use Rattle.registrant.specs.declared.verdicts.TalkAgain.{TalkAgain}
 use Rattle.registrant.specs.declared.verdicts.TalkAgain.TheVariants as again
 use Rattle.registrant.specs.Talking.{Talking, StandsFor}
 
--- a response is the answer to a request with this token and Message ID: `is_answer`, by these parts
--- of the request
+-- a response answers a request with this token and Message ID: `is_answer`, from these parts of the
+-- request
 abbrev pub is_answer_to : List ℕ → ℕ → Message → Bool
 is_answer_to token mid m =
     bytes_eq m.token token && has_mid_of m.kind m.mid mid && is_none (first_bad_option m.options)
 
--- what a datagram is that decides this, or acknowledges
+-- what a datagram means that decides this, or acknowledges, or neither
 abbrev pub hears_by : Option Outcome → Bool → Option (List ℕ) → TalkHeard
 hears_by (Some o) quiet ack = heard.Over o ack
 hears_by None true ack = heard.Quiet
 hears_by None false ack = heard.Other
 
--- what a datagram is to a talk
+-- what a datagram means for a pending request
 abbrev pub hears : Talking → Peer → List ℕ → TalkHeard
 hears t peer octets =
     hears_by
@@ -61,20 +61,20 @@ hears t peer octets =
     (datagram_quiets t.request peer octets)
     (acknowledgement_in (readable (reading octets)))
 
--- an answer is this one, unless memory ran out
+-- a result is this one, unless memory ran out
 abbrev pub IsUnlessStarved : TalkHeard → TalkHeard → Type 0
 IsUnlessStarved heard.Starved expected = ⊤
 IsUnlessStarved heard.Other expected = heard.Other ≡ expected
 IsUnlessStarved heard.Quiet expected = heard.Quiet ≡ expected
 IsUnlessStarved (heard.Over o ack) expected = heard.Over o ack ≡ expected
 
--- what is kept after such an answer
+-- what is stored after such a result
 abbrev pub kept_after_hearing : TalkHeard → Talking → Talking
 kept_after_hearing heard.Quiet t = record t { quiet = true }
 kept_after_hearing _ t = t
 
--- An answer says what the datagram decides and whether it acknowledges, and the talk then stands
--- for the events with this one. Without memory nothing changes.
+-- A result says what the datagram decides and whether it acknowledges. If nothing is decided, the
+-- pending request stands for the events with this one. Out of memory, nothing changes.
 abbrev pub IsHeard : Asked
     → List ℕ
     → List Event
@@ -96,8 +96,8 @@ IsHeard a octets past now peer datagram (heard.Over o ack) before after =
     (decides a past (event.Came now peer datagram) ≡ Some o)
     × (ack ≡ acknowledgement_in (readable (reading datagram)))
 
--- An answer says what the tick decides and whether it sends again, and the talk then stands for the
--- events with this one.
+-- A result says what the tick decides and whether it retransmits. If nothing is decided, the
+-- pending request stands for the events with this one.
 abbrev pub IsDue : Asked → List ℕ → List Event → Moment → TalkAgain → Talking → Type 0
 IsDue a octets past now again.Wait after =
     (is_sent_again a (is_quiet a past) now.0 (sent_again a past) ≡ false)

@@ -1,4 +1,4 @@
--- Parts of a URI, decoded, and the options that they become.
+-- Decoded parts of a URI, and the options that they become.
 use Rattle.std.specs.Prelude.{
   ◌≡◌,
   ℕ,
@@ -31,20 +31,21 @@ use Rattle.client_model.specs.Asks.{is_part, are_parts, are_segments, parts_at, 
 use Rattle.registrant.specs.declared.parts.PartBad.{PartBad}
 use Rattle.registrant.specs.declared.parts.PartBad.TheVariants as bad
 
--- what a part is decoded to, unless memory ran out
+-- a part decodes to this, unless memory ran out
 abbrev pub IsDecoded : List ℕ → Result (List ℕ) PartBad → Type 0
 IsDecoded text (Ok part) = (part ≡ percent_decode text)
     × (is_part (percent_decode text) ≡ true)
 IsDecoded text (Err bad.Part) = is_part (percent_decode text) ≡ false
 IsDecoded text (Err bad.Starved) = ⊤
 
--- what a decoded text is owned as, unless memory ran out
+-- a decoded text is copied as this, unless memory ran out
 abbrev pub IsOwned : List ℕ → Result (List ℕ) PartBad → Type 0
 IsOwned text (Ok part) = (part ≡ text) × (nat_le (length text) MAX_PART ≡ true)
 IsOwned text (Err bad.Part) = nat_le (length text) MAX_PART ≡ false
 IsOwned text (Err bad.Starved) = ⊤
 
--- options of a number with these values were added, where all pass the test, unless memory ran out
+-- options of this number with these values were appended, if all pass the test, unless memory ran
+-- out
 abbrev pub Adds : {A : Type 0}
     → ℕ
     → Bool
@@ -58,12 +59,12 @@ Adds number passes values before (Ok unit) now =
 Adds number passes values before (Err bad.Part) now = passes ≡ false
 Adds number passes values before (Err bad.Starved) now = ⊤
 
--- the parts of what is left of a text, where something is
+-- the parts of the rest of a text, if there is a rest
 abbrev pub parts_left : ℕ → Option (List ℕ) → List (List ℕ)
 parts_left mark None = []
 parts_left mark (Some text) = parts_at mark text
 
--- these are the options of a registration with a path and a query, unless memory ran out
+-- these are the options of a registration with this path and query, unless memory ran out
 abbrev pub AreRegistering : List (List ℕ) → List (List ℕ) → Result (List Opt) PartBad
     → Type 0
 AreRegistering path query (Ok options) =
@@ -81,7 +82,7 @@ AreLocated path (Ok options) =
 AreLocated path (Err bad.Part) = are_segments path ≡ false
 AreLocated path (Err bad.Starved) = ⊤
 
--- why there is no ask, by what is wrong with a part
+-- why there is no request, from what is wrong with a part
 abbrev pub ask_bad_of : PartBad → AskBad
 ask_bad_of bad.Part = ask.Part
 ask_bad_of bad.Starved = ask.Starved

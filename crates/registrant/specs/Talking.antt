@@ -1,4 +1,4 @@
--- What is kept of a request that waits for its answer, and what events it stands for.
+-- What is stored of a pending request, and for which events it stands.
 use Rattle.std.specs.Prelude.{
   ◌≡◌,
   ℕ,
@@ -27,7 +27,7 @@ use Rattle.client_model.specs.Verdicts.{is_quiet, last_sent, sent_again, verdict
 use Rattle.registrant.specs.declared.verdicts.TalkAgain.{TalkAgain}
 use Rattle.registrant.specs.declared.verdicts.TalkAgain.TheVariants as again
 
--- a request that waits: its octets, when it was sent first, when it is sent again, and whether it
+-- a pending request: its octets, when it was first sent, when it is retransmitted, and whether it
 -- was acknowledged
 pub record Talking : Type 0 where
   pub request : Request
@@ -36,7 +36,7 @@ pub record Talking : Type 0 where
   pub resend : Retransmission
   pub quiet : Bool
 
--- when a request is sent again that was sent again at these moments, the newest first
+-- the retransmission state of a request that was retransmitted at these moments, newest first
 abbrev pub resent : Asked → List ℕ → Retransmission
 resent a sent = record {
   sent = last_sent a sent;
@@ -44,7 +44,7 @@ resent a sent = record {
   again = length sent;
 }
 
--- what is kept of a request after these events, the newest first
+-- what is stored of a request after these events, newest first
 abbrev pub talking : Asked → List ℕ → List Event → Talking
 talking a octets past = record {
   request = a.request;
@@ -54,7 +54,7 @@ talking a octets past = record {
   quiet = is_quiet a past;
 }
 
--- an ask that is made now
+-- a request that is made now
 abbrev pub asked_now : Ask → ℕ → List ℕ → ℕ → ℕ → Asked
 asked_now ask mid token at word = record {
   request = request_of ask mid token;
@@ -62,7 +62,7 @@ asked_now ask mid token at word = record {
   word = word;
 }
 
--- this is kept of a request with these octets after these events, none of which decides it
+-- this is stored of a request with these octets after these events, none of which decides it
 pub record StandsFor (a : Asked) (octets : List ℕ) (past : List Event)
     (t : Talking) : Type 0 where
   pub kept : t ≡ talking a octets past
@@ -80,7 +80,7 @@ due_by true now t =
     if nat_le (t.at + MAX_TRANSMIT_WAIT) now then again.Over outcome.Silent else again.Wait
 due_by false now t = again_by (kept_due now t.resend)
 
--- what is kept of it then
+-- what is stored of it then
 abbrev pub kept_by : Bool → ℕ → Talking → Talking
 kept_by true now t = t
 kept_by false now t = record t { resend = kept_after (kept_due now t.resend) now t.resend }

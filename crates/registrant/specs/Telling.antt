@@ -1,4 +1,4 @@
--- What the future of a registrant gives.
+-- How the future of a request starts, and what it gives.
 use Rattle.std.specs.Prelude.{◌≡◌, ℕ, Bool, false, List, [], Option, Some, None, IsSome}
 use Rattle.rd_base.specs.declared.moments.Moment.{Moment}
 use Rattle.message_model.specs.Spelling.{spelling}
@@ -11,8 +11,8 @@ use Rattle.registrant.specs.Talking.{Talking, StandsFor, asked_now}
 use Rattle.registrant.specs.Turns.{IsTimed, IsSpoken, CountsEnd, seen}
 use Rattle.registrant.specs.Giving.{IsGiven}
 
--- a registrant that has sent nothing: it has the link, and the clock after a moment and a word,
--- with which its talk starts
+-- a future that has sent nothing: it has the link, and the clock after a moment and a word, with
+-- which its request starts
 pub record IsStarted
     {L C : Type 0}
     (times : C → Option (List Moment))
@@ -34,7 +34,7 @@ pub record IsStarted
       StandsFor (asked_now ask mid token now.0 word) (spelling (message_of ask mid token)) [] r.talk
   pub unsent : r.is_sent ≡ false
 
--- what is handed back where memory ran out: the link, and the clock after a moment and a word
+-- what is returned if memory ran out: the link, and the clock after a moment and a word
 pub record IsHandedBack
     {L C : Type 0}
     (times : C → Option (List Moment))
@@ -58,7 +58,7 @@ module _
     (times : C → Option (List Moment))
     (words : C → Option (List ℕ))
   where
-    -- from a link and a clock that are there on
+    -- what the future gives from this link and clock on
     abbrev pub GivesFrom : Option (L × C) → Talking → Bool → Told L C → Type 0
     GivesFrom None talk is_sent told = ⊥
     GivesFrom (Some ends) talk is_sent told =
@@ -79,11 +79,11 @@ module _
     (times : C → Option (List Moment))
     (words : C → Option (List ℕ))
   where
-    -- what it gives, whatever its talk stands for, and what was counted
+    -- what it gives, whatever its request stands for, and what was counted
     abbrev pub Gives : Registrant L C → Told L C → Type 0
     Gives r told =
         GivesFrom coming gone recv_faults send_faults times words r.ends r.talk r.is_sent told
 
--- its link and its clock are there
+-- it has its link and its clock
 abbrev pub CanPoll : {L C : Type 0} → Registrant L C → Type 0
 CanPoll r = IsSome r.ends

@@ -1,4 +1,4 @@
--- What a turn of a talk takes from a link and a clock, and what it sends.
+-- What one receive takes from a link and a clock, and what it sends.
 use Rattle.std.specs.Prelude.{
   ◌≡◌,
   ◌<◌,
@@ -37,8 +37,8 @@ use Rattle.registrant.specs.Talking.{Talking, StandsFor}
 
 -- ---- a link and a clock
 
--- what a link and a clock tell: the datagrams that are still to come and those that were sent, how
--- many receives and sends failed, and the moments and the words that are still to be given
+-- what a link and a clock expose: the datagrams still to come and those sent, how many receives and
+-- sends failed, and the moments and words still to be given
 pub record Outside : Type 0 where
   pub coming : Option (List Datagram)
   pub gone : Option (List Datagram)
@@ -67,7 +67,7 @@ pub record SendsOne
   pub adds : WhereTold (AddsLast went datagram) gone gone_after
   pub counts : CountsSent faults faults_after went
 
--- these datagrams were sent, in order, without those whose send failed and was counted
+-- these datagrams were sent in order, except those whose send failed and was counted
 abbrev pub Sends : List Datagram
     → Option (List Datagram)
     → ℕ
@@ -84,8 +84,8 @@ Sends (datagram ∷ datagrams) sent faults sent_after faults_after =
 
 -- ---- an event
 
--- the event that a receive makes of the datagrams that are coming: the first of them, or a tick
--- where none is left or where the first is too long, which is lost
+-- the event that a receive makes of the datagrams that are coming: the first of them, or a tick if
+-- none is left or if the first is too long, which is lost
 abbrev pub TakesEvent : Event → List Datagram → List Datagram → Type 0
 TakesEvent (event.Came now peer octets) before after = before ≡ (peer, octets) ∷ after
 TakesEvent (event.Tick now) before after =
@@ -97,8 +97,8 @@ abbrev pub moment_at : Event → Moment
 moment_at (event.Came now peer octets) = now
 moment_at (event.Tick now) = now
 
--- an event of a request with these octets after those before it: it is made of what is coming, at
--- the next moment of the clock, and what it makes go is sent
+-- an event of a request with these octets, after the past events: it comes from what is coming, at
+-- the next moment of the clock, and what it causes is sent
 pub record Happens
     (a : Asked)
     (octets : List ℕ)
@@ -113,7 +113,7 @@ pub record Happens
   pub words : Stays before.words after.words
   pub receives : after.recv_faults ≡ before.recv_faults
 
--- a receive failed and was counted, and the clock was asked after it
+-- a receive failed and was counted, and the clock was read after it
 pub record Fails (before after : Outside) : Type 0 where
   pub coming : Stays before.coming after.coming
   pub now : Moment
@@ -124,7 +124,7 @@ pub record Fails (before after : Outside) : Type 0 where
   pub counted : before.recv_faults ≤ after.recv_faults
   pub rose : Rose before.recv_faults after.recv_faults
 
--- a datagram was taken that could not be heard for want of memory
+-- a datagram was taken that could not be handled because memory ran out
 pub record Loses (before after : Outside) : Type 0 where
   pub lost : Datagram
   pub coming : WhereTold (λ old new. old ≡ lost ∷ new) before.coming after.coming
@@ -135,7 +135,7 @@ pub record Loses (before after : Outside) : Type 0 where
   pub words : Stays before.words after.words
   pub receives : after.recv_faults ≡ before.recv_faults
 
--- what a link and a clock tell, by what each tells
+-- what a link and a clock expose, from what each exposes
 abbrev pub seen : {L C : Type 0}
     → (L → Option (List Datagram))
     → (L → Option (List Datagram))
@@ -155,8 +155,7 @@ seen coming gone recv_faults send_faults times words link clock = record {
   words = words clock;
 }
 
--- a registrant ends by the link only where a receive failed and was counted, and otherwise that
--- count stands
+-- a request ends by the link only if a receive failed and was counted; otherwise that count stays
 abbrev pub CountsEnd : ℕ → ℕ → Result Outcome TellFault → Type 0
 CountsEnd before now (Ok o) = now ≡ before
 CountsEnd before now (Err fault.Link) = (before ≤ now) × Rose before now
@@ -164,19 +163,19 @@ CountsEnd before now (Err fault.Starved) = now ≡ before
 
 -- ---- a turn
 
--- the same of a turn
+-- the same of one receive
 abbrev pub CountsTurn : ℕ → ℕ → Turn → Type 0
 CountsTurn before now turn.Going = now ≡ before
 CountsTurn before now (turn.Over r) = CountsEnd before now r
 
--- what is made of an event does not end by the link
+-- the result of an event is not an end by the link
 abbrev pub IsNoLink : Turn → Type 0
 IsNoLink turn.Going = ⊤
 IsNoLink (turn.Over (Ok o)) = ⊤
 IsNoLink (turn.Over (Err fault.Link)) = ⊥
 IsNoLink (turn.Over (Err fault.Starved)) = ⊤
 
--- a datagram could not be heard, and nothing was sent; a tick takes no memory
+-- a datagram could not be handled, and nothing was sent; a tick does not allocate
 abbrev pub IsUnheard : Event
     → Option (List Datagram)
     → ℕ
@@ -187,7 +186,7 @@ IsUnheard (event.Came now peer octets) sent faults sent_after faults_after =
     Sends [] sent faults sent_after faults_after
 IsUnheard (event.Tick now) sent faults sent_after faults_after = ⊥
 
--- what a talk came to by an event, and what was sent
+-- what became of a request by an event, and what was sent
 abbrev pub IsTurned : Asked
     → List ℕ
     → List Event
@@ -209,8 +208,8 @@ IsTurned a octets past e (turn.Over (Err fault.Link)) talk sent faults sent_afte
 IsTurned a octets past e (turn.Over (Err fault.Starved)) talk sent faults sent_after faults_after =
     IsUnheard e sent faults sent_after faults_after
 
--- a turn makes one event, after which nothing is decided, or the verdict is; or the receive failed;
--- or what came could not be heard
+-- a receive makes one event, after which nothing is decided or the verdict is; or the receive
+-- failed; or the datagram could not be handled
 abbrev pub IsTaken : Asked
     → List ℕ
     → List Event

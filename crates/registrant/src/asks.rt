@@ -1,4 +1,4 @@
-//! The datagram of an ask (RFC 7252 section 3).
+//! The datagram of a request (RFC 7252 section 3).
 ghost use Rattle.std.specs.Prelude.{◌≡◌, ◌<◌, ◌≤◌, ◌⊎◌, []};
 ghost use Rattle.std.specs.Prelude.{length, nat_le, IfOk, OnOk, OnErr};
 ghost use Rattle.message_model.specs.declared.messages.TheConstants.{MAX_MESSAGE_SIZE};
@@ -19,14 +19,15 @@ use message_model::options::CONTENT_FORMAT;
 use rd_base::{Bytes, Starved};
 use std::alloc::Global;
 
-/// Whether an option is a Content-Format.
+/// Returns whether an option is a Content-Format.
 fn has_format(options: &[(u32, Bytes)]) -> bool
     ensures { result ≡ stands_in table.content_format options.now }
 {
     options.iter().any(|option| option.0 == CONTENT_FORMAT)
 }
 
-/// What an ask is for: a DELETE removes, and of the others that with a Content-Format registers.
+/// Returns what a request is for. A DELETE removes; any other request registers if it has a
+/// Content-Format, and otherwise refreshes.
 pub(crate) fn purpose_of(ask: &Ask) -> Purpose
     ensures { result ≡ requests.purpose_of ask.now }
 {
@@ -39,8 +40,8 @@ pub(crate) fn purpose_of(ask: &Ask) -> Purpose
     Purpose::Refresh
 }
 
-/// Adds options to a message, in order. `TooLong`: the message with all of them would be longer
-/// than 1,280 octets.
+/// Appends options to a message, in order. Returns `TooLong` if the message with all of them would
+/// exceed 1,280 octets.
 fn put_options(message: &mut Writer, options: &[(u32, Bytes)]) -> Result<(), TooLong>
     requires filled { codes_of.empty < message.old.code }
     requires open { message.old.payload ≡ [] }
@@ -57,7 +58,8 @@ fn put_options(message: &mut Writer, options: &[(u32, Bytes)]) -> Result<(), Too
     Ok(())
 }
 
-/// The message of an ask without its payload. `TooLong`: it would be longer than 1,280 octets.
+/// Builds the message of a request without its payload. Returns `TooLong` if it would exceed 1,280
+/// octets.
 fn opened(ask: &Ask, mid: u16, token: &[u8; TOKEN_SIZE]) -> Result<Writer, TooLong>
     requires code { (ask.now.code ≡ codes_of.post) ⊎ (ask.now.code ≡ codes_of.delete) }
     requires options { CanFollow 0 ask.now.options }
@@ -71,8 +73,8 @@ fn opened(ask: &Ask, mid: u16, token: &[u8; TOKEN_SIZE]) -> Result<Writer, TooLo
     Ok(message)
 }
 
-/// Whether the datagram of an ask has at most 1,280 octets (RFC 7252 section 4.6). It does not
-/// depend on its Message ID and its token.
+/// Returns whether the datagram of a request has at most 1,280 octets (RFC 7252 section 4.6). The
+/// Message ID and the token do not matter for that.
 pub(crate) fn is_short(ask: &Ask) -> bool
     requires code { (ask.now.code ≡ codes_of.post) ⊎ (ask.now.code ≡ codes_of.delete) }
     requires options { CanFollow 0 ask.now.options }
@@ -87,7 +89,7 @@ pub(crate) fn is_short(ask: &Ask) -> bool
     }
 }
 
-/// The datagram of an ask under a Message ID and a token. `Starved`: out of memory.
+/// Builds the datagram of a request with a Message ID and a token.
 pub(crate) fn spelled(
     alloc: Global,
     ask: &Ask,

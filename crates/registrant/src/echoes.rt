@@ -1,4 +1,4 @@
-//! An ask that is made again, with what a directory challenged (RFC 9175 section 2).
+//! A request made again with the Echo value of a challenge (RFC 9175 section 2).
 ghost use Rattle.std.specs.Prelude.{◌≡◌, IfOk};
 ghost use Rattle.message_model.specs.Message.{end_number};
 ghost use Rattle.client_model.specs.Requests.{CanBeSent};
@@ -11,10 +11,10 @@ use message_model::options::ECHO;
 use rd_base::{Bytes, Starved};
 use std::alloc::Global;
 
-/// The most octets of an Echo value (RFC 9175 section 2.2.1).
+/// The maximum length of an Echo value in octets (RFC 9175 section 2.2.1).
 pub(crate) const MAX_ECHO: usize = 40;
 
-/// The number of the last option, or 0 where there is none.
+/// Returns the number of the last option, or 0 if there is none.
 fn last_number(options: &[(u32, Bytes)]) -> u32
     ensures { result ≡ end_number 0 options.now }
 {
@@ -27,11 +27,11 @@ fn last_number(options: &[(u32, Bytes)]) -> u32
     number
 }
 
-/// Copies an ask.
+/// Copies a request.
 ///
 /// # Errors
 ///
-/// Out of memory.
+/// `Starved` if memory runs out.
 pub fn ask_again(alloc: Global, ask: &Ask) -> Result<Ask, Starved>
     ensures { IfOk result (λ copy. copy ≡ ask.now) }
 {
@@ -45,14 +45,20 @@ pub fn ask_again(alloc: Global, ask: &Ask) -> Result<Ask, Starved>
     })
 }
 
-/// Copies an ask and adds the Echo option of a challenge behind its options (RFC 9175 sections
+/// Copies a request and appends the Echo option of a challenge to its options (RFC 9175 sections
 /// 2.2.1 and 2.3).
+///
+/// # Requires
+///
+/// The request can be sent (`CanBeSent`), as every request that this crate builds can.
 ///
 /// # Errors
 ///
-/// The first of these reasons. `Part`: the value has no octets or more than 40, or an option of the
-/// ask has a higher number. `Size`: the datagram would have more than 1,280 octets. `Starved` may
-/// come at any time: out of memory.
+/// The first that applies. `Starved` can take the place of any of them.
+/// - `Part` if the value is empty or has more than 40 octets, or if an option of the request has a
+///   higher number than Echo.
+/// - `Size` if the datagram would exceed 1,280 octets.
+/// - `Starved` if memory runs out.
 pub fn echoed_ask(alloc: Global, ask: &Ask, echo: &[u8]) -> Result<Ask, AskBad>
     requires { CanBeSent ask.now }
     ensures exact { IsUnlessStarved result (echoes.echoed ask.now echo.now) }

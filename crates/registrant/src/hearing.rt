@@ -1,4 +1,4 @@
-//! What a message of the directory is to a request.
+//! What a message of the directory means for a request.
 ghost use Rattle.std.specs.Prelude.{◌≡◌, ◌&&◌, Some, None};
 ghost use Rattle.std.specs.Prelude.{true, false, IfOk, MatchOption};
 ghost use Rattle.std.specs.Prelude.{bytes_eq, if◌then◌else◌};
@@ -14,8 +14,8 @@ use rd_base::{Starved, Text, Texts};
 use std::alloc::Global;
 use std::str;
 
-/// Whether a response has the token of a request and, in an acknowledgement, its Message ID (RFC
-/// 7252 section 5.3.2).
+/// Returns whether a response has the token of a request and, if it is an acknowledgement, its
+/// Message ID (RFC 7252 section 5.3.2).
 fn is_matched(view: &View<'_>, token: &[u8], mid: u16) -> bool
     ensures { result
         ≡ (bytes_eq view.now.token.octets.now token.now
@@ -30,8 +30,8 @@ fn is_matched(view: &View<'_>, token: &[u8], mid: u16) -> bool
     view.mid == mid
 }
 
-/// What a response means that is the answer to a request. None: it is not (RFC 7252 sections 5.3.2
-/// and 5.4.1).
+/// Returns what a response means if it answers the request, or `None` if it does not (RFC 7252
+/// sections 5.3.2 and 5.4.1).
 pub(crate) fn answer_to<'a>(view: &View<'a>, token: &[u8], mid: u16) -> Option<Meaning<'a>>
     ensures { MatchOption result (is_answer_to token.now mid (message_in view.now) ≡ false)
         (λ meaning. (is_answer_to token.now mid (message_in view.now) ≡ true) ×
@@ -46,8 +46,8 @@ pub(crate) fn answer_to<'a>(view: &View<'a>, token: &[u8], mid: u16) -> Option<M
     }
 }
 
-/// The path of a location that an answer names, where it has a segment and each segment is text
-/// (RFC 7252 section 5.10.7). `Starved`: out of memory.
+/// Returns the path of the location that an answer names (RFC 7252 section 5.10.7), or `None` if it
+/// has no segment or a segment is not text.
 pub(crate) fn path_of(alloc: Global, meaning: &Meaning<'_>) -> Result<Option<Texts>, Starved>
     ensures { let path = locations_in (message_in meaning.now.view) in
         IfOk result (λ found. found ≡ (if verdicts.is_path path then Some path else None)) }
@@ -66,7 +66,8 @@ pub(crate) fn path_of(alloc: Global, meaning: &Meaning<'_>) -> Result<Option<Tex
     Ok(Some(path))
 }
 
-/// The empty acknowledgement of a message, where it is confirmable (RFC 7252 section 4.2).
+/// Returns the empty acknowledgement of a message, or `None` if the message is not confirmable (RFC
+/// 7252 section 4.2).
 #[rattlefmt::skip]
 #[tactic(
     auto,

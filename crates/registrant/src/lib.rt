@@ -1,5 +1,5 @@
-//! A client of a resource directory: it registers, refreshes and removes one registration (RFC
-//! 9176 section 5).
+//! A client of a resource directory. It registers, refreshes and removes one registration (RFC 9176
+//! section 5).
 #![tactic(auto)]
 
 mod asks;

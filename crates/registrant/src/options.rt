@@ -17,8 +17,8 @@ use message_model::options::{CONTENT_FORMAT, URI_PATH, URI_QUERY};
 use rd_base::{Bytes, Text};
 use std::alloc::Global;
 
-/// What stands before the first mark of a text, or all of it, and what stands after that mark, if
-/// there is one.
+/// Returns the text before the first `mark`, or all of it, and the text after that mark if there is
+/// one.
 fn cut(text: &str, mark: char) -> (&str, Option<&str>)
     requires { mark < 128 }
     ensures before { result.0.now ≡ references.before mark text.now }
@@ -31,7 +31,7 @@ fn cut(text: &str, mark: char) -> (&str, Option<&str>)
     }
 }
 
-/// Adds the parts of a text, decoded, as options of a number.
+/// Appends the decoded parts of a text as options of this number.
 fn push_parts(
     alloc: Global,
     options: &mut Opts,
@@ -56,7 +56,7 @@ fn push_parts(
     Ok(())
 }
 
-/// What stands after a slash, where a path begins with one.
+/// Returns the path after its leading slash, or `None` if it does not begin with one.
 fn after_slash(path: &str) -> Option<&str>
     ensures { MatchOption result (references.begins_with slash path.now ≡ false)
         (λ rest. path.now ≡ slash ∷ rest.now) }
@@ -64,7 +64,7 @@ fn after_slash(path: &str) -> Option<&str>
     path.strip_prefix('/')
 }
 
-/// Adds the segments of a path as Uri-Path options. An empty path and a lone slash have none.
+/// Appends the segments of a path as Uri-Path options. An empty path and a lone slash have none.
 fn push_path(alloc: Global, options: &mut Opts, path: &str) -> Result<(), PartBad>
     ensures { Adds table.uri_path (are_parts (decoded_parts (asks.segments_of path.now)))
         (decoded_parts (asks.segments_of path.now)) options.old result options.new }
@@ -76,7 +76,7 @@ fn push_path(alloc: Global, options: &mut Opts, path: &str) -> Result<(), PartBa
     }
 }
 
-/// Adds the parts of a query as Uri-Query options. An empty query is one empty part.
+/// Appends the parts of a query as Uri-Query options. An empty query is one empty part.
 fn push_query(alloc: Global, options: &mut Opts, query: Option<&str>) -> Result<(), PartBad>
     ensures { let values =
         decoded_parts (asks.query_parts (option_map (λ q. q.now) query.entry)) in
@@ -88,7 +88,7 @@ fn push_query(alloc: Global, options: &mut Opts, query: Option<&str>) -> Result<
     }
 }
 
-/// Adds the Content-Format of link documents (RFC 9176 section 5).
+/// Appends the Content-Format of link documents (RFC 9176 section 5).
 fn push_format(alloc: Global, options: &mut Opts) -> Result<(), PartBad>
     ensures { Adds table.content_format true ((LINK_FORMAT ∷ []) ∷ []) options.old result
         options.new }
@@ -98,7 +98,7 @@ fn push_format(alloc: Global, options: &mut Opts) -> Result<(), PartBad>
     Ok(())
 }
 
-/// The options of a registration with a path and a query (RFC 9176 section 5).
+/// Returns the options of a registration with this path and query (RFC 9176 section 5).
 pub(crate) fn registering_options(
     alloc: Global,
     path: &str,
@@ -114,7 +114,7 @@ pub(crate) fn registering_options(
     Ok(options)
 }
 
-/// The segments of a location as Uri-Path options (RFC 9176 section 5.3).
+/// Returns the segments of a location as Uri-Path options (RFC 9176 section 5.3).
 pub(crate) fn located_options(alloc: Global, path: &[Text]) -> Result<Opts, PartBad>
     ensures { AreLocated path.now result }
 {

@@ -1,4 +1,4 @@
-//! Parts of a path and of a query, decoded (RFC 7252 section 6.4).
+//! Decoded parts of a path and of a query (RFC 7252 section 6.4).
 ghost use Rattle.std.specs.Cow.{cow_str_bytes};
 ghost use Rattle.registrant.specs.Parts.{IsDecoded, IsOwned};
 
@@ -8,10 +8,10 @@ use rd_base::{Bytes, Starved};
 use std::alloc::Global;
 use std::borrow::CowStr;
 
-/// Why a part of a URI gives no option.
+/// Why a part of a URI becomes no option.
 #[derive(Clone, Copy, Debug, PartialEq, Eq)]
 pub(crate) enum PartBad {
-    /// It is decoded to no text, or to more than 255 octets.
+    /// The decoded part is not UTF-8, or has more than 255 octets.
     Part,
     /// Memory ran out.
     Starved,
@@ -23,13 +23,13 @@ impl From<Starved> for PartBad {
 
     ghost from_gives = { λ _ e. e ≡ bad.Starved };
 
-    /// Out of memory.
+    /// Returns [`PartBad::Starved`].
     fn from(_: Starved) -> PartBad {
         PartBad::Starved
     }
 }
 
-/// The octets of a decoded text, unless they are too many.
+/// Copies the octets of a decoded text. Returns `Part` if it has more than 255 octets.
 fn owned(alloc: Global, text: CowStr<'_>) -> Result<Bytes, PartBad>
     ensures { IsOwned (cow_str_bytes text.entry) result }
 {
@@ -42,7 +42,7 @@ fn owned(alloc: Global, text: CowStr<'_>) -> Result<Bytes, PartBad>
     }
 }
 
-/// A part of a URI, decoded (RFC 7252 section 6.4, RFC 3986 section 2.1).
+/// Decodes a part of a URI (RFC 7252 section 6.4, RFC 3986 section 2.1).
 pub(crate) fn decoded(alloc: Global, part: &str) -> Result<Bytes, PartBad>
     ensures { IsDecoded part.now result }
 {

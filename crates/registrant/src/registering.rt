@@ -1,4 +1,4 @@
-//! The asks of a registration, of its refresh and of its removal (RFC 9176 section 5).
+//! The requests that register, refresh and remove (RFC 9176 section 5).
 ghost use Rattle.std.specs.Prelude.{◌≡◌, ◌⊎◌, Some, IfOk};
 ghost use Rattle.message_model.specs.Codes as codes_of;
 ghost use Rattle.ref_resolve.specs.ComponentsOfParts.{components_of};
@@ -17,7 +17,7 @@ use rd_base::{Bytes, Peer};
 use ref_resolve::{Parts, parts};
 use std::alloc::Global;
 
-/// Why there is no ask, by what is wrong with a part.
+/// Returns why there is no request, from what is wrong with a part.
 fn ask_bad(bad: PartBad) -> AskBad
     ensures { result ≡ ask_bad_of bad }
 {
@@ -27,7 +27,7 @@ fn ask_bad(bad: PartBad) -> AskBad
     }
 }
 
-/// An ask, unless its datagram would be too long.
+/// Returns the request, or `Size` if its datagram would exceed 1,280 octets.
 pub(crate) fn fitted(ask: Ask) -> Result<Ask, AskBad>
     requires code { (ask.code ≡ codes_of.post) ⊎ (ask.code ≡ codes_of.delete) }
     requires options { CanFollow 0 ask.options }
@@ -40,7 +40,7 @@ pub(crate) fn fitted(ask: Ask) -> Result<Ask, AskBad>
     Ok(ask)
 }
 
-/// The ask of a registration of links at a peer, by the path and the query of a URI.
+/// Builds the registration of links at a peer, from the path and the query of a URI.
 #[tactic(auto, unfolding(client_model::specs::Asks::registration_at))]
 fn register_to(alloc: Global, to: Peer, uri: &Parts<'_>, links: &[u8]) -> Result<Ask, AskBad>
     ensures exact { IsUnlessStarved result
@@ -62,7 +62,7 @@ fn register_to(alloc: Global, to: Peer, uri: &Parts<'_>, links: &[u8]) -> Result
     })
 }
 
-/// The ask of a registration of links by the parts of a URI.
+/// Builds the registration of links from the components of a URI.
 fn register_by(alloc: Global, uri: &Parts<'_>, links: &[u8]) -> Result<Ask, AskBad>
     ensures exact { IsUnlessStarved result
         (asks.registration_by (Some (components_of uri.now)) links.now) }
@@ -84,17 +84,22 @@ fn register_by(alloc: Global, uri: &Parts<'_>, links: &[u8]) -> Result<Ask, AskB
     }
 }
 
-/// The ask that registers links at the directory that a URI names, as
+/// Builds the request that registers links at the directory named by a URI, such as
 /// `coap://192.0.2.1/rd?ep=node1` (RFC 9176 section 5, RFC 7252 section 6.4).
+///
+/// An absent or empty port is 5683.
 ///
 /// # Errors
 ///
-/// The first of these reasons. `Uri`: the text is no URI, or it has a fragment. `Scheme`: its
-/// scheme is another than `coap`. `Host`: its host is no address as it is printed (RFC 5952), user
-/// information stands before it, or its port is none of 1 to 65,535 without a leading zero; an
-/// absent or empty port is 5683. `Part`: a segment of its path or a part of its query is decoded to
-/// no UTF-8, or to more than 255 octets. `Size`: the datagram would have more than 1,280 octets.
-/// `Starved` may come at any time: out of memory.
+/// The first that applies. `Starved` can take the place of any of them.
+/// - `Uri` if the text is not a URI or has a fragment.
+/// - `Scheme` if the scheme is not `coap`.
+/// - `Host` if the host is not an address in its printed form (RFC 5952), or if user information
+///   precedes it. Also if the port is not a number from 1 to 65,535 without a leading zero.
+/// - `Part` if a segment of the path or a part of the query does not decode to UTF-8, or decodes to
+///   more than 255 octets.
+/// - `Size` if the datagram would exceed 1,280 octets.
+/// - `Starved` if memory runs out.
 #[tactic(auto, unfolding(client_model::specs::Asks::registration))]
 pub fn register_ask(alloc: Global, uri: &str, links: &[u8]) -> Result<Ask, AskBad>
     ensures exact { IsUnlessStarved result (asks.registration uri.now links.now) }
@@ -106,7 +111,7 @@ pub fn register_ask(alloc: Global, uri: &str, links: &[u8]) -> Result<Ask, AskBa
     }
 }
 
-/// The ask with a code and without payload of what stands at a location.
+/// Builds the request to a location, with this code and no payload.
 #[tactic(auto, unfolding(client_model::specs::Asks::located_ask))]
 fn located_ask(alloc: Global, code: u8, location: &Location) -> Result<Ask, AskBad>
     requires { (code ≡ codes_of.post) ⊎ (code ≡ codes_of.delete) }
@@ -124,12 +129,14 @@ fn located_ask(alloc: Global, code: u8, location: &Location) -> Result<Ask, AskB
     }
 }
 
-/// The ask that refreshes the registration at a location (RFC 9176 section 5.3.1).
+/// Builds the request that refreshes the registration at a location (RFC 9176 section 5.3.1).
 ///
 /// # Errors
 ///
-/// The first of these reasons. `Part`: a segment of its path has more than 255 octets. `Size`: the
-/// datagram would have more than 1,280 octets. `Starved` may come at any time: out of memory.
+/// The first that applies. `Starved` can take the place of either.
+/// - `Part` if a segment of the path has more than 255 octets.
+/// - `Size` if the datagram would exceed 1,280 octets.
+/// - `Starved` if memory runs out.
 pub fn refresh_ask(alloc: Global, location: &Location) -> Result<Ask, AskBad>
     ensures exact { IsUnlessStarved result (asks.refresh location.now) }
     ensures sent { IfOk result CanBeSent }
@@ -137,11 +144,11 @@ pub fn refresh_ask(alloc: Global, location: &Location) -> Result<Ask, AskBad>
     located_ask(alloc, POST, location)
 }
 
-/// The ask that removes the registration at a location (RFC 9176 section 5.3.2).
+/// Builds the request that removes the registration at a location (RFC 9176 section 5.3.2).
 ///
 /// # Errors
 ///
-/// As those of [`refresh_ask`].
+/// Those of [`refresh_ask`].
 pub fn remove_ask(alloc: Global, location: &Location) -> Result<Ask, AskBad>
     ensures exact { IsUnlessStarved result (asks.removal location.now) }
     ensures sent { IfOk result CanBeSent }

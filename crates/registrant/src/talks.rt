@@ -1,4 +1,4 @@
-//! A request that waits for its answer.
+//! A pending request.
 ghost use Rattle.std.specs.Prelude.{◌≡◌, ℕ, List, [], false, Some, IfOk, MatchOption};
 ghost use Rattle.message_model.specs.Request.{locations_in};
 ghost use Rattle.message_model.specs.Spelling.{spelling};
@@ -26,8 +26,9 @@ use rd_base::{Bytes, Moment, Peer, Starved};
 use std::alloc::Global;
 use std::marker::Model;
 
-/// A request that waits for its answer. A contract sees what is kept of it, and tells by
-/// `StandsFor` which events that stands for.
+/// A pending request, without I/O.
+///
+/// Contracts see what it stores (`Talking`). `StandsFor` says for which events that stands.
 #[derive(Debug, Drop)]
 pub struct Talk {
     to: Peer,
@@ -35,10 +36,10 @@ pub struct Talk {
     mid: u16,
     token: [u8; TOKEN_SIZE],
     octets: Bytes,
-    /// When the request was sent first.
+    /// The moment at which the request was first sent.
     began: Moment,
     resend: Resend,
-    /// Whether the request was acknowledged.
+    /// Whether the request has been acknowledged.
     quiet: bool,
 }
 
@@ -57,8 +58,16 @@ impl Model for Talk {
 }
 
 impl Talk {
-    /// A talk of an ask that is sent first now, under a Message ID and a token; its first wait is
-    /// made from the word (RFC 7252 section 4.2). `Starved`: out of memory.
+    /// Creates the pending request of an ask that is first sent now, with this Message ID and
+    /// token. `word` determines its initial timeout (RFC 7252 section 4.2).
+    ///
+    /// # Requires
+    ///
+    /// The request can be sent (`CanBeSent`), as every request that this crate builds can.
+    ///
+    /// # Errors
+    ///
+    /// `Starved` if memory runs out.
     pub fn start(
         alloc: Global,
         ask: Ask,
@@ -84,21 +93,21 @@ impl Talk {
         })
     }
 
-    /// Who is asked.
+    /// Returns the directory that the request is sent to.
     pub fn to(&self) -> Peer
         ensures { result ≡ self.now.request.to }
     {
         self.to
     }
 
-    /// The datagram of the request.
+    /// Returns the datagram of the request.
     pub fn bytes(&self) -> &[u8]
         ensures { result.now ≡ self.now.octets }
     {
         self.octets.as_slice()
     }
 
-    /// What an answer says (RFC 9176 sections 5, 5.3.1 and 5.3.2). `Starved`: out of memory.
+    /// Returns what an answer decides (RFC 9176 sections 5, 5.3.1 and 5.3.2).
     fn outcome(&self, alloc: Global, meaning: &Meaning<'_>) -> Result<Outcome, Starved>
         ensures { IfOk result (λ o. o
             ≡ verdicts.answered self.now.request.purpose self.now.request.to meaning.now.view.code
@@ -131,7 +140,7 @@ impl Talk {
         }
     }
 
-    /// What a response of the directory is.
+    /// Returns what a response of the directory means for the request.
     fn hear_response(&self, alloc: Global, view: &View<'_>) -> TalkHeard
         ensures { IsUnlessStarved result (hearing.hears_by
             (verdicts.decided_by role.Response self.now.request (message_in view.now)) false
@@ -146,7 +155,7 @@ impl Talk {
         }
     }
 
-    /// What a message of the directory is.
+    /// Returns what a message of the directory means for the request.
     fn hear_message(&self, alloc: Global, view: &View<'_>) -> TalkHeard
         ensures { let m = message_in view.now in
             IsUnlessStarved result (hearing.hears_by
@@ -172,7 +181,7 @@ impl Talk {
         }
     }
 
-    /// What a datagram of a peer is.
+    /// Returns what a datagram of a peer means for the request.
     fn hear_datagram(&self, alloc: Global, peer: &Peer, datagram: &[u8]) -> TalkHeard
         ensures { IsUnlessStarved result (hearing.hears self.now peer.now datagram.now) }
     {
@@ -185,7 +194,7 @@ impl Talk {
         self.hear_message(alloc, &message)
     }
 
-    /// What a datagram of a peer is, of which an acknowledgement is kept.
+    /// Returns what a datagram of a peer means for the request, and records an acknowledgement.
     fn hear(&mut self, alloc: Global, peer: &Peer, datagram: &[u8]) -> TalkHeard
         ensures heard { IsUnlessStarved result
             (hearing.hears self.old peer.now datagram.now) }
@@ -203,11 +212,11 @@ impl Talk {
         }
     }
 
-    /// A datagram of a peer came (RFC 7252 sections 4.2 and 5.3.2).
+    /// Handles a datagram from a peer (RFC 7252 sections 4.2 and 5.3.2).
     ///
-    /// `Over` comes exactly where it decides the request, `Quiet` exactly where it acknowledges it,
-    /// and `Other` at any other datagram; what decides a request is told by `verdict`, by looking
-    /// back over what happened to it. `Starved`: out of memory, and the talk is as before.
+    /// Returns `Over` if it decides the request, `Quiet` if it acknowledges the request, and
+    /// `Other` otherwise. `verdict` says what decides a request, by looking back over its events.
+    /// `Starved` leaves the pending request unchanged.
     pub fn heard(&mut self, alloc: Global, now: Moment, peer: &Peer, datagram: &[u8]) -> TalkHeard
         ensures { (a : Asked) (octets : List ℕ) (past : List Event)
             → StandsFor a octets past self.old
@@ -216,7 +225,7 @@ impl Talk {
         self.hear(alloc, peer, datagram)
     }
 
-    /// What is due of the request now. A retransmission counts as made now.
+    /// Returns what is due now, and records a retransmission as made now.
     fn due(&mut self, now: Moment) -> TalkAgain
         ensures due { result ≡ talking.due_by self.old.quiet now.0 self.old }
         ensures kept { self.new ≡ talking.kept_by self.old.quiet now.0 self.old }
@@ -234,10 +243,10 @@ impl Talk {
         }
     }
 
-    /// Time passed (RFC 7252 section 4.2).
+    /// Lets time pass for the request (RFC 7252 section 4.2).
     ///
-    /// `Over` comes exactly where that decides the request, `Send` exactly where the request is to
-    /// be sent again now, which then counts as done, and `Wait` at any other moment.
+    /// Returns `Over` if this decides the request, `Send` if the request must be retransmitted now,
+    /// and `Wait` otherwise. A retransmission that was asked for counts as made.
     pub fn at_tick(&mut self, now: Moment) -> TalkAgain
         ensures { (a : Asked) (octets : List ℕ) (past : List Event)
             → StandsFor a octets past self.old

@@ -1,4 +1,4 @@
-//! A talk over a link and a clock, as a future.
+//! A pending request over a link and a clock, as a future.
 ghost use Rattle.std.specs.Prelude.{◌≡◌, ℕ, List, Option, IfOk, IfErr};
 ghost use Rattle.client_model.specs.declared.events.Event.{Event};
 ghost use Rattle.client_model.specs.Requests.{Asked, CanBeSent};
@@ -16,10 +16,10 @@ use rd_base::Starved;
 use std::alloc::Global;
 use udp_link::{Clock, Link, MAX_DATAGRAM};
 
-/// What became of a request, and the link and the clock that it was made with.
+/// What became of a request, with the link and the clock that it used.
 #[derive(Drop)]
 pub struct Told<L: Link + Drop, C: Clock + Drop> {
-    /// What became of it.
+    /// The outcome, or why there is none.
     pub outcome: Result<Outcome, TellFault>,
     /// The link.
     pub link: L,
@@ -27,23 +27,24 @@ pub struct Told<L: Link + Drop, C: Clock + Drop> {
     pub clock: C,
 }
 
-/// A request over a link until it is decided: a future that gives [`Told`].
+/// A future that sends a request over a link, and waits until the request is decided. It gives
+/// [`Told`].
 ///
-/// The first poll sends the request. Each poll makes one receive, asks the clock for one moment
-/// after it, and hands a datagram to the talk; where none came, or one that is too long, time
-/// passes for the talk. It is pending, and yields, exactly where that decides nothing and nothing
-/// failed.
+/// The first poll sends the request. Each poll makes one receive and then reads the clock once. A
+/// datagram that was received is handled by the pending request. If none arrived, or one that is
+/// too long, time passes for the request. The poll is pending, and yields, exactly if nothing is
+/// decided and nothing failed.
 #[derive(Drop)]
 pub struct Registrant<L: Link + Drop, C: Clock + Drop> {
     alloc: Global,
-    /// The link and the clock, until they are handed back.
+    /// The link and the clock, until they are returned.
     ends: Option<(L, C)>,
     talk: Talk,
-    /// Whether the request was sent.
+    /// Whether the request has been sent.
     is_sent: bool,
 }
 
-/// Sends the request of a talk, where it was not sent before.
+/// Sends the request unless it has been sent.
 fn begin<L: Link>(link: &mut L, talk: &Talk, is_sent: bool)
     ensures receives { L.recv_faults link.new ≡ L.recv_faults link.old }
     ensures begins { (a : Asked) (octets : List ℕ) (past : List Event)
@@ -75,9 +76,18 @@ fn begin<L: Link>(link: &mut L, talk: &Talk, is_sent: bool)
 }
 
 impl<L: Link + Drop, C: Clock + Drop> Registrant<L, C> {
-    /// A request over a link, under a Message ID and a token. The clock is asked for a moment and
-    /// then for a word, with which the talk starts. `Err`: out of memory; the link is handed back,
-    /// and the clock after that moment and that word.
+    /// Creates a future that makes a request over a link, with this Message ID and token.
+    ///
+    /// The clock is read for a moment and then for a random word, with which the request starts.
+    ///
+    /// # Requires
+    ///
+    /// The request can be sent (`CanBeSent`), as every request that this crate builds can.
+    ///
+    /// # Errors
+    ///
+    /// The link and the clock if memory runs out. The link is unchanged, and the clock has given
+    /// that moment and that word.
     pub fn start(
         alloc: Global,
         link: L,

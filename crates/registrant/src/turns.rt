@@ -1,4 +1,4 @@
-//! One turn of a talk over a link: what came is heard, or time passes.
+//! One receive of a pending request over a link: it handles a datagram, or time passes.
 ghost use Rattle.std.specs.Prelude.{◌≡◌, ◌≤◌, ◌∷◌, [], ℕ};
 ghost use Rattle.std.specs.Prelude.{List, length, take, option_map};
 ghost use Rattle.udp_link.specs.declared.links.TheConstants.{MAX_DATAGRAM};
@@ -15,16 +15,16 @@ use rd_base::{Moment, Peer};
 use std::alloc::Global;
 use udp_link::{Came, Clock, Link};
 
-/// Why a registrant ended without a verdict.
+/// Why a request ended without a verdict.
 #[derive(Clone, Copy, Debug, PartialEq, Eq)]
 pub enum TellFault {
     /// A receive failed, and the link has counted it.
     Link,
-    /// Memory ran out while a datagram was heard.
+    /// Memory ran out while a datagram was handled.
     Starved,
 }
 
-/// What a turn came to.
+/// The result of one receive.
 #[derive(Debug, Drop)]
 pub enum Turn {
     /// Nothing is decided yet.
@@ -33,7 +33,7 @@ pub enum Turn {
     Over(Result<Outcome, TellFault>),
 }
 
-/// Sends a datagram. One whose send failed is lost, and the link has counted it.
+/// Sends a datagram. If the send fails, the datagram is lost and the link has counted it.
 pub fn send<L: Link>(link: &mut L, peer: Peer, octets: &[u8])
     ensures sends { Sends ((peer, octets.now) ∷ []) (L.gone link.old) (L.send_faults link.old)
         (L.gone link.new) (L.send_faults link.new) }
@@ -43,7 +43,7 @@ pub fn send<L: Link>(link: &mut L, peer: Peer, octets: &[u8])
     let _went = link.send(peer, octets);
 }
 
-/// Sends what acknowledges an answer, where something does.
+/// Sends the acknowledgement of an answer, if there is one.
 fn acknowledge<L: Link>(link: &mut L, peer: Peer, octets: &Option<[u8; 4]>)
     ensures sends { Sends (to_peer peer octets.now) (L.gone link.old) (L.send_faults link.old)
         (L.gone link.new) (L.send_faults link.new) }
@@ -56,7 +56,9 @@ fn acknowledge<L: Link>(link: &mut L, peer: Peer, octets: &Option<[u8; 4]>)
     }
 }
 
-/// A datagram is handed to the talk, and a confirmable answer is acknowledged.
+/// Handles a datagram, and acknowledges a confirmable answer.
+///
+/// Never returns [`TellFault::Link`].
 pub fn hear_turn<L: Link>(
     alloc: Global,
     link: &mut L,
@@ -84,7 +86,9 @@ pub fn hear_turn<L: Link>(
     }
 }
 
-/// Time passes, and the request may be sent again.
+/// Lets time pass, and retransmits the request if that is due.
+///
+/// Never returns [`TellFault::Link`].
 pub fn tick_turn<L: Link>(link: &mut L, talk: &mut Talk, now: Moment) -> Turn
     ensures turned { (a : Asked) (octets : List ℕ) (past : List Event)
         → StandsFor a octets past talk.old
@@ -104,7 +108,7 @@ pub fn tick_turn<L: Link>(link: &mut L, talk: &mut Talk, now: Moment) -> Turn
     }
 }
 
-/// The octets of a datagram that was received.
+/// Returns the octets of a received datagram.
 fn received(room: &[u8], size: usize) -> &[u8]
     requires { size ≤ length room.now }
     ensures { result.now ≡ take size room.now }
@@ -112,7 +116,8 @@ fn received(room: &[u8], size: usize) -> &[u8]
     &room[..size]
 }
 
-/// One receive, and what comes of it. The room has 4,096 octets.
+/// Makes one receive, reads the clock, and handles the datagram or lets time pass. `room` has 4,096
+/// octets or more.
 pub(crate) fn take_turn<L: Link, C: Clock>(
     alloc: Global,
     link: &mut L,

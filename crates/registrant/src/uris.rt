@@ -1,4 +1,4 @@
-//! Whom a URI names (RFC 7252 section 6.1).
+//! The peer that a URI names (RFC 7252 section 6.1).
 ghost use Rattle.std.specs.Prelude.{◌≡◌, drop, option_map, IfOk};
 ghost use Rattle.rd_base.specs.Peers as peers;
 ghost use Rattle.link_model.specs.Characters.{at_sign};
@@ -9,17 +9,17 @@ use rd_base::{Bytes, Peer, Starved, peer_read_ascii};
 use ref_resolve::{Parts, host};
 use std::alloc::Global;
 
-/// The port of CoAP with its colon (RFC 7252 section 6.1).
+/// The port of CoAP after its colon (RFC 7252 section 6.1).
 const DEFAULT_PORT: &[u8] = b":5683";
 
-/// Whether a scheme is that of CoAP, in either case (RFC 3986 section 3.1).
+/// Returns whether a scheme is `coap`, in either case (RFC 3986 section 3.1).
 pub(crate) fn is_coap(scheme: &str) -> bool
     ensures { result ≡ asks.is_coap scheme.now }
 {
     scheme.eq_ignore_ascii_case("coap")
 }
 
-/// A port with its colon, or that of CoAP where it is absent or empty.
+/// Returns a port with its colon, or the port of CoAP if it is absent or empty.
 fn port_or_default(text: &[u8]) -> &[u8]
     ensures { result.now ≡ asks.port_or_default text.now }
 {
@@ -29,7 +29,7 @@ fn port_or_default(text: &[u8]) -> &[u8]
     text
 }
 
-/// What stands after so many octets.
+/// Returns what follows the first `size` octets.
 fn after(octets: &[u8], size: usize) -> &[u8]
     ensures { result.now ≡ drop size octets.now }
 {
@@ -39,7 +39,7 @@ fn after(octets: &[u8], size: usize) -> &[u8]
     }
 }
 
-/// The peer that a text prints (RFC 5952).
+/// Returns the peer whose printed form a text is, or `None` if there is none (RFC 5952).
 #[tactic(auto, using(crate::proofs::UriLaws::some_peer, crate::proofs::UriLaws::no_peer))]
 fn printed_peer(text: &[u8]) -> Option<Peer>
     ensures { result ≡ peers.peer_of text.now }
@@ -50,14 +50,15 @@ fn printed_peer(text: &[u8]) -> Option<Peer>
     }
 }
 
-/// Whether user information stands in an authority (RFC 3986 section 3.2.1).
+/// Returns whether an authority has user information (RFC 3986 section 3.2.1).
 fn has_userinfo(authority: &str) -> bool
     ensures { result ≡ references.has_octet at_sign authority.now }
 {
     authority.as_bytes().iter().any(|octet| *octet == b'@')
 }
 
-/// The peer that an authority with a host names (RFC 3986 section 3.2). `Starved`: out of memory.
+/// Returns the peer that an authority with this host names, or `None` if it names none (RFC 3986
+/// section 3.2).
 #[tactic(auto, unfolding(client_model::specs::Asks::peer_at))]
 fn peer_at(alloc: Global, authority: &str, host: &str) -> Result<Option<Peer>, Starved>
     requires { host.now ≡ references.host_of authority.now }
@@ -72,7 +73,7 @@ fn peer_at(alloc: Global, authority: &str, host: &str) -> Result<Option<Peer>, S
     Ok(printed_peer(text.as_slice()))
 }
 
-/// The peer that a URI names (RFC 7252 section 6.1). `Starved`: out of memory.
+/// Returns the peer that a URI names, or `None` if it names none (RFC 7252 section 6.1).
 pub(crate) fn peer_in(alloc: Global, parts: &Parts<'_>) -> Result<Option<Peer>, Starved>
     ensures { IfOk result
         (λ peer. peer ≡ asks.peer_in (option_map (λ text. text.now) parts.now.authority)) }

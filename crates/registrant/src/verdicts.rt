@@ -1,26 +1,26 @@
-//! What a datagram and a tick are to a talk.
+//! What a datagram and a tick mean for a pending request.
 use client_model::Outcome;
 
-/// What a datagram was to a talk.
+/// What a datagram meant for a pending request.
 #[derive(Debug, Drop)]
 pub enum TalkHeard {
-    /// None of its own.
+    /// It neither decides nor acknowledges the request.
     Other,
-    /// The acknowledgement of its request, which is then not sent again (RFC 7252 section 4.2).
+    /// It acknowledges the request, which is then not retransmitted (RFC 7252 section 4.2).
     Quiet,
-    /// What decides it. The octets acknowledge a confirmable answer, and are to be sent to the
+    /// It decides the request. The octets acknowledge a confirmable answer, and must be sent to the
     /// directory (RFC 7252 section 4.2).
     Over(Outcome, Option<[u8; 4]>),
-    /// Memory ran out, and the talk is as before.
+    /// Memory ran out, and the pending request is unchanged.
     Starved,
 }
 
-/// What is due of a talk.
+/// What is due of a pending request.
 #[derive(Debug, Drop)]
 pub enum TalkAgain {
     /// Nothing.
     Wait,
-    /// Its request is sent again now (RFC 7252 section 4.2).
+    /// Its request must be retransmitted now (RFC 7252 section 4.2).
     Send,
     /// It is decided.
     Over(Outcome),

@@ -27,21 +27,21 @@ const TOKEN: [u8; 8] = [0, 0, 0, 0, 0, 0, 0, 1];
 /// A refusal with another token (4.04, non-confirmable).
 const OTHER_TOKEN: &[u8] = b"\x58\x84\x12\x34\x00\x00\x00\x00\x00\x00\x00\x02";
 
-/// What a lookup of all links lists while the registration stands.
+/// The listing of all links while the registration is live.
 const LINK: &[u8] = b"<coap://192.0.2.10/a>";
 
-/// What a device asks for.
+/// The request of a device.
 #[derive(Clone, Copy)]
 enum Wish<'a> {
     /// A registration for 60 seconds.
     Register,
-    /// The refresh of one.
+    /// The refresh of a registration.
     Refresh(&'a Location),
-    /// Its removal.
+    /// The removal of a registration.
     Remove(&'a Location),
 }
 
-/// The ask of a wish.
+/// Builds the request of a wish.
 fn ask_of(alloc: Global, wish: Wish<'_>) -> Result<Ask, AskBad>
     ensures { IfOk result CanBeSent }
 {
@@ -52,7 +52,7 @@ fn ask_of(alloc: Global, wish: Wish<'_>) -> Result<Ask, AskBad>
     }
 }
 
-/// The datagram of a wish.
+/// Returns the datagram of a wish.
 fn request_of(alloc: Global, wish: Wish<'_>, mid: u16) -> Result<Bytes, Starved> {
     match ask_of(alloc, wish) {
         Ok(ask) => {
@@ -63,7 +63,7 @@ fn request_of(alloc: Global, wish: Wish<'_>, mid: u16) -> Result<Bytes, Starved>
     }
 }
 
-/// A link to which an answer with another token comes, and then this one.
+/// Returns a link that receives an answer with another token, and then this one.
 fn link_of(alloc: Global, answer: &[u8]) -> Result<MemLink, Starved> {
     let mut coming = Arrivals::new(alloc);
     coming.push(DIRECTORY, Bytes::copy_of(alloc, OTHER_TOKEN)?)?;
@@ -71,7 +71,7 @@ fn link_of(alloc: Global, answer: &[u8]) -> Result<MemLink, Starved> {
     Ok(MemLink::of(alloc, coming, Bytes::new(alloc), Bytes::new(alloc)))
 }
 
-/// What becomes of a wish that is answered so.
+/// Returns what becomes of a wish that gets this answer.
 fn told<R>(
     rt: &R,
     wish: Wish<'_>,
@@ -93,7 +93,7 @@ where
     }
 }
 
-/// Whether a link sent this datagram to the directory, and no other.
+/// Returns whether a link sent this datagram to the directory, and no other.
 fn has_sent(link: &MemLink, datagram: &[u8]) -> bool {
     match link.gone().as_slice() {
         [(to, octets)] => *to == DIRECTORY && octets.as_slice() == datagram,
@@ -101,7 +101,8 @@ fn has_sent(link: &MemLink, datagram: &[u8]) -> bool {
     }
 }
 
-/// What a wish comes to at a desk. None: something else was sent, or there is no verdict.
+/// Returns what becomes of a wish at a desk, or `None` if something else was sent or there is no
+/// verdict.
 fn comes_to<R>(
     rt: &R,
     station: &mut Station,
@@ -124,7 +125,7 @@ where
     Ok(told.outcome.ok())
 }
 
-/// Whether a refresh or a removal is done.
+/// Returns whether a refresh or a removal is done.
 fn is_done<R>(
     rt: &R,
     station: &mut Station,
@@ -140,7 +141,7 @@ where
     Ok(matches!(outcome, Some(Outcome::Done)))
 }
 
-/// Where a registration stands by its answer. `Starved` stands for any other answer, too.
+/// Registers, and returns the location of the registration. Any other answer is also `Starved`.
 fn registers<R>(rt: &R, station: &mut Station) -> Result<Location, Starved>
 where
     R: Wait + RandomSource + AllocGlobal,
@@ -151,7 +152,7 @@ where
     }
 }
 
-/// Whether its refresh is done, and it is listed for 60 seconds more.
+/// Returns whether its refresh is done, and it is listed for 60 seconds more.
 fn refreshes<R>(rt: &R, station: &mut Station, location: &Location) -> Result<bool, Starved>
 where
     R: Wait + RandomSource + AllocGlobal,
@@ -162,7 +163,7 @@ where
     Ok(station.lists(rt.alloc(), Moment(109_999), LINK))
 }
 
-/// Whether its removal is done, and it is listed and refreshed no more.
+/// Returns whether its removal is done, and it is neither listed nor refreshed afterwards.
 fn removes<R>(rt: &R, station: &mut Station, location: &Location) -> Result<bool, Starved>
 where
     R: Wait + RandomSource + AllocGlobal,

@@ -1,5 +1,4 @@
-//! Tests of a device and a directory: what a registrant asks for is done by a desk, over links in
-//! memory.
+//! Tests of a device and a directory: a desk does what a client requests, over links in memory.
 #![tactic(auto)]
 
 #[cfg(test)]

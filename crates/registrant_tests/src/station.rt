@@ -1,4 +1,4 @@
-//! A desk with one worker, to which the datagrams of one device come.
+//! A desk with one worker that receives the datagrams of one device.
 
 ghost use Rattle.std.specs.Prelude.{◌≤◌, ◌^◌};
 
@@ -47,7 +47,7 @@ pub(crate) struct Station {
 }
 
 impl Station {
-    /// A desk to which nothing came.
+    /// Creates a desk that has received nothing.
     pub(crate) fn new(alloc: Global) -> Result<Station, Starved> {
         Ok(Station {
             desk: Desk::make(alloc, NoBoard)?,
@@ -56,8 +56,8 @@ impl Station {
         })
     }
 
-    /// A datagram of the device comes that does not only look; what it asks for is done at once.
-    /// False: memory ran out.
+    /// Handles a datagram of the device that is not a look, and does its job at once. Returns false
+    /// if memory ran out.
     pub(crate) fn hears(&mut self, now: Moment, datagram: &[u8]) -> bool
         requires { now.0 ≤ 10 ^ 15 }
     {
@@ -76,7 +76,7 @@ impl Station {
         }
     }
 
-    /// The device looks all links up. False: memory ran out.
+    /// Looks up all links. Returns false if memory ran out.
     fn looks(&mut self, alloc: Global, now: Moment) -> bool {
         if !is_look(LOOKUP) {
             return false;
@@ -91,7 +91,7 @@ impl Station {
         )
     }
 
-    /// The first datagram that the last step sent; empty where it sent none.
+    /// Returns the first datagram that the last step sent, or nothing if it sent none.
     pub(crate) fn answer(&self) -> &[u8] {
         match self.out.at(0) {
             Some((_, answer)) => answer,
@@ -99,7 +99,7 @@ impl Station {
         }
     }
 
-    /// Whether a lookup of all links is answered by this text.
+    /// Returns whether this text answers a lookup of all links.
     pub(crate) fn lists(&mut self, alloc: Global, now: Moment, links: &[u8]) -> bool {
         if !self.looks(alloc, now) {
             return false;

@@ -11,22 +11,23 @@ use std::test::Fail;
 use std::thread;
 use std::thread::Threads;
 
-/// How many rounds of four steps a worker makes: it hears a registration, does it, lets time pass
-/// and looks.
+/// The number of rounds of a worker. In the four steps of a round it admits a registration, commits
+/// it, lets time pass, and looks.
 const ROUNDS: u8 = 50;
 
-/// How many names it has: each is registered twice.
+/// The number of its names. Each is registered twice.
 const NAMES: u8 = 25;
 
-/// How a listing's answer begins.
+/// The beginning of the answer to a lookup.
 const FOUND: &[u8] = b"\x61\x45";
 
-/// Where a registration's answer has its location's number, and a listing of one endpoint has it.
+/// The offset of the location's number in the answer to a registration, and in a listing of one
+/// endpoint.
 const LOCATION_AT: usize = 9;
 
 const LISTED_AT: usize = 22;
 
-/// A lookup of the 400th endpoint, and how its answer begins after 800 entries.
+/// A lookup of the 400th endpoint, and the beginning of its answer after 800 entries.
 const LAST: &[u8] = b"\x41\x01\x00\x03\xb2\xb9rd-lookup\x02ep\x48page=399\x07count=1";
 
 const LISTED_LAST: &[u8] = b"\x61\x45\x00\x03\xb2\x48\0\0\0\0\x03\x20\0\0\x81\x28\xff</rd/";
@@ -39,12 +40,12 @@ struct Requests {
     lookup: [u8; 28],
 }
 
-/// A digit of a number.
+/// Returns the last decimal digit of a number.
 fn digit(number: u8) -> u8 {
     b'0' + number % 10
 }
 
-/// Those of one round of a worker.
+/// Returns the requests of one round of a worker.
 fn requests_of(worker: u8, round: u8) -> Requests {
     let mut registration = *b"\x41\x02\x00\x00\xa1\xb2rd\x49ep=w00n00\xff</t>";
     let mut lookup = *b"\x41\x01\x00\x00\xb2\xb9rd-lookup\x02ep\x49ep=w00n00";
@@ -66,7 +67,7 @@ fn requests_of(worker: u8, round: u8) -> Requests {
     }
 }
 
-/// What stands in the one answer from an offset on.
+/// Returns the octets of the one answer from an offset on.
 fn answer_from(out: &Outbox, offset: usize) -> &[u8] {
     match out.at(0) {
         Some((_, octets)) => octets.get(offset..).unwrap_or(b""),
@@ -84,7 +85,8 @@ struct Worker<'a> {
 }
 
 impl<'a> Worker<'a> {
-    /// One round: the location of the name, where all was answered.
+    /// Makes one round. Returns the location of the name, or nothing if a request was not answered
+    /// as expected.
     fn round<R: Wait>(
         &mut self,
         alloc: Global,
@@ -110,7 +112,7 @@ impl<'a> Worker<'a> {
         Ok(Vec::new(alloc))
     }
 
-    /// All rounds: whether all was answered, and each name has one location.
+    /// Makes all rounds. Returns whether all was answered, and each name has one location.
     fn works<R: Wait>(&mut self, alloc: Global, rt: &R) -> Result<bool, Starved> {
         let mut out = Outbox::make(alloc)?;
         let mut locations: Vec<Vec<u8>> = Vec::new(alloc);
@@ -133,7 +135,7 @@ impl<'a> Worker<'a> {
 }
 
 impl<'a> Worker<'a> {
-    /// All rounds. Its seat, where all was answered.
+    /// Makes all rounds. Returns its seat if all was answered.
     fn run<R: Wait>(mut self, alloc: Global, rt: &R) -> Option<Seat> {
         let works = self.works(alloc, rt);
         let Worker {
@@ -148,7 +150,7 @@ impl<'a> Worker<'a> {
     }
 }
 
-/// The workers of a hall.
+/// Returns the workers of a hall.
 fn workers<'a>(alloc: Global, hall: &'a Hall, seats: Seats) -> Result<Vec<Worker<'a>>, Starved>
     requires hall { All (λ seat. seat.hall ≡ hall.now) seats }
 {
@@ -162,8 +164,8 @@ fn workers<'a>(alloc: Global, hall: &'a Hall, seats: Seats) -> Result<Vec<Worker
     Ok(workers)
 }
 
-/// All workers at once, and then a look of the first one: whether all was answered, and the look
-/// shows all registrations.
+/// Runs all workers at once, and then looks by the first. Returns whether all was answered, and the
+/// look shows all registrations.
 fn all_see_all<R: Threads + Wait + Sync>(
     alloc: Global,
     rt: &R,

@@ -15,10 +15,10 @@ use std::thread;
 use std::thread::{Threads, join_mut};
 use std::time::{Clock, Duration};
 
-/// How often a worker turns round at a gate, at most.
+/// The maximum number of times that a worker checks a sign.
 const TURNS: u64 = 1_000_000;
 
-/// One seat registers, the other sees it, although its clock is behind: whether it does.
+/// Registers by one seat. Returns whether the other sees it, although its clock is behind.
 fn other_sees<R: Wait>(
     rt: &R,
     hall: &Hall,
@@ -35,7 +35,7 @@ fn other_sees<R: Wait>(
     is_none && is_made && is_located && is_seen
 }
 
-/// A look after the hall has ended finds nothing: whether it is answered 5.00.
+/// Looks after the hall has ended. Returns whether the look finds nothing and is answered 5.00.
 fn finds_no_board(seat: &mut Seat, out: &mut Outbox) -> bool {
     out.clear();
     if !rd_desk::is_look(LOOKUP) {
@@ -57,7 +57,7 @@ fn other_seat_sees(rt: HostRuntime) -> Result<(), Fail> {
     Ok(())
 }
 
-/// What two workers tell each other: 1 once it is so.
+/// The signs that two workers give each other: 1 when it is so.
 #[derive(Drop)]
 struct Signs {
     is_held: AtomicU64,
@@ -65,14 +65,14 @@ struct Signs {
     is_seen: AtomicU64,
 }
 
-/// A gate that holds a worker who holds the turn, until another worker was answered.
+/// A gate that stops a worker that holds the turn, until another worker was answered.
 #[derive(Drop)]
 struct UntilAnswered<'a, C: Clock> {
     clock: &'a C,
     signs: &'a Signs,
 }
 
-/// Waits until this is 1: whether it was in time.
+/// Waits until a sign is 1. Returns whether it was in time.
 fn await_one<C: Clock>(clock: &C, sign: &AtomicU64) -> bool {
     for _ in 0..TURNS {
         if sign.load(Ordering::SeqCst) == 1 {
@@ -94,7 +94,7 @@ impl<'a, C: Clock> Gate for UntilAnswered<'a, C> {
     }
 }
 
-/// Looks while the turn is held: whether it is, and nothing is registered then.
+/// Looks while the turn is held. Returns whether it is held, and nothing is registered then.
 fn look_meanwhile<C: Clock>(clock: &C, seat: &mut Seat, out: &mut Outbox, signs: &Signs) -> bool {
     let is_held = await_one(clock, &signs.is_held);
     let is_none = looks(seat, LOOKUP, NOTHING, out);
@@ -102,8 +102,8 @@ fn look_meanwhile<C: Clock>(clock: &C, seat: &mut Seat, out: &mut Outbox, signs:
     is_held && is_none
 }
 
-/// One seat registers, and is held while it holds the turn, until a look of the other was answered:
-/// whether the look was, and the next one sees the registration.
+/// Registers by one seat, and holds it in its turn until a look of the other was answered. Returns
+/// whether the look was answered, and the next one sees the registration.
 fn held_meanwhile<R: Threads + Wait + Clock + Sync>(
     alloc: Global,
     rt: &R,

@@ -1,5 +1,5 @@
-//! Tests of seats: what one sees of another, that a look waits for nobody, many at once, and steps
-//! that find no memory.
+//! Tests of seats: what one sees of another, looks that wait for nobody, many seats at once, and
+//! steps that run out of memory.
 #![tactic(auto)]
 
 #[cfg(test)]

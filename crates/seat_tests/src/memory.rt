@@ -1,5 +1,6 @@
-//! A hall and its seat where one allocation is refused, as by `rt try --test --fail-alloc N`: what
-//! finds no memory is answered 5.00, and the seat goes on. With ample memory nothing is refused.
+//! A hall and its seat if one allocation fails, as with `rt try --test --fail-alloc N`. A request
+//! that runs out of memory is answered 5.00, and the seat goes on. With ample memory nothing is
+//! refused.
 ghost use Rattle.std.specs.Prelude.{◌≡◌, IfOk};
 
 use crate::calls::{CLIENT, ENDPOINT, LISTED, LOOKUP, answers, looks};
@@ -10,19 +11,19 @@ use std::alloc::Global;
 use std::sync::Wait;
 use std::test::Fail;
 
-/// A request to observe the links, and the registration of the one that comes, each with room for
-/// its Message ID (RFC 7641 section 3, RFC 9176 section 5).
+/// A request to observe the links (RFC 7641 section 3), with room for its Message ID.
 const OBSERVE: &[u8; 33] = b"\x41\x01\x00\x00\xc0\x60\x59rd-lookup\x03res\x4crt=light-lux";
 
+/// The registration of the next link, with room for its Message ID (RFC 9176 section 5).
 const REGISTER: &[u8; 53] =
     b"\x41\x02\x00\x00\xa1\xb2rd\x48ep=node1\xff</light>;rt=\"light-lux\";if=\"sensor\"";
 
-/// Whether the one answer is 5.00 (RFC 7252 section 5.9.3.1).
+/// Returns whether the one answer is 5.00 (RFC 7252 section 5.9.3.1).
 fn is_excused(out: &Outbox) -> bool {
     answers(out, b"\x61\xa0")
 }
 
-/// A hall with one seat, at the second try where the first finds no memory.
+/// Makes a hall with one seat, at the second attempt if the first runs out of memory.
 fn hall_of_one<R: Wait>(alloc: Global, rt: &R) -> Result<(Hall, Seat), Starved>
     ensures hall { IfOk result (λ made. made.1.hall ≡ made.0) }
 {
@@ -37,7 +38,8 @@ fn hall_of_one<R: Wait>(alloc: Global, rt: &R) -> Result<(Hall, Seat), Starved>
     Ok((hall, seat))
 }
 
-/// The client observes: whether it is answered, at the second try where the first finds no memory.
+/// Makes the client observe. Returns whether it is answered, at the second attempt if the first
+/// runs out of memory.
 fn observes<R: Wait>(rt: &R, hall: &Hall, seat: &mut Seat, out: &mut Outbox) -> bool
     requires hall { seat.old.hall ≡ hall.now }
     ensures hall { seat.new.hall ≡ seat.old.hall }
@@ -57,7 +59,8 @@ fn observes<R: Wait>(rt: &R, hall: &Hall, seat: &mut Seat, out: &mut Outbox) -> 
     false
 }
 
-/// The endpoint registers: whether it is answered, at a later try where one finds no memory.
+/// Registers the endpoint. Returns whether it is answered, at a later attempt if one runs out of
+/// memory.
 fn registers<R: Wait>(rt: &R, hall: &Hall, seat: &mut Seat, out: &mut Outbox) -> bool
     requires hall { seat.old.hall ≡ hall.now }
     ensures hall { seat.new.hall ≡ seat.old.hall }
@@ -80,7 +83,8 @@ fn registers<R: Wait>(rt: &R, hall: &Hall, seat: &mut Seat, out: &mut Outbox) ->
     false
 }
 
-/// The observer is told as time passes, at the second try where the first finds no memory.
+/// Lets time pass, at the second attempt if the first runs out of memory. Returns whether the
+/// observer gets a notification.
 fn tells<R: Wait>(rt: &R, hall: &Hall, seat: &mut Seat, out: &mut Outbox) -> bool
     requires hall { seat.old.hall ≡ hall.now }
     ensures hall { seat.new.hall ≡ seat.old.hall }
@@ -95,7 +99,7 @@ fn tells<R: Wait>(rt: &R, hall: &Hall, seat: &mut Seat, out: &mut Outbox) -> boo
     answers(out, b"\x41\x45")
 }
 
-/// All of this, one after another, and a look.
+/// Does all of this, one after another, and looks. Returns whether all was answered as expected.
 fn goes_on<R: Wait>(rt: &R, hall: &Hall, seat: &mut Seat, out: &mut Outbox) -> bool
     requires hall { seat.old.hall ≡ hall.now }
 {

@@ -12,8 +12,8 @@ use std::sync::Wait;
 use std::test::Fail;
 use udp_link::{MemClock, MemLink};
 
-/// Two ends: over the first the registration comes, and of the second's receives that of this
-/// number fails, where it makes so many.
+/// Returns two ends. The first receives the registration. The second's receive with the number
+/// `fails` fails, if it makes that many.
 fn two_ends(alloc: Global, fails: u8) -> Result<[End<MemLink, MemClock>; 2], Starved> {
     let first = link_of(alloc, &[REGISTRATION], b"", b"")?;
     let second = link_of(alloc, &[], &[fails], b"")?;
@@ -56,7 +56,7 @@ fn an_output_that_fails_is_told(rt: HostRuntime) -> Result<(), Fail> {
     Ok(())
 }
 
-/// Time passes at the seat of the first end.
+/// Lets time pass at the seat of the first end.
 fn first_ticks<R: Wait>(rt: &R, hall: &Hall, ends: &mut [End<MemLink, MemClock>], out: &mut Outbox)
     requires hall { AreOfHall hall.now ends.old }
     requires empty { out.old ≡ [] }

@@ -1,4 +1,4 @@
-//! A server whose workers are held at a gate: one is answered while another holds the turn.
+//! A server whose workers are stopped at a gate: one is answered while another holds the turn.
 use crate::requests::{CREATED, LOOKUP, NOTHING, REGISTRATION, clock_of, link_of, sink_of, went};
 use rd_seat::{Gate, Place};
 use rd_server::{End, ServeStatus, serve};
@@ -8,24 +8,24 @@ use std::test::Fail;
 use std::thread;
 use std::time::{Clock, Duration};
 
-/// How often a worker turns round at the gate, at most.
+/// The maximum number of times that a worker checks a sign.
 const TURNS: u64 = 100_000;
 
-/// A gate that holds the first worker who holds the turn until the other was answered, and lets a
-/// worker look only once the turn is held. Each number is 1 once it is so.
+/// A gate that stops the first worker to hold the turn until the other was answered, and lets a
+/// worker look only when the turn is held. Each sign is 1 when it is so.
 #[derive(Drop)]
 struct UntilAnswered<'a, C: Clock> {
     clock: &'a C,
     /// A worker holds the turn.
     is_held: AtomicU64,
-    /// Another asks for the turn, which it does only after its look was answered.
+    /// Another worker asks for the turn, which it does only after its look was answered.
     is_answered: AtomicU64,
-    /// The one that holds it saw that, in time.
+    /// The worker that holds the turn saw that in time.
     is_seen: AtomicU64,
 }
 
 impl<'a, C: Clock> UntilAnswered<'a, C> {
-    /// Waits until this is 1: whether it was in time.
+    /// Waits until a sign is 1. Returns whether it was in time.
     fn await_one(&self, sign: &AtomicU64) -> bool {
         for _ in 0..TURNS {
             if sign.load(Ordering::SeqCst) == 1 {
@@ -59,8 +59,9 @@ impl<'a, C: Clock> Gate for UntilAnswered<'a, C> {
     }
 }
 
-/// The registration comes over one link and the lookup over the other. A server whose workers run
-/// one after the other is refused: whichever runs first, nobody answers while it holds the turn.
+/// The registration is received over one link and the lookup over the other. A server whose workers
+/// run one after the other fails this test: whichever runs first, nobody answers while it holds the
+/// turn.
 #[test]
 fn one_is_answered_while_another_holds_the_turn(rt: HostRuntime) -> Result<(), Fail> {
     let first = link_of(rt.alloc(), &[REGISTRATION], b"", b"")?;

@@ -1,4 +1,4 @@
-//! Clocks of `hosting`: what a step of the machine's clock, and one that cannot be read, do.
+//! Clocks of `hosting`: what happens if the host's clock is set, or cannot be read.
 use hosting::{HostClock, Origin};
 use rd_base::Moment;
 use std::cell::Cell;
@@ -7,14 +7,14 @@ use std::time::Duration;
 use std::{io, time};
 use udp_link::{Clock, LAST_MOMENT};
 
-/// A machine's two clocks, in milliseconds; none where one cannot be read.
+/// The two clocks of a host, in milliseconds; `None` for one that cannot be read.
 #[derive(Drop)]
 struct Machine {
     monotonic: Cell<Option<u64>>,
     wall: Cell<Option<u64>>,
 }
 
-/// What a clock of the machine says.
+/// Returns the reading of a clock of the host.
 fn reading(millis: Option<u64>) -> io::Result<Duration> {
     match millis {
         Some(millis) => Ok(Duration::from_millis(millis)),
@@ -32,7 +32,7 @@ impl time::Clock for Machine {
     }
 }
 
-/// A machine whose clocks say this.
+/// Returns a host whose clocks read this.
 fn make_machine(monotonic: Option<u64>, wall: Option<u64>) -> Machine {
     Machine {
         monotonic: Cell::new(monotonic),

@@ -1,4 +1,5 @@
-//! Links of `hosting` over loopback: by which address a datagram goes, and how they end together.
+//! Links of `hosting` over loopback: the address from which a datagram is sent, and how links end
+//! together.
 use hosting::{Crew, HostLink, Listener, Routes, Trouble};
 use rd_base::{Host, Peer};
 use std::hash::RandomState;
@@ -8,32 +9,33 @@ use std::test::Fail;
 use std::time::{Clock, Duration};
 use udp_link::{Came, Link, MAX_DATAGRAM, Went};
 
-/// The address 127.0.0.1, where the system chooses the port.
+/// The address 127.0.0.1 with a port that the system chooses.
 const LOOPBACK_V4: Peer = Peer {
     host: Host::V4([127, 0, 0, 1]),
     port: 0,
 };
 
-/// The address ::1, where the system chooses the port.
+/// The address ::1 with a port that the system chooses.
 const LOOPBACK_V6: Peer = Peer {
     host: Host::V6([0, 0, 0, 0, 0, 0, 0, 1]),
     port: 0,
 };
 
-/// The address 127.0.0.1 as an IPv6 socket has it, where the system chooses the port.
+/// The address 127.0.0.1 as an IPv6 socket has it, with a port that the system chooses.
 const LOOPBACK_MAPPED: Peer = Peer {
     host: Host::V6([0, 0, 0, 0, 0, 0xffff, 0x7f00, 1]),
     port: 0,
 };
 
-/// A client at an address, which waits ten seconds for a datagram.
+/// Returns a client at an address, which waits ten seconds for a datagram.
 fn client_at(rt: &HostRuntime, address: &str) -> Result<UdpSocket, Fail> {
     let client = UdpSocket::bind(rt, address)?;
     client.set_read_timeout(Some(Duration::from_secs(10)))?;
     Ok(client)
 }
 
-/// The peer that a link hears of a client, which sends to a listener.
+/// Sends a datagram from a client to a listener. Returns the peer that a link then receives it
+/// from.
 fn heard<R: Wait + Clock>(
     link: &mut HostLink<'_, R>,
     client: &UdpSocket,
@@ -47,7 +49,7 @@ fn heard<R: Wait + Clock>(
     }
 }
 
-/// The port from which a client hears what a link sends to it.
+/// Sends a datagram by a link to a client. Returns the port that the client receives it from.
 fn port_of_answer<R: Wait + Clock>(
     link: &mut HostLink<'_, R>,
     peer: Peer,
@@ -96,7 +98,7 @@ fn a_peer_is_sent_to_by_the_address_that_it_asked(rt: HostRuntime) -> Result<(),
     Ok(())
 }
 
-/// How many receives of 50 ms a link makes in more than two seconds.
+/// The number of receives of 50 ms that a link makes in more than two seconds.
 const RECEIVES: usize = 60;
 
 #[test]

@@ -1,12 +1,12 @@
-//! What words of the command line of `rd_host` want.
+//! What arguments of `rd_host` ask for.
 use hosting::{HostFault, HostPlan, Wanted, host_words};
 use rd_base::peer_text;
 use std::alloc::Global;
 use std::fmt::Write;
 use std::test::Fail;
 
-/// What the words behind it want: workers, turns, addresses and where the run begins, if that is
-/// said; or nothing since they are refused.
+/// What the arguments after the bar ask for: workers, receives, addresses, and the number above
+/// which the run begins if it is given; or `refused`.
 const WORDS: &str = "\
 4 1000000000000 192.0.2.1:5683 | --listen 192.0.2.1:5683
 4 1000000000000 [2001:db8::1]:61616 | --listen=[2001:db8::1]:61616
@@ -74,7 +74,7 @@ refused | --help --help
 refused | --version --listen=127.0.0.1:1
 refused | 127.0.0.1:1";
 
-/// A plan, as a row of the table has it.
+/// Returns a plan as a line of the table has it.
 fn told(alloc: Global, plan: &HostPlan) -> Result<String, Fail> {
     let HostPlan {
         listen,
@@ -110,7 +110,7 @@ fn told(alloc: Global, plan: &HostPlan) -> Result<String, Fail> {
     Ok(text)
 }
 
-/// What words want, which are cut at spaces.
+/// Returns what the arguments of a line ask for, which are separated by spaces.
 fn answer(alloc: Global, line: &str) -> Result<String, Fail> {
     let mut words = Vec::new(alloc);
     for word in line.split(' ').filter(|word| !word.is_empty()) {

@@ -12,25 +12,25 @@ use std::test::Fail;
 use std::time::Duration;
 use std::{io, thread};
 
-/// The address 127.0.0.1, where the system chooses the port.
+/// The address 127.0.0.1 with a port that the system chooses.
 const LOOPBACK_V4: Peer = Peer {
     host: Host::V4([127, 0, 0, 1]),
     port: 0,
 };
 
-/// The address ::1, where the system chooses the port.
+/// The address ::1 with a port that the system chooses.
 const LOOPBACK_V6: Peer = Peer {
     host: Host::V6([0, 0, 0, 0, 0, 0, 0, 1]),
     port: 0,
 };
 
-/// An observed lookup of what is registered then (RFC 7641 section 2).
+/// An observed lookup of what is registered later (RFC 7641 section 2).
 const OBSERVATION: &[u8] = b"\x41\x01\x00\x03\xb3\x60\x59rd-lookup\x03res\x4crt=light-lux";
 
 /// The beginning of its answer.
 const OBSERVED: &[u8] = b"\x61\x45\x00\x03\xb3";
 
-/// A client of a listener, which hears nothing from another address.
+/// Returns a client of a listener, which receives nothing from another address.
 fn client_of(rt: &HostRuntime, at: &str, listener: &Listener) -> Result<UdpSocket, Fail> {
     let client = UdpSocket::bind(rt, at)?;
     client.connect(listener.local_addr()?)?;
@@ -38,15 +38,15 @@ fn client_of(rt: &HostRuntime, at: &str, listener: &Listener) -> Result<UdpSocke
     Ok(client)
 }
 
-/// Whether what comes next is a notice under the token of the observation.
+/// Returns whether the next datagram is a notification with the token of the observation.
 fn is_told(observer: &UdpSocket) -> io::Result<bool> {
     let mut room = [0u8; 1280];
     let n = observer.recv(&mut room)?;
     Ok(5 <= n && room.starts_with(b"\x41\x45") && room[4] == 0xb3)
 }
 
-/// One observes, the other registers what is observed, and the first is told: whether all that
-/// comes.
+/// Observes by one client, and registers what is observed by another. Returns whether all answers
+/// and the notification arrive.
 fn observes(observer: &UdpSocket, device: &UdpSocket) -> io::Result<bool> {
     Ok(
         is_answered(observer, OBSERVATION, OBSERVED)?

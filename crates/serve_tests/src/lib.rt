@@ -1,4 +1,4 @@
-//! Tests of serving: over links in memory, whose ends fail where that is planned, and over UDP.
+//! Tests of serving: over links in memory, whose ends fail as planned, and over UDP.
 #![tactic(auto)]
 
 #[cfg(test)]

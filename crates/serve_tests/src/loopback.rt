@@ -12,7 +12,7 @@ use udp_link::{UdpClock, UdpLink};
 /// The beginning of the answer to the lookup.
 const LISTED: &[u8] = b"\x61\x45\x00\x02\xb2\x48\0\0\0\0\0\x01\0\0\x81\x28\xff<coap://127.0.0.1:";
 
-/// Sends a request, and waits for its answer: whether that begins so.
+/// Sends a request, and waits for its answer. Returns whether the answer begins like this.
 pub(crate) fn is_answered(
     client: &UdpSocket,
     request: &[u8],
@@ -24,7 +24,7 @@ pub(crate) fn is_answered(
     Ok(room[..n].starts_with(beginning))
 }
 
-/// Registers, and looks up what was registered: whether both are answered as they are to be.
+/// Registers, and looks up what was registered. Returns whether both answers are the expected ones.
 fn asks(client: &UdpSocket) -> io::Result<bool> {
     Ok(is_answered(client, REGISTRATION, CREATED)? && is_answered(client, LOOKUP, LISTED)?)
 }

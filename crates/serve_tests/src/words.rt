@@ -1,9 +1,9 @@
-//! The words of `rd_serve`.
+//! The arguments of `rd_serve`.
 use rd_server::{ServePlan, WordsFault, serve_words};
 use std::alloc::Global;
 use std::test::Fail;
 
-/// What these words ask for, which are cut at spaces.
+/// Returns what the arguments of a line ask for, which are separated by spaces.
 fn asked(alloc: Global, line: &str) -> Result<Result<ServePlan, WordsFault>, Fail> {
     let mut words = Vec::new(alloc);
     for word in line.split(' ').filter(|word| !word.is_empty()) {

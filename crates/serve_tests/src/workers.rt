@@ -10,7 +10,7 @@ use std::sync::Wait;
 use std::test::Fail;
 use udp_link::MemLink;
 
-/// The seat of a new hall of one worker.
+/// Makes a new hall of one worker, and its seat.
 fn one_seat<R: Wait>(alloc: Global, rt: &R) -> Result<(Hall, Seat), Starved>
     ensures hall { IfOk result (λ made. made.1.hall ≡ made.0) }
 {
@@ -21,7 +21,7 @@ fn one_seat<R: Wait>(alloc: Global, rt: &R) -> Result<(Hall, Seat), Starved>
     Ok((hall, seat))
 }
 
-/// What comes of so many turns over a link, by a seat of a hall of its own.
+/// Serves `turns` receives over a link, by a seat of a hall of its own.
 fn served<R: Wait + AllocGlobal>(
     rt: &R,
     link: &mut MemLink,

@@ -2,10 +2,10 @@
 
 use rd_base::Starved;
 
-/// How many characters of a line a diagram shows at most.
+/// The most characters of a line that a diagram shows.
 const WIDTH: usize = 80;
 
-/// Whether Mermaid reads a character as itself, wherever it stands in a text.
+/// Returns whether Mermaid reads a character as itself, wherever it is in a text.
 fn is_plain(character: char) -> bool {
     match character {
         ' ' | '"' | '(' | ')' | ',' | '-' | '.' | '/' | '=' | '?' | '[' | ']' | '_' | '|' => true,
@@ -13,7 +13,7 @@ fn is_plain(character: char) -> bool {
     }
 }
 
-/// Writes a character, as Mermaid's code of its number where it may be read as something else.
+/// Writes a character, as Mermaid's code of its number if it may be read as something else.
 fn write_character(page: &mut String, character: char) -> Result<(), Starved> {
     if is_plain(character) {
         return Ok(page.push(character)?);
@@ -22,12 +22,14 @@ fn write_character(page: &mut String, character: char) -> Result<(), Starved> {
     Ok(write!(page, "#{number};")?)
 }
 
-/// Writes a line of text, of which nothing is read as Mermaid's own. Of one that has more than 80
-/// characters the first 80 stand there alone, and how many more it has.
+/// Appends a line of text, of which Mermaid takes nothing for its own syntax.
+///
+/// Of a line with more than 80 characters, only the first 80 are written, and then how many more it
+/// has.
 ///
 /// # Errors
 ///
-/// `Starved` out of memory.
+/// `Starved` if memory runs out.
 pub fn write_escaped(page: &mut String, line: &str) -> Result<(), Starved> {
     'characters: for character in line.chars().take(WIDTH) {
         write_character(page, character)?;

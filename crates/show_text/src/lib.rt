@@ -1,5 +1,5 @@
-//! The words of `rd_show`, and text in its diagrams: what one stored run of the program does not
-//! show.
+//! The arguments of `rd_show`, and text in its diagrams: the parts that one stored run of the
+//! program does not show.
 #![tactic(auto)]
 
 mod escapes;

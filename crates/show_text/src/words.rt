@@ -1,4 +1,4 @@
-//! The words of `rd_show`: their form is tested, and clap reads them.
+//! The arguments of `rd_show`. Their form is checked, and clap reads them.
 ghost use Rattle.std.specs.Prelude.{◌≤◌, IfSome, IfOk};
 
 use clap::error::ErrorKind;
@@ -7,28 +7,28 @@ use journal_model::limits::MAX_WORKERS;
 use std::alloc::{AllocError, Global};
 use trace_text::number_read;
 
-/// What the program does.
+/// The purpose of the program.
 const ABOUT: &str = "Shows a recorded trace as a conversation: who sent what to whom, and what the \
     directory answered";
 
-/// The word that asks for a diagram.
+/// The option that requests a diagram.
 const MERMAID: &str = "--mermaid";
 
-/// How words ask for a trace to be shown.
+/// How a trace is to be shown, by the arguments.
 #[derive(Clone, Copy, Debug)]
 pub struct Asked {
-    /// How many workers the directory has.
+    /// The number of workers that the directory has.
     pub workers: u8,
-    /// Whether it is shown as a sequence diagram.
+    /// Whether the trace is shown as a sequence diagram.
     pub is_diagram: bool,
 }
 
-/// What words ask for that do not ask for a trace to be shown.
+/// What arguments request that do not request to show a trace.
 #[derive(Debug, Drop)]
 pub enum Otherwise {
-    /// To say something about the program.
+    /// A text about the program.
     Say(Error),
-    /// Nothing: they are not those of the program.
+    /// Nothing: the program does not accept the arguments.
     Usage,
     /// Memory ran out.
     Starved,
@@ -50,7 +50,7 @@ impl From<Error> for Otherwise {
     }
 }
 
-/// The number of workers that a text prints, from 1 to the most.
+/// Returns the number of workers that a text prints, from 1 to 16.
 fn count_of(text: &str) -> Option<u8>
     ensures { IfSome result (λ workers. workers ≤ 16) }
 {
@@ -60,12 +60,12 @@ fn count_of(text: &str) -> Option<u8>
     }
 }
 
-/// Whether a word alone asks for a text about the program.
+/// Returns whether an argument alone requests a text about the program.
 fn is_question(word: &str) -> bool {
     matches!(word, "--help" | "-h" | "--version" | "-V")
 }
 
-/// The words without `--mermaid`, where it stands first or last.
+/// Returns the arguments without `--mermaid`, if it is the first or the last.
 fn without_mermaid(words: &[String]) -> &[String] {
     if let Some((first, rest)) = words.split_first()
         && first.as_str() == MERMAID
@@ -80,8 +80,8 @@ fn without_mermaid(words: &[String]) -> &[String] {
     words
 }
 
-/// Whether words are none, or `--workers` with a number from 1 to 16, as two words or joined by
-/// `=`.
+/// Returns whether the arguments are none, or `--workers` with a number from 1 to 16, as two
+/// arguments or joined by `=`.
 fn are_workers(words: &[String]) -> bool {
     match words {
         [] => true,
@@ -94,8 +94,8 @@ fn are_workers(words: &[String]) -> bool {
     }
 }
 
-/// Whether words are those of the program: `--workers` with its number and `--mermaid`, each once
-/// at most, in any order, or a question about the program alone.
+/// Returns whether the program accepts the arguments. They are `--workers` with its number and
+/// `--mermaid`, each at most once and in any order, or a question about the program alone.
 fn are_words(words: &[String]) -> bool {
     match words {
         [word] if is_question(word.as_str()) => true,
@@ -103,7 +103,7 @@ fn are_words(words: &[String]) -> bool {
     }
 }
 
-/// The command line as clap reads it, and the texts about the program.
+/// Returns the command line as clap reads it, with the texts about the program.
 fn command<'a>(alloc: Global) -> Result<Command<'a>, AllocError> {
     let workers = Arg::new(alloc, "workers")
         .long("workers")
@@ -123,7 +123,7 @@ fn command<'a>(alloc: Global) -> Result<Command<'a>, AllocError> {
         .arg(mermaid)
 }
 
-/// What words ask for whose form was tested, as clap reads them.
+/// Returns what arguments request whose form was checked, as clap reads them.
 fn asked_of(alloc: Global, words: &[String]) -> Result<Asked, Otherwise>
     ensures { IfOk result (λ asked. asked.workers ≤ 16) }
 {
@@ -141,13 +141,14 @@ fn asked_of(alloc: Global, words: &[String]) -> Result<Asked, Otherwise>
     }
 }
 
-/// Reads the words of `rd_show`: how a trace is to be shown, by 16 workers where they name none,
-/// or what else they ask for.
+/// Reads the arguments of `rd_show`, and returns how a trace is to be shown. Without `--workers`,
+/// the directory has 16 workers.
 ///
 /// # Errors
 ///
-/// `Say` with the text where they ask for help or for the version, `Usage` where they are not those
-/// of the program, `Starved` out of memory.
+/// - `Say` with a text if the arguments request help or the version.
+/// - `Usage` if the program does not accept the arguments.
+/// - `Starved` if memory runs out.
 pub fn words_read(alloc: Global, words: &[String]) -> Result<Asked, Otherwise>
     ensures { IfOk result (λ asked. asked.workers ≤ 16) }
 {

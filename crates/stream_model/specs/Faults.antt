@@ -1,4 +1,5 @@
--- Why a message of a stream is bad, the first reason first (RFC 8323 sections 3.2, 5.2 and 5.3).
+-- The reasons why a message of a stream is bad, the first reason first (RFC 8323 sections 3.2, 5.2
+-- and 5.3).
 use Rattle.std.specs.Prelude.{
   ℕ,
   Bool,
@@ -29,8 +30,8 @@ use Rattle.stream_model.specs.Messages.{StreamMessage, lengths_spelling, stream_
 abbrev pub longest_message : ℕ
 longest_message = MAX_STREAM_MESSAGE
 
--- The lengths alone make it bad: the token is longer than a token may be, or the message is (RFC
--- 8323 sections 3.2 and 5.3.1).
+-- Returns why the lengths alone make a message bad, if they do: the token is longer than a token
+-- may be, or the message is too long (RFC 8323 sections 3.2 and 5.3.1).
 abbrev pub lengths_fault : StreamMessage → Option StreamBad
 lengths_fault m =
     if nat_lt longest_token (length m.token) then Some bad.Format
@@ -41,50 +42,52 @@ lengths_fault m =
 abbrev pub csm : ℕ
 csm = signals.CSM
 
--- The code of a signal: class 7 (RFC 8323 section 5).
+-- Returns whether a code is that of a signal: class 7 (RFC 8323 section 5).
 abbrev pub is_signal : ℕ → Bool
 is_signal c = class_of c == 7
 
--- A code of a reserved class (RFC 7252 section 3), or a signal that is not known (RFC 8323 section
--- 5).
+-- Returns whether a code is of a reserved class (RFC 7252 section 3), or is that of an unknown
+-- signal (RFC 8323 section 5).
 abbrev pub is_other_code : ℕ → Bool
 is_other_code c =
     class_of c == 1
     || class_of c == 6
     || (is_signal c && (c == code 7 0 || nat_lt signals.ABORT c))
 
--- A critical option stands among these (RFC 7252 section 5.4.6).
+-- Returns whether a critical option is among these (RFC 7252 section 5.4.6).
 abbrev pub has_critical : List Opt → Bool
 has_critical options = list_any (λ option. is_critical option.0) options
 
--- By what the tail is: it is no list of options with a payload (RFC 7252 section 3), or it is that
--- of a signal and has a critical option (RFC 8323 section 5.2).
+-- Returns why the tail makes a message bad, if it does. It is no list of options with a payload
+-- (RFC 7252 section 3), or a signal has a critical option (RFC 8323 section 5.2).
 abbrev pub tail_fault : ℕ → Option Tail → Option StreamBad
 tail_fault c None = Some bad.Format
 tail_fault c (Some tail) = if is_signal c && has_critical tail.0 then Some bad.Signal else None
 
--- By its code and its tail, when it is whole; the first one of a stream has to be a CSM (RFC 8323
--- section 5.3).
+-- Returns why the code and the tail make a whole message bad, if they do. The first message of a
+-- stream has to be a CSM (RFC 8323 section 5.3).
 unfoldable pub message_fault : Bool → ℕ → List ℕ → Option StreamBad
 message_fault is_first c tail =
     if is_first && not (c == csm) then Some bad.First
     else if is_other_code c then Some bad.Code
     else tail_fault c (tail_at 0 tail)
 
--- The first of two reasons, where there is one.
+-- Returns the first of two reasons, if there is one.
 abbrev pub first_of : Option StreamBad → Option StreamBad → Option StreamBad
 first_of (Some why) later = Some why
 first_of None later = later
 
--- Why a message is bad; nothing where it is good.
+-- Returns why a message is bad, or nothing if it is good.
 abbrev pub fault_of : Bool → StreamMessage → Option StreamBad
 fault_of is_first m = first_of (lengths_fault m) (message_fault is_first m.code m.tail)
 
+-- Returns the octets that decide whether a message is bad, if its lengths alone make it bad for
+-- this reason or for none.
 abbrev pub known_by : Option StreamBad → StreamMessage → List ℕ
 known_by (Some why) m = lengths_spelling m
 known_by None m = stream_spelling m
 
--- The octets of a message by which it is known whether it is bad: those of its lengths where they
--- alone make it bad, and else all.
+-- Returns the octets that decide whether a message is bad: those of its lengths if they alone make
+-- it bad, and otherwise all.
 abbrev pub known_octets : StreamMessage → List ℕ
 known_octets m = known_by (lengths_fault m) m

@@ -1,5 +1,5 @@
--- What octets are that may become a message of a stream, as they are read: the lengths, and then
--- all (RFC 8323 section 3.2).
+-- The verdict on octets that may become a message of a stream, as they are read: the lengths, and
+-- then all (RFC 8323 section 3.2).
 use Rattle.std.specs.Prelude.{
   ◌≡◌,
   ◌<◌,
@@ -38,7 +38,7 @@ use Rattle.stream_model.specs.Messages.{
 }
 use Rattle.stream_model.specs.Faults.{longest_message, message_fault}
 
--- How many octets extend a nibble.
+-- Returns the number of octets that extend a nibble.
 unfoldable pub extension_size : ℕ → ℕ
 extension_size nibble =
     if nat_lt nibble extended_nibble then 0
@@ -46,7 +46,7 @@ extension_size nibble =
     else if nibble == long_nibble then 2
     else 4
 
--- The length that a nibble and what extends it say.
+-- Returns the length that a nibble and the octets that extend it encode.
 unfoldable pub length_said : ℕ → List ℕ → ℕ
 length_said nibble [] = nibble
 length_said nibble (a ∷ []) = first_extended + a
@@ -56,18 +56,18 @@ length_said nibble (a ∷ b ∷ c ∷ d ∷ []) =
     first_longest + (((a * byte_values + b) * byte_values + c) * byte_values + d)
 length_said nibble (a ∷ b ∷ c ∷ d ∷ e ∷ more) = nibble
 
--- A message with this fault, or with none.
+-- Returns the verdict on a message with this fault, or with none.
 abbrev pub verdict_by : Option StreamBad → Judged
 verdict_by None = judged.Whole
 verdict_by (Some why) = judged.Bad why
 
--- Octets behind the lengths: the code, a token of this length, and the tail.
+-- Judges the octets after the lengths: the code, a token of this length, and the tail.
 abbrev pub judge_body : Bool → ℕ → List ℕ → Judged
 judge_body is_first token [] = judged.More
 judge_body is_first token (c ∷ octets) = verdict_by (message_fault is_first c (drop token octets))
 
--- Octets behind the first one, of which so many extend its nibble, with the lengths of the token
--- and of the tail.
+-- Judges the octets after the first one. `extension` of them extend its nibble; `token` and `size`
+-- are the lengths of the token and of the tail.
 abbrev pub judge_lengths : Bool → ℕ → ℕ → ℕ → List ℕ → Judged
 judge_lengths is_first extension token size octets =
     if nat_lt longest_token token then judged.Bad bad.Format
@@ -75,20 +75,20 @@ judge_lengths is_first extension token size octets =
     else if nat_lt (length octets) (extension + token + size + 1) then judged.More
     else judge_body is_first token (drop extension octets)
 
--- Octets behind the first one, with its nibbles.
+-- Judges the octets after the first one, by its nibbles.
 abbrev pub judge_after : Bool → ℕ → ℕ → List ℕ → Judged
 judge_after is_first nibble token octets =
     if nat_lt (length octets) (extension_size nibble) then judged.More
     else judge_lengths is_first (extension_size nibble) token
     (length_said nibble (take (extension_size nibble) octets)) octets
 
--- Octets, none of whose proper fronts is a message or a bad one (`FrontsMore`): less than a
--- message, a message, or a bad one.
+-- Judges octets none of whose proper prefixes is a message or a bad one (`FrontsMore`): they are
+-- less than a message, a message, or a bad one.
 unfoldable pub judge : Bool → List ℕ → Judged
 judge is_first [] = judged.More
 judge is_first (b ∷ octets) = judge_after is_first (b / 16) (b % 16) octets
 
--- No proper front of octets is a message or a bad one.
+-- States that no proper prefix of the octets is a message or a bad one.
 abbrev pub FrontsMore : Bool → List ℕ → Type 0
 FrontsMore is_first octets =
     (front more : List ℕ)

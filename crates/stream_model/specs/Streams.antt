@@ -1,4 +1,4 @@
--- The messages of a stream (RFC 8323 sections 3.2 and 3.3): as a relation, and as they come octet
+-- The messages of a stream (RFC 8323 sections 3.2 and 3.3): as a relation, and as they arrive octet
 -- by octet.
 use Rattle.std.specs.Prelude.{
   ◌≡◌,
@@ -23,8 +23,8 @@ use Rattle.stream_model.specs.Messages.{StreamMessage, IsStreamMessage, stream_s
 use Rattle.stream_model.specs.Faults.{fault_of, known_octets}
 use Rattle.stream_model.specs.Judging.{judge}
 
--- What octets give: their messages, each as its octets; why the message behind them is bad, if it
--- is; and else what has come of it.
+-- What octets contain: their messages, each as its octets; then the reason why the next message is
+-- bad, or the octets of it that have arrived.
 pub record Stream : Type 0 where
   pub messages : List (List ℕ)
   pub fault : Option StreamBad
@@ -32,21 +32,21 @@ pub record Stream : Type 0 where
 
 -- ---- as a relation
 
--- Octets are a message that is not bad; `is_first` says that it is the first of its stream.
+-- The octets of a message that is not bad; `is_first` says that it is the first of its stream.
 pub record IsGood (is_first : Bool) (octets : List ℕ) : Type 0 where
   pub message : StreamMessage
   pub fits : IsStreamMessage message
   pub good : fault_of is_first message ≡ None
   pub spelled : stream_spelling message ≡ octets
 
--- Octets are a message up to where it is known that it is bad, for this reason.
+-- The octets that decide that a message is bad, for this reason.
 pub record IsBad (is_first : Bool) (why : StreamBad) (octets : List ℕ) : Type 0 where
   pub message : StreamMessage
   pub fits : IsStreamMessage message
   pub fault : fault_of is_first message ≡ Some why
   pub known : known_octets message ≡ octets
 
--- Octets are a proper front of a message, by which it is not known yet whether it is bad.
+-- A proper prefix of the octets that decide whether a message is bad.
 pub record IsFront (octets : List ℕ) : Type 0 where
   pub message : StreamMessage
   pub fits : IsStreamMessage message
@@ -54,19 +54,19 @@ pub record IsFront (octets : List ℕ) : Type 0 where
   pub some : 0 < length more
   pub known : octets ++ more ≡ known_octets message
 
--- Octets begin with a bad message, whatever follows it.
+-- Octets that begin with a bad message, whatever follows it.
 pub record BeginsBad (is_first : Bool) (why : StreamBad) (octets : List ℕ) : Type 0 where
   pub bad : List ℕ
   pub more : List ℕ
   pub split : octets ≡ bad ++ more
   pub is_bad : IsBad is_first why bad
 
--- What stands behind the last good message: a front of one, or a bad one.
+-- States what follows the last good message: a prefix of one, or a bad one.
 abbrev pub IsEnd : Bool → Option StreamBad → List ℕ → List ℕ → Type 0
 IsEnd is_first None rest octets = (rest ≡ octets) × IsFront octets
 IsEnd is_first (Some why) rest octets = (rest ≡ []) × BeginsBad is_first why octets
 
--- Octets are these messages, one after the other, and this end.
+-- States that the octets are these messages, one after the other, and this end.
 abbrev pub AreMessages : Bool → List (List ℕ) → Option StreamBad → List ℕ → List ℕ
     → Type 0
 AreMessages is_first [] fault rest octets = IsEnd is_first fault rest octets
@@ -75,38 +75,38 @@ AreMessages is_first (message ∷ messages) fault rest octets =
     × (more : List ℕ) × (octets ≡ message ++ more)
     × AreMessages false messages fault rest more
 
--- The octets of a connection give this stream.
+-- States that the octets of a connection are this stream.
 abbrev pub IsStream : List ℕ → Stream → Type 0
 IsStream octets s = AreMessages true s.messages s.fault s.rest octets
 
 -- ---- octet by octet
 
--- No message is whole yet.
+-- Returns the stream of octets that are no whole message yet.
 abbrev pub partial : List ℕ → Stream
 partial rest = record { messages = []; fault = None; rest = rest }
 
--- The next message is bad.
+-- Returns the stream of octets whose next message is bad.
 abbrev pub broken : StreamBad → Stream
 broken why = record { messages = []; fault = Some why; rest = [] }
 
--- One message before others.
+-- Returns a stream with one more message before its others.
 abbrev pub with_message : List ℕ → Stream → Stream
 with_message message s = record s { messages = message ∷ s.messages }
 
--- What more octets give, by what those before them are: the same message goes on, or the next one
--- begins.
+-- Returns the stream of further octets, by the verdict on those before them: the same message
+-- continues, or the next one begins.
 abbrev pub stream_by : Judged → List ℕ → Stream → Stream → Stream
 stream_by judged.More pending same next = same
 stream_by judged.Whole pending same next = with_message pending next
 stream_by (judged.Bad why) pending same next = broken why
 
--- What more octets give behind those that are no whole message yet.
+-- Returns the stream of further octets, after those that are no whole message yet.
 unfoldable pub stream_from : Bool → List ℕ → List ℕ → Stream
 stream_from is_first pending [] = partial pending
 stream_from is_first pending (b ∷ octets) =
     stream_by (judge is_first (pending ++ b ∷ [])) (pending ++ b ∷ [])
     (stream_from is_first (pending ++ b ∷ []) octets) (stream_from false [] octets)
 
--- What the octets of a connection give.
+-- Returns the stream that the octets of a connection are, octet by octet.
 abbrev pub stream_of : List ℕ → Stream
 stream_of octets = stream_from true [] octets

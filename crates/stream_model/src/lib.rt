@@ -1,5 +1,5 @@
-//! What the octets of a CoAP stream mean (RFC 8323): plain types here, and in specs/ the
-//! definitions that contracts cite.
+//! The meaning of the octets of a CoAP stream (RFC 8323): plain types here, and the definitions
+//! that contracts cite in `specs/`.
 #![tactic(auto)]
 
 mod messages;

@@ -1,7 +1,8 @@
-//! The codes of signals (RFC 8323 section 5): three bits of class, which is 7, and five of detail
-//! (RFC 7252 section 3).
+//! The codes of signals (RFC 8323 section 5).
+//!
+//! A code has three bits of class, which is 7 for signals, and five of detail (RFC 7252 section 3).
 
-/// The capabilities and settings of a peer, 7.01 (RFC 8323 section 5.3).
+/// CSM, the capabilities and settings of a peer, 7.01 (RFC 8323 section 5.3).
 pub const CSM: u8 = (7 << 5) | 1;
 
 /// Ping, 7.02 (RFC 8323 section 5.4).

@@ -17,7 +17,7 @@ pub record Shown : Type 0 where
   pub options : List Opt
   pub payload : List ℕ
 
--- What a frame shows.
+-- Returns what a frame shows.
 abbrev pub frame_shown : Frame → Shown
 frame_shown f = record {
   code = f.code;
@@ -26,7 +26,7 @@ frame_shown f = record {
   payload = f.payload.now;
 }
 
--- What a code, a token and a tail show.
+-- Returns what a code, a token and a tail show.
 abbrev pub shown_by : ℕ → List ℕ → Tail → Shown
 shown_by code token tail = record {
   code = code;
@@ -35,22 +35,23 @@ shown_by code token tail = record {
   payload = tail.1;
 }
 
--- What octets behind the lengths show, with a token of this length.
+-- Returns what octets after the lengths show, with a token of this length.
 abbrev pub shown_body : ℕ → List ℕ → Option Shown
 shown_body token [] = None
 shown_body token (code ∷ bytes) =
     option_map (shown_by code (take token bytes)) (tail_at 0 (drop token bytes))
 
--- What the octets of a message show.
+-- Returns what the octets of a message show.
 unfoldable pub shown_in : List ℕ → Option Shown
 shown_in [] = None
 shown_in (b ∷ octets) = shown_body (b % 16) (drop (extension_size (b / 16)) octets)
 
+-- Returns what octets show, by the verdict on them: only a message shows anything.
 abbrev pub message_by : Judged → List ℕ → Option Shown
 message_by judged.Whole octets = shown_in octets
 message_by judged.More octets = None
 message_by (judged.Bad why) octets = None
 
--- The message that is whole, where one is.
+-- Returns the message that is complete, if one is.
 abbrev pub message_of : Held → Option Shown
 message_of h = message_by (held_as h) h.pending

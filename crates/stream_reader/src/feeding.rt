@@ -1,15 +1,15 @@
-//! What a piece of a stream gives.
+//! The result of a piece of a stream.
 
 use stream_model::StreamBad;
 
-/// What a piece of a stream gave, and how many of its octets were taken.
+/// The result of a piece of a stream: what its octets complete, and how many were taken.
 #[derive(Clone, Copy, Debug, PartialEq, Eq)]
 pub enum Fed {
-    /// All of it was taken, and the message is not whole yet.
+    /// All octets were taken, and no message is complete yet.
     More,
-    /// So many octets were taken, with the last of which a message is whole.
+    /// This many octets were taken, the last of which completes a message.
     Whole(usize),
-    /// So many octets were taken, with the last of which it is known that a message is bad. A
-    /// reader that found one takes nothing any more.
+    /// This many octets were taken, the last of which shows that a message is bad. From then on the
+    /// reader takes nothing.
     Bad(usize, StreamBad),
 }

@@ -11,17 +11,17 @@ use coap_message::tail_at;
 /// A message of a stream (RFC 8323 section 3.2).
 #[derive(Clone, Copy, Debug)]
 pub struct Frame<'a> {
-    /// Its code: three bits of class, five of detail.
+    /// The code: three bits of class, five of detail.
     pub code: u8,
-    /// Its token, of at most 8 octets.
+    /// The token, of at most 8 octets.
     pub token: &'a [u8],
-    /// Its options as they are spelled; `options_in` of `coap_message` gives them one by one.
+    /// The options as they are spelled; `options_in` of `coap_message` returns them one by one.
     pub options: &'a [u8],
-    /// Its payload, empty where there is none.
+    /// The payload, which may be empty.
     pub payload: &'a [u8],
 }
 
-/// The frame in octets behind the lengths, with a token of this length.
+/// Returns the frame in the octets after the lengths, with a token of this length.
 fn frame_behind(token: usize, octets: &[u8]) -> Option<Frame<'_>>
     ensures shown { option_map frame_shown result ≡ shown.shown_body token octets.now }
     ensures options { IfSome result (λ f. AreOptionsAlone f.options.now) }
@@ -39,7 +39,7 @@ fn frame_behind(token: usize, octets: &[u8]) -> Option<Frame<'_>>
     })
 }
 
-/// The frame in the octets of a message (RFC 8323 section 3.2).
+/// Returns the frame in the octets of a message (RFC 8323 section 3.2).
 #[tactic(auto, unfolding(crate::specs::Shown::shown_in))]
 pub(crate) fn frame_in(octets: &[u8]) -> Option<Frame<'_>>
     ensures shown { option_map frame_shown result ≡ shown.shown_in octets.now }

@@ -1,4 +1,4 @@
-//! What octets are that may become a message.
+//! The verdict on octets that may become a message.
 ghost use Rattle.std.specs.Prelude.{◌≡◌, ◌<◌, ◌≤◌, ◌+◌, ◌^◌, length};
 ghost use Rattle.stream_model.specs.Judging as judging;
 
@@ -8,7 +8,7 @@ use stream_model::{
     FIRST_EXTENDED, FIRST_LONG, FIRST_LONGEST, Judged, MAX_STREAM_MESSAGE, StreamBad,
 };
 
-/// How many octets extend a nibble (RFC 8323 section 3.2).
+/// Returns how many octets extend a nibble (RFC 8323 section 3.2).
 #[tactic(auto, unfolding(stream_model::specs::Judging::extension_size))]
 pub(crate) fn extension_size(nibble: u8) -> usize
     ensures value { result ≡ judging.extension_size nibble }
@@ -26,7 +26,7 @@ pub(crate) fn extension_size(nibble: u8) -> usize
     4
 }
 
-/// The length that a nibble and what extends it say (RFC 8323 section 3.2).
+/// Returns the length that a nibble and the octets that extend it encode (RFC 8323 section 3.2).
 #[tactic(auto, unfolding(stream_model::specs::Judging::length_said))]
 pub(crate) fn length_said(nibble: u8, extension: &[u8]) -> usize
     ensures value { result ≡ judging.length_said nibble extension.now }
@@ -46,7 +46,7 @@ pub(crate) fn length_said(nibble: u8, extension: &[u8]) -> usize
     }
 }
 
-/// What octets behind the lengths are: the code, the token and the tail.
+/// Judges the octets after the lengths: the code, the token and the tail.
 fn judge_body(is_first: bool, token: usize, octets: &[u8]) -> Judged
     requires { token < length octets.now }
     ensures { result ≡ judging.judge_body is_first token octets.now }
@@ -60,7 +60,7 @@ fn judge_body(is_first: bool, token: usize, octets: &[u8]) -> Judged
     }
 }
 
-/// What octets behind the first one are, with what the lengths say.
+/// Judges the octets after the first one, by the lengths.
 fn judge_lengths(
     is_first: bool,
     extension: usize,
@@ -86,7 +86,7 @@ fn judge_lengths(
     judge_body(is_first, token, &octets[extension..])
 }
 
-/// What octets behind the first one are.
+/// Judges the octets after the first one, by its nibbles.
 fn judge_after(is_first: bool, nibble: u8, token: u8, octets: &[u8]) -> Judged
     requires { token < 16 }
     ensures { result ≡ judging.judge_after is_first nibble token octets.now }
@@ -99,7 +99,7 @@ fn judge_after(is_first: bool, nibble: u8, token: u8, octets: &[u8]) -> Judged
     judge_lengths(is_first, extension, token as usize, size, octets)
 }
 
-/// What octets are, of which no proper front is a message or a bad one (RFC 8323 section 3.2).
+/// Judges octets none of whose proper prefixes is a message or a bad one (RFC 8323 section 3.2).
 #[tactic(auto, unfolding(stream_model::specs::Judging::judge))]
 pub(crate) fn judge(is_first: bool, octets: &[u8]) -> Judged
     ensures { result ≡ judging.judge is_first octets.now }

@@ -1,4 +1,4 @@
-//! CoAP over streams (RFC 8323): the messages of a stream that comes in any pieces.
+//! CoAP over streams (RFC 8323): the messages of a stream, however it is cut.
 #![tactic(auto)]
 
 mod feeding;

@@ -1,4 +1,4 @@
-//! A reader of streams that come in any pieces.
+//! A reader of streams that arrive in any pieces.
 ghost use Rattle.std.specs.Prelude.{◌≡◌, ◌<◌, ◌≤◌, ◌+◌, ℕ, List};
 ghost use Rattle.std.specs.Prelude.{[], ◌∷◌, ◌++◌, length, take, IfSome};
 ghost use Rattle.std.specs.Option.{option_map};
@@ -19,18 +19,19 @@ use crate::{Fed, Frame};
 use std::marker::Model;
 use stream_model::{Judged, MAX_STREAM_MESSAGE};
 
-/// A reader of the messages of a stream (RFC 8323 sections 3.2 and 3.3). It holds one message at a
-/// time, of at most 1,152 octets, and takes no memory.
+/// A reader of the messages of a stream (RFC 8323 sections 3.2 and 3.3).
+///
+/// It holds one message at a time, of at most 1,152 octets, and does not allocate.
 #[derive(Drop)]
 pub struct StreamReader {
     octets: [u8; MAX_STREAM_MESSAGE],
-    /// How many of them are held.
+    /// The number of octets that are held.
     length: usize,
-    /// How many they are when they are to be judged again.
+    /// The number of octets at which they are to be judged again.
     wanted: usize,
     /// Whether no message came before them.
     is_first: bool,
-    /// What they are.
+    /// The verdict on them.
     judged: Judged,
 }
 
@@ -49,7 +50,7 @@ impl Model for StreamReader {
         × (r.wanted ≡ wanted_by r.judged (take r.length r.octets)) };
 }
 
-/// Puts octets behind those that are held.
+/// Puts octets after those that are held.
 fn put_octets(octets: &mut [u8], at: usize, piece: &[u8])
     requires { at + length piece.now ≤ length octets.old }
     ensures { take (at + length piece.now) octets.new ≡ take at octets.old ++ piece.now }
@@ -57,7 +58,7 @@ fn put_octets(octets: &mut [u8], at: usize, piece: &[u8])
     octets[at..at + piece.len()].copy_from_slice(piece);
 }
 
-/// Octets are bytes, which contracts know of a slice that is passed.
+/// Shows to contracts that octets are below 256, which they know of a slice that is passed.
 fn tell_bytes(octets: &[u8])
     ensures { AreBytes octets.now }
 {
@@ -65,7 +66,7 @@ fn tell_bytes(octets: &[u8])
 }
 
 impl StreamReader {
-    /// A reader at the beginning of a stream.
+    /// Creates a reader at the beginning of a stream.
     #[rattlefmt::skip]
     #[tactic(
         auto,
@@ -83,7 +84,7 @@ impl StreamReader {
         }
     }
 
-    /// What the octets are that are held.
+    /// Returns the verdict on the octets that are held.
     fn judged(&self) -> Judged
         ensures verdict { result ≡ reading.held_as self.now }
         ensures bytes { AreBytes self.now.pending }
@@ -92,7 +93,7 @@ impl StreamReader {
         self.judged
     }
 
-    /// Goes on to the message behind one that is whole.
+    /// Continues with the message after one that is complete.
     #[rattlefmt::skip]
     #[tactic(
         auto,
@@ -107,7 +108,7 @@ impl StreamReader {
         self.judged = Judged::More;
     }
 
-    /// The message that the last piece made whole. None exactly where it made none whole.
+    /// Returns the message that the last piece completed, or `None` if it completed none.
     pub fn message(&self) -> Option<Frame<'_>>
         ensures shown { option_map frame_shown result ≡ shown.message_of self.now }
         ensures options { IfSome result (λ f. AreOptionsAlone f.options.now) }
@@ -118,7 +119,7 @@ impl StreamReader {
         frame_in(&self.octets[..self.length])
     }
 
-    /// Takes these octets, and judges what is held then.
+    /// Takes these octets, and judges what is then held.
     fn take(&mut self, octets: &[u8])
         requires { length self.old.pending + length octets.now ≤ 1152 }
         ensures { self.new ≡ reading.with_octets self.old octets.now }
@@ -139,7 +140,7 @@ impl StreamReader {
         self.length += octets.len();
     }
 
-    /// Takes octets up to where they are to be judged, and gives their number.
+    /// Takes octets up to where they are to be judged, and returns their number.
     fn advance(&mut self, piece: &[u8]) -> usize
         requires more { reading.held_as self.old ≡ judged_as.More }
         requires piece { 0 < length piece.now }
@@ -162,7 +163,7 @@ impl StreamReader {
         missing
     }
 
-    /// Takes octets up to where a message is whole or bad.
+    /// Takes octets up to where a message is complete or bad.
     fn take_all(&mut self, piece: &[u8]) -> Fed
         requires { reading.held_as self.old ≡ judged_as.More }
         ensures { IsReached self.old piece.now result self.new }
@@ -179,8 +180,10 @@ impl StreamReader {
         Fed::More
     }
 
-    /// Takes the next piece of the stream, up to where a message is whole or bad: with those held
-    /// before, the octets that were taken are a front of a message, a message or a bad one.
+    /// Takes octets of the next piece of the stream, up to where a message is complete or bad.
+    ///
+    /// With the octets held before, the octets that were taken are a prefix of a message, a message
+    /// or a bad one. After a bad message nothing is taken.
     pub fn feed(&mut self, piece: &[u8]) -> Fed
         ensures taken { IsFed self.old piece.now result self.new }
         ensures within { IsWithin (length piece.now) result }

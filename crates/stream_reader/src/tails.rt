@@ -1,4 +1,4 @@
-//! What the code, the options and the payload of a message say of it.
+//! Faults of the code, the options and the payload of a message.
 ghost use Rattle.std.specs.Prelude.{◌≡◌};
 ghost use Rattle.message_model.specs.Reading.{tail_at};
 ghost use Rattle.coap_message.specs.OptionsLeft.{options_left};
@@ -8,7 +8,7 @@ use coap_message::{OptionsIter, options_in, tail_at};
 use stream_model::StreamBad;
 use stream_model::signals::{ABORT, CSM};
 
-/// Whether a critical option is left (RFC 7252 section 5.4.6).
+/// Returns whether a critical option is left (RFC 7252 section 5.4.6).
 fn has_critical(options: OptionsIter<'_>) -> bool
     ensures { result ≡ faults.has_critical (options_left options.entry) }
 {
@@ -21,15 +21,15 @@ fn has_critical(options: OptionsIter<'_>) -> bool
     false
 }
 
-/// Whether a code is that of a signal (RFC 8323 section 5).
+/// Returns whether a code is that of a signal (RFC 8323 section 5).
 fn is_signal(code: u8) -> bool
     ensures { result ≡ faults.is_signal code }
 {
     code / 32 == 7
 }
 
-/// Whether a code is of a reserved class (RFC 7252 section 3), or a signal that is not known (RFC
-/// 8323 section 5).
+/// Returns whether a code is of a reserved class (RFC 7252 section 3), or is that of an unknown
+/// signal (RFC 8323 section 5).
 fn is_other_code(code: u8) -> bool
     ensures { result ≡ faults.is_other_code code }
 {
@@ -43,7 +43,7 @@ fn is_other_code(code: u8) -> bool
     code == 0xe0 || ABORT < code
 }
 
-/// Why a whole message is bad, by its options and payload.
+/// Returns why the options and the payload make a whole message bad, if they do.
 fn tail_fault(code: u8, tail: &[u8]) -> Option<StreamBad>
     ensures { result ≡ faults.tail_fault code (tail_at 0 tail.now) }
 {
@@ -59,7 +59,7 @@ fn tail_fault(code: u8, tail: &[u8]) -> Option<StreamBad>
     None
 }
 
-/// Why a whole message is bad, the first reason first.
+/// Returns the first reason why a whole message is bad, if it is.
 #[tactic(auto, unfolding(stream_model::specs::Faults::message_fault))]
 pub(crate) fn message_fault(is_first: bool, code: u8, tail: &[u8]) -> Option<StreamBad>
     ensures { result ≡ faults.message_fault is_first code tail.now }

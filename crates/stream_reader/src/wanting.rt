@@ -1,4 +1,4 @@
-//! How many octets may be taken before a message has to be looked at again.
+//! How many octets may be taken before a message has to be judged again.
 ghost use Rattle.std.specs.Prelude.{◌≡◌, ◌<◌, ◌≤◌, ◌+◌};
 ghost use Rattle.std.specs.Prelude.{◌^◌, Bool, length, take};
 ghost use Rattle.stream_reader.specs.Wanting as wanting;
@@ -8,8 +8,8 @@ use crate::judging::{extension_size, length_said};
 use message_model::MAX_TOKEN;
 use stream_model::{Judged, MAX_STREAM_MESSAGE};
 
-/// How many octets a message has at least that begins with these octets: up to the end of its
-/// lengths, and then all (RFC 8323 section 3.2).
+/// Returns how many octets a message that begins with these octets has at least: up to the end of
+/// its lengths, and then all (RFC 8323 section 3.2).
 #[tactic(auto, unfolding(crate::specs::Wanting::wanted_of))]
 pub(crate) fn wanted_of(octets: &[u8]) -> usize
     ensures { result ≡ wanting.wanted_of octets.now }
@@ -25,7 +25,7 @@ pub(crate) fn wanted_of(octets: &[u8]) -> usize
     extension + (*first % 16) as usize + size + 2
 }
 
-/// How many octets are wanted of a message that was judged; none where it is whole or bad.
+/// Returns how many octets are wanted of a message that was judged: none if it is whole or bad.
 pub(crate) fn wanted_by(judged: Judged, octets: &[u8]) -> usize
     ensures { result ≡ wanting.wanted_by judged octets.now }
 {
@@ -36,7 +36,7 @@ pub(crate) fn wanted_by(judged: Judged, octets: &[u8]) -> usize
     }
 }
 
-/// Whether the token in octets that begin a message is no longer than a token may be.
+/// Returns whether the token in octets that begin a message is no longer than a token may be.
 fn has_short_token(octets: &[u8]) -> bool
     ensures { result ≡ wanting.has_short_token octets.now }
 {
@@ -46,8 +46,8 @@ fn has_short_token(octets: &[u8]) -> bool
     (*first % 16) as usize <= MAX_TOKEN
 }
 
-/// How many octets of a piece with which a message begins may be taken at once: all of the message
-/// where they are there, and else the first.
+/// Returns how many octets of a piece that begins a message may be taken at once. These are all of
+/// the message if they are there, and otherwise the first.
 pub(crate) fn leap(piece: &[u8]) -> usize
     requires { 0 < length piece.now }
     ensures some { 0 < result }

@@ -7,7 +7,7 @@ use std::alloc::Global;
 use std::test::Fail;
 use udp_link::Arrivals;
 
-/// A door of two connections, of which the second only opens.
+/// Returns a door with two connections. The second opens and sends nothing.
 fn two_connections(alloc: Global) -> Result<MemAccept, Starved> {
     let mut streams = Arrivals::new(alloc);
     streams.push(CLIENT, Bytes::copy_of(alloc, DISCOVERY)?)?;

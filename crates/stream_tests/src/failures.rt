@@ -1,4 +1,4 @@
-//! Conversations whose readings and writings fail where that is planned.
+//! Conversations whose reads and writes fail as planned.
 ghost use Rattle.std.specs.Prelude.{◌≡◌, IfOk};
 
 use crate::connections::{CLIENT, DISCOVERED, DISCOVERY, clock_of, sink_of};
@@ -8,7 +8,7 @@ use rd_seat::{Hall, OpenGate, Seat};
 use std::sync::Wait;
 use std::test::Fail;
 
-/// A new hall, and its seat.
+/// Makes a new hall and its seat.
 fn new_hall<R: Wait + AllocGlobal>(rt: &R) -> Result<(Hall, Seat), Starved>
     ensures { IfOk result (λ made. made.1.hall ≡ made.0) }
 {
@@ -19,7 +19,7 @@ fn new_hall<R: Wait + AllocGlobal>(rt: &R) -> Result<(Hall, Seat), Starved>
     Ok((hall, seat))
 }
 
-/// The discovery over a connection of which the readings and the writings of these numbers fail.
+/// Requests the discovery over a connection whose reads with these numbers fail, into `out`.
 fn talked<R: Wait + AllocGlobal>(
     rt: &R,
     fail_read: &[u8],

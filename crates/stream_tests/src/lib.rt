@@ -1,4 +1,4 @@
-//! Tests of connections: in memory, with ends that fail where that is planned, and over TCP.
+//! Tests of connections: in memory, with ends that fail as planned, and over TCP.
 #![tactic(auto)]
 
 #[cfg(test)]

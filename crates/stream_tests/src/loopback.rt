@@ -10,7 +10,8 @@ use std::time::Duration;
 use std::{io, thread};
 use udp_link::UdpClock;
 
-/// Asks, says that nothing more comes, and reads to the end: whether it is answered as it is to be.
+/// Sends the request, closes the writing side, and reads to the end. Returns whether the answer is
+/// the expected one.
 fn asks(alloc: Global, client: TcpStream) -> io::Result<bool> {
     let mut client = client;
     let mut came = Vec::new(alloc);

@@ -1,4 +1,4 @@
-//! What a reader gives of octets, however they are cut.
+//! The results of a reader of streams, however the octets are cut.
 
 use crate::frames::{bad_name, put_message};
 use rd_base::Starved;
@@ -6,8 +6,8 @@ use std::alloc::Global;
 use stream_reader::{Fed, StreamReader};
 use vector_words::{NoAnswer, datagram_of};
 
-/// Feeds a piece until it is taken, and writes each message. It gives what the last feed gave;
-/// nothing where none was needed.
+/// Feeds a piece until all of it is taken, and writes each message. Returns the result of the last
+/// feed, or `None` if no feed was needed.
 fn put_messages(
     page: &mut String,
     reader: &mut StreamReader,
@@ -33,8 +33,7 @@ fn put_messages(
     Ok(last)
 }
 
-/// Writes how a stream ends whose last feed gave this: within a message, between two, or with a
-/// bad one.
+/// Writes how a stream ends after its last feed: within a message, between two, or with a bad one.
 fn put_end(page: &mut String, last: Option<Fed>) -> Result<(), Starved> {
     match last {
         None => page.push_str("nothing")?,
@@ -48,7 +47,7 @@ fn put_end(page: &mut String, last: Option<Fed>) -> Result<(), Starved> {
     Ok(())
 }
 
-/// The messages and the end of octets in two pieces.
+/// Returns the messages and the end of octets in two pieces.
 fn in_two(alloc: Global, octets: &[u8], at: usize) -> Result<String, Starved> {
     let mut page = String::new(alloc);
     let mut reader = StreamReader::new();
@@ -59,7 +58,7 @@ fn in_two(alloc: Global, octets: &[u8], at: usize) -> Result<String, Starved> {
     Ok(page)
 }
 
-/// The messages and the end of octets that come one by one.
+/// Returns the messages and the end of octets that are fed one by one.
 fn one_by_one(alloc: Global, octets: &[u8]) -> Result<String, Starved> {
     let mut page = String::new(alloc);
     let mut reader = StreamReader::new();
@@ -71,7 +70,7 @@ fn one_by_one(alloc: Global, octets: &[u8]) -> Result<String, Starved> {
     Ok(page)
 }
 
-/// The first offset at which octets can be cut so that they give another text.
+/// Returns the first offset at which octets can be cut so that the text differs.
 fn first_other(alloc: Global, octets: &[u8], whole: &str) -> Result<Option<usize>, Starved> {
     'cuts: for at in 0..octets.len() {
         if in_two(alloc, octets, at)?.as_str() != whole {
@@ -81,8 +80,8 @@ fn first_other(alloc: Global, octets: &[u8], whole: &str) -> Result<Option<usize
     Ok(None)
 }
 
-/// `cuts HEX`: the messages and the end of octets, and whether they are the same at every cutting
-/// into two and into single octets.
+/// Answers `cuts HEX`: the messages and the end of octets, if they are the same for each cutting
+/// into two and for single octets, or else the first difference.
 pub(crate) fn cuts(alloc: Global, said: &str) -> Result<String, NoAnswer> {
     let octets = datagram_of(alloc, said)?;
     let whole = in_two(alloc, octets.as_slice(), octets.len())?;

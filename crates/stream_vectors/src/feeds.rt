@@ -1,4 +1,4 @@
-//! What a reader gives of pieces, feed by feed.
+//! The results of a reader of streams, feed by feed.
 
 use crate::frames::{bad_name, put_message};
 use rd_base::Starved;
@@ -6,13 +6,13 @@ use std::alloc::Global;
 use stream_reader::{Fed, StreamReader};
 use vector_words::{NoAnswer, datagram_of};
 
-/// Writes that a message is whole with so many octets.
+/// Writes that a message is complete after this number of octets.
 fn put_whole(page: &mut String, count: usize, reader: &StreamReader) -> Result<(), Starved> {
     write!(page, "whole {count}: ")?;
     put_message(page, reader)
 }
 
-/// Writes that nothing more came of a piece, and whether a message is there after all.
+/// Writes the result of the last feed of a piece, and whether there is a message all the same.
 fn put_last(page: &mut String, word: &str, reader: &StreamReader) -> Result<(), Starved> {
     page.push_str(word)?;
     if reader.message().is_some() {
@@ -21,7 +21,7 @@ fn put_last(page: &mut String, word: &str, reader: &StreamReader) -> Result<(), 
     Ok(())
 }
 
-/// Feeds a piece until it is taken, and writes what each feed gives.
+/// Feeds a piece until all of it is taken, and writes the result of each feed.
 fn put_feeds(page: &mut String, reader: &mut StreamReader, piece: &[u8]) -> Result<(), Starved> {
     let mut rest = piece;
     'feeds: for _ in 0..=piece.len() {
@@ -45,7 +45,7 @@ fn put_feeds(page: &mut String, reader: &mut StreamReader, piece: &[u8]) -> Resu
     Ok(())
 }
 
-/// `feed HEX ..`: what each piece gives, one after the other.
+/// Answers `feed HEX ..`: the results of the pieces, one after the other.
 pub(crate) fn feed(alloc: Global, said: &str) -> Result<String, NoAnswer> {
     let mut page = String::new(alloc);
     let mut reader = StreamReader::new();

@@ -1,11 +1,11 @@
-//! How messages of a stream are written.
+//! Messages of a stream as text.
 
 use coap_message::options_in;
 use rd_base::Starved;
 use stream_reader::{Frame, StreamBad, StreamReader};
 use vector_words::{put_datagram, put_octets};
 
-/// The word for why a message is bad.
+/// Returns the name of the reason why a message is bad.
 pub(crate) fn bad_name(why: StreamBad) -> &'static str {
     match why {
         StreamBad::Format => "format",
@@ -35,7 +35,7 @@ fn put_frame(page: &mut String, frame: &Frame<'_>) -> Result<(), Starved> {
     put_octets(page, frame.payload)
 }
 
-/// Writes the message that is whole, or that none is.
+/// Writes the complete message, or that there is none.
 pub(crate) fn put_message(page: &mut String, reader: &StreamReader) -> Result<(), Starved> {
     match reader.message() {
         Some(frame) => put_frame(page, &frame),

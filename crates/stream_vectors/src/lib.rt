@@ -1,4 +1,4 @@
-//! What a reader of streams gives of octets, cut as a line says, line by line.
+//! The results of a reader of streams for octets that are cut as a line says, line by line.
 #![tactic(auto)]
 
 mod cuttings;
@@ -10,8 +10,11 @@ use feeds::feed;
 use std::alloc::Global;
 use vector_words::NoAnswer;
 
-/// What a call answers to what it is given; nothing where it is none of these. `Form`: what it is
-/// given has not the form of the call. `Starved`: out of memory.
+/// Returns the answer of a call to its arguments, or `None` if it is not one of these calls.
+///
+/// # Errors
+///
+/// `Form` if the arguments do not have the form of the call; `Starved` if memory runs out.
 pub fn answer(alloc: Global, call: &str, said: &str) -> Result<Option<String>, NoAnswer> {
     let answer = match call {
         "feed" => feed(alloc, said)?,

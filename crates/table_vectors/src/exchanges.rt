@@ -1,4 +1,4 @@
-//! Scripts on tables of exchanges, and the octets that they keep.
+//! Scripts on tables of exchanges, and the octets that they store.
 ghost use Rattle.std.specs.Prelude.{◌≡◌, ◌≤◌, IfOk};
 
 use crate::words::put_numbers;
@@ -7,8 +7,8 @@ use rd_base::{Moment, Peer, Starved, peer_read};
 use std::alloc::Global;
 use vector_words::{NoAnswer, cut, datagram_of, number_of, put_datagram, yes_or_no};
 
-/// The octets of a word, kept in a room for so many. `Form`: it is no word of octets, or they
-/// have no room. `Starved`: out of memory.
+/// Returns the octets of an argument, stored in a room of `N` octets. Returns `Form` if the
+/// argument is not octets, or they do not fit.
 fn kept<const N: usize>(alloc: Global, word: &str) -> Result<Octets<N>, NoAnswer> {
     let octets = datagram_of(alloc, word)?;
     if octets.len() > N {
@@ -17,8 +17,8 @@ fn kept<const N: usize>(alloc: Global, word: &str) -> Result<Octets<N>, NoAnswer
     Ok(Octets::of(octets.as_slice()))
 }
 
-/// Writes a copy of a token, or of two whether they are the same. `Form`: it is neither.
-/// `Starved`: out of memory.
+/// Writes a copy of a token, or of two tokens whether they are the same. Returns `Form` if the
+/// argument is neither.
 pub(crate) fn put_token(page: &mut String, alloc: Global, said: &str) -> Result<(), NoAnswer> {
     let (first, second) = cut(said);
     let first: Token = kept(alloc, first)?;
@@ -31,8 +31,8 @@ pub(crate) fn put_token(page: &mut String, alloc: Global, said: &str) -> Result<
     Ok(())
 }
 
-/// Writes a copy of an answer, or of two whether they are the same. `Form`: it is neither.
-/// `Starved`: out of memory.
+/// Writes a copy of an answer, or of two answers whether they are the same. Returns `Form` if the
+/// argument is neither.
 pub(crate) fn put_reply(page: &mut String, alloc: Global, said: &str) -> Result<(), NoAnswer> {
     let (first, second) = cut(said);
     let first: Reply = kept(alloc, first)?;
@@ -45,10 +45,10 @@ pub(crate) fn put_reply(page: &mut String, alloc: Global, said: &str) -> Result<
     Ok(())
 }
 
-/// A table of exchanges, and the last moment that a line named for it.
+/// A table of exchanges, and the last moment that a line gave for it.
 #[derive(Drop)]
 pub(crate) struct Writes {
-    /// Where memory comes from.
+    /// The allocator of its memory.
     alloc: Global,
     /// The table.
     table: Exchanges,
@@ -57,18 +57,18 @@ pub(crate) struct Writes {
     ghost in_order: { table.moment ≤ now.0 },
 }
 
-/// A write: its moment, who writes, and its Message ID.
+/// A write: its moment, its sender, and its Message ID.
 #[derive(Clone, Copy)]
 struct Write {
     /// The moment.
     moment: Moment,
-    /// Who writes.
+    /// The sender.
     peer: Peer,
     /// The Message ID.
     mid: u16,
 }
 
-/// The write that is said, and what is said after it.
+/// Returns the write at the beginning of a text, and the rest.
 fn write_of(said: &str) -> Result<(Write, &str), NoAnswer> {
     let (moment, said) = cut(said);
     let (peer, said) = cut(said);
@@ -96,7 +96,7 @@ fn put_keyed(page: &mut String, keyed: &Keyed) -> Result<(), Starved> {
 }
 
 impl Writes {
-    /// No exchanges. `Starved`: out of memory.
+    /// Creates an empty table of exchanges.
     pub(crate) fn new(alloc: Global) -> Result<Writes, Starved> {
         Ok(Writes {
             alloc,
@@ -105,7 +105,7 @@ impl Writes {
         })
     }
 
-    /// Goes on to a moment. `Form`: it is before the last one.
+    /// Moves to a moment. Returns `Form` if it is before the last one.
     fn go_on(&mut self, moment: Moment) -> Result<(), NoAnswer>
         ensures { IfOk result (λ _. self.new.now ≡ moment) }
     {
@@ -125,7 +125,8 @@ impl Writes {
         Ok(())
     }
 
-    /// Admits writes under so many Message IDs from one on, and writes how many are new.
+    /// Admits writes with the Message IDs from one up to, but not including, another. Writes how
+    /// many are new.
     fn admit_many(&mut self, page: &mut String, said: &str) -> Result<(), NoAnswer> {
         let (write, count) = write_of(said)?;
         let end = number_of(count, 65_535)? as u16;
@@ -140,7 +141,7 @@ impl Writes {
         Ok(())
     }
 
-    /// Keeps the answer of a write.
+    /// Stores the answer of a write.
     fn settle(&mut self, said: &str) -> Result<(), NoAnswer> {
         let (write, reply) = write_of(said)?;
         let reply = kept(self.alloc, reply)?;
@@ -164,9 +165,8 @@ impl Writes {
         Ok(())
     }
 
-    /// Does what a line says, and writes the answer. `Form`: it says nothing that is done to a
-    /// table of exchanges, or names a moment for a new write that is before the last one.
-    /// `Starved`: out of memory.
+    /// Does what a line says, and writes the answer. Returns `Form` if the line is not a call on a
+    /// table of exchanges, or gives a moment for a new write that is before the last one.
     pub(crate) fn answer(&mut self, page: &mut String, said: &str) -> Result<(), NoAnswer> {
         let (verb, rest) = cut(said);
         match verb {

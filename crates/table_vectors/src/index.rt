@@ -14,7 +14,7 @@ use vector_words::{NoAnswer, cut, number_of, text_of};
 /// The versions of an index of attributes.
 pub(crate) type Indexes = Versions<AttributeIndex>;
 
-/// All numbers that a cursor tells.
+/// Returns all numbers of a cursor.
 fn told<L: Ledger>(
     blank: Blank,
     alloc: Global,
@@ -32,7 +32,7 @@ fn told<L: Ledger>(
     Ok(numbers)
 }
 
-/// The numbers of the carriers of a name and a pattern.
+/// Returns the numbers of the carriers of a name and a pattern.
 fn carriers_of(
     index: &AttributeIndex,
     alloc: Global,
@@ -43,7 +43,7 @@ fn carriers_of(
     told::<Brand>(Blank::new(1), alloc, carriers)
 }
 
-/// The attribute that is said: its name and its value, with `=` between them.
+/// Returns the attribute of a text: its name and its value, with `=` between them.
 fn pair_of(alloc: Global, said: &str) -> Result<Pair, NoAnswer> {
     let Some((name, value)) = said.split_once('=') else {
         return Err(NoAnswer::Form);
@@ -54,14 +54,15 @@ fn pair_of(alloc: Global, said: &str) -> Result<Pair, NoAnswer> {
     })
 }
 
-/// The numbers of the carriers of the name and the pattern that are said, with `=` between them.
+/// Returns the numbers of the carriers of the name and the pattern of a text, with `=` between
+/// them.
 fn asked(index: &AttributeIndex, alloc: Global, said: &str) -> Result<Vec<u64>, NoAnswer> {
     let Pair { name, value } = pair_of(alloc, said)?;
     Ok(carriers_of(index, alloc, name.as_str(), value.as_str())?)
 }
 
-/// Puts or takes an attribute of a record, and writes who carried its name before and who does
-/// then.
+/// Puts or takes an attribute of a record, and writes which records carried its name before and
+/// afterwards.
 fn change(
     index: &mut AttributeIndex,
     alloc: Global,
@@ -93,9 +94,9 @@ fn change(
     Ok(())
 }
 
-/// Puts or takes the attribute `ct` that a pseudo-random number draws, and tells the checksum of
-/// who carries its value then. Of three changes one is a take; a value is one of twenty from 10
-/// on, and the number of a record below 70.
+/// Puts or takes the attribute `ct` that a pseudo-random number gives. Returns the checksum of the
+/// records that then carry its value. One of three changes is a take. A value is one of twenty from
+/// 10 on, and the number of a record is less than 70.
 fn change_drawn(index: &mut AttributeIndex, alloc: Global, drawn: u64) -> Result<u64, Starved> {
     let value = u64::wrapping_add(10, (drawn >> 40) % 20);
     let number = (drawn >> 50) % 70;
@@ -112,7 +113,7 @@ fn change_drawn(index: &mut AttributeIndex, alloc: Global, drawn: u64) -> Result
     Ok(sum_of(numbers.as_slice()))
 }
 
-/// Puts and takes pseudo-random attributes, and tells the checksum of what came of each.
+/// Puts and takes pseudo-random attributes. Returns the checksum of the results.
 fn change_many(index: &mut AttributeIndex, alloc: Global, said: &str) -> Result<u64, NoAnswer> {
     let [count, seed] = numbers_of::<2>(said)?;
     let mut drawn = seed;
@@ -124,8 +125,8 @@ fn change_many(index: &mut AttributeIndex, alloc: Global, said: &str) -> Result<
     Ok(sum)
 }
 
-/// Does what a line says to an index, and writes the answer. `Form`: it says nothing that is
-/// done to one. `Starved`: out of memory.
+/// Does what a line says to an index, and writes the answer. Returns `Form` if the line is not a
+/// call on an index.
 pub(crate) fn answer(indexes: &mut Indexes, page: &mut String, said: &str) -> Result<(), NoAnswer> {
     let (verb, rest) = cut(said);
     if indexes.turn(verb, rest)? {

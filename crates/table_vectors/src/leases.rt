@@ -14,7 +14,7 @@ use vector_words::{NoAnswer, cut, number_of};
 /// The versions of a queue of leases.
 pub(crate) type Leases = Versions<LeaseQueue>;
 
-/// The numbers of the leases that have lapsed at a moment.
+/// Returns the numbers of the leases that have lapsed at a moment.
 fn lapsed_numbers<L: Ledger>(
     blank: Blank,
     alloc: Global,
@@ -34,7 +34,7 @@ fn lapsed_numbers<L: Ledger>(
     Ok(numbers)
 }
 
-/// What a sweep takes, and what it leaves.
+/// Returns what a sweep takes and what it leaves.
 fn swept<L: Ledger>(blank: Blank, queue: &LeaseQueue, now: Moment) -> Result<Swept, Starved>
     requires name { blank.name ≡ L.name }
     requires parts { blank.parts ≡ L.parts }
@@ -44,15 +44,15 @@ fn swept<L: Ledger>(blank: Blank, queue: &LeaseQueue, now: Moment) -> Result<Swe
     queue.sweep(now, &mut steps)
 }
 
-/// The numbers of the leases that have lapsed at the moment that is said.
+/// Returns the numbers of the leases that have lapsed at the moment in a text.
 fn lapsed_at(queue: &LeaseQueue, alloc: Global, said: &str) -> Result<Vec<u64>, NoAnswer> {
     let now = number_of(said, u64::MAX)?;
     let numbers = lapsed_numbers::<Brand>(Blank::new(1), alloc, queue, Moment(now))?;
     Ok(numbers)
 }
 
-/// Sweeps at the moment that is said, and goes on with what is left: the numbers of the leases
-/// that had lapsed.
+/// Sweeps at the moment in a text, and continues with what is left. Returns the numbers of the
+/// leases that had lapsed.
 fn sweep(queue: &mut LeaseQueue, said: &str) -> Result<Vec<u64>, NoAnswer> {
     let now = number_of(said, u64::MAX)?;
     let Swept {
@@ -63,7 +63,7 @@ fn sweep(queue: &mut LeaseQueue, said: &str) -> Result<Vec<u64>, NoAnswer> {
     Ok(numbers)
 }
 
-/// Puts or takes a lease, and writes how many leases there were before and are then.
+/// Puts or takes a lease, and writes how many leases there were before and afterwards.
 fn change(
     queue: &mut LeaseQueue,
     page: &mut String,
@@ -82,9 +82,9 @@ fn change(
     Ok(())
 }
 
-/// Puts and takes pseudo-random leases, and tells the checksum of how many have lapsed at moment
-/// 32 after each change. Of three changes one is a take; a lapse is below 64, and a number below
-/// 32.
+/// Puts and takes pseudo-random leases. Returns the checksum of how many have lapsed at moment 32
+/// after each change. One of three changes is a take. A lapse is less than 64, and a number less
+/// than 32.
 fn change_many(queue: &mut LeaseQueue, said: &str) -> Result<u64, NoAnswer> {
     let [count, seed] = numbers_of::<2>(said)?;
     let mut drawn = seed;
@@ -102,8 +102,8 @@ fn change_many(queue: &mut LeaseQueue, said: &str) -> Result<u64, NoAnswer> {
     Ok(sum)
 }
 
-/// Does what a line says to a queue of leases, and writes the answer. `Form`: it says nothing
-/// that is done to one. `Starved`: out of memory.
+/// Does what a line says to a queue of leases, and writes the answer. Returns `Form` if the line is
+/// not a call on such a queue.
 pub(crate) fn answer(leases: &mut Leases, page: &mut String, said: &str) -> Result<(), NoAnswer> {
     let (verb, rest) = cut(said);
     if leases.turn(verb, rest)? {

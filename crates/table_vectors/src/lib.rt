@@ -1,6 +1,6 @@
 //! Scripts of calls on the tables of the directory: maps, queues of leases, the index of
-//! attributes, exchanges and watched queries. A line of a script is the name of a table, what is
-//! done to it, and what for; a table stays from line to line.
+//! attributes, exchanges and watched queries. A line of a script is the name of a table, a call and
+//! its arguments. A table keeps its content from line to line.
 #![tactic(auto)]
 
 mod draws;

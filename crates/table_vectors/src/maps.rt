@@ -21,7 +21,7 @@ pub(crate) struct Maps<V: MapValue> {
     versions: Versions<ChunkMap<u64, V>>,
 }
 
-/// Writes the value at a key, and how many pairs there are.
+/// Writes the value at a key, and the number of pairs.
 fn put_value<V: MapValue>(
     page: &mut String,
     map: &ChunkMap<u64, V>,
@@ -38,7 +38,7 @@ fn put_value<V: MapValue>(
     Ok(())
 }
 
-/// The keys and values of the pairs from this key on, one after another.
+/// Returns the keys and values of the pairs from this key on, one after another.
 fn pairs_from<L: Ledger, V: MapValue>(
     blank: Blank,
     alloc: Global,
@@ -77,7 +77,7 @@ fn put_pairs(page: &mut String, pairs: &[u64]) -> Result<(), Starved> {
     Ok(())
 }
 
-/// Writes whether chunks are at most so many, and how many they are where they are more.
+/// Writes whether there are at most `most` chunks, and their number if there are more.
 fn put_bound(page: &mut String, chunks: u64, most: u64) -> Result<(), Starved> {
     if chunks > most {
         write!(page, "no, {chunks}")?;
@@ -87,21 +87,20 @@ fn put_bound(page: &mut String, chunks: u64, most: u64) -> Result<(), Starved> {
     Ok(())
 }
 
-/// The keys of a walk: the first, and each of the others the one before it and the step more,
-/// modulo a number.
+/// The keys of a walk: a first key, and then each key plus the step, modulo a number.
 #[derive(Clone, Copy)]
 struct Walk {
     /// The first key.
     first: u64,
     /// The step.
     step: u64,
-    /// The number.
+    /// The modulus.
     modulus: u64,
-    /// How many keys there are.
+    /// The number of keys.
     count: u64,
 }
 
-/// The walk that four numbers say.
+/// Returns the walk of four numbers.
 fn walk_of(said: &str) -> Result<Walk, NoAnswer> {
     let [first, step, modulus, count] = numbers_of::<4>(said)?;
     Ok(Walk {
@@ -113,14 +112,14 @@ fn walk_of(said: &str) -> Result<Walk, NoAnswer> {
 }
 
 impl Walk {
-    /// The key with this number, counted from 0.
+    /// Returns the key with this index, from 0.
     fn key(&self, number: u64) -> u64 {
         let key = u64::wrapping_add(self.first, u64::wrapping_mul(self.step, number));
         key.checked_rem(self.modulus).unwrap_or(key)
     }
 }
 
-/// Puts the keys of a walk, each with its number in the walk as its value.
+/// Puts the keys of a walk, each with its index in the walk as its value.
 fn put_walk<V: MapValue>(map: &mut ChunkMap<u64, V>, kind: &V, walk: Walk) -> Result<(), Starved> {
     for number in 0..walk.count {
         *map = map.put(walk.key(number), kind.of_kind(number)?)?;
@@ -136,8 +135,8 @@ fn take_walk<V: MapValue>(map: &mut ChunkMap<u64, V>, walk: Walk) -> Result<(), 
     Ok(())
 }
 
-/// Puts runs of ascending keys, each run right before the last one, with the number of each key
-/// as its value.
+/// Puts runs of ascending keys, each run right before the last one. The value of a key is the
+/// number of its put, from 0.
 fn put_runs<V: MapValue>(map: &mut ChunkMap<u64, V>, kind: &V, said: &str) -> Result<(), NoAnswer> {
     let [first, length, count] = numbers_of::<3>(said)?;
     for number in 0..count {
@@ -149,8 +148,8 @@ fn put_runs<V: MapValue>(map: &mut ChunkMap<u64, V>, kind: &V, said: &str) -> Re
     Ok(())
 }
 
-/// Puts or takes a key, and tells what a checksum becomes by the value that is there then, one
-/// more than its number, or 0 where none is, and by how many pairs there are.
+/// Puts or takes a key. Returns a checksum extended by two numbers. The first is one more than the
+/// value then at the key, or 0 if there is none; the second is the number of pairs.
 fn change_drawn<V: MapValue>(
     map: &mut ChunkMap<u64, V>,
     key: u64,
@@ -168,8 +167,8 @@ fn change_drawn<V: MapValue>(
     Ok(summed(summed(sum, there), map.len()))
 }
 
-/// Puts and takes pseudo-random keys, and tells the checksum of what was there after each
-/// change. Of eight changes one is a take in the first half, and seven in the second. A value is
+/// Puts and takes pseudo-random keys. Returns the checksum of what was at the key after each
+/// change. One of eight changes is a take in the first half, and seven in the second. A value is
 /// the number of its change.
 fn change_many<V: MapValue>(
     map: &mut ChunkMap<u64, V>,
@@ -193,7 +192,7 @@ fn change_many<V: MapValue>(
 }
 
 impl<V: MapValue> Maps<V> {
-    /// An empty map whose values are of the kind of this one. `Starved`: out of memory.
+    /// Creates an empty map whose values are of this kind.
     pub(crate) fn new(alloc: Global, kind: V) -> Result<Maps<V>, Starved> {
         let now = ChunkMap::empty(alloc)?;
         Ok(Maps {
@@ -202,12 +201,12 @@ impl<V: MapValue> Maps<V> {
         })
     }
 
-    /// The present version.
+    /// Returns the present version.
     pub(crate) fn now(&self) -> &ChunkMap<u64, V> {
         &self.versions.now
     }
 
-    /// Goes on with another version, and writes what stands at a key before and then.
+    /// Continues with another version, and writes the value at a key before and afterwards.
     fn go_on(
         &mut self,
         page: &mut String,
@@ -236,7 +235,7 @@ impl<V: MapValue> Maps<V> {
         self.go_on(page, key, next)
     }
 
-    /// The keys and values of the pairs from a key on.
+    /// Returns the keys and values of the pairs from a key on.
     fn pairs(&self, said: &str) -> Result<Vec<u64>, NoAnswer> {
         let from = number_of(said, u64::MAX)?;
         let alloc = self.versions.alloc;
@@ -244,7 +243,7 @@ impl<V: MapValue> Maps<V> {
         Ok(pairs)
     }
 
-    /// Reads the map.
+    /// Writes what a call reads from the map. Returns `Form` if there is no such call.
     fn read(&self, page: &mut String, verb: &str, said: &str) -> Result<(), NoAnswer> {
         match verb {
             "get" => {
@@ -265,7 +264,7 @@ impl<V: MapValue> Maps<V> {
         Ok(())
     }
 
-    /// Changes the map.
+    /// Changes the map. Returns whether the call is one that changes it.
     fn change(&mut self, page: &mut String, verb: &str, said: &str) -> Result<bool, NoAnswer> {
         let map = &mut self.versions.now;
         match verb {
@@ -285,8 +284,8 @@ impl<V: MapValue> Maps<V> {
         Ok(true)
     }
 
-    /// Does what a line says, and writes the answer. `Form`: it says nothing that is done to a
-    /// map. `Starved`: out of memory.
+    /// Does what a line says, and writes the answer. Returns `Form` if the line is not a call on a
+    /// map.
     pub(crate) fn answer(&mut self, page: &mut String, said: &str) -> Result<(), NoAnswer> {
         let (verb, rest) = cut(said);
         match verb {
@@ -304,7 +303,7 @@ impl<V: MapValue> Maps<V> {
     }
 }
 
-/// How many values a put at this key copies, with the one that is put.
+/// Returns how many values a put at this key copies, including the one that is put.
 fn copied(map: &ChunkMap<u64, Marked>, key: u64, value: &Marked) -> Result<usize, Starved> {
     let before = value.copies();
     let next = map.put(key, value.of_kind(0)?)?;
@@ -313,8 +312,8 @@ fn copied(map: &ChunkMap<u64, Marked>, key: u64, value: &Marked) -> Result<usize
     Ok(usize::saturating_sub(after, before))
 }
 
-/// How many chunks there are, as puts show them: a put copies the values of the chunk where its
-/// key stands, and of those beside it that are joined with it since they are small.
+/// Returns the number of chunks, as puts show it. A put copies the values of the chunk that has its
+/// key, and of the neighbouring chunks that are joined with it because they are small.
 fn count_chunks<L: Ledger>(blank: Blank, map: &ChunkMap<u64, Marked>) -> Result<u64, Starved>
     requires name { blank.name ≡ L.name }
     requires parts { blank.parts ≡ L.parts }
@@ -334,8 +333,8 @@ fn count_chunks<L: Ledger>(blank: Blank, map: &ChunkMap<u64, Marked>) -> Result<
     Ok(chunks)
 }
 
-/// Writes whether there are at most so many chunks, and how many there are where there are more.
-/// `Form`: it is no number. `Starved`: out of memory.
+/// Writes whether there are at most this number of chunks, and their number if there are more.
+/// Returns `Form` if the text is not a number.
 pub(crate) fn bound_chunks(
     page: &mut String,
     map: &ChunkMap<u64, Marked>,

@@ -1,10 +1,10 @@
-//! Scripts on a message that is sent again.
+//! Scripts on the retransmission of a message.
 
 use exchange_core::{Again, Resend};
 use rd_base::Moment;
 use vector_words::{NoAnswer, cut, number_of};
 
-/// The word for what is due.
+/// Returns the name of what is due.
 fn name_of(due: Again) -> &'static str {
     match due {
         Again::Wait => "wait",
@@ -13,9 +13,8 @@ fn name_of(due: Again) -> &'static str {
     }
 }
 
-/// Does what a line says, and writes the answer: `start` with a moment and the word that the
-/// first wait is made from, and `tick` with a moment. `Form`: it says neither. `Starved`: out of
-/// memory.
+/// Does what a line says, and writes the answer: `start` with a moment and the random word that
+/// determines the initial timeout, and `tick` with a moment. Returns `Form` if the line is neither.
 pub(crate) fn answer(resend: &mut Resend, page: &mut String, said: &str) -> Result<(), NoAnswer> {
     let (verb, rest) = cut(said);
     match verb {

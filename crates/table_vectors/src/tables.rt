@@ -1,4 +1,4 @@
-//! The tables, each with its state.
+//! The tables, each with its content.
 
 use crate::exchanges::{Writes, put_reply, put_token};
 use crate::index::Indexes;
@@ -18,7 +18,7 @@ use vector_words::NoAnswer;
 /// One table of each kind, as the lines before have left it.
 #[derive(Drop)]
 pub struct Tables {
-    /// Where memory comes from.
+    /// The allocator of their memory.
     alloc: Global,
     /// A map of numbers.
     map: Maps<u64>,
@@ -30,14 +30,18 @@ pub struct Tables {
     index: Indexes,
     /// A table of exchanges.
     exchanges: Writes,
-    /// A message that is sent again.
+    /// The retransmission of a message.
     resend: Resend,
     /// A table of watched queries.
     watches: Watches,
 }
 
 impl Tables {
-    /// Empty tables. `Starved`: out of memory.
+    /// Creates empty tables.
+    ///
+    /// # Errors
+    ///
+    /// `Starved` if memory runs out.
     pub fn new(alloc: Global) -> Result<Tables, Starved> {
         let kind = Marked::first(alloc)?;
         Ok(Tables {
@@ -52,9 +56,14 @@ impl Tables {
         })
     }
 
-    /// What comes of a line whose first word is `call` and whose others are `said`: what was
-    /// asked, or `done`. None: the first word names no table. `Form`: what is said has not the
-    /// form of what is done to it. `Starved`: out of memory.
+    /// Returns the result of a line whose first word is `call` and whose other words are `said`, or
+    /// `done` if the call has no result. Returns `None` if the first word is not the name of a
+    /// table.
+    ///
+    /// # Errors
+    ///
+    /// `Form` if the arguments do not have the form of a call on that table; `Starved` if memory
+    /// runs out.
     pub fn answer(&mut self, call: &str, said: &str) -> Result<Option<String>, NoAnswer> {
         let mut page = String::new(self.alloc);
         match call {

@@ -1,4 +1,4 @@
-//! Values of maps: numbers, and numbers of which each copy is counted.
+//! Values of maps: numbers, and numbers whose copies are counted.
 ghost use Rattle.std.specs.Prelude.{◌≡◌, IfOk};
 
 use chunk_map::Shared;
@@ -7,16 +7,16 @@ use std::alloc::Global;
 use std::marker::Model;
 use std::sync::Arc;
 
-/// A value that is told by a number.
+/// A value that is identified by a number.
 pub(crate) trait MapValue: Shared {
-    /// The value of a number, of the same kind as this one. `Starved`: out of memory.
+    /// Returns the value of a number, of the same kind as this one.
     fn of_kind(&self, number: u64) -> Result<Self, Starved>;
 
-    /// The number.
+    /// Returns the number.
     fn number(&self) -> u64;
 }
 
-/// A number is told by itself.
+/// A number is identified by itself.
 impl MapValue for u64 {
     fn of_kind(&self, number: u64) -> Result<u64, Starved> {
         Ok(number)
@@ -27,8 +27,7 @@ impl MapValue for u64 {
     }
 }
 
-/// A number with a mark that all values of a kind have in common, so that their copies can be
-/// counted.
+/// A number with a mark that all values of a kind share, so that their copies can be counted.
 #[derive(Drop)]
 pub(crate) struct Marked {
     /// The number.
@@ -46,7 +45,7 @@ impl Model for Marked {
 }
 
 impl Marked {
-    /// A value of a new kind. `Starved`: out of memory.
+    /// Creates a value of a new kind.
     pub(crate) fn first(alloc: Global) -> Result<Marked, Starved> {
         Ok(Marked {
             number: 0,
@@ -54,7 +53,7 @@ impl Marked {
         })
     }
 
-    /// How many values of its kind there are.
+    /// Returns the number of values of its kind.
     pub(crate) fn copies(&self) -> usize {
         Arc::strong_count(&self.mark)
     }

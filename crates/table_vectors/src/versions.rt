@@ -1,4 +1,4 @@
-//! Versions of a table that are kept under names.
+//! Versions of a table, stored under names.
 
 use crate::values::MapValue;
 use attribute_index::AttributeIndex;
@@ -11,7 +11,7 @@ use vector_words::NoAnswer;
 
 /// A version of a table that never changes.
 pub(crate) trait Version: Drop {
-    /// An equal version. `Starved`: out of memory.
+    /// Returns an equal version.
     fn shared(&self, alloc: Global) -> Result<Self, Starved>;
 }
 
@@ -33,10 +33,10 @@ impl Version for AttributeIndex {
     }
 }
 
-/// The present version of a table, and those that are kept.
+/// The present version of a table, and those that are stored.
 #[derive(Drop)]
 pub(crate) struct Versions<T: Version> {
-    /// Where memory comes from.
+    /// The allocator of their memory.
     pub(crate) alloc: Global,
     /// The present version.
     pub(crate) now: T,
@@ -45,7 +45,7 @@ pub(crate) struct Versions<T: Version> {
 }
 
 impl<T: Version> Versions<T> {
-    /// A first version, and none that is kept.
+    /// Creates a first version, with none stored.
     pub(crate) fn new(alloc: Global, now: T) -> Versions<T> {
         Versions {
             alloc,
@@ -54,7 +54,7 @@ impl<T: Version> Versions<T> {
         }
     }
 
-    /// Keeps the present version under a name. `Starved`: out of memory.
+    /// Stores the present version under a name.
     fn keep(&mut self, name: &str) -> Result<(), Starved> {
         let name = Text::copy_of(self.alloc, name)?;
         let version = self.now.shared(self.alloc)?;
@@ -62,8 +62,7 @@ impl<T: Version> Versions<T> {
         Ok(())
     }
 
-    /// Makes a version that is kept the present one. `Form`: no version has this name.
-    /// `Starved`: out of memory.
+    /// Makes a stored version the present one. Returns `Form` if no version has this name.
     fn go_back(&mut self, name: &str) -> Result<(), NoAnswer> {
         let name = Text::copy_of(self.alloc, name)?;
         let Some(version) = self.kept.get(&name) else {
@@ -73,9 +72,9 @@ impl<T: Version> Versions<T> {
         Ok(())
     }
 
-    /// Does what the verb says, where it is one of those that all tables have: `keep` and `back`
-    /// with a name, and `share`, which goes on with what is shared of the present version. Tells
-    /// whether it is one. `Form`: no version has this name. `Starved`: out of memory.
+    /// Does what the verb says, if it is one that all tables have: `keep` and `back` with a name,
+    /// and `share`, which continues with a shared copy of the present version. Returns whether it
+    /// is one. Returns `Form` if no version has this name.
     pub(crate) fn turn(&mut self, verb: &str, name: &str) -> Result<bool, NoAnswer> {
         match verb {
             "keep" => self.keep(name)?,

@@ -10,8 +10,7 @@ use std::sync::Arc;
 use vector_words::{NoAnswer, cut, number_of, octets_of, put_octets};
 use watch_table::{WatchFault, WatchTable};
 
-/// Attributes: one of this name and value, or none where the value is empty. `Starved`: out of
-/// memory.
+/// Returns one attribute with this name and value, or none if the value is empty.
 fn pairs_of(alloc: Global, name: &str, value: &str) -> Result<Pairs, Starved> {
     let mut pairs = Vec::new(alloc);
     if !value.is_empty() {
@@ -22,7 +21,7 @@ fn pairs_of(alloc: Global, name: &str, value: &str) -> Result<Pairs, Starved> {
     Ok(Pairs::of(pairs))
 }
 
-/// A link to a target, with its resource type, where it has one. `Starved`: out of memory.
+/// Returns a link to a target, with its resource type if it has one.
 fn link_to(alloc: Global, target: &str, resource_type: &str) -> Result<Items, Starved> {
     let mut builder = LinksBuilder::new(alloc);
     if !resource_type.is_empty() {
@@ -37,9 +36,8 @@ fn link_to(alloc: Global, target: &str, resource_type: &str) -> Result<Items, St
     builder.with_link(&parts)?.build(alloc)
 }
 
-/// A registration of one link, which is all that is said of it: its target, which is its base
-/// too, its resource type, and the floor where its endpoint stands, if it is said. `Starved`:
-/// out of memory.
+/// Returns a registration of one link, from a text: its target, which is also its base, its
+/// resource type, and the floor of its endpoint if it is given.
 fn record_of(alloc: Global, said: &str) -> Result<Record, Starved> {
     let (target, rest) = said.split_once(';').unwrap_or((said, ""));
     let (resource_type, floor) = rest.split_once(';').unwrap_or((rest, ""));
@@ -58,7 +56,7 @@ fn record_of(alloc: Global, said: &str) -> Result<Record, Starved> {
     })
 }
 
-/// The registration that is said, where one is. `Starved`: out of memory.
+/// Returns the registration of a text, or `None` for `none`.
 fn some_record(alloc: Global, said: &str) -> Result<Option<Record>, Starved> {
     if said == "none" {
         return Ok(None);
@@ -66,7 +64,7 @@ fn some_record(alloc: Global, said: &str) -> Result<Option<Record>, Starved> {
     Ok(Some(record_of(alloc, said)?))
 }
 
-/// Adds to a query what a word says: `page` or `count` with its number, or a criterion.
+/// Adds to a query what a word asks for: `page` or `count` with its number, or a criterion.
 fn ask(query: &mut Query, alloc: Global, word: &str) -> Result<(), NoAnswer> {
     let Some((name, value)) = word.split_once('=') else {
         return Err(NoAnswer::Form);
@@ -82,8 +80,8 @@ fn ask(query: &mut Query, alloc: Global, word: &str) -> Result<(), NoAnswer> {
     Ok(())
 }
 
-/// The query that is said: `ep` for endpoints and `res` for links, and what is asked for, with
-/// spaces between.
+/// Returns the query of a text: `ep` for endpoints or `res` for links, and what is asked for,
+/// separated by spaces.
 fn query_of(alloc: Global, said: &str) -> Result<Query, NoAnswer> {
     let (kind, rest) = cut(said);
     let kind = match kind {
@@ -103,7 +101,7 @@ fn query_of(alloc: Global, said: &str) -> Result<Query, NoAnswer> {
     Ok(query)
 }
 
-/// Writes a query as [`query_of`] reads it. `Starved`: out of memory.
+/// Writes a query as [`query_of`] reads it.
 fn put_query(page: &mut String, query: &Query) -> Result<(), Starved> {
     page.push_str(match query.kind {
         Kind::Endpoint => "ep",
@@ -124,7 +122,7 @@ fn put_query(page: &mut String, query: &Query) -> Result<(), Starved> {
     Ok(())
 }
 
-/// The body that is said. `Starved`: out of memory.
+/// Returns the body of a text.
 fn body_of(alloc: Global, said: &str) -> Result<Arc<Bytes>, Starved> {
     let body = octets_of(alloc, said)?;
     Ok(Arc::new(alloc, body)?)
@@ -133,14 +131,14 @@ fn body_of(alloc: Global, said: &str) -> Result<Arc<Bytes>, Starved> {
 /// A table of watched queries.
 #[derive(Drop)]
 pub(crate) struct Watches {
-    /// Where memory comes from.
+    /// The allocator of its memory.
     alloc: Global,
     /// The table.
     table: WatchTable,
 }
 
 impl Watches {
-    /// No query is watched. `Starved`: out of memory.
+    /// Creates a table in which no query is watched.
     pub(crate) fn new(alloc: Global) -> Result<Watches, Starved> {
         Ok(Watches {
             alloc,
@@ -148,7 +146,7 @@ impl Watches {
         })
     }
 
-    /// Watches a query, and tells its slot; None where there is no room.
+    /// Watches a query. Returns its slot, or `None` if there is no free slot.
     fn watch(&mut self, instead_of: Option<u32>, query: &Query) -> Result<Option<u32>, Starved> {
         match self.table.watch(self.alloc, instead_of, query) {
             Ok(slot) => Ok(Some(slot)),
@@ -157,8 +155,7 @@ impl Watches {
         }
     }
 
-    /// Watches a query, instead of what was watched in a slot where one is named, and writes
-    /// its slot.
+    /// Watches a query, in place of the one in a slot if a slot is given, and writes its slot.
     fn watch_said(&mut self, page: &mut String, said: &str) -> Result<(), NoAnswer> {
         let (slot, query) = cut(said);
         let query = query_of(self.alloc, query)?;
@@ -173,8 +170,8 @@ impl Watches {
         Ok(())
     }
 
-    /// Watches the first pages of one line of the links of a resource type, so many, and writes
-    /// how many have the slot of their number.
+    /// Watches the first pages of one line each, of the links of a resource type. Writes how many
+    /// have the slot of their page number.
     fn watch_pages(&mut self, page: &mut String, said: &str) -> Result<(), NoAnswer> {
         let count = slot_of(said)?;
         let mut query = query_of(self.alloc, "res rt=lux count=1")?;
@@ -200,7 +197,7 @@ impl Watches {
         put_numbers(page, slots.as_slice())
     }
 
-    /// Shows a change of a registration, and writes which slots are marked then.
+    /// Reports a change of a registration to the table, and writes which slots are then marked.
     fn touch(&mut self, page: &mut String, said: &str) -> Result<(), NoAnswer> {
         let (old, new) = cut(said);
         let old = some_record(self.alloc, old)?;
@@ -210,8 +207,8 @@ impl Watches {
         Ok(())
     }
 
-    /// Writes the body that is kept for a slot, or the query that is watched there. `Form`: no
-    /// body is kept for it.
+    /// Writes the body that is stored for a slot, or the query that is watched there; `none` if no
+    /// body is stored for it.
     fn read(&self, page: &mut String, verb: &str, said: &str) -> Result<(), NoAnswer> {
         let slot = slot_of(said)?;
         let Some(body) = self.table.body(slot) else {
@@ -226,7 +223,7 @@ impl Watches {
         Ok(())
     }
 
-    /// Sets the body for a slot.
+    /// Stores the body for a slot.
     fn set(&mut self, said: &str) -> Result<(), NoAnswer> {
         let (slot, body) = cut(said);
         let slot = slot_of(slot)?;
@@ -234,8 +231,8 @@ impl Watches {
         Ok(())
     }
 
-    /// Does what a line says, and writes the answer. `Form`: it says nothing that is done to a
-    /// table of watched queries. `Starved`: out of memory.
+    /// Does what a line says, and writes the answer. Returns `Form` if the line is not a call on a
+    /// table of watched queries.
     pub(crate) fn answer(&mut self, page: &mut String, said: &str) -> Result<(), NoAnswer> {
         let (verb, rest) = cut(said);
         match verb {
@@ -254,7 +251,7 @@ impl Watches {
     }
 }
 
-/// The slot that a word names. `Form`: it names none.
+/// Returns the slot that a word names, or `Form` if it names none.
 fn slot_of(word: &str) -> Result<u32, NoAnswer> {
     Ok(number_of(word, 4_294_967_295)? as u32)
 }

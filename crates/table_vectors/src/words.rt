@@ -3,7 +3,7 @@
 use rd_base::Starved;
 use vector_words::{NoAnswer, number_of};
 
-/// So many numbers, with spaces between them. `Form`: it is not so many numbers.
+/// Returns `N` numbers, separated by spaces, or `Form` if the text is not `N` numbers.
 pub(crate) fn numbers_of<const N: usize>(said: &str) -> Result<[u64; N], NoAnswer> {
     let mut numbers = [0; N];
     let mut words = said.split_whitespace();
@@ -19,8 +19,7 @@ pub(crate) fn numbers_of<const N: usize>(said: &str) -> Result<[u64; N], NoAnswe
     Ok(numbers)
 }
 
-/// Writes numbers with a space between each two, or that there are none. `Starved`: out of
-/// memory.
+/// Writes numbers, separated by spaces, or that there are none.
 pub(crate) fn put_numbers(page: &mut String, numbers: &[u64]) -> Result<(), Starved> {
     let Some((first, rest)) = numbers.split_first() else {
         return Ok(page.push_str("none")?);
@@ -34,7 +33,7 @@ pub(crate) fn put_numbers(page: &mut String, numbers: &[u64]) -> Result<(), Star
     Ok(())
 }
 
-/// Writes how many numbers there are, and their checksum. `Starved`: out of memory.
+/// Writes how many numbers there are, and their checksum.
 pub(crate) fn put_sum(page: &mut String, count: u64, sum: u64) -> Result<(), Starved> {
     Ok(write!(page, "{count}, checksum {sum}")?)
 }

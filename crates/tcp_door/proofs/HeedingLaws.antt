@@ -7,7 +7,17 @@ use Rattle.stream_model.specs.declared.messages.Judged.TheVariants as judged
 use Rattle.stream_model.specs.Streams.{Stream, broken, with_message}
 use Rattle.stream_model.proofs.ReadingLaws.{bad_judged, front_judged, good_judged}
 use Rattle.stream_reader.specs.declared.feeding.Fed.TheVariants as fed
-use Rattle.stream_reader.specs.Reading.{Held, IsBroken, IsFed, IsFedBy, IsLess, IsWhole, between_messages, held_as, stream_after}
+use Rattle.stream_reader.specs.Reading.{
+  Held,
+  IsBroken,
+  IsFed,
+  IsFedBy,
+  IsLess,
+  IsWhole,
+  between_messages,
+  held_as,
+  stream_after,
+}
 use Rattle.tcp_door.specs.Waiting.{HasBefore}
 
 -- ---- what is held

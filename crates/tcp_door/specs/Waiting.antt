@@ -7,8 +7,8 @@ use Rattle.stream_model.specs.declared.signals.TheConstants as signals
 use Rattle.stream_model.specs.Streams.{Stream}
 use Rattle.stream_reader.specs.Reading.{Held, stream_after}
 
--- What came of the messages of a connection, whether one did, and how many microseconds passed
--- since the last one, or since the beginning.
+-- The messages of a connection so far: what the reader holds, whether a message has ended, and the
+-- microseconds since the last one, or since the beginning.
 pub record Waited : Type 0 where
   pub held : Held
   pub greeted : Bool
@@ -16,30 +16,31 @@ pub record Waited : Type 0 where
 
 -- ---- where messages end
 
--- One stream has so many messages before those of the other, and goes on as it does.
+-- Two streams, the first of which has `n` messages more before those of the other, and then
+-- continues as it does.
 pub record HasBefore (n : ℕ) (whole more : Stream) : Type 0 where
   pub messages : length whole.messages ≡ n + length more.messages
   pub fault : whole.fault ≡ more.fault
   pub rest : whole.rest ≡ more.rest
 
--- So many messages of the stream end in a piece, whatever follows it.
+-- States that `n` messages of the stream end in a piece, whatever follows it.
 abbrev pub HasEnds : ℕ → Held → List ℕ → Held → Type 0
 HasEnds n old piece new =
     (further : List ℕ)
     → HasBefore n (stream_after old (piece ++ further)) (stream_after new further)
 
--- Whether there is any of so many.
+-- States whether there is any of `n`.
 abbrev pub IsAnyOf : Bool → ℕ → Type 0
 IsAnyOf true n = 0 < n
 IsAnyOf false n = n ≡ 0
 
--- A message is whole, and nothing of the next one came.
+-- Returns whether a message is complete, and nothing of the next one has arrived.
 abbrev pub is_whole : Judged → Bool
 is_whole judged.Whole = true
 is_whole judged.More = false
 is_whole (judged.Bad why) = false
 
--- What a piece tells: whether a message of the stream ends in it, by which the waiting begins anew.
+-- A piece that was handled. If a message of the stream ends in it, the wait begins anew.
 pub record IsHeeded (old : Waited) (piece : List ℕ) (new : Waited) (any : Bool) : Type 0 where
   pub ends : ℕ
   pub has : HasEnds ends old.held piece new.held
@@ -49,13 +50,14 @@ pub record IsHeeded (old : Waited) (piece : List ℕ) (new : Waited) (any : Bool
 
 -- ---- how long it may take
 
--- The microseconds that the first message may take, 10 s, and each later one, 60 s.
+-- Returns the microseconds that a message may take: 10 s for the first, and 60 s for each later
+-- one.
 abbrev pub limit_of : Bool → ℕ
 limit_of false = 10000000
 limit_of true = 60000000
 
--- The code of the message by which a peer is told that the time has passed: a Release between two
--- messages (RFC 8323 section 5.5), an Abort within one, or where none came (section 5.6).
+-- Returns the code of the message that says that the time has passed. It is a Release between two
+-- messages (RFC 8323 section 5.5), and an Abort within one or if none arrived (section 5.6).
 abbrev pub farewell_by : Judged → ℕ
 farewell_by judged.Whole = signals.RELEASE
 farewell_by judged.More = signals.ABORT

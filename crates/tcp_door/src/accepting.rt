@@ -16,11 +16,11 @@ use std::time::Clock;
 /// A connection as a server takes it.
 #[derive(Drop)]
 pub struct TcpConnection<R: Clock + Copy> {
-    /// The peer that stands for it, which no other connection has, and no device.
+    /// The peer that stands for it. No other connection has it, and no device.
     pub peer: Peer,
-    /// What is read from it.
+    /// The octets that are read from it.
     pub source: TcpSource<R>,
-    /// What is written to it.
+    /// The octets that are written to it.
     pub sink: TcpSink,
 }
 
@@ -42,8 +42,10 @@ impl<R: Clock + Copy> Model for TcpAccept<R> {
 }
 
 impl<R: Clock + Copy> TcpAccept<R> {
-    /// The connections that are made to `listener`, which is asked for one every 50 ms. `clock`
-    /// tells the time that passes. Each connection takes some memory of `alloc`.
+    /// Returns an acceptor of the connections that are made to `listener`, which it polls every 50
+    /// ms.
+    ///
+    /// `clock` measures the time that passes. Each connection takes some memory of `alloc`.
     pub fn of(clock: R, alloc: Global, listener: TcpListener) -> TcpAccept<R>
         ensures { result ≡ record { opened = 0; faults = 0 } }
     {
@@ -55,8 +57,7 @@ impl<R: Clock + Copy> TcpAccept<R> {
         }
     }
 
-    /// Returns how many connections failed by themselves before they were opened, and were passed
-    /// over.
+    /// Returns how many connections failed by themselves before they were opened, and were skipped.
     pub fn passed(&self) -> u64 {
         self.listening.passed()
     }
@@ -67,7 +68,7 @@ impl<R: Clock + Copy> TcpAccept<R> {
         self.listening.waits()
     }
 
-    /// Opens the connection that stands for `peer`; nothing where the listener failed.
+    /// Opens the connection that stands for `peer`. Returns `None` if the listener failed.
     fn opened_for(&mut self, peer: Peer) -> Option<TcpConnection<R>>
         ensures same { self.new ≡ self.old }
         ensures peer { IfSome result (λ c. c.peer ≡ peer) }
@@ -80,8 +81,10 @@ impl<R: Clock + Copy> TcpAccept<R> {
         })
     }
 
-    /// Waits for the next connection, and opens it. Nothing where the listener failed, which is
-    /// counted.
+    /// Waits for the next connection, and opens it.
+    ///
+    /// Returns `None` if the listener failed, and counts that. It does the same once 2^64 - 1
+    /// connections have been opened.
     pub fn open(&mut self) -> Option<TcpConnection<R>>
         ensures { Opens self.old self.new (option_map (λ c. c.peer) result) }
     {

@@ -1,4 +1,4 @@
-//! How a connection is read from and written to, and how it ends.
+//! The reads and writes of a connection, and its end.
 ghost use Rattle.std.specs.Prelude.{◌≡◌, ◌≤◌, length, IfOk};
 
 use crate::stopwatch::Stopwatch;
@@ -10,14 +10,14 @@ use std::time::Clock;
 /// The microseconds for which a connection that ends is read from.
 const CLOSING_LIMIT: u64 = 2_000_000;
 
-/// The octets that are read then, and dropped.
+/// The most octets that are then read and dropped.
 const MOST_DROPPED: usize = 64 * 1024;
 
-/// The octets that one reading drops at most.
+/// The most octets that one read drops.
 const ROOM: usize = 4096;
 
-/// Returns whether an error of a reading is no fault of the connection: nothing came in time, or a
-/// signal interrupted the wait (the system restarts no call that has a time limit).
+/// Returns whether an error of a read is no fault of the connection: nothing arrived in time, or a
+/// signal interrupted the wait. (The system restarts no call that has a time limit.)
 pub(crate) fn is_pause(kind: ErrorKind) -> bool {
     matches!(kind, ErrorKind::WouldBlock | ErrorKind::Interrupted)
 }
@@ -31,7 +31,7 @@ pub(crate) fn read_once(stream: &TcpStream, into: &mut [u8]) -> io::Result<usize
     end.read(into)
 }
 
-/// Writes, and begins again where a signal interrupted it.
+/// Writes once, and begins again if a signal interrupted it.
 pub(crate) fn write_some(stream: &TcpStream, piece: &[u8]) -> io::Result<usize>
     ensures { IfOk result (λ n. n ≤ length piece.now) }
 {
@@ -45,9 +45,10 @@ pub(crate) fn write_some(stream: &TcpStream, piece: &[u8]) -> io::Result<usize>
     Err(io::Error::from(ErrorKind::Interrupted))
 }
 
-/// Reads and drops what still comes, up to the peer's end, for at most two seconds or 64 KiB, so
-/// that what was written is delivered: a system that closes a connection with octets that were not
-/// read resets it, and the peer may lose what it did not read yet (RFC 1122 section 4.2.2.13).
+/// Reads and drops what still arrives, up to the peer's end, for at most two seconds or 64 KiB.
+///
+/// So what was written is delivered. A system that closes a connection with unread octets resets
+/// it, and the peer may lose what it has not read yet (RFC 1122 section 4.2.2.13).
 fn drain<R: Clock>(stream: &TcpStream, stopwatch: &mut Stopwatch<R>) {
     let mut room = [0u8; ROOM];
     let mut left = MOST_DROPPED;
@@ -67,7 +68,7 @@ fn drain<R: Clock>(stream: &TcpStream, stopwatch: &mut Stopwatch<R>) {
     }
 }
 
-/// Ends a connection: nothing more is written, and what still comes is dropped for a while.
+/// Ends a connection: writes nothing more, and drops what still arrives for a while.
 pub(crate) fn close<R: Clock>(stream: &TcpStream, stopwatch: &mut Stopwatch<R>) {
     if stream.shutdown(Shutdown::Write).is_ok() {
         drain(stream, stopwatch);

@@ -1,11 +1,11 @@
-//! Where the messages of a stream end in its pieces.
+//! The ends of messages within the pieces of a stream.
 ghost use Rattle.std.specs.Prelude.{◌≡◌, ◌<◌, ℕ, length};
 ghost use Rattle.stream_reader.specs.Reading.{held_as};
 ghost use Rattle.tcp_door.specs.Waiting.{HasEnds, IsAnyOf, is_whole};
 
 use stream_reader::{Fed, StreamReader};
 
-/// What a piece of a stream tells of its messages.
+/// Where messages end in a piece of a stream.
 #[derive(Clone, Copy)]
 pub(crate) struct Heeded {
     /// Whether a message ends in the piece.
@@ -14,7 +14,7 @@ pub(crate) struct Heeded {
     pub(crate) between: bool,
 }
 
-/// Feeds a piece to the reader, and returns what it tells of the messages.
+/// Feeds a piece to the reader, and returns where messages end in it.
 pub(crate) fn heed(reader: &mut StreamReader, piece: &[u8]) -> Heeded
     requires some { 0 < length piece.now }
     ensures ends { (n : ℕ) × HasEnds n reader.old piece.now reader.new

@@ -1,4 +1,4 @@
-//! How connections are accepted.
+//! A listener that accepts connections.
 use std::alloc::Global;
 use std::io::ErrorKind;
 use std::net::{TcpListener, TcpStream};
@@ -6,18 +6,18 @@ use std::sync::Arc;
 use std::time::{Clock, Duration};
 use std::{io, thread};
 
-/// The milliseconds between two questions for a connection, and for which a reading waits.
+/// The milliseconds between two polls for a connection, and for which a read waits.
 const WAIT: u64 = 50;
 
-/// The milliseconds for which a writing waits for the peer to take something.
+/// The milliseconds for which a write waits for the peer to take something.
 const WRITE_WAIT: u64 = 5_000;
 
-/// What an `accept` that fails says.
+/// The reason why an `accept` fails.
 #[derive(Clone, Copy, PartialEq, Eq)]
 enum Refusal {
     /// There is no connection yet.
     NoneYet,
-    /// The system has no descriptor, buffer or memory for one.
+    /// The system has no descriptor, buffer or memory for a connection.
     Wanting,
     /// One connection failed before it was accepted.
     One,
@@ -25,11 +25,13 @@ enum Refusal {
     Lasting,
 }
 
-/// What an error number of `accept` says (accept(2) of Linux). The errors that a connection had by
-/// then are told by it: 64 `ENONET`, 71 `EPROTO`, 92 `ENOPROTOOPT`, 95 `EOPNOTSUPP`, 100
-/// `ENETDOWN`, 101 `ENETUNREACH`, 103 `ECONNABORTED`, 104 `ECONNRESET`, 110 `ETIMEDOUT`, 112
-/// `EHOSTDOWN` and 113 `EHOSTUNREACH`; 1 `EPERM` is a rule of a firewall. Descriptors are wanting
-/// by 23 `ENFILE` and 24 `EMFILE`, memory by 12 `ENOMEM` and 105 `ENOBUFS`.
+/// Returns the reason that an error number of `accept` stands for (accept(2) of Linux).
+///
+/// - One connection failed before it was accepted: 64 `ENONET`, 71 `EPROTO`, 92 `ENOPROTOOPT`, 95
+///   `EOPNOTSUPP`, 100 `ENETDOWN`, 101 `ENETUNREACH`, 103 `ECONNABORTED`, 104 `ECONNRESET`, 110
+///   `ETIMEDOUT`, 112 `EHOSTDOWN` and 113 `EHOSTUNREACH`. 1 `EPERM` is a rule of a firewall.
+/// - Descriptors are missing: 23 `ENFILE` and 24 `EMFILE`.
+/// - Memory is missing: 12 `ENOMEM` and 105 `ENOBUFS`.
 fn refusal_by(number: i32) -> Refusal {
     const ONE: [i32; 12] = [1, 64, 71, 92, 95, 100, 101, 103, 104, 110, 112, 113];
     const WANTING: [i32; 4] = [12, 23, 24, 105];
@@ -42,7 +44,7 @@ fn refusal_by(number: i32) -> Refusal {
     Refusal::Lasting
 }
 
-/// What an error of `accept` says.
+/// Returns the reason that an error of `accept` stands for.
 fn refusal_of(error: &io::Error) -> Refusal {
     if error.kind() == ErrorKind::WouldBlock {
         return Refusal::NoneYet;
@@ -53,11 +55,11 @@ fn refusal_of(error: &io::Error) -> Refusal {
     }
 }
 
-/// A connection as its two ends share it.
+/// The two handles of a connection.
 pub(crate) type Shared = (Arc<TcpStream>, Arc<TcpStream>);
 
-/// Shares a connection, whose readings and writings wait no longer than they are to. Nothing where
-/// it takes no such limits, or memory ran out.
+/// Shares a connection, and limits how long its reads and writes wait. Returns `None` if the
+/// connection accepts no such limits, or if memory runs out.
 fn shared(alloc: Global, stream: TcpStream) -> Option<Shared> {
     let reading = stream.set_read_timeout(Some(Duration::from_millis(WAIT)));
     let writing = stream.set_write_timeout(Some(Duration::from_millis(WRITE_WAIT)));
@@ -69,7 +71,7 @@ fn shared(alloc: Global, stream: TcpStream) -> Option<Shared> {
     Some((stream, other))
 }
 
-/// A listener that is asked for connections.
+/// A listener that is polled for connections.
 #[derive(Drop)]
 pub(crate) struct Listening<R> {
     clock: R,
@@ -80,8 +82,8 @@ pub(crate) struct Listening<R> {
 }
 
 impl<R: Clock> Listening<R> {
-    /// Asks `listener`, which from now on does not wait. Where it takes no such mode, an `accept`
-    /// waits for as long as no connection comes.
+    /// Polls `listener`, which from now on does not wait. If it does not accept that mode, an
+    /// `accept` waits until a connection arrives.
     pub(crate) fn of(clock: R, alloc: Global, listener: TcpListener) -> Listening<R> {
         let _ = listener.set_nonblocking(true);
         Listening {
@@ -93,18 +95,18 @@ impl<R: Clock> Listening<R> {
         }
     }
 
-    /// How many connections failed by themselves and were passed over.
+    /// Returns how many connections failed by themselves and were skipped.
     pub(crate) fn passed(&self) -> u64 {
         self.passed
     }
 
-    /// How often the system had no descriptor, buffer or memory for a connection.
+    /// Returns how often the system had no descriptor, buffer or memory for a connection.
     pub(crate) fn waits(&self) -> u64 {
         self.waits
     }
 
-    /// Takes an error of `accept`: waits where that helps. Returns whether it is one of the
-    /// listener, for which it is given up.
+    /// Handles an error of `accept`, and waits if that helps. Returns whether the listener failed,
+    /// and is given up.
     fn is_given_up(&mut self, error: &io::Error) -> bool {
         match refusal_of(error) {
             Refusal::Lasting => return true,
@@ -119,7 +121,7 @@ impl<R: Clock> Listening<R> {
         false
     }
 
-    /// Waits for the next connection. Nothing where the listener failed.
+    /// Waits for the next connection. Returns `None` if the listener failed.
     pub(crate) fn accepted(&mut self) -> Option<Shared> {
         'questions: for _ in 0..u64::MAX {
             match self.listener.accept() {

@@ -14,13 +14,13 @@ const FIRST_LIMIT: u64 = 10_000_000;
 /// The microseconds that each later message may take.
 const LATER_LIMIT: u64 = 60_000_000;
 
-/// What came of the messages of a connection, and how long none did.
+/// The messages of a connection so far, and how long none has ended.
 #[derive(Drop)]
 pub(crate) struct Patience {
     reader: StreamReader,
-    /// Whether a message came.
+    /// Whether a message has ended.
     greeted: bool,
-    /// Whether nothing came behind a message.
+    /// Whether nothing has arrived since the end of a message.
     between: bool,
     /// The microseconds since the last message, or since the beginning.
     waited: u64,
@@ -36,7 +36,7 @@ impl Model for Patience {
 }
 
 impl Patience {
-    /// The patience at the beginning of a connection.
+    /// Creates the patience at the beginning of a connection.
     #[tactic(auto, unfolding(stream_model::specs::Judging::judge))]
     pub(crate) fn new() -> Patience
         ensures { result ≡ record { held = at_beginning; greeted = false; waited = 0 } }
@@ -49,8 +49,7 @@ impl Patience {
         }
     }
 
-    /// Counts so many microseconds in which no message ended. The count stands at the last value
-    /// of 64 bits.
+    /// Counts microseconds in which no message ended. The count stops at 2^64 - 1.
     pub(crate) fn pass(&mut self, micros: u64)
         ensures held { self.new.held ≡ self.old.held }
         ensures greeted { self.new.greeted ≡ self.old.greeted }
@@ -59,7 +58,7 @@ impl Patience {
         self.waited = self.waited.saturating_add(micros);
     }
 
-    /// Takes a piece of the stream. Returns whether a message ends in it; then the waiting begins
+    /// Handles a piece of the stream. Returns whether a message ends in it; then the wait begins
     /// anew.
     pub(crate) fn heed(&mut self, piece: &[u8]) -> bool
         requires { 0 < length piece.now }
@@ -85,8 +84,8 @@ impl Patience {
         self.waited >= FIRST_LIMIT
     }
 
-    /// Returns the code of the message by which the peer is told that the time has passed: a
-    /// Release between two messages, and otherwise an Abort (RFC 8323 sections 5.5 and 5.6).
+    /// Returns the code of the message that says that the time has passed: a Release between two
+    /// messages, and otherwise an Abort (RFC 8323 sections 5.5 and 5.6).
     pub(crate) fn farewell(&self) -> u8
         ensures { result ≡ farewell_by (held_as self.now.held) }
     {

@@ -15,7 +15,7 @@ fn split(number: u64) -> (u64, u16)
     (number / 65_536, (number % 65_536) as u16)
 }
 
-/// Returns the peer that stands for the connection of this number: an address of the block that
+/// Returns the peer that stands for the connection with this number: an address of the block that
 /// no device has (RFC 6666), and port 0.
 pub fn peer_of_connection(number: u64) -> Peer
     // The peer tells the number, so that two connections never have the same.

@@ -1,4 +1,4 @@
-//! What is written to a connection.
+//! The octets that are written to a connection.
 ghost use Rattle.std.specs.Prelude.{◌≡◌, None};
 
 use crate::closing::write_some;
@@ -6,8 +6,9 @@ use rd_base::{Put, Sink};
 use std::net::TcpStream;
 use std::sync::Arc;
 
-/// What is written to a connection. It tells no octets. A writing fails where the peer takes
-/// nothing for as long as one waits.
+/// The octets that are written to a connection. Contracts do not see them.
+///
+/// A write fails if the peer takes nothing for 5 s, as long as a write waits.
 #[derive(Drop)]
 pub struct TcpSink {
     stream: Arc<TcpStream>,
@@ -15,7 +16,7 @@ pub struct TcpSink {
 }
 
 impl TcpSink {
-    /// The sink that writes to a connection.
+    /// Creates the sink that writes to a connection.
     pub(crate) fn of(stream: Arc<TcpStream>) -> TcpSink
         ensures holds { ⟦<TcpSink as Sink>⟧.holds result ≡ None }
         ensures unfailed { ⟦<TcpSink as Sink>⟧.faults result ≡ 0 }

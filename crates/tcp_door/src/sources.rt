@@ -1,4 +1,4 @@
-//! What is read from a connection.
+//! The octets that are read from a connection.
 ghost use Rattle.std.specs.Prelude.{◌≡◌, ◌≤◌, ◌^◌, None, length, IfSome};
 
 use crate::closing::{close, is_pause, read_once, write_some};
@@ -9,15 +9,15 @@ use std::net::TcpStream;
 use std::sync::Arc;
 use std::time::Clock;
 
-/// How many calls of one source may give octets.
+/// The number of calls of one source that may return octets.
 const TURNS: u64 = 1 << 40;
 
-/// What is read from a connection. It tells no octets.
+/// The octets that are read from a connection. Contracts do not see them.
 ///
-/// It is at its end where the peer's end is, and where no message ended for as long as one may
-/// take: 10 s for the first, 60 s for each later one. The time in which the process was stopped
-/// does not count. As it is dropped the peer is told of that by a Release or an Abort, and the
-/// connection ends so that what was written to it is delivered.
+/// The source is at its end at the peer's end. It is also at its end if no message ends in time:
+/// the first within 10 s, and each later one within 60 s. The time in which the process was stopped
+/// does not count. When the source is dropped after such a wait, it sends the peer a Release or an
+/// Abort. Dropping it ends the connection so that what was written is delivered.
 pub struct TcpSource<R: Clock + Copy> {
     stream: Arc<TcpStream>,
     patience: Patience,
@@ -27,8 +27,8 @@ pub struct TcpSource<R: Clock + Copy> {
 }
 
 impl<R: Clock + Copy> TcpSource<R> {
-    /// The source that reads from a connection whose readings wait for 50 ms. After 2^40 calls that
-    /// gave octets each call fails.
+    /// Creates the source that reads from a connection whose reads wait for 50 ms. After 2^40 calls
+    /// that returned octets, each call fails.
     pub(crate) fn of(clock: R, stream: Arc<TcpStream>) -> TcpSource<R>
         ensures left { ⟦<TcpSource<R> as Source>⟧.left result ≡ None }
         ensures unfailed { ⟦<TcpSource<R> as Source>⟧.faults result ≡ 0 }
@@ -44,7 +44,7 @@ impl<R: Clock + Copy> TcpSource<R> {
     }
 }
 
-/// Takes what came, and counts the time where no message ended in it.
+/// Handles what arrived, and counts the time if no message ended in it.
 fn heed<R: Clock + Copy>(patience: &mut Patience, stopwatch: &mut Stopwatch<R>, piece: &[u8]) {
     if piece.is_empty() || patience.heed(piece) {
         return;
@@ -52,8 +52,8 @@ fn heed<R: Clock + Copy>(patience: &mut Patience, stopwatch: &mut Stopwatch<R>, 
     patience.pass(stopwatch.lap());
 }
 
-/// Waits for octets. Returns how many came: none at the end, and once the time that a message may
-/// take has passed; and nothing where the reading failed.
+/// Waits for octets, and returns how many arrived. Returns 0 at the end, and once the time that a
+/// message may take has passed. Returns `None` if the read failed.
 fn received<R: Clock + Copy>(
     stream: &TcpStream,
     patience: &mut Patience,

@@ -3,14 +3,14 @@ ghost use Rattle.std.specs.Prelude.{◌≤◌};
 
 use std::time::{Clock, Duration};
 
-/// The microseconds of a lap where the clock cannot be read: as long as a reading waits.
+/// The microseconds of a lap if the clock cannot be read: as long as a read waits.
 const USUAL_LAP: u64 = 50_000;
 
 /// The most microseconds of a lap, so that the time in which the process was stopped does not
 /// count.
 const LONGEST_LAP: u64 = 100_000;
 
-/// The machine's monotonic clock, and when it was read last.
+/// The host's monotonic clock, and when it was last read.
 #[derive(Drop)]
 pub(crate) struct Stopwatch<R> {
     clock: R,
@@ -18,7 +18,7 @@ pub(crate) struct Stopwatch<R> {
 }
 
 impl<R: Clock> Stopwatch<R> {
-    /// A stopwatch that begins now.
+    /// Creates a stopwatch that begins now.
     pub(crate) fn new(clock: R) -> Stopwatch<R> {
         let last = clock.monotonic().unwrap_or(Duration::ZERO);
         Stopwatch { clock, last }

@@ -1,8 +1,9 @@
 //! The calls of `link_format` (RFC 6690 section 2):
 //!
-//! - `check BODY`: the links of the body, or where it stops being the beginning of a document;
+//! - `check BODY`: the links of the body, or the offset at which it stops being a prefix of a
+//!   document;
 //! - `params BODY`: the parameters of its first link;
-//! - `value_of BODY`: what the values of these say;
+//! - `value_of BODY`: the values of these;
 //! - `quoted TEXT`.
 
 use crate::pages::{begin, put_fault, put_text};
@@ -26,7 +27,7 @@ fn put_links(page: &mut String, links: Links<'_>) -> Result<(), Starved> {
     Ok(())
 }
 
-/// Writes a parameter: its name, its value as it is spelled where it has one, and the whole.
+/// Writes a parameter: its name, its value as it is spelled if it has one, and the whole.
 fn put_param(page: &mut String, param: &Param<'_>) -> Result<(), Starved> {
     begin(page)?;
     put_text(page, param.name)?;
@@ -46,7 +47,7 @@ fn put_params(page: &mut String, params: Params<'_>) -> Result<(), Starved> {
     Ok(())
 }
 
-/// Writes what the values of parameters say.
+/// Writes the values of parameters.
 fn put_values(page: &mut String, alloc: Global, params: Params<'_>) -> Result<(), Starved> {
     'parameters: for param in params {
         begin(page)?;
@@ -55,7 +56,7 @@ fn put_values(page: &mut String, alloc: Global, params: Params<'_>) -> Result<()
     Ok(())
 }
 
-/// The parameters of the first link of a body.
+/// Returns the parameters of the first link of a body, or `Form` if there is none.
 fn first_params(body: &[u8]) -> Result<Params<'_>, NoAnswer> {
     let Ok(mut links) = check(body) else {
         return Err(NoAnswer::Form);
@@ -66,7 +67,7 @@ fn first_params(body: &[u8]) -> Result<Params<'_>, NoAnswer> {
     }
 }
 
-/// Writes the links of a body, or where it stops being the beginning of a document.
+/// Writes the links of a body, or the offset at which it stops being a prefix of a document.
 fn put_check(page: &mut String, body: &[u8]) -> Result<(), Starved> {
     match check(body) {
         Ok(links) => put_links(page, links),
@@ -81,7 +82,7 @@ fn put_quoted(page: &mut String, alloc: Global, said: &str) -> Result<(), NoAnsw
     Ok(put_octets(page, text.as_bytes())?)
 }
 
-/// Writes what the call answers, and tells whether it is one of these.
+/// Writes the answer of a call. Returns whether the call is one of these.
 pub(crate) fn put_answer(
     page: &mut String,
     alloc: Global,

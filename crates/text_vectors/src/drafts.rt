@@ -1,10 +1,10 @@
-//! The calls of `registration` (RFC 9176 sections 5 and 5.3.1). A registration is
-//! `PEER?OPTIONS BODY`: where it comes from, its parameters and its links.
+//! The calls of `registration` (RFC 9176 sections 5 and 5.3.1). A registration is `PEER?OPTIONS
+//! BODY`: its peer, its parameters and its links.
 //!
 //! - `build REGISTRATION`: its draft, or the fault of its body;
 //! - `weight NUMBER REGISTRATION`;
-//! - `rebased update?OPTIONS REGISTRATION`: its links against the base that the update gives, and
-//!   those again against their own.
+//! - `rebased update?OPTIONS REGISTRATION`: its links resolved against the base of the update, and
+//!   those resolved again against their own base.
 ghost use Rattle.std.specs.Prelude.{◌≡◌, true, IfOk, IfSome};
 ghost use Rattle.std.specs.List.{list_all};
 ghost use Rattle.record_model.specs.Parameters.{is_base};
@@ -21,18 +21,18 @@ use registration::{Draft, DraftFault, build, rebased, weight};
 use std::alloc::Global;
 use vector_words::{NoAnswer, cut, number_of, octets_of};
 
-/// What is submitted to be registered.
+/// A registration as it is submitted.
 #[derive(Drop)]
 struct Submission {
     /// The parameters.
     params: RegParams,
-    /// Where it comes from.
+    /// The peer that submits it.
     peer: Peer,
     /// The links.
     body: Bytes,
 }
 
-/// Where a request comes from. `Form`: it says no peer.
+/// Returns the peer that a request names, or `Form` if it names none.
 fn peer_of(request: &Request<'_>) -> Result<Peer, NoAnswer> {
     match peer_read(request.path) {
         Ok(peer) => Ok(peer),
@@ -40,7 +40,7 @@ fn peer_of(request: &Request<'_>) -> Result<Peer, NoAnswer> {
     }
 }
 
-/// The registration that is said. `Form`: none is.
+/// Returns the registration in a text, or `Form` if there is none.
 fn submission_of(alloc: Global, said: &str) -> Result<Submission, NoAnswer>
     ensures { IfOk result (λ said. IfSome said.params.base (λ base. is_base base ≡ true)) }
 {
@@ -52,7 +52,7 @@ fn submission_of(alloc: Global, said: &str) -> Result<Submission, NoAnswer>
     Ok(Submission { params, peer, body })
 }
 
-/// The draft of a registration. `Form`: none is said, or its body is refused.
+/// Returns the draft of a registration, or `Form` if there is none or its body is refused.
 fn draft_of(alloc: Global, said: &str) -> Result<Draft, NoAnswer>
     ensures references { IfOk result (λ draft. list_all has_references draft.items ≡ true) }
     ensures base { IfOk result (λ draft. is_base draft.base ≡ true) }
@@ -65,7 +65,7 @@ fn draft_of(alloc: Global, said: &str) -> Result<Draft, NoAnswer>
     }
 }
 
-/// Writes a draft; of its base also whether it was given.
+/// Writes a draft, and whether its base was given.
 fn put_draft(page: &mut String, draft: &Draft) -> Result<(), Starved> {
     put_named(page, "ep", draft.name.ep.as_str())?;
     put_optional(page, "d", text_in(&draft.name.sector))?;
@@ -80,7 +80,7 @@ fn put_draft(page: &mut String, draft: &Draft) -> Result<(), Starved> {
     put_items(page, draft.items.links())
 }
 
-/// Writes what `build` answers for a registration.
+/// Writes the answer of `build` for a registration.
 fn put_built(page: &mut String, alloc: Global, said: &str) -> Result<(), NoAnswer> {
     let Submission { params, peer, body } = submission_of(alloc, said)?;
     match build(alloc, params, peer, body.as_slice()) {
@@ -93,7 +93,7 @@ fn put_built(page: &mut String, alloc: Global, said: &str) -> Result<(), NoAnswe
     Ok(())
 }
 
-/// Writes what the draft of a registration weighs under a number.
+/// Writes the weight of the draft of a registration with this number.
 fn put_weight(page: &mut String, alloc: Global, said: &str) -> Result<(), NoAnswer> {
     let (number, registration) = cut(said);
     let number = number_of(number, u64::MAX)?;
@@ -102,7 +102,7 @@ fn put_weight(page: &mut String, alloc: Global, said: &str) -> Result<(), NoAnsw
     Ok(write!(page, "{weight}")?)
 }
 
-/// The base that an update gives. `Form`: it gives none.
+/// Returns the base that an update gives, or `Form` if it gives none.
 fn base_of(alloc: Global, word: &str) -> Result<Text, NoAnswer>
     ensures { IfOk result (λ base. is_base base ≡ true) }
 {
@@ -118,7 +118,8 @@ fn base_of(alloc: Global, word: &str) -> Result<Text, NoAnswer>
     }
 }
 
-/// Writes the links of a registration against another base, and those again against their own.
+/// Writes the links of a registration resolved against another base, and those resolved again
+/// against their own base.
 fn put_rebased(page: &mut String, alloc: Global, said: &str) -> Result<(), NoAnswer> {
     let (update, registration) = cut(said);
     let base = base_of(alloc, update)?;
@@ -131,7 +132,7 @@ fn put_rebased(page: &mut String, alloc: Global, said: &str) -> Result<(), NoAns
     Ok(put_items(page, items.links())?)
 }
 
-/// Writes what the call answers, and tells whether it is one of these.
+/// Writes the answer of a call. Returns whether the call is one of these.
 pub(crate) fn put_answer(
     page: &mut String,
     alloc: Global,

@@ -1,6 +1,6 @@
-//! What the calls of the crates of text answer, by the name of the call and its input: documents,
-//! references, query options, drafts and listings (RFC 3986, RFC 6690, RFC 9176). How each call's
-//! input is written stands in its module.
+//! The answers of the calls of the crates of text, by the name of the call and its arguments:
+//! documents, references, query options, drafts and listings (RFC 3986, RFC 6690, RFC 9176). Each
+//! module describes the arguments of its calls.
 #![tactic(auto)]
 
 mod documents;
@@ -16,7 +16,7 @@ mod requests;
 use std::alloc::Global;
 use vector_words::NoAnswer;
 
-/// Writes what a call of one of the crates answers, and tells whether it is one.
+/// Writes the answer of a call of one of the crates. Returns whether there is such a call.
 fn put_answer(page: &mut String, alloc: Global, call: &str, said: &str) -> Result<bool, NoAnswer> {
     if documents::put_answer(page, alloc, call, said)? {
         return Ok(true);
@@ -36,13 +36,14 @@ fn put_answer(page: &mut String, alloc: Global, call: &str, said: &str) -> Resul
     listings::put_answer(page, alloc, call, said)
 }
 
-/// What the call of that name answers to what is said. None: no crate of text has such a call.
-/// Parts of an answer stand between ` | `; one without any is `-`.
+/// Returns the answer of a call to its arguments, or `None` if no crate of text has such a call.
+///
+/// Parts of an answer are separated by ` | `. An answer without parts is `-`.
 ///
 /// # Errors
 ///
-/// `Form` where what is said has not the form that the call's module tells. `Starved`: out of
-/// memory.
+/// `Form` if the arguments do not have the form that the call's module describes; `Starved` if
+/// memory runs out.
 pub fn answer(alloc: Global, call: &str, said: &str) -> Result<Option<String>, NoAnswer> {
     let mut page = String::new(alloc);
     if !put_answer(&mut page, alloc, call, said)? {

@@ -1,8 +1,8 @@
 //! The calls of `listing` on lookups (RFC 9176 section 6). A lookup is `KIND?OPTIONS`.
 //!
 //! - `matches LOOKUP INDEX RECORD`, `endpoint_listed LOOKUP RECORD`;
-//! - `same_part LOOKUP OLD -> NEW`, of which each is a record or `-`;
-//! - `lines LOOKUP SKIP MOST BEFORE RECORD`, where `BEFORE` is what stands there already;
+//! - `same_part LOOKUP OLD -> NEW`, each of which is a record or `-`;
+//! - `lines LOOKUP SKIP MOST BEFORE RECORD`, in which `BEFORE` is the text before the lines;
 //! - `discovery LOOKUP`, `page_bounds LOOKUP`.
 
 use crate::pages::{begin, put_number};
@@ -13,7 +13,8 @@ use rd_base::{Query, Record, Starved};
 use std::alloc::Global;
 use vector_words::{NoAnswer, cut, number_of, octets_of, put_octets, yes_or_no};
 
-/// Whether a query lists the link of an index. `Form`: the registration has none there.
+/// Returns whether a query lists the link at an index, or `Form` if the registration has none
+/// there.
 fn is_matched(alloc: Global, query: &Query, said: &str) -> Result<bool, NoAnswer> {
     let (index, record) = cut(said);
     let index = number_of(index, u64::MAX)? as usize;
@@ -24,7 +25,7 @@ fn is_matched(alloc: Global, query: &Query, said: &str) -> Result<bool, NoAnswer
     Ok(matches(query, &record, index))
 }
 
-/// The registration that is said, where one is.
+/// Returns the registration in a text, or `None` for `-`.
 fn record_in(alloc: Global, said: &str) -> Result<Option<Record>, NoAnswer> {
     if said == "-" {
         return Ok(None);
@@ -32,7 +33,8 @@ fn record_in(alloc: Global, said: &str) -> Result<Option<Record>, NoAnswer> {
     Ok(Some(record_of(alloc, said)?))
 }
 
-/// Whether a query has the same lines of two registrations. `Form`: they are not said.
+/// Returns whether a query lists the same lines of two registrations, or `Form` if the text does
+/// not have them.
 fn is_same(alloc: Global, query: &Query, said: &str) -> Result<bool, NoAnswer> {
     let Some((old, new)) = said.split_once(" -> ") else {
         return Err(NoAnswer::Form);
@@ -42,8 +44,8 @@ fn is_same(alloc: Global, query: &Query, said: &str) -> Result<bool, NoAnswer> {
     Ok(same_part(query, old.as_ref(), new.as_ref()))
 }
 
-/// Writes the lines that a registration gives to a query, after how many were skipped and
-/// written.
+/// Writes the lines that a registration contributes to a query, after the numbers of those skipped
+/// and written.
 fn put_lines(page: &mut String, alloc: Global, query: &Query, said: &str) -> Result<(), NoAnswer> {
     let (skip, rest) = cut(said);
     let (most, rest) = cut(rest);
@@ -59,14 +61,14 @@ fn put_lines(page: &mut String, alloc: Global, query: &Query, said: &str) -> Res
     Ok(put_octets(page, text.as_slice())?)
 }
 
-/// Writes how many lines stand before a page, and how many it has at most.
+/// Writes how many lines precede a page, and the maximum number of its lines.
 fn put_bounds(page: &mut String, query: &Query) -> Result<(), Starved> {
     let (skip, most) = page_bounds(query);
     put_number(page, "skip", skip)?;
     put_number(page, "most", most)
 }
 
-/// Writes what a call answers for a lookup.
+/// Writes the answer of a call on a lookup.
 fn put_of(
     page: &mut String,
     alloc: Global,
@@ -87,7 +89,7 @@ fn put_of(
     Ok(())
 }
 
-/// Writes what the call answers, and tells whether it is one of these.
+/// Writes the answer of a call. Returns whether the call is one of these.
 pub(crate) fn put_answer(
     page: &mut String,
     alloc: Global,

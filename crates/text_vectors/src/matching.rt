@@ -14,7 +14,8 @@ use rd_base::{Criterion, Starved, Text};
 use std::alloc::Global;
 use vector_words::{NoAnswer, cut, put_octets, text_of, yes_or_no};
 
-/// What stands before the first equals sign and after it: all and nothing where there is none.
+/// Returns the text before the first equals sign and the text after it. Without one, returns the
+/// whole text and an empty one.
 fn name_and_pattern(text: &str) -> (&str, &str) {
     match text.split_once('=') {
         Some(parts) => parts,
@@ -22,7 +23,7 @@ fn name_and_pattern(text: &str) -> (&str, &str) {
     }
 }
 
-/// A criterion in a word. `Form`: its octets are no UTF-8.
+/// Returns the criterion of an argument, or `Form` if its octets are not UTF-8.
 fn criterion_of(alloc: Global, word: &str) -> Result<Criterion, NoAnswer> {
     let text = text_of(alloc, word)?;
     let (name, pattern) = name_and_pattern(text.as_str());
@@ -31,7 +32,7 @@ fn criterion_of(alloc: Global, word: &str) -> Result<Criterion, NoAnswer> {
     Ok(Criterion { name, pattern })
 }
 
-/// Writes what stands before the asterisk of a pattern.
+/// Writes the part of a pattern before its asterisk.
 fn put_front(page: &mut String, pattern: &str) -> Result<(), Starved> {
     match before_wildcard(pattern) {
         Some(front) => put_octets(page, front.as_bytes()),
@@ -39,7 +40,7 @@ fn put_front(page: &mut String, pattern: &str) -> Result<(), Starved> {
     }
 }
 
-/// Writes the first part of a value, and what stands after it.
+/// Writes the first part of a value, and the rest.
 fn put_first_part(page: &mut String, value: &str) -> Result<(), Starved> {
     let Some((part, rest)) = first_part(value) else {
         return Ok(page.push_str("none")?);
@@ -49,14 +50,14 @@ fn put_first_part(page: &mut String, value: &str) -> Result<(), Starved> {
     put_octets(page, rest.as_bytes())
 }
 
-/// Whether a pattern matches a value.
+/// Returns whether a pattern matches a value.
 fn is_matched(alloc: Global, pattern: &str, value: &str) -> Result<bool, NoAnswer> {
     let pattern = text_of(alloc, pattern)?;
     let value = text_of(alloc, value)?;
     Ok(matches_value(pattern.as_str(), value.as_str()))
 }
 
-/// Whether a criterion's pattern matches a value of its name.
+/// Returns whether a criterion's pattern matches a value of its name.
 fn is_named_matched(alloc: Global, criterion: &Criterion, value: &str) -> Result<bool, NoAnswer> {
     let value = text_of(alloc, value)?;
     let name = criterion.name.as_str();
@@ -64,7 +65,7 @@ fn is_named_matched(alloc: Global, criterion: &Criterion, value: &str) -> Result
     Ok(matches_named(name, pattern, value.as_str()))
 }
 
-/// Whether a criterion matches a link. `Form`: no link is said.
+/// Returns whether a criterion matches a link, or `Form` if there is no link.
 fn is_link_matched(alloc: Global, criterion: &Criterion, said: &str) -> Result<bool, NoAnswer> {
     let items = items_of(alloc, said)?;
     match items.links().get(0) {
@@ -73,7 +74,7 @@ fn is_link_matched(alloc: Global, criterion: &Criterion, said: &str) -> Result<b
     }
 }
 
-/// Whether what a call asks of one word and another holds.
+/// Returns the truth value of a call on two arguments.
 fn holds(alloc: Global, call: &str, said: &str) -> Result<bool, NoAnswer> {
     let (word, rest) = cut(said);
     if call == "matches_value" {
@@ -87,7 +88,7 @@ fn holds(alloc: Global, call: &str, said: &str) -> Result<bool, NoAnswer> {
     }
 }
 
-/// Writes what the call answers, and tells whether it is one of these.
+/// Writes the answer of a call. Returns whether the call is one of these.
 pub(crate) fn put_answer(
     page: &mut String,
     alloc: Global,

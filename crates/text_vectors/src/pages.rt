@@ -3,7 +3,7 @@
 use rd_base::{Link, Links, Pair, Starved, Text};
 use vector_words::put_octets;
 
-/// Begins a part: ` | ` stands between it and the part before it.
+/// Begins a part, and writes ` | ` if it is not the first.
 pub(crate) fn begin(page: &mut String) -> Result<(), Starved> {
     if page.is_empty() {
         return Ok(());
@@ -11,7 +11,7 @@ pub(crate) fn begin(page: &mut String) -> Result<(), Starved> {
     Ok(page.push_str(" | ")?)
 }
 
-/// Writes a text that stands between other marks, which may be empty.
+/// Writes a text between other marks, which may be empty.
 pub(crate) fn put_text(page: &mut String, text: &str) -> Result<(), Starved> {
     if text.is_empty() {
         return Ok(());
@@ -27,7 +27,7 @@ pub(crate) fn put_named(page: &mut String, name: &str, value: &str) -> Result<()
     put_text(page, value)
 }
 
-/// Writes a part of a name and a value, where there is one.
+/// Writes a part of a name and a value, if there is a value.
 pub(crate) fn put_optional(
     page: &mut String,
     name: &str,
@@ -58,7 +58,7 @@ pub(crate) fn put_pairs(page: &mut String, pairs: &[Pair]) -> Result<(), Starved
     Ok(())
 }
 
-/// The text, where there is one.
+/// Returns the text, if there is one.
 pub(crate) fn text_in(text: &Option<Text>) -> Option<&str> {
     match text {
         None => None,
@@ -66,7 +66,7 @@ pub(crate) fn text_in(text: &Option<Text>) -> Option<&str> {
     }
 }
 
-/// Writes a target between its brackets, raw attributes and an anchor where there is one.
+/// Writes a target in brackets, raw attributes, and an anchor if there is one.
 fn put_link(
     page: &mut String,
     target: &str,
@@ -85,8 +85,8 @@ fn put_link(
     Ok(())
 }
 
-/// Writes a link as a part: its target and anchor as they were submitted, the link as it is
-/// listed, and its attributes.
+/// Writes a link as a part: its target and anchor as submitted, the link as it is listed, and its
+/// attributes.
 fn put_item(page: &mut String, link: &Link<'_>) -> Result<(), Starved> {
     begin(page)?;
     put_link(page, link.target_ref(), "", link.anchor_ref())?;

@@ -1,9 +1,9 @@
 //! The calls of `query_text` (RFC 9176 sections 5, 5.1, 5.3.1 and 6.2):
 //!
-//! - `fault READING?OPTIONS`, where the reading is `register`, `simple`, `update` or `lookup`;
+//! - `fault READING?OPTIONS`, in which the reading is `register`, `simple`, `update` or `lookup`;
 //! - `reg_params register?OPTIONS` and `reg_params simple?OPTIONS`;
 //! - `update_params update?OPTIONS`;
-//! - `lookup_query KIND?OPTIONS`, where the kind is `res`, `ep` or `core`.
+//! - `lookup_query KIND?OPTIONS`, in which the kind is `res`, `ep` or `core`.
 ghost use Rattle.std.specs.Prelude.{◌≡◌, true, IfOk, IfSome};
 ghost use Rattle.record_model.specs.Parameters.{is_base};
 
@@ -14,7 +14,7 @@ use rd_base::{Kind, Query, RegParams, Starved, UpdateParams};
 use std::alloc::Global;
 use vector_words::NoAnswer;
 
-/// What a path says that options are read as.
+/// Returns what a path says that the options are read as.
 fn reading_of(path: &str) -> Result<Reading, NoAnswer> {
     match path {
         "register" => Ok(Reading::Register),
@@ -25,7 +25,7 @@ fn reading_of(path: &str) -> Result<Reading, NoAnswer> {
     }
 }
 
-/// What a path says that is looked up.
+/// Returns the kind of lookup that a path names.
 fn kind_of(path: &str) -> Result<Kind, NoAnswer> {
     match path {
         "res" => Ok(Kind::Resource),
@@ -35,7 +35,7 @@ fn kind_of(path: &str) -> Result<Kind, NoAnswer> {
     }
 }
 
-/// The query that a word says. `Form`: it says none.
+/// Returns the query of an argument, or `Form` if it is none.
 pub(crate) fn query_of(alloc: Global, word: &str) -> Result<Query, NoAnswer> {
     let request = Request::of(alloc, word)?;
     let kind = kind_of(request.path)?;
@@ -46,7 +46,7 @@ pub(crate) fn query_of(alloc: Global, word: &str) -> Result<Query, NoAnswer> {
     }
 }
 
-/// The parameters of a registration that a request gives. `Form`: they are refused.
+/// Returns the parameters of a registration that a request gives, or `Form` if they are refused.
 pub(crate) fn params_of(alloc: Global, request: &Request<'_>) -> Result<RegParams, NoAnswer>
     ensures { IfOk result (λ params. IfSome params.base (λ base. is_base base ≡ true)) }
 {
@@ -57,7 +57,7 @@ pub(crate) fn params_of(alloc: Global, request: &Request<'_>) -> Result<RegParam
     }
 }
 
-/// Writes why options are refused, with the index of the first one that is.
+/// Writes why options are refused, with the index of the first that is.
 fn put_why(page: &mut String, index: usize, why: Why) -> Result<(), Starved> {
     Ok(write!(page, "{why:?} at {index}")?)
 }
@@ -87,7 +87,7 @@ fn put_reg_params(page: &mut String, params: &RegParams) -> Result<(), Starved> 
     put_pairs(page, params.attrs.as_slice())
 }
 
-/// Writes what the options of a registration are read as.
+/// Writes the result of reading the options of a registration.
 fn put_registration(
     page: &mut String,
     alloc: Global,
@@ -114,7 +114,7 @@ fn put_update_params(page: &mut String, params: &UpdateParams) -> Result<(), Sta
     put_pairs(page, params.attrs.as_slice())
 }
 
-/// Writes what the options of an update are read as.
+/// Writes the result of reading the options of an update.
 fn put_update(page: &mut String, alloc: Global, queries: Listed<'_>) -> Result<(), Starved> {
     match update_params(alloc, queries) {
         Ok(params) => put_update_params(page, &params),
@@ -138,7 +138,7 @@ fn put_query(page: &mut String, query: &Query) -> Result<(), Starved> {
     Ok(())
 }
 
-/// Writes what the options of a lookup are read as.
+/// Writes the result of reading the options of a lookup.
 fn put_lookup(page: &mut String, alloc: Global, request: &Request<'_>) -> Result<(), NoAnswer> {
     let kind = kind_of(request.path)?;
     match lookup_query(alloc, kind, request.queries()) {
@@ -148,7 +148,7 @@ fn put_lookup(page: &mut String, alloc: Global, request: &Request<'_>) -> Result
     Ok(())
 }
 
-/// Writes what the call answers, and tells whether it is one of these.
+/// Writes the answer of a call. Returns whether the call is one of these.
 pub(crate) fn put_answer(
     page: &mut String,
     alloc: Global,

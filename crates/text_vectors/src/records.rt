@@ -1,5 +1,5 @@
-//! Registrations as listings have them: `/rd/NUMBER?OPTIONS LINKS`. The options give the base
-//! too; the links are those of a document as they stand, their targets and anchors resolved.
+//! Registrations as listings have them: `/rd/NUMBER?OPTIONS LINKS`. The options also give the base.
+//! The links are those of a document, unchanged; their targets and anchors are resolved already.
 
 use crate::pages::text_in;
 use crate::queries::params_of;
@@ -9,7 +9,8 @@ use rd_base::{Items, LinkParts, LinksBuilder, Moment, Record, RegParams, Starved
 use std::alloc::Global;
 use vector_words::{NoAnswer, cut, number_of, octets_of};
 
-/// Links and one more, with the attributes that wait for it: its target and its anchor.
+/// Adds a link to the builder with its target, its anchor and the attributes that were added
+/// before.
 fn with_target<'a>(
     builder: LinksBuilder,
     target: &'a str,
@@ -25,7 +26,7 @@ fn with_target<'a>(
     builder.with_link(&parts)
 }
 
-/// Links and one more, as it stands.
+/// Adds a link to the builder, unchanged.
 fn with_link(
     alloc: Global,
     builder: LinksBuilder,
@@ -44,7 +45,7 @@ fn with_link(
     with_target(builder, link.target, &anchor)
 }
 
-/// The links of a document as they stand. `Form`: it is none.
+/// Returns the links of a document, unchanged, or `Form` if it is not a document.
 pub(crate) fn items_of(alloc: Global, said: &str) -> Result<Items, NoAnswer> {
     let body = octets_of(alloc, said)?;
     let Ok(links) = check(body.as_slice()) else {
@@ -57,7 +58,7 @@ pub(crate) fn items_of(alloc: Global, said: &str) -> Result<Items, NoAnswer> {
     Ok(builder.build(alloc)?)
 }
 
-/// The number of a location. `Form`: it is none.
+/// Returns the number of a location, or `Form` if the path is not a location.
 fn number_at(path: &str) -> Result<u64, NoAnswer> {
     match path.strip_prefix("/rd/") {
         Some(digits) => number_of(digits, u64::MAX),
@@ -65,7 +66,7 @@ fn number_at(path: &str) -> Result<u64, NoAnswer> {
     }
 }
 
-/// The registration that is said. `Form`: none is.
+/// Returns the registration in a text, or `Form` if there is none.
 pub(crate) fn record_of(alloc: Global, said: &str) -> Result<Record, NoAnswer> {
     let (word, links) = cut(said);
     let request = Request::of(alloc, word)?;

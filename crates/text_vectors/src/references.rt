@@ -1,5 +1,5 @@
-//! The calls of `ref_resolve` (RFC 3986): `parts REFERENCE`, `is_uri REFERENCE`,
-//! `host REFERENCE` and `resolve BASE REFERENCE`. What is no reference is bad at an octet.
+//! The calls of `ref_resolve` (RFC 3986): `parts REFERENCE`, `is_uri REFERENCE`, `host REFERENCE`
+//! and `resolve BASE REFERENCE`. A text that is not a reference is bad at an offset.
 
 use crate::pages::{put_fault, put_named, put_optional};
 use rd_base::Starved;
@@ -7,7 +7,7 @@ use ref_resolve::{Parts, RefBad, host, is_uri, parts, resolve};
 use std::alloc::Global;
 use vector_words::{NoAnswer, cut, put_octets, text_of, yes_or_no};
 
-/// Writes the components that a reference has.
+/// Writes the components of a reference.
 fn put_parts(page: &mut String, parts: &Parts<'_>) -> Result<(), Starved> {
     put_optional(page, "scheme", parts.scheme)?;
     put_optional(page, "authority", parts.authority)?;
@@ -39,8 +39,7 @@ fn put_resolved(
     Ok(put_octets(page, text.as_bytes())?)
 }
 
-/// Writes what one of the calls answers for a reference that is read; the base is for `resolve`
-/// alone.
+/// Writes the answer of a call for a reference that was read. Only `resolve` uses the base.
 fn put_of(
     page: &mut String,
     alloc: Global,
@@ -57,7 +56,7 @@ fn put_of(
     Ok(())
 }
 
-/// Writes what the call answers, and tells whether it is one of these.
+/// Writes the answer of a call. Returns whether the call is one of these.
 pub(crate) fn put_answer(
     page: &mut String,
     alloc: Global,

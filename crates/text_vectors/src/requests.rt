@@ -1,12 +1,12 @@
-//! Requests in a word, `PLACE?OPTION&OPTION..`: what stands before the question mark says what
-//! the options are for. Without a question mark there are no options; `?` alone is followed by an
-//! empty one.
+//! Requests as one argument, `PLACE?OPTION&OPTION..`. The text before the question mark says what
+//! the options are for. Without a question mark there are no options; after a `?` at the end there
+//! is one empty option.
 
 use rd_base::{Bytes, Pieces, Starved};
 use std::alloc::Global;
 use vector_words::octets_of;
 
-/// Query options that stand in a slice, from an index on.
+/// Query options in a slice, from an index on.
 #[derive(Clone, Copy)]
 pub(crate) struct Listed<'a> {
     /// The slice.
@@ -20,7 +20,7 @@ impl<'a> Pieces<'a> for Listed<'a> {
 
     ghost left = { λ listed. drop listed.at listed.options.now };
 
-    /// The next option of the slice.
+    /// Returns the next option of the slice.
     fn next_piece(&mut self) -> Option<&'a [u8]> {
         if self.at >= self.options.len() {
             return None;
@@ -31,17 +31,21 @@ impl<'a> Pieces<'a> for Listed<'a> {
     }
 }
 
-/// What a word says.
+/// A request.
 #[derive(Drop)]
 pub(crate) struct Request<'a> {
-    /// What stands before the question mark.
+    /// The text before the question mark.
     pub path: &'a str,
     /// The query options.
     pub options: Vec<Bytes>,
 }
 
 impl<'a> Request<'a> {
-    /// What a word says. `Starved`: out of memory.
+    /// Returns the request of an argument.
+    ///
+    /// # Errors
+    ///
+    /// `Starved` if memory runs out.
     pub fn of(alloc: Global, word: &'a str) -> Result<Request<'a>, Starved> {
         let mut options = Vec::new(alloc);
         let Some((path, query)) = word.split_once('?') else {
@@ -56,7 +60,7 @@ impl<'a> Request<'a> {
         Ok(Request { path, options })
     }
 
-    /// The options, one after another.
+    /// Returns the options, one after another.
     pub fn queries(&self) -> Listed<'_> {
         Listed {
             options: self.options.as_slice(),

@@ -12,13 +12,13 @@ use std::thread::{Threads, join};
 use std::time::{Clock, Duration};
 use version_board::{Looker, Lookers};
 
-/// How many versions are published.
+/// The number of versions that are published.
 const PUBLISHINGS: u64 = 10_000;
 
-/// How often a looker looks at most.
+/// The maximum number of looks of a looker.
 const LOOKS: u64 = 50_000;
 
-/// How many microseconds a looker rests between two looks.
+/// The pause of a looker between two looks, in microseconds.
 const PAUSE: u64 = 1_000;
 
 /// Publishes all versions, or as many as there is memory for.
@@ -29,8 +29,9 @@ fn publish<R: Wait>(alloc: Global, rt: &R, board: &mut SampleBoard) -> Result<()
     Ok(())
 }
 
-/// Looks until a look that began after all was done: how many entries it showed. None where a
-/// version has fewer than the one before, or another moment than how many it has.
+/// Looks until a look that began after all was published. Returns how many entries it showed.
+/// Returns `None` if a version has fewer entries than the one before, or its moment is not the
+/// number of its entries.
 fn watch<C: Clock>(clock: &C, mut looker: Looker, is_done: &AtomicU64) -> Option<u64> {
     let mut seen = 0;
     for _ in 0..LOOKS {
@@ -49,7 +50,7 @@ fn watch<C: Clock>(clock: &C, mut looker: Looker, is_done: &AtomicU64) -> Option
     None
 }
 
-/// Publishes all versions while lookers watch. What each saw last.
+/// Publishes all versions while lookers watch. Returns what each saw last.
 fn watched<R: Threads + Wait + Clock + Sync>(
     alloc: Global,
     rt: &R,
@@ -71,7 +72,7 @@ fn watched<R: Threads + Wait + Clock + Sync>(
     Ok(watched?)
 }
 
-/// One looker holds the empty version meanwhile: nobody waits for it, and it stays as it was.
+/// One looker holds the empty version meanwhile. Nobody waits for it, and it does not change.
 #[test]
 fn lookers_see_entries_grow(rt: HostRuntime) -> Result<(), Fail> {
     let (mut board, mut lookers) = SampleBoard::open(rt.alloc(), &rt, 5)?;
@@ -86,7 +87,7 @@ fn lookers_see_entries_grow(rt: HostRuntime) -> Result<(), Fail> {
     Ok(())
 }
 
-/// Publishings, meetings and looks by turns. How many entries the last look showed.
+/// Publishes, meets and looks, alternately. Returns how many entries the last look showed.
 fn met<R: Wait>(
     alloc: Global,
     rt: &R,

@@ -1,4 +1,4 @@
-//! A look while a publishing waits for a reader that goes on reading.
+//! A look while a publishing waits for a reader that continues to read.
 
 use crate::sample_boards::SampleBoard;
 use rd_base::Starved;
@@ -10,16 +10,19 @@ use std::thread;
 use std::time::{Clock, Duration};
 use version_board::Looker;
 
-/// The stages: a reader reads, a publishing waits for it, a look was answered, the reader leaves.
+/// A stage: a reader reads.
 const READING: u64 = 1;
 
+/// A stage: a publishing waits for the reader.
 const WAITING: u64 = 2;
 
+/// A stage: a look was answered.
 const ANSWERED: u64 = 3;
 
+/// A stage: the reader leaves.
 const LEAVING: u64 = 4;
 
-/// Waits for a stage, ten seconds at most, and a little longer. Whether it came.
+/// Waits for a stage, for ten seconds at most. Returns whether it came.
 fn comes<C: Clock>(clock: &C, stage: &AtomicU64, wanted: u64) -> bool {
     (0..1_000).any(|_| {
         let is_there = stage.load(Ordering::SeqCst) == wanted;
@@ -28,7 +31,7 @@ fn comes<C: Clock>(clock: &C, stage: &AtomicU64, wanted: u64) -> bool {
     })
 }
 
-/// Reads until a look was answered, and only then tells that it leaves.
+/// Reads until a look was answered, and only then reports that it leaves.
 fn read_long<C: Clock>(clock: &C, mut looker: Looker, stage: &AtomicU64) {
     looker.linger(|| {
         stage.store(READING, Ordering::SeqCst);
@@ -38,15 +41,15 @@ fn read_long<C: Clock>(clock: &C, mut looker: Looker, stage: &AtomicU64) {
     });
 }
 
-/// Looks once a publishing waits.
+/// Looks when a publishing waits.
 fn look_late<C: Clock>(clock: &C, mut looker: Looker, stage: &AtomicU64) {
     if comes(clock, stage, WAITING) && looker.look().is_ok() {
         stage.store(ANSWERED, Ordering::SeqCst);
     }
 }
 
-/// Publishes twice, the second time while a reader reads that read before the first. Whether the
-/// reader had left once both were published.
+/// Publishes twice, the second time while a reader reads that began before the first. Returns
+/// whether the reader had left when both were published.
 fn publish_twice<R: Wait>(
     alloc: Global,
     rt: &R,
@@ -59,7 +62,7 @@ fn publish_twice<R: Wait>(
     Ok(stage.load(Ordering::SeqCst) == LEAVING)
 }
 
-/// Of two publishings the second waits for a reader of what was shown before; a look does not.
+/// The second of two publishings waits for a reader of what was shown before, but a look does not.
 #[test]
 fn a_look_is_answered_while_a_publishing_waits(rt: HostRuntime) -> Result<(), Fail> {
     let (rt, stage) = (&rt, &AtomicU64::new(0));

@@ -5,7 +5,7 @@ use std::sync::Arc;
 use std::test::Fail;
 use udp_link::{Came, Clock, LAST_MOMENT, Link, UdpClock, UdpLink, Went};
 
-/// The peer at an address.
+/// Returns the peer at an address.
 fn peer_of(address: SocketAddr) -> Peer {
     let host = match address {
         SocketAddr::V4(v4) => Host::V4(v4.ip().octets()),

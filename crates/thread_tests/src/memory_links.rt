@@ -1,4 +1,4 @@
-//! A link in memory, with calls that are to fail.
+//! A link in memory, with calls that fail as planned.
 use rd_base::{Bytes, Host, Peer, Starved};
 use std::alloc::Global;
 use std::test::Fail;
@@ -10,7 +10,7 @@ const NEAR: Peer = Peer {
     port: 5683,
 };
 
-/// Datagrams of these lengths, each octet of which is 7.
+/// Returns datagrams of these lengths, each octet of which is 7.
 fn sevens(alloc: Global, lengths: &[usize]) -> Result<Arrivals, Starved> {
     let mut sevens = Arrivals::new(alloc);
     for length in lengths {

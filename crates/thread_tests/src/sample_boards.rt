@@ -1,4 +1,5 @@
-//! Versions of an endpoint that registers again and again, at the moments 1, 2, 3 and so on.
+//! Versions of an endpoint that registers again and again, at the moments 1, 2, 3 and so on, in
+//! milliseconds.
 ghost use Rattle.std.specs.Prelude.{◌≡◌, ◌≤◌, ◌^◌, ◌++◌, ◌∷◌, [], ℕ, List};
 ghost use Rattle.std.specs.Prelude.{None, IfOk, IsSome, IfSome, replicate};
 ghost use Rattle.std.specs.Arc.{arc_value};
@@ -16,7 +17,7 @@ use std::marker::Brand;
 use std::sync::{Arc, Wait};
 use version_board::{Entering, Looker, Lookers, Publisher, board};
 
-/// Where the endpoint is.
+/// The peer of the endpoint.
 const PEER: Peer = Peer {
     host: Host::V4([192, 0, 2, 10]),
     port: 5683,
@@ -32,7 +33,7 @@ pub struct SampleBoard {
     ghost unswept: { (arc_value last).swept ≡ 0 },
 }
 
-/// The parameters of the endpoint.
+/// Returns the parameters of the endpoint.
 fn params_of(alloc: Global) -> Result<RegParams, Starved>
     ensures { IfOk result (λ params. params ≡ sample_params) }
 {
@@ -47,7 +48,7 @@ fn params_of(alloc: Global) -> Result<RegParams, Starved>
     })
 }
 
-/// The draft of the endpoint.
+/// Returns the draft of the endpoint.
 #[rattlefmt::skip]
 #[tactic(
     auto,
@@ -67,7 +68,7 @@ fn draft_of(alloc: Global) -> Result<Draft, Starved>
     Ok(draft)
 }
 
-/// The version in which the endpoint registers at a moment.
+/// Returns the version in which the endpoint registers at a moment.
 fn registered(alloc: Global, last: &Directory, now: Moment) -> Result<Directory, Starved>
     requires at { last.now.at ≤ now.0 }
     requires swept { last.now.swept ≤ now.0 }
@@ -97,7 +98,15 @@ fn publish_at<E: Entering, R: Wait>(rt: &R, publisher: &mut Publisher, now: Mome
 }
 
 impl SampleBoard {
-    /// A board with so many lookers, which shows the empty version.
+    /// Opens a board with this number of lookers, which shows the empty version.
+    ///
+    /// # Requires
+    ///
+    /// There are 1 to 16 lookers.
+    ///
+    /// # Errors
+    ///
+    /// `Starved` if memory runs out.
     pub fn open<R: Wait>(
         alloc: Global,
         rt: &R,
@@ -114,6 +123,10 @@ impl SampleBoard {
     }
 
     /// Publishes the next version.
+    ///
+    /// # Errors
+    ///
+    /// `Starved` if memory runs out.
     pub fn publish_next<R: Wait>(&mut self, alloc: Global, rt: &R) -> Result<(), Starved>
         ensures name { self.new.publisher.name ≡ self.old.publisher.name }
     {
@@ -128,7 +141,11 @@ impl SampleBoard {
         Ok(())
     }
 
-    /// A looker of the board meets the publisher.
+    /// Lets a looker of the board meet the publisher.
+    ///
+    /// # Requires
+    ///
+    /// The looker is one of this board.
     pub fn meet(&mut self, looker: &mut Looker)
         requires name { looker.old.name ≡ self.old.publisher.name }
         ensures name { looker.new.name ≡ looker.old.name }

@@ -1,4 +1,4 @@
-//! A turn lock round a counter, whose rows are its steps.
+//! A turn lock around a counter, whose rows are its steps.
 ghost use Rattle.std.specs.Prelude.{◌≡◌, ◌+◌, ◌%◌, ◌^◌, true, false, length, All};
 ghost use Rattle.turn_lock.specs.Shown.{id_of, lock_of, is_holding, seen_of};
 
@@ -9,7 +9,7 @@ use std::thread;
 use std::thread::Threads;
 use turn_lock::{Ended, Pass, Replays, TurnLock};
 
-/// How many steps each worker makes.
+/// The number of steps of each worker.
 const STEPS: u64 = 10_000;
 
 /// One step of a worker. No value of it is made.
@@ -18,7 +18,7 @@ pub struct Tick {
     pub by: u64,
 }
 
-/// How many steps there were, up to 2^64.
+/// The number of steps so far, modulo 2^64.
 #[derive(Drop)]
 pub struct Counter {
     /// The number of steps.
@@ -39,7 +39,7 @@ impl Replays for Counter {
     ghost label = { λ counter. tt };
 }
 
-/// Gives the counter back, one step further.
+/// Returns the counter to the lock, one step further.
 fn give_back(lock: &TurnLock<Counter>, pass: &mut Pass<Counter>, counter: Counter)
     requires lock { lock_of pass.old ≡ id_of lock.now }
     requires holding { is_holding pass.old ≡ true }
@@ -50,7 +50,7 @@ fn give_back(lock: &TurnLock<Counter>, pass: &mut Pass<Counter>, counter: Counte
     lock.give::<Brand>(pass, counter);
 }
 
-/// So many steps, one after the other. What the counter is in the end.
+/// Makes `steps` steps, one after the other. Returns the value of the counter afterwards.
 fn steps<R: Wait>(rt: &R, lock: &TurnLock<Counter>, pass: &mut Pass<Counter>, steps: u64) -> u64
     requires lock { lock_of pass.old ≡ id_of lock.now }
     requires idle { is_holding pass.old ≡ false }
@@ -67,7 +67,7 @@ fn steps<R: Wait>(rt: &R, lock: &TurnLock<Counter>, pass: &mut Pass<Counter>, st
     count
 }
 
-/// The steps of all workers at once.
+/// Has all workers make their steps at once.
 fn all_at_once<R: Threads + Wait + Sync>(
     rt: &R,
     lock: &TurnLock<Counter>,
@@ -88,7 +88,7 @@ fn all_at_once<R: Threads + Wait + Sync>(
     );
 }
 
-/// Each pass makes its steps in one thread, then in another, and the first one more here.
+/// Each pass makes its steps in one thread and then in another, and the first makes one more here.
 #[test]
 fn many_steps_at_once(rt: HostRuntime) -> Result<(), Fail> {
     for workers in [2, 16] {
@@ -113,7 +113,7 @@ fn ends_with_its_value(rt: HostRuntime) -> Result<(), Fail> {
     Ok(())
 }
 
-/// A lock ends after all of its passes are let go, and gives its value back.
+/// A lock ends after all of its passes were dropped, and returns its value.
 #[test]
 fn ends_without_its_passes(rt: HostRuntime) -> Result<(), Fail> {
     let (lock, mut passes) = TurnLock::make(rt.alloc(), 2, Counter { count: 0 })?;
@@ -127,7 +127,7 @@ fn ends_without_its_passes(rt: HostRuntime) -> Result<(), Fail> {
     Ok(())
 }
 
-/// A lock that ends while its turn is held has no value: the holder has it.
+/// A lock that ends while its turn is held has no value; the holder has it.
 #[test]
 fn ends_while_held(rt: HostRuntime) -> Result<(), Fail> {
     let (lock, mut passes) = TurnLock::make(rt.alloc(), 1, Counter { count: 0 })?;

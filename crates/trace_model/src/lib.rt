@@ -1,3 +1,5 @@
-//! What a trace gives: its steps, the text of its journal, and the first bad line. Definitions, and
-//! worked traces that they compute. No function.
+//! The meaning of a trace: its steps, the text of its journal, and its first bad line. Definitions,
+//! and worked traces that they compute.
+//!
+//! The crate has no functions.
 #![tactic(auto)]

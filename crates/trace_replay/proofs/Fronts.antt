@@ -32,7 +32,14 @@ use Rattle.journal_model.specs.declared.steps.Step.{Step}
 use Rattle.journal_model.specs.Rows.{row}
 use Rattle.trace_model.specs.Output.{text, out_lines, last_line, written}
 use Rattle.trace_model.specs.Steps.{step_of_line}
-use Rattle.trace_replay.specs.Journal.{Journal, journal, goes_on, rows_after, after_line, whole_text}
+use Rattle.trace_replay.specs.Journal.{
+  Journal,
+  journal,
+  goes_on,
+  rows_after,
+  after_line,
+  whole_text,
+}
 use Rattle.trace_replay.specs.Endings.{IsFrontOf}
 
 pub front_self : (xs : List ℕ) → IsFrontOf xs xs

@@ -43,7 +43,14 @@ use Rattle.line_model.specs.Texts.{lines_of}
 use Rattle.journal_model.specs.declared.rows.Row.{Row}
 use Rattle.trace_model.specs.Output.{text}
 use Rattle.trace_model.specs.Steps.{step_of_line}
-use Rattle.trace_replay.specs.Journal.{Journal, journal, goes_on, rows_after, after_line, whole_text}
+use Rattle.trace_replay.specs.Journal.{
+  Journal,
+  journal,
+  goes_on,
+  rows_after,
+  after_line,
+  whole_text,
+}
 use Rattle.trace_replay.specs.Machines.{IsMachineAt}
 use Rattle.trace_replay.specs.Endings.{IsFrontOf}
 use Rattle.trace_replay.specs.Sessions.{

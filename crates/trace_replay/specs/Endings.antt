@@ -1,4 +1,4 @@
--- How a replay ends: its status, what stands in the output and on the error sink, and why.
+-- How a replay ends: its status, what the output and the error sink contain, and why.
 use Rattle.std.specs.Prelude.{◌≡◌, ◌⊎◌, ℕ, ◌≤◌, List, [], ◌++◌, codes, decimal, Option, Some, None}
 use Rattle.std.specs.Io.KnownBytes.{Appends}
 use Rattle.rd_base.specs.Outside.{Rose}
@@ -11,7 +11,7 @@ use Rattle.trace_replay.specs.declared.endings.Status.{Status}
 use Rattle.trace_replay.specs.declared.endings.Status.TheVariants as status
 use Rattle.trace_model.specs.Output.{Output}
 
--- a text is the beginning of another
+-- a text is a prefix of another
 abbrev pub IsFrontOf : List ℕ → List ℕ → Type 0
 IsFrontOf front whole = (rest : List ℕ) × (whole ≡ front ++ rest)
 
@@ -28,7 +28,7 @@ IsWritten output before now status.Memory =
     (front : List ℕ) × IsFrontOf front output.text × Appends before now front
 IsWritten output before now status.Usage = Appends before now []
 
--- where a line is bad, no other line is reported and the replay is not done; where none is, none is
+-- if a line is bad, no other line is reported and the replay is not done; if none is bad, none is
 -- reported
 abbrev pub EndsBy : Option LineBad → Status → Type 0
 EndsBy None (status.Line bad) = ⊥
@@ -36,12 +36,12 @@ EndsBy (Some first) (status.Line bad) = bad ≡ first
 EndsBy (Some first) status.Done = ⊥
 EndsBy _ _ = Unit {0}
 
--- the count of the source rose exactly where the reading is at fault
+-- the count of the source rose exactly if the reading failed
 abbrev pub CountsReads : ℕ → ℕ → Status → Type 0
 CountsReads before now status.ReadFault = (before ≤ now) × Rose before now
 CountsReads before now _ = now ≡ before
 
--- the count of the output rose exactly where the writing is at fault
+-- the count of the output rose exactly if the writing failed
 abbrev pub CountsWrites : ℕ → ℕ → Status → Type 0
 CountsWrites before now status.WriteFault = (before ≤ now) × Rose before now
 CountsWrites before now _ = now ≡ before
@@ -53,12 +53,12 @@ reason_text reason.Form = codes "form"
 reason_text reason.Worker = codes "worker"
 reason_text reason.Busy = codes "busy"
 
--- what is said of a bad line
+-- what is reported of a bad line
 abbrev pub line_text : LineBad → List ℕ
 line_text bad =
     codes "line " ++ (decimal bad.line ++ (codes ": " ++ (reason_text bad.why ++ codes "\n")))
 
--- what is said of a status on the error sink
+-- what is reported of a status on the error sink
 abbrev pub status_text : Status → List ℕ
 status_text status.Done = []
 status_text status.ReadFault = codes "read failed\n"
@@ -67,14 +67,14 @@ status_text status.Usage = codes "usage: rd_replay [--workers N] [--make N]\n"
 status_text (status.Line bad) = line_text bad
 status_text status.Memory = codes "memory\n"
 
--- a text was said, or a prefix of it where a fault was counted
+-- a text was written, or a prefix of it if a fault was counted
 pub record Says (before now : Option (List ℕ)) (counted counts : ℕ) (text : List ℕ) : Type 0 where
   pub said : List ℕ
   pub front : IsFrontOf said text
   pub stands : Appends before now said
   pub whole : (said ≡ text) ⊎ Rose counted counts
 
--- what is said of the status stands on the error sink, or a prefix of it where a fault was counted
+-- the text of the status is on the error sink, or a prefix of it if a fault was counted
 abbrev pub IsReported : Option (List ℕ) → Option (List ℕ) → ℕ → ℕ → Status → Type 0
 IsReported before now counted counts status = Says before now counted counts (status_text status)
 
@@ -84,7 +84,7 @@ status_of (stop.Bad bad) = status.Line bad
 status_of stop.Unwritten = status.WriteFault
 status_of stop.Starved = status.Memory
 
--- the words were not refused
+-- the arguments were not refused
 abbrev pub IsNoUsage : Status → Type 0
 IsNoUsage status.Usage = ⊥
 IsNoUsage _ = Unit {0}

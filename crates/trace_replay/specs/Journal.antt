@@ -1,4 +1,4 @@
--- What happens in a trace: the rows that its lines make, and its first bad line; from any line on.
+-- What happens in a trace, from any line on: the rows that its lines make, and its first bad line.
 use Rattle.std.specs.Prelude.{ℕ, ◌+◌, false, List, [], ◌∷◌, Option, Some, None, Result, Ok, Err}
 use Rattle.line_model.specs.declared.lines.LineBad.{LineBad}
 use Rattle.line_model.specs.declared.lines.Reason.{Reason}
@@ -9,7 +9,7 @@ use Rattle.journal_model.specs.Rows.{row}
 use Rattle.trace_model.specs.Steps.{step_of_line}
 use Rattle.trace_model.specs.Output.{Output, written}
 
--- the rows after a step, after none, or why the line is bad
+-- the rows after a step or after none, or why the line is bad
 abbrev pub rows_after : List Row → Result (Option Step) Reason → Result (List Row) Reason
 rows_after rows (Err why) = Err why
 rows_after rows (Ok None) = Ok rows
@@ -19,7 +19,7 @@ rows_after rows (Ok (Some s)) = Ok (row rows s false ∷ rows)
 abbrev pub after_line : ℕ → List Row → List ℕ → Result (List Row) Reason
 after_line workers rows text = rows_after rows (step_of_line workers rows (line_of text))
 
--- what happened: the rows, the newest first, and the first bad line where there is one
+-- what happened: the rows, newest first, and the first bad line if there is one
 pub record Journal : Type 0 where
   pub rows : List Row
   pub bad : Option LineBad
@@ -32,7 +32,7 @@ goes_on (Err why) rows number rest = record {
   bad = Some (record { line = number; why = why });
 }
 
--- the journal of lines for a number of workers, from rows and the number of the next line on
+-- the journal of lines for a number of workers, from these rows and the number of the next line
 abbrev pub journal : ℕ → List Row → ℕ → List (List ℕ) → Journal
 journal workers rows number [] = record { rows = rows; bad = None }
 journal workers rows number (text ∷ texts) =

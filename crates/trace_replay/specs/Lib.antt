@@ -1,11 +1,11 @@
--- options of a command line, the words of both programs
+-- options of a command line, the arguments of both programs
 pub mod Options
 pub mod Words
--- what a machine and a session stand for, what is counted of a made trace (this project's trace
--- format)
+-- what clap reads; what a session stands for (this project's trace format)
 pub mod CommandLines
 pub mod Sessions
--- what these are made of
+-- what these are made of: texts, the journal of a trace, the machine, statuses, the counts of a
+-- generated trace, reasons
 pub mod Fields
 pub mod Journal
 pub mod Machines

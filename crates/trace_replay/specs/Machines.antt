@@ -1,5 +1,5 @@
--- What the machine of a replay stands for: a journal, with what each worker holds and drew after
--- it.
+-- The journal that the machine of a replay stands for, with what each worker holds and has drawn
+-- after it.
 use Rattle.std.specs.Prelude.{
   ◌≡◌,
   ◌≤◌,
@@ -57,20 +57,21 @@ IsJobOf rows held (job.Keep keep) = held ≡ record {
   datagram = keep.datagram;
 }
 
--- a worker holds the job that it holds after a journal, or none
+-- a worker holds the job that it has after a journal, or none
 abbrev pub HoldsJob : List Row → Option machine_of.Job → Option Job → Type 0
 HoldsJob rows None None = ⊤
 HoldsJob rows (Some held) (Some job) = IsJobOf rows held job
 HoldsJob rows _ _ = ⊥
 
--- a worker of a number after a journal: it drew what its rows drew, and holds the job of its last
--- row but ticks and beginnings
+-- the worker with a number, after a journal: it has drawn what its rows drew, and holds the job of
+-- its last row that is not a tick or a beginning
 pub record IsWorkerAt (rows : List Row) (number : ℕ) (worker : Worker) : Type 0 where
   pub worker_is : worker.mids.worker ≡ number
   pub drawn : worker.mids.drawn ≡ mids_drawn number rows
   pub holds : HoldsJob rows (job_of number rows) worker.job
 
--- a machine of so many workers after a journal, which is one of the machine and one of a desk
+-- a machine with this number of workers, after a journal, which is one of the machine and one of a
+-- desk
 pub record IsMachineAt (workers : ℕ) (rows : List Row) (machine : Machine) : Type 0 where
   pub journal : IsJournal rows
   pub desk_journal : IsDeskJournal rows
@@ -80,11 +81,11 @@ pub record IsMachineAt (workers : ℕ) (rows : List Row) (machine : Machine) : T
   pub number : length machine.workers.items ≡ workers
   pub each : (number : ℕ) → IfSome (slice_get machine.workers.items number) (IsWorkerAt rows number)
 
--- a machine is after some journal
+-- a machine stands for some journal
 abbrev pub IsMachine : Machine → Type 0
 IsMachine machine = (workers : ℕ) × (rows : List Row) × IsMachineAt workers rows machine
 
--- a step may be made by a worker at a desk, and hands in a moment that is not below the others
+-- a worker may make a step at a desk, with a moment that is no earlier than any before
 pub record MayStep (rows : List Row) (s : Step) (now : Moment) (desk : Seen) (worker : Worker) :
     Type 0 where
   pub journal : IsJournal rows
@@ -110,7 +111,7 @@ sent_of machine = machine.sent
 abbrev pub lines_sent : ℕ → List (Peer × List ℕ) → List ℕ
 lines_sent worker sent = flat_map (λ d. ended (out_text worker d.0 d.1)) sent
 
--- what a line made a machine send: nothing where it made no step
+-- what a line made a machine send: nothing if it made no step
 abbrev pub HasSent : List Row → Option Step → List (Peer × List ℕ) → Type 0
 HasSent rows None sent = sent ≡ []
 HasSent rows (Some s) sent = sent ≡ (row rows s false).sent
@@ -120,7 +121,7 @@ abbrev pub rows_with : List Row → Option Step → List Row
 rows_with rows None = rows
 rows_with rows (Some s) = row rows s false ∷ rows
 
--- a line was done by a machine, or is bad; then the machine is as before, and sent nothing
+-- a machine did a line; or the line is bad, and the machine is as before and sent nothing
 abbrev pub Performs : ℕ
     → List Row
     → Result (Option Step) Reason
@@ -135,12 +136,12 @@ Performs workers rows (Err why) machine (Err (trouble.Bad said)) =
     (said ≡ why) × IsMachineAt workers rows machine × (sent_of machine ≡ [])
 Performs workers rows _ machine (Err trouble.Starved) = ⊤
 
--- the worker of the step that a line made is the one that it names
+-- the step that a line made, if any, is one of the worker that it names
 abbrev pub IsBy : Option Step → ℕ → Type 0
 IsBy None worker = ⊤
 IsBy (Some s) worker = s.worker ≡ worker
 
--- the same of a line by its text, and of the worker that it names
+-- the same for the text of a line, with the worker that it names
 abbrev pub PerformsFor : ℕ
     → List Row
     → Result (Option Step) Reason

@@ -1,5 +1,5 @@
--- A trace that is made, in the middle of it: what was counted of the lines that were done, and what
--- in the end is written.
+-- A generated trace in progress: what was counted of the lines that were done, and what is written
+-- at the end.
 use Rattle.std.specs.Prelude.{
   ◌≡◌,
   ℕ,
@@ -30,7 +30,7 @@ use Rattle.trace_replay.specs.Endings.{IsFrontOf, IsWritten}
 use Rattle.trace_replay.specs.Journal.{Journal}
 use Rattle.trace_replay.specs.Machines.{IsMachineAt}
 
--- so many lines were done, which made these rows, and what the rows sent was counted
+-- this number of lines was done, which made these rows, and what the rows sent was counted
 pub record IsCountedAt (workers : ℕ) (rows : List Row) (lines : ℕ) (count : Count) : Type 0 where
   pub machine : IsMachineAt workers rows count.machine
   pub lines_are : count.lines ≡ lines
@@ -57,12 +57,12 @@ CountsLines workers lines journal count (Ok done) =
 CountsLines workers lines journal count (Err (trouble.Bad said)) = journal.bad ≡ None → ⊥
 CountsLines workers lines journal count (Err trouble.Starved) = ⊤
 
--- what is written of rows and of how many lines made them
+-- what is written of these rows and of the number of lines that made them
 abbrev pub summary : ℕ → List Row → List ℕ
 summary lines rows = made_line lines ++ (sent_line (datagrams rows) ++ last_line rows)
 
--- what a sink holds after a trace was made and done: all that is written of it, or a prefix where
--- the output failed or memory ran out. Nothing is read, and no line is bad
+-- what a sink holds after a generated trace: all that is written of it, or a prefix if the output
+-- failed or memory ran out. Nothing is read, and no line is bad
 abbrev pub IsMade : List ℕ → Option (List ℕ) → Option (List ℕ) → Status → Type 0
 IsMade whole before now status.Done = Appends before now whole
 IsMade whole before now status.WriteFault =
@@ -73,8 +73,8 @@ IsMade whole before now status.ReadFault = ⊥
 IsMade whole before now status.Usage = ⊥
 IsMade whole before now (status.Line bad) = ⊥
 
--- what a sink holds after a replay, by what was asked for: of the trace of a source, of which these
--- octets are left, or of one that was made
+-- what a sink holds after a replay, from what was asked for: of the trace of a source with these
+-- octets left, or of a generated trace
 abbrev pub IsWrittenFor : Option ℕ
     → ℕ
     → Option (List ℕ)

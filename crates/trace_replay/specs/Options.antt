@@ -1,20 +1,21 @@
--- The options of a command line: each stands once at most, in any order, as its name with the word
--- after it or as both joined by `=`, and nothing else stands there.
+-- The options of a command line. Each is given at most once, in any order, as its name followed by
+-- its value, or as both joined by `=`. There are no other arguments.
 use Rattle.std.specs.Prelude.{◌≡◌, ℕ, Bool, List, [], ◌∷◌, Option, Some, None, if◌then◌else◌}
 use Rattle.trace_replay.specs.Fields.{cut}
 
--- `is_option` tells the names, and `given name value asked` is what is asked for with an option
--- more, where it has that name, was not given before and takes that value
+-- `is_option` tells the names, and `given name value asked` is what is asked for with one option
+-- more, if it has that name, was not given before and takes that value
 module _ {A : Type 0} (is_option : List ℕ → Bool) (given : List ℕ → List ℕ → A → Option A) where
-  -- what one word says in which a name and a value are joined
+  -- what is asked for with one argument in which a name and a value are joined
   abbrev pub joined : Option (List ℕ × List ℕ) → A → Option A
   joined None asked = None
   joined (Some parts) asked = given parts.0 parts.1 asked
 
+  -- what is asked for with one argument that is the last
   abbrev pub alone : List ℕ → A → Option A
   alone word asked = if is_option word then None else joined (cut 61 word) asked
 
-  -- What words ask for, one after the other: what was asked for before them is handed on.
+  -- what arguments ask for, one after the other, added to what was asked for before them
   unfoldable pub words_after : Option A → List (List ℕ) → Option A
   words_after None words = None
   words_after (Some asked) [] = Some asked
@@ -23,7 +24,7 @@ module _ {A : Type 0} (is_option : List ℕ → Bool) (given : List ℕ → List
       if is_option word then words_after (given word value asked) words
       else words_after (joined (cut 61 word) asked) (value ∷ words)
 
-  -- the words go on from an option that was read, or are refused
+  -- the arguments go on after an option that was read, or are refused
   abbrev pub GoesOn : A → List (List ℕ) → Option (A × List (List ℕ)) → Type 0
   GoesOn asked words None = words_after (Some asked) words ≡ None
   GoesOn asked words (Some next) =

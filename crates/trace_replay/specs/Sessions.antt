@@ -29,13 +29,14 @@ use Rattle.trace_replay.specs.Journal.{Journal, journal, after_line, whole_text}
 use Rattle.trace_replay.specs.Machines.{IsMachineAt}
 use Rattle.trace_replay.specs.Endings.{IsFrontOf}
 
--- a point in a trace: the rows so far, the number of the next line, and what has come of that line
+-- a point in a trace: the rows so far, the number of the next line, and the octets of that line so
+-- far
 pub record Point : Type 0 where
   pub rows : List Row
   pub number : ℕ
   pub pending : List ℕ
 
--- the journal of what comes from a point on, for a number of workers
+-- the journal of the octets that follow a point, for a number of workers
 abbrev pub journal_from : ℕ → Point → List ℕ → Journal
 journal_from workers point bytes =
     journal workers point.rows point.number (lines_of (point.pending ++ bytes))
@@ -44,22 +45,22 @@ journal_from workers point bytes =
 abbrev pub start : Point
 start = record { rows = []; number = 1; pending = [] }
 
--- a session of so many workers stands at a point, in the middle of a line
+-- a session with this number of workers is at a point, in the middle of a line
 pub record IsAt (workers : ℕ) (point : Point) (session : Session) : Type 0 where
   pub machine : IsMachineAt workers point.rows session.machine
   pub line : session.line ≡ point.number
   pub pending : session.pending ≡ point.pending
   pub «open» : cut 10 point.pending ≡ None
 
--- a session stands at some point of some trace
+-- a session is at some point of some trace
 abbrev pub IsSession : Session → Type 0
 IsSession session = (workers : ℕ) × (point : Point) × IsAt workers point session
 
--- a session stands at the beginning of a trace
+-- a session is at the beginning of a trace
 abbrev pub IsStarted : Session → Type 0
 IsStarted session = (workers : ℕ) × IsAt workers start session
 
--- octets lead from a point to another, and are answered by a text
+-- octets lead from one point to another, and a text is written for them
 pub record Leads (workers : ℕ) (point : Point) (bytes : List ℕ) (next : Point)
     (written : List ℕ) :
     Type 0 where
@@ -67,7 +68,7 @@ pub record Leads (workers : ℕ) (point : Point) (bytes : List ℕ) (next : Poin
   pub same : (rest : List ℕ)
       → journal_from workers point (bytes ++ rest) ≡ journal_from workers next rest
 
--- what is written after a stop, with what stood before
+-- what is written by a stop, after this text
 abbrev pub Halts : Journal → List ℕ → Option (List ℕ) → Option (List ℕ) → Stop → Type 0
 Halts journal before old new (stop.Bad bad) =
     (journal.bad ≡ Some bad)
@@ -83,7 +84,7 @@ Halts journal before old new stop.Starved =
     × IsFrontOf (before ++ written) (whole_text journal)
     × Appends old new written
 
--- the session went to the point to which the octets lead, and what answers them was written
+-- the session went to the point to which the octets lead, and what they cause was written
 pub record Goes (workers : ℕ) (point : Point) (bytes : List ℕ) (session : Session)
     (old new : Option (List ℕ)) : Type 0 where
   pub next : Point
@@ -92,7 +93,7 @@ pub record Goes (workers : ℕ) (point : Point) (bytes : List ℕ) (session : Se
   pub leads : Leads workers point bytes next written
   pub appends : Appends old new written
 
--- octets were fed to a session at a point: it goes on, or stops, whatever would have come
+-- octets were fed to a session at a point: it goes on, or stops, whatever would have followed
 abbrev pub Feeds : ℕ
     → Point
     → List ℕ
@@ -106,7 +107,7 @@ Feeds workers point bytes session old new (Some halt) =
     (rest : List ℕ)
     → Halts (journal_from workers point (bytes ++ rest)) (text point.rows) old new halt
 
--- the input has ended: all is written, or not
+-- the input has ended: all is written, or the replay stops
 abbrev pub Finishes : Journal → List ℕ → Option (List ℕ) → Option (List ℕ) → Option Stop → Type 0
 Finishes journal before old new None =
     (journal.bad ≡ None)
@@ -115,30 +116,30 @@ Finishes journal before old new None =
     × Appends old new written
 Finishes journal before old new (Some halt) = Halts journal before old new halt
 
--- the count of the output rose exactly where the writing stopped
+-- the count of the output rose exactly if the writing stopped
 abbrev pub CountsUnwritten : ℕ → ℕ → Option Stop → Type 0
 CountsUnwritten before now (Some stop.Unwritten) = (before ≤ now) × Rose before now
 CountsUnwritten before now _ = now ≡ before
 
--- the count of the source rose exactly where the reading failed
+-- the count of the source rose exactly if the reading failed
 abbrev pub CountsFailed : ℕ → ℕ → Read → Type 0
 CountsFailed before now read.Failed = (before ≤ now) × Rose before now
 CountsFailed before now _ = now ≡ before
 
--- the count of the output rose exactly where the reading stopped because not all was written
+-- the count of the output rose exactly if the reading stopped because not all was written
 abbrev pub CountsStopped : ℕ → ℕ → Read → Type 0
 CountsStopped before now (read.Stopped stop) = CountsUnwritten before now (Some stop)
 CountsStopped before now read.End = now ≡ before
 CountsStopped before now read.Failed = now ≡ before
 
--- a text was written, or a prefix of it where the output failed, or nothing
+-- a text was written, or a prefix of it if the output failed, or nothing
 abbrev pub Writes : Option (List ℕ) → Option (List ℕ) → List ℕ → Option Stop → Type 0
 Writes old new whole None = Appends old new whole
 Writes old new whole (Some (stop.Bad bad)) = ⊥
 Writes old new whole (Some stop.Unwritten) = (n : ℕ) × Appends old new (take n whole)
 Writes old new whole (Some stop.Starved) = Appends old new []
 
--- the rows went on to others, and what the new ones sent was written, or a prefix of it
+-- the rows were extended to others, and what the new ones sent was written, or a prefix of it
 abbrev pub WritesMore : List Row
     → List Row
     → Option (List ℕ)
@@ -148,7 +149,7 @@ abbrev pub WritesMore : List Row
 WritesMore rows more old new result =
     (sent : List ℕ) × (text more ≡ text rows ++ sent) × Writes old new sent result
 
--- a whole line was done by a session, under its number
+-- a session did a complete line with this number
 abbrev pub DoesLine : ℕ
     → List Row
     → ℕ

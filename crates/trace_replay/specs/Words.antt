@@ -1,4 +1,4 @@
--- The words of the command line of `rd_replay`: a number of workers, and of devices.
+-- The arguments of the command line of `rd_replay`: a number of workers, and of devices.
 use Rattle.std.specs.Prelude.{◌≡◌, ◌≤◌, ℕ, Bool, List, [], ◌∷◌, ◌++◌, nat_le, codes, decimal}
 use Rattle.std.specs.Prelude.{Option, Some, None, Result, Ok, Err, bytes_eq, if◌then◌else◌}
 use Rattle.std.specs.Prelude.{option_and_then, option_map, is_some, unwrap_or, IfSome, ⊤}
@@ -13,19 +13,19 @@ use Rattle.trace_replay.specs.declared.words.WordsFault.TheVariants as fault
 use Rattle.trace_replay.specs.declared.words.Name.{Name}
 use Rattle.trace_replay.specs.declared.words.Name.TheVariants as name
 
--- the most devices of a trace that is made
+-- the maximum number of devices of a generated trace
 abbrev pub max_devices : ℕ
 max_devices = 4_000
 
--- how many workers there may be
+-- there may be this number of workers
 abbrev pub IsWorkers : ℕ → Type 0
 IsWorkers workers = (1 ≤ workers) × (workers ≤ max_workers)
 
--- for how many devices a trace may be made
+-- a trace may be generated for this number of devices
 abbrev pub AreDevices : ℕ → Type 0
 AreDevices devices = (1 ≤ devices) × (devices ≤ max_devices)
 
--- the number is from 1 on
+-- the number, if it is at least 1
 abbrev pub from_one : ℕ → Option ℕ
 from_one n = if nat_le 1 n then Some n else None
 
@@ -33,7 +33,7 @@ from_one n = if nat_le 1 n then Some n else None
 abbrev pub count_of : ℕ → List ℕ → Option ℕ
 count_of limit text = option_and_then from_one (number_of limit text)
 
--- what a word names that is a name alone
+-- what an argument names that is a name alone
 abbrev pub name_of : List ℕ → Option Name
 name_of word =
     if bytes_eq word (codes "--workers") then Some name.Workers
@@ -43,12 +43,12 @@ name_of word =
 abbrev pub no_words : Words
 no_words = record { workers = None; devices = None }
 
--- a value that is given once at most
+-- a value that is given at most once
 abbrev pub once : Option ℕ → Option ℕ → Option ℕ
 once None value = value
 once (Some before) value = None
 
--- a name and its value more
+-- what is asked for with one name and its value more
 abbrev pub given : Name → List ℕ → Words → Option Words
 given name.Workers value asked =
     option_map (λ n. record { workers = Some n; devices = asked.devices })
@@ -57,7 +57,7 @@ given name.Make value asked =
     option_map (λ n. record { workers = asked.workers; devices = Some n })
     (once asked.devices (count_of max_devices value))
 
--- the same by a word that may be a name
+-- the same for an argument that may be a name
 abbrev pub given_by : Option Name → List ℕ → Words → Option Words
 given_by None value asked = None
 given_by (Some name) value asked = given name value asked
@@ -66,19 +66,19 @@ given_by (Some name) value asked = given name value asked
 abbrev pub is_option : List ℕ → Bool
 is_option text = is_some (name_of text)
 
--- an option and its value more
+-- what is asked for with one option and its value more
 abbrev pub asked_with : List ℕ → List ℕ → Words → Option Words
 asked_with name value asked = given_by (name_of name) value asked
 
--- what the words say, where they are those of the program
+-- what the arguments ask for, if they are those of the program
 abbrev pub words_said : List (List ℕ) → Option Words
 words_said words = words_after is_option asked_with (Some no_words) words
 
--- how many workers words ask for: one where nothing is said
+-- the number of workers that arguments ask for, which is one if it is not given
 abbrev pub workers_of : Words → ℕ
 workers_of asked = unwrap_or asked.workers 1
 
--- what the words were read as: for want of memory alone words of the program are not read
+-- what the arguments were read as; arguments of the program are not read only if memory runs out
 abbrev pub AreRead : Option Words → Result Words WordsFault → Type 0
 AreRead None (Err fault.Usage) = ⊤
 AreRead (Some asked) (Ok read) = read ≡ asked
@@ -87,12 +87,12 @@ AreRead _ _ = ⊥
 
 -- ---- as clap reads them
 
--- an option with its value, joined by `=`, where it has one
+-- an option with its value, joined by `=`, if it has one
 abbrev pub option_words : List ℕ → Option ℕ → List (List ℕ)
 option_words name None = []
 option_words name (Some n) = (name ++ (codes "=" ++ decimal n)) ∷ []
 
--- what is asked for in words, in one order
+-- arguments that ask for this, in one order
 abbrev pub words_of : Words → List (List ℕ)
 words_of asked = option_words (codes "--workers") asked.workers
     ++ option_words (codes "--make") asked.devices
@@ -109,10 +109,11 @@ words_found matches = record {
   devices = number_found max_devices (codes "make") matches;
 }
 
--- what is said is within its limits
+-- what is asked for is within its limits
 abbrev pub IsWithin : ℕ → Option ℕ → Type 0
 IsWithin limit o = IfSome o (λ n. (1 ≤ n) × (n ≤ limit))
 
+-- all that is asked for is within its limits
 pub record AreAsked (asked : Words) : Type 0 where
   pub workers : IsWithin max_workers asked.workers
   pub devices : IsWithin max_devices asked.devices

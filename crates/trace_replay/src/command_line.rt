@@ -8,7 +8,11 @@ ghost use Rattle.trace_replay.specs.declared.words.Words.{Words};
 use clap::{Arg, ArgMatches, Command, Error};
 use std::alloc::Global;
 
-/// What clap reads in the words of what is asked for, which it refuses for want of memory alone.
+/// Parses the arguments with clap. They must be the ones that `words_of` of the definitions gives.
+///
+/// # Errors
+///
+/// The error of clap, which occurs only if memory runs out.
 pub fn matches_of<'a>(alloc: Global, words: &'a [String]) -> Result<ArgMatches<'a>, Error>
     ensures { (asked : Words) → map string_bytes words.entry.now ≡ words_of asked
         → IsRead asked result }

@@ -34,7 +34,7 @@ pub enum Status {
     ReadFault,
     /// 2: the output failed.
     WriteFault,
-    /// 3: the words are not those of the program.
+    /// 3: the arguments are not those of the program.
     Usage,
     /// 4: a line is bad.
     Line(LineBad),
@@ -45,7 +45,7 @@ pub enum Status {
 impl Status {
     ghost use Rattle.trace_replay.specs.Endings.{code_of};
 
-    /// The exit status of the program.
+    /// Returns the exit status of the program.
     pub fn code(&self) -> u8
         ensures { result ≡ code_of self.now }
     {

@@ -1,4 +1,4 @@
-//! A trace of the directory, replayed to its output; and the words of a command line.
+//! A trace of the directory, replayed to its output, and the arguments of a command line.
 #![tactic(auto)]
 
 mod command_line;

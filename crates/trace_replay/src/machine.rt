@@ -1,4 +1,4 @@
-//! The machine of a replay: the desk, its workers, and the greatest moment that was handed in.
+//! The machine of a replay: the desk, its workers, and the greatest moment so far.
 ghost use Rattle.std.specs.Prelude.{◌≡◌, ◌≤◌, ◌<◌, ◌^◌, ℕ, [], List, Ok, IfOk, IfSome, is_some};
 ghost use Rattle.std.specs.Prelude.{length, max, slice_get};
 ghost use Rattle.line_model.specs.declared.lines.Line.TheVariants as kind;
@@ -19,25 +19,27 @@ use rd_desk::{Arrival, Desk, Outbox, read_datagram};
 use std::alloc::Global;
 use trace_text::{Line, Reason, out_print};
 
-/// A directory that lines of a trace drive, without any socket: one desk, from 1 to 16 workers that
-/// hear datagrams, do the jobs that these leave them, and let time pass (RFC 9176, RFC 7252, RFC
-/// 7641, RFC 7959); and what the last step sent. Contracts say after which journal it stands
-/// (`IsMachineAt`).
+/// A directory that lines of a trace drive, without any socket (RFC 9176, RFC 7252, RFC 7641, RFC
+/// 7959).
+///
+/// It has one desk and at most 16 workers. These receive datagrams, do the jobs that the
+/// datagrams leave, and let time pass. It stores what the last step sent. Contracts say which
+/// journal it stands for (`IsMachineAt`).
 #[derive(Drop)]
 pub struct Machine {
-    /// Where its memory comes from.
+    /// The allocator of its memory.
     alloc: Global,
-    /// The desk. Its versions are published to nobody.
+    /// The desk. It publishes no version.
     desk: Desk<NoBoard>,
-    /// The workers, by their number.
+    /// The workers, by number.
     workers: Vec<Worker>,
-    /// The greatest moment that was handed in, with those of looks.
+    /// The greatest moment that was passed in, also by looks.
     latest: Moment,
     /// What the last step sent.
     sent: Outbox,
 }
 
-/// Workers that heard nothing yet, numbered from 0.
+/// Creates workers that have received nothing, numbered from 0.
 fn workers_of(alloc: Global, number: u8) -> Result<Vec<Worker>, Starved>
     requires { number ≤ max_workers }
     ensures number { IfOk result (λ workers. length workers.items ≡ number) }
@@ -52,8 +54,15 @@ fn workers_of(alloc: Global, number: u8) -> Result<Vec<Worker>, Starved>
 }
 
 impl Machine {
-    /// A machine of so many workers, at most 16 and numbered from 0, which made no step yet.
-    /// `Starved`: out of memory.
+    /// Creates a machine that has made no step, with this number of workers, numbered from 0.
+    ///
+    /// # Requires
+    ///
+    /// `workers` is at most 16.
+    ///
+    /// # Errors
+    ///
+    /// `Starved` if memory runs out.
     pub fn make(alloc: Global, workers: u8) -> Result<Machine, Starved>
         requires { workers ≤ max_workers }
         ensures { IfOk result (IsMachineAt workers []) }
@@ -67,8 +76,7 @@ impl Machine {
         })
     }
 
-    /// A datagram comes to a worker. The line is bad where there is no such worker, and where it
-    /// holds a job.
+    /// Passes a datagram to a worker. The line is bad if the worker does not exist or holds a job.
     fn come(
         &mut self,
         worker: u8,
@@ -103,8 +111,8 @@ impl Machine {
         Ok(hearer.hear(self.alloc, &mut self.desk, arrival, &mut self.sent)?)
     }
 
-    /// A worker does its job. Where it holds none it makes no step, and hands in no moment. The
-    /// line is bad where there is no such worker.
+    /// Has a worker do its job. A worker without a job makes no step, and its moment does not
+    /// count. The line is bad if the worker does not exist.
     fn go(&mut self, worker: u8, moment: Moment) -> Result<(), Trouble>
         requires stands { IsMachine self.old }
         requires moment { moment.0 ≤ 10 ^ 15 }
@@ -124,7 +132,7 @@ impl Machine {
         Ok(goer.go(&mut self.desk, self.latest, &mut self.sent)?)
     }
 
-    /// Time passes at a worker. The line is bad where there is no such worker.
+    /// Lets time pass at a worker. The line is bad if the worker does not exist.
     fn tick(&mut self, worker: u8, moment: Moment, word: u32) -> Result<(), Trouble>
         requires stands { IsMachine self.old }
         requires moment { moment.0 ≤ 10 ^ 15 }
@@ -141,7 +149,7 @@ impl Machine {
         Ok(ticker.tick(&mut self.desk, self.latest, word, &mut self.sent)?)
     }
 
-    /// A run begins above a number, at a worker. The line is bad where there is no such worker.
+    /// Begins a run above a number, at a worker. The line is bad if the worker does not exist.
     fn begin(&mut self, worker: u8, moment: Moment, first: u64) -> Result<(), Trouble>
         requires stands { IsMachine self.old }
         requires moment { moment.0 ≤ 10 ^ 15 }
@@ -158,11 +166,22 @@ impl Machine {
         Ok(beginner.begin(&mut self.desk, self.latest, first)?)
     }
 
-    /// Does what a line says, as one step of the worker that it names, and has what that step sent.
-    /// A moment, in milliseconds and at most 10^15, is lifted to the greatest that came before.
-    /// `Bad`: there is no such worker, or a datagram comes to one that holds a job; then the
-    /// machine is as before, and has sent nothing. `Starved`: out of memory; then it is not to be
-    /// used any more.
+    /// Does what a line says, as one step of the worker that it names, and stores what the step
+    /// sent.
+    ///
+    /// A moment earlier than the greatest so far is raised to it.
+    ///
+    /// # Requires
+    ///
+    /// The machine stands for some journal (`IsMachine`): it is new, or no step has run out of
+    /// memory. The numbers of the line are within their limits (`IsLine`), so its moment is at most
+    /// 10^15 milliseconds.
+    ///
+    /// # Errors
+    ///
+    /// - `Bad` if the worker does not exist, or if a datagram is for a worker that holds a job. The
+    ///   machine then has made no step and has sent nothing.
+    /// - `Starved` if memory runs out. The machine must then not be used any more.
     pub fn perform(&mut self, line: Line) -> Result<(), Trouble>
         requires stands { IsMachine self.old }
         requires line { IsLine line }
@@ -192,15 +211,15 @@ impl Machine {
         }
     }
 
-    /// What the last step sent, in order, each datagram with the peer that it goes to.
+    /// Returns what the last step sent, in order: each datagram with the peer that it goes to.
     pub fn sent(&self) -> &Outbox
         ensures { result.now ≡ sent_of self.now }
     {
         &self.sent
     }
 
-    /// Whether a worker holds a job: then no datagram comes to it. One that there is not holds
-    /// none.
+    /// Returns whether a worker holds a job, which stops it from receiving datagrams. Returns false
+    /// for a worker that does not exist.
     pub fn is_busy(&self, worker: u8) -> bool
         ensures { (workers : ℕ) (rows : List Row)
             → IsMachineAt workers rows self.now
@@ -213,8 +232,12 @@ impl Machine {
         holder.is_busy()
     }
 
-    /// The lines of the output for what the last step sent, which is one of this worker. `Starved`:
-    /// out of memory.
+    /// Returns the lines of the output for what the last step sent. That step was one of this
+    /// worker.
+    ///
+    /// # Errors
+    ///
+    /// `Starved` if memory runs out.
     pub fn sent_text(&self, worker: u8) -> Result<Bytes, Starved>
         ensures { IfOk result (λ text. text ≡ lines_sent worker (sent_of self.now)) }
     {
@@ -232,9 +255,16 @@ impl Machine {
         Ok(text)
     }
 
-    /// The line that ends the output: the count of the changes that were accepted, how many
-    /// registrations are live at the greatest moment that was handed in, and how many observers
-    /// there are.
+    /// Returns the line that ends the output: the number of accepted changes, of registrations that
+    /// are live at the greatest moment so far, and of observers.
+    ///
+    /// # Requires
+    ///
+    /// The machine stands for some journal (`IsMachine`), as for [`Machine::perform`].
+    ///
+    /// # Errors
+    ///
+    /// `Starved` if memory runs out.
     pub fn end_line(&self) -> Result<Bytes, Starved>
         requires { IsMachine self.now }
         ensures { IfOk result (λ text. (workers : ℕ) (rows : List Row)

@@ -1,4 +1,4 @@
-//! A trace that is made: its lines are done, and what they send is counted.
+//! A generated trace: its lines are done, and what they send is counted.
 ghost use Rattle.std.specs.Prelude.{◌≡◌, ◌+◌, ℕ, List, [], IfOk, IfSome, length};
 ghost use Rattle.line_model.specs.Texts.{lines_of};
 ghost use Rattle.journal_model.specs.declared.rows.Row.{Row};
@@ -19,20 +19,20 @@ use rd_desk::Outbox;
 use std::alloc::Global;
 use trace_text::make;
 
-/// A trace in the middle of it, with what was counted so far.
+/// A generated trace in progress, with what was counted so far.
 #[derive(Drop)]
 pub struct Count {
     /// The desk and its workers.
     machine: Machine,
-    /// How many lines were done.
+    /// The number of lines that were done.
     lines: u64,
-    /// How many datagrams were sent.
+    /// The number of datagrams that were sent.
     datagrams: u64,
-    /// How many octets they have together.
+    /// The total length of these datagrams in octets.
     octets: u64,
 }
 
-/// How many octets datagrams have together. None where it cannot be counted.
+/// Returns the total length of datagrams in octets, or `None` if it exceeds 64 bits.
 fn octets_of(sent: &Outbox) -> Option<u64>
     ensures { IfSome result (λ octets. octets ≡ octets_sent sent.now) }
 {
@@ -49,7 +49,7 @@ fn octets_of(sent: &Outbox) -> Option<u64>
 }
 
 impl Count {
-    /// Nothing is done and counted yet. `Starved`: out of memory.
+    /// Creates a count of nothing.
     fn make(alloc: Global, workers: u8) -> Result<Count, Starved>
         requires { IsWorkers workers }
         ensures { IfOk result (IsCountedAt workers [] 0) }
@@ -62,8 +62,8 @@ impl Count {
         })
     }
 
-    /// Does a line, and counts it and what it sent. Where the line is bad nothing is counted.
-    /// `Starved`: out of memory, or a count is at its last value.
+    /// Does a line, and counts it and what it sent. A bad line is not counted. Returns `Starved` if
+    /// memory runs out or a count would exceed 64 bits.
     fn do_line(&mut self, alloc: Global, line: &[u8]) -> Result<(), Trouble>
         requires { IsCounted self.old }
         ensures { (workers : ℕ) (rows : List Row) (lines : ℕ)
@@ -80,7 +80,7 @@ impl Count {
         Ok(())
     }
 
-    /// Does the lines of a trace, and counts them, up to the first that is bad.
+    /// Does the lines of a trace, and counts them, up to the first bad one.
     fn do_lines(&mut self, alloc: Global, trace: &[u8]) -> Result<(), Trouble>
         requires { IsCounted self.old }
         ensures { (workers : ℕ) (rows : List Row) (lines : ℕ)
@@ -99,8 +99,7 @@ impl Count {
         self.do_line(alloc, rest)
     }
 
-    /// The lines that say what was counted, and the line that ends the output. `Starved`: out of
-    /// memory.
+    /// Returns the lines that report the counts, and the line that ends the output.
     fn text(&self, alloc: Global) -> Result<Bytes, Starved>
         requires { IsCounted self.now }
         ensures { IfOk result (λ text. (workers : ℕ) (rows : List Row) (lines : ℕ)
@@ -117,7 +116,7 @@ impl Count {
     }
 }
 
-/// What is written of the trace that is made for a number of devices. `Starved`: out of memory.
+/// Returns what is written of the trace that is generated for a number of devices.
 fn made_text(alloc: Global, devices: u32, workers: u8) -> Result<Bytes, Starved>
     requires devices { AreDevices devices }
     requires workers { IsWorkers workers }
@@ -133,8 +132,14 @@ fn made_text(alloc: Global, devices: u32, workers: u8) -> Result<Bytes, Starved>
     }
 }
 
-/// Makes the trace of a number of devices and does it, and writes how many lines it has, how many
-/// datagrams it sent with how many octets, and the line that ends the output.
+/// Generates the trace of a number of devices and does it.
+///
+/// Writes the number of its lines, the number of the datagrams that it sent with their octets, and
+/// the line that ends the output.
+///
+/// # Requires
+///
+/// There are 1 to 4,000 devices and 1 to 16 workers.
 pub fn run_made<K: Sink>(alloc: Global, devices: u32, workers: u8, out: &mut K) -> Status
     requires devices { AreDevices devices }
     requires workers { IsWorkers workers }

@@ -1,5 +1,5 @@
-//! The options of a command line: each stands once at most, in any order, as its name with the
-//! word after it or as both joined by `=`, and nothing else stands there.
+//! The options of a command line. Each is given at most once, in any order, as its name followed by
+//! its value, or as both joined by `=`. There are no other arguments.
 ghost use Rattle.std.specs.Prelude.{◌≡◌, ◌≤◌, ◌∷◌, ℕ, Bool, List, Some, Option};
 ghost use Rattle.std.specs.Prelude.{IfSome, map, length, option_map};
 ghost use Rattle.std.specs.String.{string_bytes};
@@ -8,26 +8,26 @@ ghost use Rattle.trace_replay.specs.Options.{GoesOn, joined, words_after};
 
 use crate::fields::cut;
 
-/// What the words of a program ask for, as far as they were read.
+/// What the arguments of a program ask for, as far as they were read.
 pub trait Asked: Copy {
     /// Whether a text is the name of an option.
     ghost is_option: { List ℕ → Bool };
 
-    /// What is asked for with an option more; none where it has no such name, was given before, or
-    /// takes no such value.
+    /// What is asked for with one option more, or `None` if it has no such name, was given before,
+    /// or does not take this value.
     ghost given: { List ℕ → List ℕ → Self → Option Self };
 
-    /// Whether a text is the name of an option.
+    /// Returns whether a text is the name of an option.
     fn names(text: &[u8]) -> bool
         ensures { result ≡ is_option text.now };
 
-    /// What is asked for with an option more; none where it has no such name, was given before, or
-    /// takes no such value.
+    /// Returns what is asked for with one option more. Returns `None` if it has no such name, was
+    /// given before, or does not take this value.
     fn with(self, name: &[u8], value: &[u8]) -> Option<Self>
         ensures { result ≡ given name.now value.now self };
 }
 
-/// With what one word says in which a name and a value are joined by `=`.
+/// Adds an argument in which a name and a value are joined by `=`.
 fn with_joined<A: Asked>(asked: A, word: &[u8]) -> Option<A>
     ensures { result ≡ joined A.is_option A.given (fields.cut 61 word.now) asked }
 {
@@ -35,7 +35,8 @@ fn with_joined<A: Asked>(asked: A, word: &[u8]) -> Option<A>
     asked.with(name, value)
 }
 
-/// With what a word says, and where it is a name the one after it; and the words after that.
+/// Adds an argument and, if it is a name, the value after it. Returns the arguments after that,
+/// too.
 fn with_word<'a, A: Asked>(asked: A, word: &[u8], rest: &'a [String]) -> Option<(A, &'a [String])>
     ensures goes { GoesOn A.is_option A.given asked (word.now ∷ map string_bytes rest.now)
         (option_map (λ next. (next.0, map string_bytes next.1.now)) result) }
@@ -56,7 +57,7 @@ fn with_word<'a, A: Asked>(asked: A, word: &[u8], rest: &'a [String]) -> Option<
     Some((more, rest))
 }
 
-/// What words ask for, beside what is asked for before them; none where they are not those of the
+/// Returns what arguments ask for, added to `nothing`, or `None` if they are not those of the
 /// program.
 pub fn words_ask<A: Asked>(nothing: A, words: &[String]) -> Option<A>
     ensures { result ≡ words_after A.is_option A.given (Some nothing) (map string_bytes words.now) }

@@ -1,4 +1,4 @@
-//! A trace replayed: from words and octets to output lines and a status.
+//! A trace replayed: from arguments and octets to output lines and a status.
 ghost use Rattle.std.specs.Prelude.{◌≡◌, ◌↔◌, ◌≤◌, ℕ, List, [], map, flat_map, drop, decimal};
 ghost use Rattle.std.specs.Prelude.{IfSome, None, true, false};
 ghost use Rattle.std.specs.String.{string_bytes};
@@ -7,7 +7,8 @@ ghost use Rattle.headline_law.specs.WholeHeadline.{WholeHeadline};
 ghost use Rattle.trace_model.specs.Output.{output};
 ghost use Rattle.trace_model.specs.Steps as steps;
 ghost use Rattle.trace_replay.specs.Endings as ends;
-ghost use Rattle.trace_replay.specs.Endings.{IsWritten, EndsBy, CountsReads, CountsWrites, IsReported};
+ghost use Rattle.trace_replay.specs.Endings.{IsWritten, EndsBy, IsReported};
+ghost use Rattle.trace_replay.specs.Endings.{CountsReads, CountsWrites};
 ghost use Rattle.trace_replay.specs.MadeRuns.{IsWrittenFor};
 ghost use Rattle.trace_replay.specs.Sessions.{Point, IsAt, IsSession, IsStarted, ReadsAll};
 ghost use Rattle.trace_replay.specs.Sessions.{CountsFailed, CountsStopped, start};
@@ -22,7 +23,7 @@ use rd_base::{Got, Sink, Source, write_all};
 use std::alloc::Global;
 use trace_text::{LineBad, Reason};
 
-/// The digits that a number of 64 bits has at most.
+/// The maximum number of decimal digits of a 64-bit number.
 const DIGITS: usize = 20;
 
 /// Reads the trace piece by piece, and does its lines.
@@ -57,7 +58,7 @@ fn read_all<S: Source, K: Sink>(
     }
 }
 
-/// The status of a stop.
+/// Returns the status of a stop.
 fn status_of(stop: Stop) -> Status
     ensures { result ≡ ends.status_of stop }
 {
@@ -68,7 +69,7 @@ fn status_of(stop: Stop) -> Status
     }
 }
 
-/// Does the trace of a source in a session that stands at its beginning.
+/// Does the trace of a source in a session at its beginning.
 fn run_in<S: Source, K: Sink>(
     session: &mut Session,
     alloc: Global,
@@ -111,7 +112,7 @@ fn run<S: Source, K: Sink>(alloc: Global, workers: u8, source: &mut S, out: &mut
     run_in(&mut session, alloc, source, out)
 }
 
-/// Does what was asked for: the trace of a source, or one that is made.
+/// Does what was asked for: the trace of a source, or a generated one.
 fn run_words<S: Source, K: Sink>(alloc: Global, asked: Words, source: &mut S, out: &mut K) -> Status
     requires workers { IsWorkers (workers_of asked) }
     requires devices { IfSome asked.devices AreDevices }
@@ -129,7 +130,7 @@ fn run_words<S: Source, K: Sink>(alloc: Global, asked: Words, source: &mut S, ou
     }
 }
 
-/// Does what words ask for, where they are those of the program.
+/// Does what arguments ask for, if they are those of the program.
 fn run_said<S: Source, K: Sink>(
     alloc: Global,
     words: &[String],
@@ -159,7 +160,7 @@ fn run_said<S: Source, K: Sink>(
     }
 }
 
-/// The name of a reason.
+/// Returns the name of a reason.
 fn reason_name(why: Reason) -> &'static [u8]
     ensures { result.now ≡ ends.reason_text why }
 {
@@ -171,7 +172,7 @@ fn reason_name(why: Reason) -> &'static [u8]
     }
 }
 
-/// Writes texts one after the other, or a prefix of them where the sink fails.
+/// Writes texts one after the other, or a prefix of them if the sink fails.
 fn say<E: Sink>(err: &mut E, texts: &[&[u8]])
     ensures { ends.Says (E.holds err.old) (E.holds err.new) (E.faults err.old) (E.faults err.new)
         (flat_map (λ text. text.now) texts.now) }
@@ -183,7 +184,7 @@ fn say<E: Sink>(err: &mut E, texts: &[&[u8]])
     }
 }
 
-/// Writes the digits of a number to the end of the octets, and answers where they begin.
+/// Writes the digits of a number to the end of `into`, and returns the index at which they begin.
 fn write_number(number: u64, into: &mut [u8; DIGITS]) -> usize
     ensures digits { drop result into.new ≡ decimal number }
     ensures within { result ≤ 20 }
@@ -191,7 +192,7 @@ fn write_number(number: u64, into: &mut [u8; DIGITS]) -> usize
     write_digits(number, into, DIGITS)
 }
 
-/// Says which line is bad, and why. Takes no memory.
+/// Reports which line is bad, and why. Does not allocate.
 fn say_line<E: Sink>(err: &mut E, bad: LineBad)
     ensures { ends.Says (E.holds err.old) (E.holds err.new) (E.faults err.old) (E.faults err.new)
         (ends.line_text bad) }
@@ -202,8 +203,9 @@ fn say_line<E: Sink>(err: &mut E, bad: LineBad)
     say(err, &[b"line ", &digits[start..], b": ", why, b"\n"])
 }
 
-/// Says on the error sink how a replay ended: nothing for `Done`. A prefix of it is said where the
-/// sink fails. Takes no memory.
+/// Reports on the error sink how a replay ended: nothing for `Done`. Does not allocate.
+///
+/// If the sink fails, a prefix of the report has been written.
 pub fn report<E: Sink>(err: &mut E, status: Status)
     ensures { IsReported (E.holds err.old) (E.holds err.new) (E.faults err.old) (E.faults err.new)
         status }
@@ -218,14 +220,16 @@ pub fn report<E: Sink>(err: &mut E, status: Status)
     }
 }
 
-/// Replays a trace: reads it from `source` to its end and writes to `out` a line for each datagram
-/// that is sent, and the line that ends the output. What is wrong is said on `err`.
+/// Replays a trace. Reads it from `source` to its end, and writes to `out` a line for each datagram
+/// that is sent and the line that ends the output. Reports an error on `err`.
 ///
-/// `words` are those of the command line, without the program's name: `--workers` with a number
-/// from 1 to 16, and `--make` with one from 1 to 4,000, each once at most, as two words or joined
-/// by `=`. There is one worker where none are named. With `--make` the trace of so many devices is
-/// made and done in place of that of `source`, and what is written is how many lines it has, how
-/// many datagrams it sent and how many octets they have, and the line that ends the output.
+/// `words` are the arguments of the command line, without the program's name. They are `--workers`
+/// with a number from 1 to 16 and `--make` with a number from 1 to 4,000. Each is given at most
+/// once, as two arguments or joined by `=`. Without `--workers` there is one worker.
+///
+/// With `--make`, the trace of that number of devices is generated, and replaces the trace of
+/// `source`. The output then has the number of its lines and the number of the datagrams that it
+/// sent, with their octets. The line that ends the output follows.
 pub fn replay<S: Source, K: Sink, E: Sink>(
     alloc: Global,
     words: &[String],
@@ -233,24 +237,24 @@ pub fn replay<S: Source, K: Sink, E: Sink>(
     out: &mut K,
     err: &mut E,
 ) -> Status
-    // Usage comes exactly where the words are not those of the program; then nothing is read and
-    // written.
+    // The status is Usage exactly if the arguments are not those of the program; then nothing is
+    // read and written.
     ensures usage { result ≡ Status.Usage ↔ (words_said (map string_bytes words.now) ≡ None) }
     ensures refused { words_said (map string_bytes words.now) ≡ None
         → (source.new ≡ source.old) × (out.new ≡ out.old) }
-    // What is written for what was read, or for what was made: for Done all that the trace gives,
-    // with its last line, and nothing else; for a bad line what is sent before it; else a prefix of
-    // that.
+    // What is written for what was read, or for what was generated. For Done it is all that the
+    // trace gives, with its last line, and nothing else; for a bad line what is sent before it;
+    // otherwise a prefix of that.
     ensures written { IfSome (words_said (map string_bytes words.now))
         (λ asked. IsWrittenFor asked.devices (workers_of asked) (S.left source.old)
         (K.holds out.old) (K.holds out.new) result) }
-    // The first bad line is reported and no other, and with a bad line nothing is done. A trace
-    // that is made has none, as the clause above says.
+    // The first bad line is reported and no other, and with a bad line the status is not Done. A
+    // generated trace has none, as the clause above says.
     ensures line { IfSome (S.left source.old) (λ bytes. IfSome
         (words_said (map string_bytes words.now)) (λ asked. asked.devices
         ≡ None
         → EndsBy (output (workers_of asked) bytes).bad result)) }
-    // The source was read to its end; where a trace is made it is not read.
+    // The source was read to its end. It is not read if a trace is generated.
     ensures all_read { IfSome (words_said (map string_bytes words.now)) (λ asked. asked.devices
         ≡ None
         → result ≡ Status.Done
@@ -258,14 +262,13 @@ pub fn replay<S: Source, K: Sink, E: Sink>(
     ensures unread { IfSome (words_said (map string_bytes words.now))
         (λ asked. IfSome asked.devices (λ _. source.new
         ≡ source.old)) }
-    // ReadFault and WriteFault come only where a count rose, and any other status only where it did
-    // not.
+    // ReadFault and WriteFault come only if a count rose, and any other status only if it did not.
     ensures reads { CountsReads (S.faults source.old) (S.faults source.new) result }
     ensures writes { CountsWrites (K.faults out.old) (K.faults out.new) result }
-    // The text of the status was said, or a prefix of it where `err` counted a fault.
+    // The text of the status was written, or a prefix of it if `err` counted a fault.
     ensures reported { IsReported (E.holds err.old) (E.holds err.new) (E.faults err.old)
         (E.faults err.new) result }
-    // Of the journal of each trace holds what the headline says of it.
+    // What the headline says holds of the journal of each trace.
     ensures headline { (workers : ℕ) (bytes : List ℕ)
         → WholeHeadline (steps.journal workers bytes) }
 {

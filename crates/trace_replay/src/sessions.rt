@@ -1,4 +1,4 @@
-//! A replay in the middle of a trace.
+//! A replay in progress.
 ghost use Rattle.std.specs.Prelude.{◌≡◌, ◌≤◌, ℕ, List, [], ◌∷◌, ◌++◌, IfOk, None};
 ghost use Rattle.std.specs.Prelude.{Option, length};
 ghost use Rattle.line_model.specs.Lines as trace;
@@ -22,18 +22,18 @@ use std::alloc::Global;
 use std::mem;
 use trace_text::{Line, LineBad, Reason, line_read};
 
-/// A replay in the middle of a trace.
+/// A replay in progress.
 #[derive(Drop)]
 pub struct Session {
     /// The desk and its workers.
     machine: Machine,
-    /// The number of the next line.
+    /// The number of the next line, from 1.
     line: u64,
-    /// What has come of that line.
+    /// The octets of that line that were read so far.
     pending: Bytes,
 }
 
-/// The worker that a line names.
+/// Returns the worker that a line names.
 fn worker_of(line: &Line) -> u8
     ensures { result ≡ steps.worker_of line.now }
 {
@@ -45,8 +45,17 @@ fn worker_of(line: &Line) -> u8
     }
 }
 
-/// Does what a line says, and answers which worker it names. Where the line is bad the machine is
-/// as before, and after memory ran out it is not to be used any more.
+/// Does what a line says, and returns the worker that it names.
+///
+/// # Requires
+///
+/// The machine stands for some journal (`IsMachine`).
+///
+/// # Errors
+///
+/// - `Bad` if the line is not a line of a trace, or its worker does not exist. Also if it is a
+///   datagram for a worker that holds a job. The machine then has made no step.
+/// - `Starved` if memory runs out. The machine must then not be used any more.
 pub fn perform(alloc: Global, machine: &mut Machine, line: &[u8]) -> Result<u8, Trouble>
     requires { IsMachine machine.old }
     ensures { (workers : ℕ) (rows : List Row)
@@ -60,7 +69,7 @@ pub fn perform(alloc: Global, machine: &mut Machine, line: &[u8]) -> Result<u8, 
     Ok(worker)
 }
 
-/// Writes the lines of the datagrams that the last step sent, which is one of this worker.
+/// Writes the lines of the datagrams that the last step sent. That step was one of this worker.
 fn send<K: Sink>(machine: &Machine, worker: u8, out: &mut K) -> Option<Stop>
     ensures written { Writes (K.holds out.old) (K.holds out.new)
         (lines_sent worker machine.now.sent) result }
@@ -76,7 +85,15 @@ fn send<K: Sink>(machine: &Machine, worker: u8, out: &mut K) -> Option<Stop>
 }
 
 impl Session {
-    /// A session of so many workers at the beginning of a trace. `Starved`: out of memory.
+    /// Creates a session at the beginning of a trace, with this number of workers.
+    ///
+    /// # Requires
+    ///
+    /// `workers` is at most 16.
+    ///
+    /// # Errors
+    ///
+    /// `Starved` if memory runs out.
     pub fn make(alloc: Global, workers: u8) -> Result<Session, Starved>
         requires { workers ≤ max_workers }
         ensures { IfOk result (IsAt workers start) }
@@ -88,7 +105,7 @@ impl Session {
         })
     }
 
-    /// Does a line that is whole.
+    /// Does a complete line.
     fn do_line<K: Sink>(&mut self, alloc: Global, line: &[u8], out: &mut K) -> Option<Stop>
         requires { IsMachine self.old.machine }
         ensures done { (workers : ℕ) (rows : List Row)
@@ -112,7 +129,7 @@ impl Session {
         }
     }
 
-    /// A line feed comes: what is pending and `line` are a whole line.
+    /// Handles a line feed: the pending octets and `line` are a complete line.
     fn end_line<K: Sink>(&mut self, alloc: Global, line: &[u8], out: &mut K) -> Option<Stop>
         requires stands { IsSession self.old }
         requires whole { None ≡ fields.cut 10 line.now }
@@ -132,7 +149,7 @@ impl Session {
         self.do_line(alloc, whole.as_slice(), out)
     }
 
-    /// Keeps the beginning of a line, if no line is longer.
+    /// Stores the beginning of a line. Stops if the line is too long.
     fn keep(&mut self, rest: &[u8]) -> Option<Stop>
         requires { None ≡ fields.cut 10 rest.now }
         ensures fed { (workers : ℕ) (point : Point) (held : Option (List ℕ))
@@ -152,7 +169,13 @@ impl Session {
         None
     }
 
-    /// Does the lines that end in a piece of the trace, and keeps the beginning of the next.
+    /// Does the lines that end in a piece of the trace, and stores the beginning of the next.
+    /// Returns why the replay stops, or `None` if it goes on.
+    ///
+    /// # Requires
+    ///
+    /// The session is at some point of some trace (`IsSession`), which [`Session::make`] and each
+    /// call of `feed` that returns `None` give.
     pub fn feed<K: Sink>(&mut self, alloc: Global, piece: &[u8], out: &mut K) -> Option<Stop>
         requires { IsSession self.old }
         ensures fed { (workers : ℕ) (point : Point) → IsAt workers point self.old
@@ -169,7 +192,7 @@ impl Session {
         self.keep(rest)
     }
 
-    /// Does the last line, if it lacks its line feed.
+    /// Does the last line, if it has no line feed.
     fn last_line<K: Sink>(&mut self, alloc: Global, out: &mut K) -> Option<Stop>
         requires { IsSession self.old }
         ensures done { (workers : ℕ) (point : Point) → IsAt workers point self.old
@@ -200,7 +223,12 @@ impl Session {
         None
     }
 
-    /// The trace has ended: does the last line, and writes the line that ends the output.
+    /// Ends the trace: does the last line, and writes the line that ends the output. Returns why
+    /// the replay stops, or `None` if all was written.
+    ///
+    /// # Requires
+    ///
+    /// The session is at some point of some trace (`IsSession`), as for [`Session::feed`].
     pub fn finish<K: Sink>(&mut self, alloc: Global, out: &mut K) -> Option<Stop>
         requires { IsSession self.old }
         ensures finished { (workers : ℕ) (point : Point)

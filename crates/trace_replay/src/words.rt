@@ -1,4 +1,5 @@
-//! The words of the command line of `rd_replay`: their form is tested, and clap reads their values.
+//! The arguments of the command line of `rd_replay`. Their form is checked here, and clap reads
+//! their values.
 ghost use Rattle.std.specs.Prelude.{◌≡◌, ◌≤◌, ◌++◌, IfSome, IfOk, OnOk, map};
 ghost use Rattle.std.specs.String.{string_bytes};
 ghost use Rattle.trace_replay.specs.Words as spec;
@@ -16,19 +17,20 @@ use std::env::Env;
 use std::io::ErrorKind;
 use trace_text::number_read;
 
-/// The most devices of a trace that is made.
+/// The maximum number of devices of a generated trace.
 const MAX_DEVICES: u64 = 4_000;
 
-/// What the words ask for.
+/// What the arguments ask for.
 #[derive(Clone, Copy, Debug, PartialEq, Eq)]
 pub struct Words {
-    /// How many workers there are, from 1 to 16, where that is said.
+    /// The number of workers, from 1 to 16, if it is given.
     pub workers: Option<u8>,
-    /// For how many devices a trace is made, from 1 to 4,000; none where the trace is read.
+    /// The number of devices of the generated trace, from 1 to 4,000, or `None` if the trace is
+    /// read.
     pub devices: Option<u32>,
 }
 
-/// Why words were not read.
+/// Why arguments were not read.
 #[derive(Clone, Copy, Debug, PartialEq, Eq)]
 pub enum WordsFault {
     /// They are not those of the program.
@@ -37,8 +39,11 @@ pub enum WordsFault {
     Starved,
 }
 
-/// The words of the command line, without the program's name. `Usage`: one of them is not UTF-8.
-/// `Starved`: out of memory.
+/// Returns the arguments of the command line, without the program's name.
+///
+/// # Errors
+///
+/// `Usage` if one of them is not UTF-8; `Starved` if memory runs out.
 pub fn given_words<R: Env + AllocGlobal>(rt: &R) -> Result<Vec<String>, WordsFault> {
     let mut args = match env::args(rt) {
         Ok(args) => args,
@@ -49,16 +54,16 @@ pub fn given_words<R: Env + AllocGlobal>(rt: &R) -> Result<Vec<String>, WordsFau
     args.collect(rt.alloc()).map_err(|_| WordsFault::Starved)
 }
 
-/// What a word names.
+/// What an argument names.
 #[derive(Clone, Copy, Debug, PartialEq, Eq)]
 enum Name {
-    /// How many workers there are.
+    /// The number of workers.
     Workers,
-    /// For how many devices a trace is made.
+    /// The number of devices of the generated trace.
     Make,
 }
 
-/// What a word names that is a name alone.
+/// Returns what an argument names that is a name alone.
 fn name_of(word: &[u8]) -> Option<Name>
     ensures { result ≡ spec.name_of word.now }
 {
@@ -71,7 +76,8 @@ fn name_of(word: &[u8]) -> Option<Name>
     None
 }
 
-/// The number from 1 to a limit that a text prints in decimal, without a leading zero.
+/// Returns the number from 1 to `limit` that a text prints in decimal, without a leading zero, or
+/// `None` if there is none.
 pub fn count_of(limit: u64, text: &[u8]) -> Option<u64>
     ensures value { result ≡ spec.count_of limit text.now }
     ensures within { IfSome result (λ n. (1 ≤ n) × (n ≤ limit)) }
@@ -84,7 +90,7 @@ pub fn count_of(limit: u64, text: &[u8]) -> Option<u64>
 }
 
 impl Words {
-    /// With the number of workers, where it was not said.
+    /// Adds the number of workers, unless it was given before.
     fn with_workers(self, value: &[u8]) -> Option<Words>
         ensures { result ≡ spec.given name.Workers value.now self }
     {
@@ -98,7 +104,7 @@ impl Words {
         })
     }
 
-    /// With the number of devices, where it was not said.
+    /// Adds the number of devices, unless it was given before.
     fn with_devices(self, value: &[u8]) -> Option<Words>
         ensures { result ≡ spec.given name.Make value.now self }
     {
@@ -112,7 +118,7 @@ impl Words {
         })
     }
 
-    /// How many workers there are: one where nothing is said.
+    /// Returns the number of workers, which is one if it is not given.
     pub fn workers(&self) -> u8
         ensures { result ≡ spec.workers_of self.now }
     {
@@ -137,7 +143,7 @@ impl Asked for Words {
     }
 }
 
-/// An option with its value more, joined by `=`, where it has one.
+/// Appends an option with its value, joined by `=`, if it has one.
 fn push_option(
     alloc: Global,
     words: &mut Vec<String>,
@@ -153,7 +159,7 @@ fn push_option(
     Ok(())
 }
 
-/// What is asked for in words, in one order.
+/// Returns arguments that ask for the same, in one order.
 fn words_of(alloc: Global, asked: Words) -> Result<Vec<String>, Starved>
     ensures { IfOk result (λ words. map string_bytes words.items ≡ spec.words_of asked) }
 {
@@ -163,7 +169,7 @@ fn words_of(alloc: Global, asked: Words) -> Result<Vec<String>, Starved>
     Ok(words)
 }
 
-/// What clap found for all options.
+/// Returns what clap found for all options.
 fn words_in(matches: &ArgMatches) -> Words
     ensures { result ≡ spec.words_found matches.now }
 {
@@ -179,7 +185,7 @@ fn words_in(matches: &ArgMatches) -> Words
     }
 }
 
-/// What is asked for, as clap reads it in its words.
+/// Returns what is asked for, as clap reads it from arguments that ask for it.
 fn asked_read(alloc: Global, asked: Words) -> Result<Words, Starved>
     requires { AreAsked asked }
     ensures { IfOk result (λ read. read ≡ asked) }
@@ -191,10 +197,13 @@ fn asked_read(alloc: Global, asked: Words) -> Result<Words, Starved>
     Ok(words_in(&matches))
 }
 
-/// What the words ask for: `--workers` with a number from 1 to 16, and `--make` with one from 1 to
-/// 4,000, each once at most, in any order, as two words or joined by `=`.
+/// Returns what the arguments ask for: `--workers` with a number from 1 to 16, and `--make` with a
+/// number from 1 to 4,000. Each is given at most once, in any order, as two arguments or joined by
+/// `=`.
 ///
-/// `Usage`: they are others. `Starved`: out of memory.
+/// # Errors
+///
+/// `Usage` if the arguments are not these; `Starved` if memory runs out.
 pub fn words_read(alloc: Global, words: &[String]) -> Result<Words, WordsFault>
     ensures read { AreRead (words_said (map string_bytes words.now)) result }
     ensures workers { IfOk result (λ asked. IsWorkers (spec.workers_of asked)) }

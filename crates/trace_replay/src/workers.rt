@@ -1,4 +1,4 @@
-//! The workers of a replay: each draws Message IDs of its own, and holds one job at most.
+//! The workers of a replay. Each draws its own Message IDs, and holds at most one job.
 ghost use Rattle.std.specs.Prelude.{◌≡◌, ◌≤◌, ◌<◌, ◌^◌, ℕ, true, false, [], List, IfOk, IfSome};
 ghost use Rattle.std.specs.Prelude.{Some, Ok, is_some};
 ghost use Rattle.message_model.specs.Reading.{reading};
@@ -30,7 +30,7 @@ pub struct Worker {
     job: Option<Job>,
 }
 
-/// A step that was made, where memory did not run out in it.
+/// Returns `Starved` if memory ran out in a step.
 fn unstarved(stepped: Stepped) -> Result<(), Starved>
     ensures { IfOk result (λ _. is_starved_step stepped ≡ false) }
 {
@@ -41,7 +41,11 @@ fn unstarved(stepped: Stepped) -> Result<(), Starved>
 }
 
 impl Worker {
-    /// A worker that heard nothing yet.
+    /// Creates a worker that has received nothing.
+    ///
+    /// # Requires
+    ///
+    /// `number` is less than 16.
     #[rattlefmt::skip]
     #[tactic(
         auto,
@@ -57,7 +61,7 @@ impl Worker {
         }
     }
 
-    /// Whether it holds a job: then no datagram comes to it.
+    /// Returns whether it holds a job, which stops it from receiving datagrams.
     pub fn is_busy(&self) -> bool
         ensures { (rows : List Row) (number : ℕ)
             → IsWorkerAt rows number self.now
@@ -66,7 +70,7 @@ impl Worker {
         self.job.is_some()
     }
 
-    /// A request that only looks is answered from the version of the desk.
+    /// Answers a look from the version of the desk.
     fn look(
         &mut self,
         alloc: Global,
@@ -107,7 +111,7 @@ impl Worker {
         }
     }
 
-    /// Any other datagram is admitted by the desk.
+    /// Has the desk admit a datagram that is not a look.
     fn admit(
         &mut self,
         desk: &mut Desk<NoBoard>,
@@ -136,7 +140,16 @@ impl Worker {
         }
     }
 
-    /// A datagram comes to it, while it holds no job. `Starved`: out of memory.
+    /// Handles a datagram, while it holds no job.
+    ///
+    /// # Requires
+    ///
+    /// The moment is at most 10^15 milliseconds, and no earlier than the version's last entry and
+    /// last sweep. The datagram was read as `arrival.incoming`, and `out` is empty.
+    ///
+    /// # Errors
+    ///
+    /// `Starved` if memory runs out in the step.
     pub fn hear(
         &mut self,
         alloc: Global,
@@ -163,8 +176,15 @@ impl Worker {
         self.look(alloc, &*desk, arrival.moment, arrival.peer, &request, out)
     }
 
-    /// It does the job that it holds; where it holds none, nothing happens. `Starved`: out of
-    /// memory.
+    /// Does the job that it holds. Without a job, nothing happens.
+    ///
+    /// # Requires
+    ///
+    /// `now` is at most 10^15 milliseconds, and `out` is empty.
+    ///
+    /// # Errors
+    ///
+    /// `Starved` if memory runs out in the step.
     pub fn go(
         &mut self,
         desk: &mut Desk<NoBoard>,
@@ -187,7 +207,15 @@ impl Worker {
         }
     }
 
-    /// Time passes. `Starved`: out of memory.
+    /// Lets time pass.
+    ///
+    /// # Requires
+    ///
+    /// `now` is at most 10^15 milliseconds, and `out` is empty.
+    ///
+    /// # Errors
+    ///
+    /// `Starved` if memory runs out in the step.
     pub fn tick(
         &mut self,
         desk: &mut Desk<NoBoard>,
@@ -206,7 +234,15 @@ impl Worker {
         unstarved(desk.tick(now, word, &mut self.mids, out))
     }
 
-    /// A run begins above a number. `Starved`: out of memory.
+    /// Begins a run above a number.
+    ///
+    /// # Requires
+    ///
+    /// `now` is at most 10^15 milliseconds.
+    ///
+    /// # Errors
+    ///
+    /// `Starved` if memory runs out in the step.
     pub fn begin(&self, desk: &mut Desk<NoBoard>, now: Moment, first: u64) -> Result<(), Starved>
         requires { now.0 ≤ 10 ^ 15 }
         ensures { IfOk result (λ _. (rows : List Row) (s : Step)

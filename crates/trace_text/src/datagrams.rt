@@ -9,9 +9,13 @@ use line_model::limits::MAX_DATAGRAM;
 use rd_base::{Bytes, Starved};
 use std::alloc::Global;
 
-/// The datagram that a text writes: `-` for the empty one, or 1 to 4,096 octets in digits of either
-/// case. `Starved`: out of memory;
-/// `Form`: it is neither.
+/// Returns the datagram that a text spells: `-` for the empty one, or 1 to 4,096 octets in digits
+/// of either case.
+///
+/// # Errors
+///
+/// - `Form` if the text is neither.
+/// - `Starved` if memory runs out.
 #[tactic(auto, unfolding(line_model::specs::Datagrams::datagram_of))]
 pub fn datagram_read(alloc: Global, text: &[u8]) -> Result<Bytes, FieldFault>
     ensures { IsSaid result (datagrams.datagram_of text.now) }
@@ -26,7 +30,7 @@ pub fn datagram_read(alloc: Global, text: &[u8]) -> Result<Bytes, FieldFault>
     }
 }
 
-/// Octets, where they are 1 to 4,096.
+/// Returns the octets, if they are 1 to 4,096.
 fn sized(octets: Vec<u8>) -> Result<Bytes, FieldFault>
     ensures { IsSaid result (datagrams.if_sized (Ok octets.items)) }
 {
@@ -39,7 +43,11 @@ fn sized(octets: Vec<u8>) -> Result<Bytes, FieldFault>
     Ok(Bytes::of(octets))
 }
 
-/// A datagram in digits of lower case, the empty one as `-`. `Starved`: out of memory.
+/// Returns a datagram in lower-case digits, or `-` for the empty one.
+///
+/// # Errors
+///
+/// `Starved` if memory runs out.
 pub fn datagram_text(alloc: Global, octets: &[u8]) -> Result<String, Starved>
     ensures { IfOk result (λ text. string_bytes text ≡ datagrams.datagram_text octets.now) }
 {

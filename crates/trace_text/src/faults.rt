@@ -1,23 +1,23 @@
-//! Why a line, or a field of one, is not read.
+//! The reasons why a line, or a field of one, cannot be read.
 use rd_base::Starved;
 
-/// Why a line is not read.
+/// The reason why a line cannot be read.
 #[derive(Clone, Copy, Debug, PartialEq, Eq)]
 pub enum LineFault {
-    /// It has more than 8,600 bytes.
+    /// The line has more than 8,600 octets.
     Long,
-    /// It is not too long, and it is none of the four forms.
+    /// The line is not too long, and has none of the four forms.
     Form,
-    /// Out of memory.
+    /// Memory ran out.
     Starved,
 }
 
-/// Why a field, or what stands in the fields of a line, is not read.
+/// The reason why a field, or the fields of a line, cannot be read.
 #[derive(Clone, Copy, Debug, PartialEq, Eq)]
 pub enum FieldFault {
-    /// It is not of its form.
+    /// The text does not have the form.
     Form,
-    /// Out of memory.
+    /// Memory ran out.
     Starved,
 }
 

@@ -5,7 +5,7 @@ ghost use Rattle.trace_text.specs.Fields.{fields_of_cut};
 
 use memchr::memchr;
 
-/// What stands before the first space, and what stands after it; nothing where there is no space.
+/// Returns what precedes the first space, and what follows it, or `None` if there is no space.
 pub fn cut(text: &[u8]) -> Option<(&[u8], &[u8])>
     ensures { fields text.now
         ≡ fields_of_cut text.now (option_map (λ p. (p.0.now, p.1.now)) result) }
@@ -16,7 +16,7 @@ pub fn cut(text: &[u8]) -> Option<(&[u8], &[u8])>
     }
 }
 
-/// The offset of the first octet of a text that is this one, nothing where none is.
+/// Returns the offset of the first octet of a text that is this one, or `None` if none is.
 pub fn offset_of(octet: u8, text: &[u8]) -> Option<usize>
     ensures value { result ≡ position (λ b. b == octet) text.now }
     ensures within { IfSome result (λ at. at < length text.now) }

@@ -1,5 +1,5 @@
-//! The trace that is generated for a number of devices: each registers and is served at once, and
-//! each tenth is followed by an observer.
+//! The trace that is generated for a number of devices. Each device registers and is served at
+//! once, and an observer follows each tenth.
 ghost use Rattle.std.specs.Prelude.{◌≡◌, ◌+◌, ◌*◌, ◌%◌, false, ◌<◌, ◌≤◌, [], ◌∷◌, ◌++◌, length};
 ghost use Rattle.std.specs.Prelude.{codes, decimal, IfOk, OnOk};
 ghost use Rattle.std.specs.String.{string_bytes};
@@ -24,7 +24,8 @@ use std::alloc::Global;
 /// The milliseconds from one device to the next.
 const PACE: u64 = 200;
 
-/// Where a device is: 10.0, and its number in two octets, at the port of CoAP.
+/// Returns the peer of a device: the address 10.0 and its number in two octets, at the port of
+/// CoAP.
 fn device(i: u16) -> Peer
     ensures { result ≡ generator.device i }
 {
@@ -34,7 +35,7 @@ fn device(i: u16) -> Peer
     }
 }
 
-/// Where the observers are.
+/// Returns the peer of the observers.
 fn onlooker() -> Peer
     ensures { result ≡ generator.onlooker }
 {
@@ -44,14 +45,14 @@ fn onlooker() -> Peer
     }
 }
 
-/// The lifetime that a device asks for, in seconds: from a minute to an hour more.
+/// Returns the lifetime that a device requests, in seconds: 60 to 3,659.
 fn lifetime(i: u16) -> u32
     ensures { result ≡ generator.lifetime i }
 {
     60 + 611 * u32::from(i) % 3600
 }
 
-/// The links of a device, the second of one of seven kinds. `Starved`: out of memory.
+/// Returns the links of a device, the second of one of seven kinds.
 fn device_links(alloc: Global, i: u16) -> Result<String, Starved>
     ensures { IfOk result (λ text. string_bytes text ≡ generator.device_links i) }
 {
@@ -62,7 +63,7 @@ fn device_links(alloc: Global, i: u16) -> Result<String, Starved>
     Ok(text)
 }
 
-/// The name of a device, as a query option (RFC 9176 section 5). `Starved`: out of memory.
+/// Returns the name of a device, as a query option (RFC 9176 section 5).
 fn name_query(alloc: Global, i: u16) -> Result<String, Starved>
     ensures { IfOk result (λ text. string_bytes text ≡ codes "ep=dev" ++ decimal i) }
 {
@@ -71,7 +72,7 @@ fn name_query(alloc: Global, i: u16) -> Result<String, Starved>
     Ok(text)
 }
 
-/// Its lifetime, as a query option (RFC 9176 section 5). `Starved`: out of memory.
+/// Returns its lifetime, as a query option (RFC 9176 section 5).
 fn lifetime_query(alloc: Global, i: u16) -> Result<String, Starved>
     ensures { IfOk result
         (λ text. string_bytes text ≡ codes "lt=" ++ decimal (generator.lifetime i)) }
@@ -80,7 +81,7 @@ fn lifetime_query(alloc: Global, i: u16) -> Result<String, Starved>
     Ok(format!(in alloc; "lt={seconds}")?)
 }
 
-/// The kind of its second link, as a query option (RFC 9176 section 6.2). `Starved`: out of memory.
+/// Returns the kind of its second link, as a query option (RFC 9176 section 6.2).
 fn kind_query(alloc: Global, i: u16) -> Result<String, Starved>
     ensures { IfOk result (λ text. string_bytes text ≡ codes "rt=" ++ generator.kind_text i) }
 {
@@ -88,7 +89,7 @@ fn kind_query(alloc: Global, i: u16) -> Result<String, Starved>
     Ok(format!(in alloc; "rt=kind{kind}")?)
 }
 
-/// A confirmable request, without options so far (RFC 7252 section 4.2).
+/// Starts a confirmable request, without options so far (RFC 7252 section 4.2).
 fn begin(code: u8, mid: u16, token: TokenRef<'_>) -> Writer
     requires code { (codes_of.empty < code) × (codes_of.is_reserved code ≡ false) }
     ensures begun { result ≡ bare_message kind.Con code mid token.entry.octets.now }
@@ -97,7 +98,7 @@ fn begin(code: u8, mid: u16, token: TokenRef<'_>) -> Writer
     Writer::start(Kind4::Con, code, mid, token)
 }
 
-/// One more option, of a value that has at most 20 octets.
+/// Adds an option whose value has at most 20 octets.
 fn put(writer: &mut Writer, number: u32, value: &[u8])
     requires filled { codes_of.empty < writer.old.code }
     requires open { writer.old.payload ≡ [] }
@@ -113,7 +114,8 @@ fn put(writer: &mut Writer, number: u32, value: &[u8])
     };
 }
 
-/// The registration of a device by its query options, without its links (RFC 9176 section 5).
+/// Starts the registration of a device with its query options, without its links (RFC 9176 section
+/// 5).
 fn begin_registration(i: u16, name: &[u8], lifetime: &[u8]) -> Writer
     requires name { name.now ≡ codes "ep=dev" ++ decimal i }
     requires lifetime { lifetime.now ≡ codes "lt=" ++ decimal (generator.lifetime i) }
@@ -130,7 +132,8 @@ fn begin_registration(i: u16, name: &[u8], lifetime: &[u8]) -> Writer
     writer
 }
 
-/// The lookup that observes the links of a device's kind (RFC 9176 section 6, RFC 7641 section 2).
+/// Starts the lookup that observes the links of a device's kind (RFC 9176 section 6, RFC 7641
+/// section 2).
 fn begin_observation(i: u16, kind: &[u8]) -> Writer
     requires number { i ≤ 4_000 }
     requires kind { kind.now ≡ codes "rt=" ++ generator.kind_text i }
@@ -148,7 +151,7 @@ fn begin_observation(i: u16, kind: &[u8]) -> Writer
     writer
 }
 
-/// The worker whose turn it is with a device.
+/// Returns the worker that serves a device.
 fn turn(i: u16, workers: u8) -> u8
     requires { 1 ≤ workers }
     ensures { result ≡ i % workers }
@@ -156,8 +159,7 @@ fn turn(i: u16, workers: u8) -> u8
     (i % u16::from(workers)) as u8
 }
 
-/// The line of a message that comes with this payload, of at most 100 octets. `Starved`: out of
-/// memory.
+/// Returns the line of a message that arrives with this payload, of at most 100 octets.
 #[tactic(auto, unfolding(line_model::specs::Lines::line_text))]
 fn come_line(
     alloc: Global,
@@ -182,7 +184,7 @@ fn come_line(
     come_print(alloc, worker, Moment(at), peer, datagram, 0)
 }
 
-/// The line of a device's registration. `Starved`: out of memory.
+/// Returns the line of a device's registration.
 fn registration_line(alloc: Global, i: u16, worker: u8) -> Result<String, Starved>
     ensures { IfOk result (λ text.
         string_bytes text
@@ -197,7 +199,7 @@ fn registration_line(alloc: Global, i: u16, worker: u8) -> Result<String, Starve
     come_line(alloc, worker, at, &device(i), &mut writer, links.as_bytes())
 }
 
-/// The line of the observer that comes with a device. `Starved`: out of memory.
+/// Returns the line of the observer that follows a device.
 fn observation_line(alloc: Global, i: u16, worker: u8) -> Result<String, Starved>
     requires { i ≤ 4_000 }
     ensures { IfOk result (λ text.
@@ -211,7 +213,7 @@ fn observation_line(alloc: Global, i: u16, worker: u8) -> Result<String, Starved
     come_line(alloc, worker, at, &onlooker(), &mut writer, b"")
 }
 
-/// The line of a device's service, a millisecond after its registration. `Starved`: out of memory.
+/// Returns the line that serves a device, a millisecond after its registration.
 #[tactic(auto, unfolding(line_model::specs::Lines::line_text))]
 fn service_line(alloc: Global, i: u16, worker: u8) -> Result<String, Starved>
     ensures { IfOk result (λ text.
@@ -221,7 +223,7 @@ fn service_line(alloc: Global, i: u16, worker: u8) -> Result<String, Starved>
     go_print(alloc, worker, Moment(PACE * u64::from(i) + 1))
 }
 
-/// The line of time that passes at a worker, with a word. `Starved`: out of memory.
+/// Returns the line of time that passes at a worker, with a word.
 #[tactic(auto, unfolding(line_model::specs::Lines::line_text))]
 fn tick_line(alloc: Global, worker: u8, at: u64, word: u32) -> Result<String, Starved>
     ensures { IfOk result
@@ -230,7 +232,7 @@ fn tick_line(alloc: Global, worker: u8, at: u64, word: u32) -> Result<String, St
     tick_print(alloc, worker, Moment(at), word)
 }
 
-/// One line more, with its line feed. `Starved`: out of memory.
+/// Appends a line, with its line feed.
 fn put_line(text: &mut Bytes, line: &str) -> Result<(), Starved>
     ensures { OnOk result (text.new ≡ text.old ++ (line.now ++ line_feed ∷ [])) }
 {
@@ -238,7 +240,7 @@ fn put_line(text: &mut Bytes, line: &str) -> Result<(), Starved>
     text.push(b'\n')
 }
 
-/// An observer comes with each tenth device. `Starved`: out of memory.
+/// Appends the line of an observer after each tenth device.
 fn put_observer(text: &mut Bytes, alloc: Global, i: u16, workers: u8) -> Result<(), Starved>
     requires number { i ≤ 4_000 }
     requires workers { 1 ≤ workers }
@@ -252,7 +254,7 @@ fn put_observer(text: &mut Bytes, alloc: Global, i: u16, workers: u8) -> Result<
     put_line(text, line.as_str())
 }
 
-/// Time passes with each hundredth device, and its number is the word. `Starved`: out of memory.
+/// Appends the line of a tick after each hundredth device, with its number as the word.
 fn put_tick(text: &mut Bytes, alloc: Global, i: u16, workers: u8) -> Result<(), Starved>
     requires { 1 ≤ workers }
     ensures { OnOk result
@@ -266,7 +268,7 @@ fn put_tick(text: &mut Bytes, alloc: Global, i: u16, workers: u8) -> Result<(), 
     put_line(text, line.as_str())
 }
 
-/// The lines of a device. `Starved`: out of memory.
+/// Appends the lines of a device.
 fn put_device(text: &mut Bytes, alloc: Global, i: u16, workers: u8) -> Result<(), Starved>
     requires number { i ≤ 4_000 }
     requires workers { 1 ≤ workers }
@@ -282,14 +284,20 @@ fn put_device(text: &mut Bytes, alloc: Global, i: u16, workers: u8) -> Result<()
     put_tick(text, alloc, i, workers)
 }
 
-/// The trace that is generated for a number of devices, 1 to 4,000, and of workers, 1 to 16, as
-/// text.
+/// Returns the text of the trace that is generated for a number of devices and of workers.
 ///
-/// Devices are numbered from 1, 200 milliseconds stand between two of them, and the workers take
-/// turns. Each device registers (RFC 9176 section 5) and is served a millisecond later. With each
-/// tenth an observer comes, which looks up the links of its kind (RFC 9176 section 6, RFC 7641
-/// section 2), and with each hundredth time passes. A last tick ends the trace.
-/// `Starved`: out of memory.
+/// Devices are numbered from 1 and 200 milliseconds apart, and the workers step one after another.
+/// Each device registers (RFC 9176 section 5) and is served a millisecond later. After each tenth
+/// device, an observer looks up the links of its kind (RFC 9176 section 6, RFC 7641 section 2).
+/// After each hundredth device, time passes. A last tick ends the trace.
+///
+/// # Requires
+///
+/// There are 1 to 4,000 devices and 1 to 16 workers.
+///
+/// # Errors
+///
+/// `Starved` if memory runs out.
 pub fn make(alloc: Global, devices: u32, workers: u8) -> Result<Bytes, Starved>
     requires devices { (1 ≤ devices) × (devices ≤ 4_000) }
     requires workers { (1 ≤ workers) × (workers ≤ 16) }

@@ -1,4 +1,4 @@
-//! Traces as text: each line is read in one way or refused with its reason, and what is printed is
+//! Traces as text. Each line is read in one way or refused with its reason, and what is printed is
 //! read back.
 #![tactic(auto)]
 

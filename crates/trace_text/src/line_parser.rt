@@ -1,4 +1,4 @@
-//! Lines as they are read.
+//! Reading of lines.
 ghost use Rattle.std.specs.Prelude.{◌≡◌, ◌≤◌, [], ◌∷◌, IfOk, IfSome, Some, option_map};
 ghost use Rattle.line_model.specs.Lines as lines;
 ghost use Rattle.line_model.specs.Numbers as numbers;
@@ -13,7 +13,7 @@ use line_model::limits::{MAX_FIRST, MAX_LINE, MAX_MOMENT, MAX_WORD, MAX_WORKER};
 use rd_base::{Moment, Peer, peer_read_ascii};
 use std::alloc::Global;
 
-/// What the fields of a datagram that comes say, with a word.
+/// Returns the line that the fields of a datagram that arrives spell, with a word.
 #[tactic(auto, unfolding(line_model::specs::Lines::come_of))]
 fn come_read(
     alloc: Global,
@@ -39,7 +39,7 @@ fn come_read(
     })
 }
 
-/// The word that a field says.
+/// Returns the word that a field spells.
 fn word_read(word: &[u8]) -> Option<u32>
     ensures { result ≡ numbers.number_of numbers.max_word word.now }
 {
@@ -47,7 +47,7 @@ fn word_read(word: &[u8]) -> Option<u32>
     Some(word as u32)
 }
 
-/// What the fields of a worker that ends its job say.
+/// Returns the line that the fields of a worker that does its job spell.
 #[tactic(auto, unfolding(line_model::specs::Lines::go_of))]
 fn go_read(worker: &[u8], moment: &[u8]) -> Option<Line>
     ensures { result ≡ lines.go_of worker.now moment.now }
@@ -57,7 +57,7 @@ fn go_read(worker: &[u8], moment: &[u8]) -> Option<Line>
     Some(Line::Go(worker as u8, Moment(moment)))
 }
 
-/// What the fields of time that passes say, without a word.
+/// Returns the line that the fields of time that passes spell, without a word.
 #[tactic(auto, unfolding(line_model::specs::Lines::tick_of))]
 fn tick_read(worker: &[u8], moment: &[u8]) -> Option<Line>
     ensures { result ≡ lines.tick_of worker.now moment.now (Some 0) }
@@ -71,7 +71,7 @@ fn tick_read(worker: &[u8], moment: &[u8]) -> Option<Line>
     })
 }
 
-/// What the fields of time that passes say, with a word.
+/// Returns the line that the fields of time that passes spell, with a word.
 #[tactic(auto, unfolding(line_model::specs::Lines::tick_of))]
 fn tick_word_read(worker: &[u8], moment: &[u8], word: &[u8]) -> Option<Line>
     ensures { result
@@ -87,7 +87,7 @@ fn tick_word_read(worker: &[u8], moment: &[u8], word: &[u8]) -> Option<Line>
     })
 }
 
-/// What the fields of a run that begins say.
+/// Returns the line that the fields of a run that begins spell.
 #[tactic(auto, unfolding(line_model::specs::Lines::begin_of))]
 fn begin_read(worker: &[u8], moment: &[u8], first: &[u8]) -> Option<Line>
     ensures { result ≡ lines.begin_of worker.now moment.now first.now }
@@ -102,7 +102,7 @@ fn begin_read(worker: &[u8], moment: &[u8], first: &[u8]) -> Option<Line>
     })
 }
 
-/// What three fields say.
+/// Returns the line that three fields spell.
 #[tactic(auto, unfolding(line_model::specs::Lines::said_by))]
 fn three_read(verb: &[u8], worker: &[u8], moment: &[u8]) -> Option<Line>
     ensures { result ≡ lines.said_by (verb.now ∷ worker.now ∷ moment.now ∷ []) }
@@ -116,7 +116,7 @@ fn three_read(verb: &[u8], worker: &[u8], moment: &[u8]) -> Option<Line>
     None
 }
 
-/// What four fields say.
+/// Returns the line that four fields spell.
 #[tactic(auto, unfolding(line_model::specs::Lines::said_by))]
 fn four_read(verb: &[u8], worker: &[u8], moment: &[u8], number: &[u8]) -> Option<Line>
     ensures { result ≡ lines.said_by (verb.now ∷ worker.now ∷ moment.now ∷ number.now ∷ []) }
@@ -130,7 +130,7 @@ fn four_read(verb: &[u8], worker: &[u8], moment: &[u8], number: &[u8]) -> Option
     None
 }
 
-/// What five fields say.
+/// Returns the line that five fields spell.
 #[tactic(auto, unfolding(line_model::specs::Lines::said_by))]
 fn five_read(
     alloc: Global,
@@ -149,7 +149,7 @@ fn five_read(
     Err(FieldFault::Form)
 }
 
-/// What six fields say.
+/// Returns the line that six fields spell.
 #[tactic(auto, unfolding(line_model::specs::Lines::said_by))]
 fn six_read(
     alloc: Global,
@@ -170,7 +170,7 @@ fn six_read(
     Err(FieldFault::Form)
 }
 
-/// What the fields of a line say.
+/// Returns the line that the fields of a text spell.
 fn fields_read(alloc: Global, line: &[u8]) -> Result<Line, FieldFault>
     ensures { IsSaid result (lines.said_by (lines.fields line.now)) }
 {
@@ -195,7 +195,7 @@ fn fields_read(alloc: Global, line: &[u8]) -> Result<Line, FieldFault>
     }
 }
 
-/// The line that a text reads as, or why it is none.
+/// Returns the line that a text spells, or why it spells none.
 #[tactic(auto, unfolding(line_model::specs::Lines::line_of))]
 fn read(alloc: Global, line: &[u8]) -> Result<Line, LineFault>
     ensures { IsRead result (lines.line_of line.now) }
@@ -210,10 +210,18 @@ fn read(alloc: Global, line: &[u8]) -> Result<Line, LineFault>
     }
 }
 
-/// The line that a text is, without its line feed. `Starved`: out of memory. `Long` comes exactly
-/// where it has more than 8,600 bytes, and `Form` exactly where it has not and is none of the four
-/// forms: `in`, a worker, a moment, a peer, octets and maybe a word; `go`, a worker and a moment;
-/// `tick`, a worker, a moment and maybe a word; `begin`, a worker, a moment and a number.
+/// Returns the line that a text without a line feed spells. A line has one of four forms:
+///
+/// - `in`, a worker, a moment, a peer, octets and possibly a word;
+/// - `go`, a worker and a moment;
+/// - `tick`, a worker, a moment and possibly a word;
+/// - `begin`, a worker, a moment and a number.
+///
+/// # Errors
+///
+/// - `Long` if the text has more than 8,600 octets.
+/// - `Form` if it is not longer and has none of the four forms.
+/// - `Starved` if memory runs out.
 pub fn line_read(alloc: Global, line: &[u8]) -> Result<Line, LineFault>
     ensures answered { IsAnswered line.now result }
     ensures read { IsRead result (lines.line_of line.now) }

@@ -1,4 +1,4 @@
-//! Lines as they are printed.
+//! Printing of lines.
 ghost use Rattle.std.specs.Prelude.{◌≡◌, IfOk, Ok};
 ghost use Rattle.std.specs.String.{string_bytes};
 ghost use Rattle.line_model.specs.Lines as lines;
@@ -9,10 +9,10 @@ use line_model::Line;
 use rd_base::{Bytes, Moment, Peer, Starved, peer_text};
 use std::alloc::Global;
 
-/// The room that is taken at once for what stands in a line before its octets.
+/// The octets that are reserved at once for what precedes the datagram of a line.
 const FRONT: usize = 80;
 
-/// The line of a datagram that comes, a word of 0 left out.
+/// Returns the line of a datagram that arrives, without a word of 0.
 pub(crate) fn come_print(
     alloc: Global,
     worker: u8,
@@ -39,7 +39,7 @@ pub(crate) fn come_print(
     Ok(text)
 }
 
-/// The line of a worker that ends its job.
+/// Returns the line of a worker that does its job.
 pub(crate) fn go_print(alloc: Global, worker: u8, moment: Moment) -> Result<String, Starved>
     ensures { IfOk result (λ text.
         string_bytes text
@@ -51,7 +51,7 @@ pub(crate) fn go_print(alloc: Global, worker: u8, moment: Moment) -> Result<Stri
     Ok(text)
 }
 
-/// The line of time that passes, a word of 0 left out.
+/// Returns the line of time that passes, without a word of 0.
 pub(crate) fn tick_print(
     alloc: Global,
     worker: u8,
@@ -69,7 +69,7 @@ pub(crate) fn tick_print(
     Ok(format!(in alloc; "tick {worker} {at} {word}")?)
 }
 
-/// The line of a run that begins above a number.
+/// Returns the line of a run that begins above a number.
 fn begin_print(alloc: Global, worker: u8, moment: Moment, first: u64) -> Result<String, Starved>
     ensures { IfOk result (λ text.
         string_bytes text
@@ -79,7 +79,7 @@ fn begin_print(alloc: Global, worker: u8, moment: Moment, first: u64) -> Result<
     Ok(format!(in alloc; "begin {worker} {at} {first}")?)
 }
 
-/// A line as it is printed.
+/// Returns a line as it is printed.
 #[tactic(auto, unfolding(line_model::specs::Lines::line_text))]
 fn printed(alloc: Global, line: &Line) -> Result<String, Starved>
     ensures { IfOk result (λ text. string_bytes text ≡ lines.line_text line.now) }
@@ -106,9 +106,18 @@ fn printed(alloc: Global, line: &Line) -> Result<String, Starved>
     }
 }
 
-/// A line as it is printed, without its line feed: digits in lower case, and a word of 0 left out.
-/// The line is one that [`crate::line_read`] can give, and what is printed is read back as it.
-/// `Starved`: out of memory.
+/// Returns a line as it is printed, without its line feed. Hexadecimal digits are in lower case,
+/// and a word of 0 is left out.
+///
+/// [`line_read`](crate::line_read) reads the line back.
+///
+/// # Requires
+///
+/// The line is one that [`line_read`](crate::line_read) can return (`IsLine`).
+///
+/// # Errors
+///
+/// `Starved` if memory runs out.
 pub fn line_print(alloc: Global, line: &Line) -> Result<Bytes, Starved>
     requires { lines.IsLine line.now }
     ensures text { IfOk result (λ text. text ≡ lines.line_text line.now) }
@@ -118,8 +127,12 @@ pub fn line_print(alloc: Global, line: &Line) -> Result<Bytes, Starved>
     Ok(Bytes::of(text.into_bytes()))
 }
 
-/// The line of a datagram that is sent: `out`, the worker, the peer and the octets in lower case,
-/// without its line feed. `Starved`: out of memory.
+/// Returns the line of a datagram that is sent, without its line feed: `out`, the worker, the peer
+/// and the octets in lower case.
+///
+/// # Errors
+///
+/// `Starved` if memory runs out.
 #[tactic(auto, unfolding(line_model::specs::Lines::out_text))]
 pub fn out_print(alloc: Global, worker: u8, peer: &Peer, datagram: &[u8]) -> Result<Bytes, Starved>
     ensures { IfOk result (λ text. text ≡ lines.out_text worker peer.now datagram.now) }

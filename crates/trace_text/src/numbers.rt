@@ -5,8 +5,8 @@ ghost use Rattle.line_model.specs.Numbers as numbers;
 
 use std::str;
 
-/// Whether a text has one octet, or begins above the digit 0: a number in decimal has no sign and
-/// no leading zero.
+/// Returns whether a text has one octet, or begins above the digit 0. A number in decimal has no
+/// sign and no leading zero.
 fn is_plain(text: &[u8]) -> bool
     ensures { result ≡ (length text.now == 1 || nat_lt 48 (slice_index text.now 0)) }
 {
@@ -19,7 +19,7 @@ fn is_plain(text: &[u8]) -> bool
     }
 }
 
-/// The number that a text prints in decimal, where it is at most `limit`.
+/// Returns the number that a text prints in decimal, if it prints one that is at most `limit`.
 pub fn number_read(limit: u64, text: &[u8]) -> Option<u64>
     ensures value { result ≡ numbers.number_of limit text.now }
     ensures within { IfSome result (λ n. n ≤ limit) }

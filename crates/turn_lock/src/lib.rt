@@ -9,7 +9,7 @@ mod rows;
 mod seats;
 mod views;
 
-pub use lock::{Ended, TurnLock, Unmade, history_is_of_passes, seen_in_order};
+pub use lock::{Ended, TurnLock, Unmade, Wake, history_is_of_passes, seen_in_order};
 pub use rows::{Added, Replays};
 pub use seats::{Pass, Passes};
 pub use views::View;

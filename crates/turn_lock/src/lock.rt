@@ -13,6 +13,10 @@ use std::mem::ManuallyDrop;
 use std::snapshot::Snapshot;
 use std::sync::Wait;
 use std::sync::atomic::{AtomicU64, Ordering};
+use std::time::Duration;
+
+/// For how long a worker sleeps at most before it looks for the turn again, in milliseconds.
+const LONGEST_SLEEP: u64 = 5;
 
 /// A value that many workers change, each at its turn. A lock may be let go where its value may.
 /// Any other is taken apart, by `end` or `into_inner`.
@@ -24,6 +28,16 @@ pub struct TurnLock<T: Replays> {
     sleepers: AtomicU64,
     ghost words: { table.shared.table_id.words ≡ 1 },
     ghost slots: { table.shared.table_id.slots ≡ 1 },
+}
+
+/// Whom a give wakes, of the workers that sleep until the turn is free.
+#[derive(Clone, Copy, Debug, PartialEq, Eq)]
+pub enum Wake {
+    /// One of them.
+    One,
+    /// Nobody: the giver takes the turn again at once, so a worker that is woken would find it
+    /// taken and sleep again.
+    Nobody,
 }
 
 /// No memory was found for a lock. The value comes back.
@@ -132,14 +146,17 @@ impl<T: Replays> TurnLock<T> {
         unreachable!()
     }
 
-    /// Sleeps while the word is this one.
+    /// Sleeps while the word is this one, for at most 5 ms.
     ///
     /// A sleeper is counted before the word is compared, and a give changes the word before it
     /// reads the count: so a give that finds no sleeper changed the word before it was compared,
-    /// and nobody sleeps through it.
+    /// and nobody sleeps through it. After a give that wakes nobody, its worker takes the turn again
+    /// and wakes one then. Where that worker is held up, a sleeper looks again by itself.
     fn sleep<R: Wait>(&self, rt: &R, word: u64) {
         self.sleepers.fetch_add(1, Ordering::SeqCst);
-        self.table.shared.park(rt, 0, (word & 0xffff_ffff) as u32);
+        let expected = (word & 0xffff_ffff) as u32;
+        let most = Duration::from_millis(LONGEST_SLEEP);
+        self.table.shared.park_timeout(rt, 0, expected, most);
         self.sleepers.fetch_sub(1, Ordering::SeqCst);
     }
 
@@ -179,8 +196,29 @@ impl<T: Replays> TurnLock<T> {
     }
 
     /// Gives the turn back with the value, which stands for what the pass has seen with one row
-    /// more.
+    /// more, and wakes a worker that sleeps.
     pub fn give<S: Added<T::Row>>(&self, pass: &mut Pass<T>, value: T)
+        requires lock { lock_of pass.old ≡ id_of self.now }
+        requires holding { is_holding pass.old ≡ true }
+        requires added { IsSome S.added }
+        requires number { IfSome S.added (λ row. T.number row ≡ number_of pass.old) }
+        requires value { IfSome S.added (λ row. T.stands (row ∷ seen_of pass.old) value) }
+        requires value_label { T.label value ≡ label_of pass.old }
+        ensures lock { lock_of pass.new ≡ lock_of pass.old }
+        ensures idle { is_holding pass.new ≡ false }
+        ensures number { number_of pass.new ≡ number_of pass.old }
+        ensures label { label_of pass.new ≡ label_of pass.old }
+        ensures passes { passes_of pass.new ≡ passes_of pass.old }
+        ensures below { AllBelow T.number (passes_of pass.new) (seen_of pass.new) }
+        ensures seen { IfSome S.added (λ row. seen_of pass.new ≡ row ∷ seen_of pass.old) }
+        ensures mine { IfSome S.added (λ row. mine_of pass.new ≡ row ∷ mine_of pass.old) }
+        ensures own { mine_of pass.new ≡ rows_of T.number (number_of pass.new) (seen_of pass.new) }
+    {
+        self.give_back::<S>(pass, value, Wake::One);
+    }
+
+    /// Gives the turn back as [`TurnLock::give`] does, and wakes a worker or nobody.
+    pub fn give_back<S: Added<T::Row>>(&self, pass: &mut Pass<T>, value: T, wake: Wake)
         requires lock { lock_of pass.old ≡ id_of self.now }
         requires holding { is_holding pass.old ≡ true }
         requires added { IsSome S.added }
@@ -201,9 +239,17 @@ impl<T: Replays> TurnLock<T> {
         let word = next_word(pass.word);
         self.release::<S>(&mut pass.seat, word);
         pass.word = word;
+        self.wake(wake);
     }
 
-    /// Makes the turn free, and wakes one that sleeps.
+    /// Wakes a worker that sleeps, if one is to be woken and one sleeps.
+    fn wake(&self, wake: Wake) {
+        if wake == Wake::One && self.sleepers.load(Ordering::SeqCst) != 0 {
+            self.table.shared.wake_one(0);
+        }
+    }
+
+    /// Makes the turn free.
     fn release<S: Added<T::Row>>(
         &self,
         seat: &mut Seat<Option<T>, View<T::Row, T::Label>>,
@@ -221,9 +267,6 @@ impl<T: Replays> TurnLock<T> {
     {
         let shared = &self.table.shared;
         shared.swap::<Give<T, S>>(seat, 0, word);
-        if self.sleepers.load(Ordering::SeqCst) != 0 {
-            shared.wake_one(0);
-        }
     }
 
     /// Cuts a pass with the next number off the one that was made last.

@@ -6,9 +6,9 @@ use std::alloc::AllocError;
 /// Why a call is not answered.
 #[derive(Clone, Copy, Debug, PartialEq, Eq)]
 pub enum NoAnswer {
-    /// What it is given has not the form of the call.
+    /// Its arguments do not have the form of the call.
     Form,
-    /// Out of memory.
+    /// Memory ran out.
     Starved,
 }
 

@@ -1,5 +1,5 @@
-//! How calls, what they are given and what they answer are written in one line each: what the
-//! crates of vectors share.
+//! How calls, their arguments and their answers are written, each in one line. The crates of
+//! vectors share this.
 #![tactic(auto)]
 
 mod answers;

@@ -1,13 +1,13 @@
-//! Octets as they are shown.
+//! Octets as they are printed.
 
 use rd_base::Starved;
 use std::alloc::Global;
 
-/// From how many equal octets on their number is shown.
+/// The number of equal octets from which on their number is printed.
 const LONG: usize = 32;
 
-/// Whether an octet is shown as it is: those that are printed in ASCII, but a backslash that
-/// stands before `x`.
+/// Returns whether an octet is printed as itself: those of printable ASCII, except a backslash
+/// before `x`.
 fn is_plain(octet: u8, next: Option<&u8>) -> bool {
     if octet == b'\\' {
         return next != Some(&b'x');
@@ -15,7 +15,7 @@ fn is_plain(octet: u8, next: Option<&u8>) -> bool {
     octet == b' ' || octet.is_ascii_graphic()
 }
 
-/// Writes an octet before the next one.
+/// Writes an octet that precedes `next`.
 fn put_octet(page: &mut String, octet: u8, next: Option<&u8>) -> Result<(), Starved> {
     if is_plain(octet, next) {
         return Ok(page.push(char::from(octet))?);
@@ -23,7 +23,7 @@ fn put_octet(page: &mut String, octet: u8, next: Option<&u8>) -> Result<(), Star
     Ok(write!(page, "\\x{octet:02x}")?)
 }
 
-/// Writes equal octets before the next one.
+/// Writes equal octets that precede `next`.
 fn put_equal(page: &mut String, equal: &[u8], next: Option<&u8>) -> Result<(), Starved> {
     let [first, others @ ..] = equal else {
         return Ok(());
@@ -39,9 +39,15 @@ fn put_equal(page: &mut String, equal: &[u8], next: Option<&u8>) -> Result<(), S
     put_octet(page, octet, next)
 }
 
-/// Writes octets as [`octets_of`](crate::octets_of) reads them: what is printed in ASCII as it is,
-/// everything else and a backslash before `x` as `\xHH`, 32 equal ones or more as `\x{HH*32}`, and
-/// none as `-`. `Starved`: out of memory.
+/// Writes octets as [`octets_of`](crate::octets_of) reads them.
+///
+/// Printable ASCII is written as itself. Any other octet, and a backslash before `x`, is written as
+/// `\xHH`. A run of 32 or more equal octets is written as `\x{HH*32}`. No octets are written as
+/// `-`.
+///
+/// # Errors
+///
+/// `Starved` if memory runs out.
 pub fn put_octets(page: &mut String, octets: &[u8]) -> Result<(), Starved> {
     if octets.is_empty() {
         return Ok(page.push_str("-")?);
@@ -57,7 +63,11 @@ pub fn put_octets(page: &mut String, octets: &[u8]) -> Result<(), Starved> {
     Ok(())
 }
 
-/// Octets as [`put_octets`] writes them. `Starved`: out of memory.
+/// Returns octets as [`put_octets`] writes them.
+///
+/// # Errors
+///
+/// `Starved` if memory runs out.
 pub fn shown(alloc: Global, octets: &[u8]) -> Result<String, Starved> {
     let mut page = String::new(alloc);
     put_octets(&mut page, octets)?;
@@ -80,8 +90,12 @@ fn put_digits(page: &mut String, equal: &[u8]) -> Result<(), Starved> {
     Ok(())
 }
 
-/// Writes octets in hexadecimal, 32 equal ones or more as `{HH*32}`, and none as `-`. `Starved`:
-/// out of memory.
+/// Writes octets in hexadecimal: a run of 32 or more equal octets as `{HH*32}`, and no octets as
+/// `-`.
+///
+/// # Errors
+///
+/// `Starved` if memory runs out.
 pub fn put_datagram(page: &mut String, octets: &[u8]) -> Result<(), Starved> {
     if octets.is_empty() {
         return Ok(page.push_str("-")?);
@@ -92,7 +106,7 @@ pub fn put_datagram(page: &mut String, octets: &[u8]) -> Result<(), Starved> {
     Ok(())
 }
 
-/// The word for the answer to a question.
+/// Returns `yes` or `no`.
 pub fn yes_or_no(is: bool) -> &'static str {
     if is {
         return "yes";

@@ -1,13 +1,13 @@
-//! The octets that a word stands for.
+//! The octets that an argument stands for.
 
 use crate::{NoAnswer, number_of};
 use rd_base::{Bytes, Starved};
 use std::alloc::Global;
 
-/// The most often that octets are repeated.
+/// The maximum number of times that octets are repeated.
 const MOST: u64 = 100_000;
 
-/// The octets that hexadecimal digits say.
+/// Returns the octets of hexadecimal digits.
 fn decoded(alloc: Global, digits: &str) -> Result<Vec<u8>, NoAnswer> {
     match hex::decode(alloc, digits) {
         Ok(octets) => Ok(octets),
@@ -16,7 +16,7 @@ fn decoded(alloc: Global, digits: &str) -> Result<Vec<u8>, NoAnswer> {
     }
 }
 
-/// Appends the octets of hexadecimal digits, as often as a number after `*` says.
+/// Appends the octets of hexadecimal digits, as many times as the number after `*`.
 fn append_digits(alloc: Global, octets: &mut Bytes, said: &str) -> Result<(), NoAnswer> {
     let Some((digits, count)) = said.split_once('*') else {
         let piece = decoded(alloc, said)?;
@@ -30,20 +30,20 @@ fn append_digits(alloc: Global, octets: &mut Bytes, said: &str) -> Result<(), No
     Ok(())
 }
 
-/// What stands in the braces that a text begins with, and what follows them.
+/// Returns the text in the braces at the beginning of a text, and the text after them.
 fn braced(text: &str) -> Option<(&str, &str)> {
     let text = text.strip_prefix('{')?;
     text.split_once('}')
 }
 
-/// The octet that two hexadecimal digits say.
+/// Returns the octet of two hexadecimal digits.
 fn octet_of(high: u8, low: u8) -> Option<u8> {
     let high = char::from(high).to_digit(16)?;
     let low = char::from(low).to_digit(16)?;
     Some((high * 16 + low) as u8)
 }
 
-/// Appends what follows `\x`, of which two digits are an octet.
+/// Appends the octets of a part after `\x`, which may begin with two digits of an octet.
 fn append_octet(octets: &mut Bytes, part: &[u8]) -> Result<(), Starved> {
     if let [high, low, rest @ ..] = part {
         if let Some(octet) = octet_of(*high, *low) {
@@ -55,7 +55,7 @@ fn append_octet(octets: &mut Bytes, part: &[u8]) -> Result<(), Starved> {
     octets.append(part)
 }
 
-/// Appends what follows `\x`.
+/// Appends the octets of a part after `\x`.
 fn append_part(alloc: Global, octets: &mut Bytes, part: &str) -> Result<(), Starved> {
     if let Some((said, rest)) = braced(part) {
         match append_digits(alloc, octets, said) {
@@ -67,9 +67,14 @@ fn append_part(alloc: Global, octets: &mut Bytes, part: &str) -> Result<(), Star
     append_octet(octets, part.as_bytes())
 }
 
-/// The octets that a text stands for: `\xHH` with two hexadecimal digits is that octet,
-/// `\x{3c3e*9}` are these octets nine times, `-` alone is none, and everything else is itself.
-/// `Starved`: out of memory.
+/// Returns the octets that a text stands for.
+///
+/// `\xHH` with two hexadecimal digits is that octet, and `\x{3c3e*9}` is these octets nine times.
+/// `-` by itself stands for no octets. Everything else stands for itself.
+///
+/// # Errors
+///
+/// `Starved` if memory runs out.
 pub fn octets_of(alloc: Global, said: &str) -> Result<Bytes, Starved> {
     if said == "-" {
         return Ok(Bytes::new(alloc));
@@ -84,7 +89,11 @@ pub fn octets_of(alloc: Global, said: &str) -> Result<Bytes, Starved> {
     Ok(octets)
 }
 
-/// The text that [`octets_of`] gives. `Form`: its octets are no UTF-8. `Starved`: out of memory.
+/// Returns the text of the octets that [`octets_of`] returns.
+///
+/// # Errors
+///
+/// `Form` if the octets are not UTF-8; `Starved` if memory runs out.
 pub fn text_of(alloc: Global, said: &str) -> Result<String, NoAnswer> {
     let octets = octets_of(alloc, said)?;
     match str::from_utf8(octets.as_slice()) {
@@ -93,8 +102,12 @@ pub fn text_of(alloc: Global, said: &str) -> Result<String, NoAnswer> {
     }
 }
 
-/// The octets that a word of hexadecimal digits says, in which `{3c3e*9}` are these octets nine
-/// times; `-` is none. `Form`: it is no such word. `Starved`: out of memory.
+/// Returns the octets of hexadecimal digits, in which `{3c3e*9}` is these octets nine times. `-`
+/// stands for no octets.
+///
+/// # Errors
+///
+/// `Form` if the argument is not of this form; `Starved` if memory runs out.
 pub fn datagram_of(alloc: Global, word: &str) -> Result<Bytes, NoAnswer> {
     let mut octets = Bytes::new(alloc);
     if word == "-" {

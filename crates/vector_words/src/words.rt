@@ -1,10 +1,10 @@
-//! Words and numbers.
+//! Arguments and numbers.
 ghost use Rattle.std.specs.Prelude.{◌≤◌, IfOk};
 
 use crate::NoAnswer;
 
-/// What stands before the first space and what stands after it: all and nothing where there is
-/// none.
+/// Returns the text before the first space and the text after it. Without a space, returns the
+/// whole text and an empty one.
 pub fn cut(said: &str) -> (&str, &str) {
     match said.split_once(' ') {
         Some(parts) => parts,
@@ -12,7 +12,11 @@ pub fn cut(said: &str) -> (&str, &str) {
     }
 }
 
-/// The number that a word of decimal digits is, of at most `most`. `Form`: it is none.
+/// Returns the number that decimal digits express, which is at most `most`.
+///
+/// # Errors
+///
+/// `Form` if the argument is not such a number.
 pub fn number_of(word: &str, most: u64) -> Result<u64, NoAnswer>
     ensures { IfOk result (λ number. number ≤ most) }
 {

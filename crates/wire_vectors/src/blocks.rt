@@ -13,7 +13,7 @@ const LAST_BLOCK: u64 = 1_048_575;
 /// The greatest number of three octets.
 const LAST_NUMBER: u64 = 16_777_215;
 
-/// A value of at most three octets.
+/// Returns a value of at most three octets.
 fn value_of(alloc: Global, said: &str) -> Result<Bytes, NoAnswer>
     ensures { IfOk result (λ octets. length octets ≤ 3) }
 {
@@ -24,14 +24,14 @@ fn value_of(alloc: Global, said: &str) -> Result<Bytes, NoAnswer>
     Ok(octets)
 }
 
-/// `uint HEX`: the number that a value gives.
+/// Answers `uint HEX`: the number of a value.
 fn uint(alloc: Global, said: &str) -> Result<String, NoAnswer> {
     let value = value_of(alloc, said)?;
     let number = uint_of(value.as_slice());
     Ok(format!(in alloc; "{number}")?)
 }
 
-/// `uint_octets NUMBER`: the value that gives a number.
+/// Answers `uint_octets NUMBER`: the value of a number.
 fn uint_octets(alloc: Global, said: &str) -> Result<String, NoAnswer> {
     let number = number_of(said, LAST_NUMBER)? as u32;
     let mut octets = [0u8; 3];
@@ -41,7 +41,7 @@ fn uint_octets(alloc: Global, said: &str) -> Result<String, NoAnswer> {
     Ok(page)
 }
 
-/// `block HEX`: the block that a value says, as its number, whether more follow, and its exponent.
+/// Answers `block HEX`: the number of the block in a value, whether more follow, and its exponent.
 fn block(alloc: Global, said: &str) -> Result<String, NoAnswer> {
     let value = value_of(alloc, said)?;
     let Ok(block) = block_read(value.as_slice()) else {
@@ -53,7 +53,7 @@ fn block(alloc: Global, said: &str) -> Result<String, NoAnswer> {
     Ok(format!(in alloc; "{num} {more} {szx}")?)
 }
 
-/// The word for whether more blocks follow.
+/// Returns the word for whether more blocks follow.
 fn more_word(more: bool) -> &'static str {
     if more {
         return "more";
@@ -61,7 +61,7 @@ fn more_word(more: bool) -> &'static str {
     "last"
 }
 
-/// Whether a word says that more blocks follow.
+/// Returns whether a word says that more blocks follow.
 fn is_more(word: &str) -> Result<bool, NoAnswer> {
     match word {
         "more" => Ok(true),
@@ -70,7 +70,7 @@ fn is_more(word: &str) -> Result<bool, NoAnswer> {
     }
 }
 
-/// `block_octets NUMBER more|last EXPONENT`: the value that says a block.
+/// Answers `block_octets NUMBER more|last EXPONENT`: the value of a block.
 fn block_octets(alloc: Global, said: &str) -> Result<String, NoAnswer> {
     let (num, rest) = cut(said);
     let (more, szx) = cut(rest);
@@ -86,14 +86,14 @@ fn block_octets(alloc: Global, said: &str) -> Result<String, NoAnswer> {
     Ok(page)
 }
 
-/// `block_size EXPONENT`: how many octets a block has.
+/// Answers `block_size EXPONENT`: the length of a block in octets.
 fn size(alloc: Global, said: &str) -> Result<String, NoAnswer> {
     let szx = number_of(said, u64::from(MAX_SZX))? as u8;
     let size = block_size(szx);
     Ok(format!(in alloc; "{size}")?)
 }
 
-/// `slice NUMBER EXPONENT BODY`: the block of a body, and whether more follow.
+/// Answers `slice NUMBER EXPONENT BODY`: the block of a body, and whether more follow.
 fn slice(alloc: Global, said: &str) -> Result<String, NoAnswer> {
     let (num, rest) = cut(said);
     let (szx, body) = cut(rest);
@@ -111,7 +111,7 @@ fn slice(alloc: Global, said: &str) -> Result<String, NoAnswer> {
     Ok(page)
 }
 
-/// The answer to a call about numbers and blocks.
+/// Answers a call about numbers and blocks.
 pub(crate) fn answer(alloc: Global, call: &str, said: &str) -> Result<Option<String>, NoAnswer> {
     let answer = match call {
         "uint" => uint(alloc, said)?,

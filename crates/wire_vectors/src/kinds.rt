@@ -5,7 +5,7 @@ ghost use Rattle.message_model.specs.Codes as codes_of;
 use coap_message::{Kind4, Role};
 use vector_words::{NoAnswer, number_of};
 
-/// The name of a type (RFC 7252 section 1.2).
+/// Returns the name of a type (RFC 7252 section 1.2).
 pub(crate) fn kind_name(kind: Kind4) -> &'static str {
     match kind {
         Kind4::Con => "CON",
@@ -15,7 +15,7 @@ pub(crate) fn kind_name(kind: Kind4) -> &'static str {
     }
 }
 
-/// The type of a name.
+/// Returns the type with a name.
 pub(crate) fn kind_of(name: &str) -> Option<Kind4> {
     match name {
         "CON" => Some(Kind4::Con),
@@ -26,7 +26,7 @@ pub(crate) fn kind_of(name: &str) -> Option<Kind4> {
     }
 }
 
-/// The name of what a message is for.
+/// Returns the name of the purpose of a message.
 pub(crate) fn role_name(role: Role) -> &'static str {
     match role {
         Role::Ping => "ping",
@@ -38,7 +38,7 @@ pub(crate) fn role_name(role: Role) -> &'static str {
     }
 }
 
-/// The code that is written as its class and its detail, as 2.05.
+/// Returns the code that is written as its class and its detail, such as 2.05.
 pub(crate) fn code_of(word: &str) -> Result<u8, NoAnswer> {
     let Some((class, detail)) = word.split_once('.') else {
         return Err(NoAnswer::Form);
@@ -48,7 +48,7 @@ pub(crate) fn code_of(word: &str) -> Result<u8, NoAnswer> {
     Ok((class * 32 + detail) as u8)
 }
 
-/// Whether the class of a code is one of those that are reserved (RFC 7252 section 3).
+/// Returns whether the class of a code is reserved (RFC 7252 section 3).
 pub(crate) fn is_reserved(code: u8) -> bool
     ensures { result ≡ codes_of.is_reserved code }
 {

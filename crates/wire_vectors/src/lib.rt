@@ -1,5 +1,5 @@
-//! What the calls that read and write messages, their options, blocks, peers and the lines of a
-//! trace answer, line by line.
+//! The answers of calls that read and write messages, their options, blocks, peers and the lines of
+//! a trace, line by line.
 #![tactic(auto)]
 
 mod blocks;
@@ -14,8 +14,11 @@ mod texts;
 use std::alloc::Global;
 use vector_words::NoAnswer;
 
-/// What a call answers to what it is given; nothing where it is none of these. `Form`: what it is
-/// given has not the form of the call. `Starved`: out of memory.
+/// Returns the answer of a call to its arguments, or `None` if it is not one of these calls.
+///
+/// # Errors
+///
+/// `Form` if the arguments do not have the form of the call; `Starved` if memory runs out.
 pub fn answer(alloc: Global, call: &str, said: &str) -> Result<Option<String>, NoAnswer> {
     if let Some(answer) = peers::answer(alloc, call, said)? {
         return Ok(Some(answer));

@@ -1,17 +1,17 @@
-//! The lines of a trace, and the trace that is generated.
+//! The lines of a trace, and the generated trace.
 
 use rd_base::{Bytes, Starved, peer_read};
 use std::alloc::Global;
 use trace_text::{LineFault, line_print, line_read, make, number_read, out_print};
 use vector_words::{NoAnswer, cut, datagram_of, number_of, octets_of, shown};
 
-/// The most devices of a trace that is generated.
+/// The maximum number of devices of a generated trace.
 const MOST_DEVICES: u64 = 4_000;
 
-/// The most workers of a trace that is generated.
+/// The maximum number of workers of a generated trace.
 const MOST_WORKERS: u64 = 16;
 
-/// A line as it is printed when it was read, or why it is not read.
+/// Returns a line as it is printed after it was read, or why it is not read.
 fn printed(alloc: Global, line: &[u8]) -> Result<Bytes, Starved> {
     match line_read(alloc, line) {
         Ok(read) => line_print(alloc, &read),
@@ -21,14 +21,14 @@ fn printed(alloc: Global, line: &[u8]) -> Result<Bytes, Starved> {
     }
 }
 
-/// `line OCTETS`: a line as it is printed when it was read.
+/// Answers `line OCTETS`: a line as it is printed after it was read.
 fn line(alloc: Global, said: &str) -> Result<String, NoAnswer> {
     let octets = octets_of(alloc, said)?;
     let printed = printed(alloc, octets.as_slice())?;
     Ok(shown(alloc, printed.as_slice())?)
 }
 
-/// `out WORKER PEER HEX`: the line of a datagram that is sent.
+/// Answers `out WORKER PEER HEX`: the line of a datagram that is sent.
 fn out(alloc: Global, said: &str) -> Result<String, NoAnswer> {
     let (worker, rest) = cut(said);
     let (peer, datagram) = cut(rest);
@@ -41,7 +41,7 @@ fn out(alloc: Global, said: &str) -> Result<String, NoAnswer> {
     Ok(shown(alloc, line.as_slice())?)
 }
 
-/// `number LIMIT OCTETS`: the number that a text prints, where it is at most the limit.
+/// Answers `number LIMIT OCTETS`: the number that a text prints, if it is at most the limit.
 fn number(alloc: Global, said: &str) -> Result<String, NoAnswer> {
     let (limit, text) = cut(said);
     let limit = number_of(limit, u64::MAX)?;
@@ -52,7 +52,7 @@ fn number(alloc: Global, said: &str) -> Result<String, NoAnswer> {
     }
 }
 
-/// The trace of a number of devices and of workers.
+/// Returns the trace of a number of devices and of workers.
 fn made(alloc: Global, devices: &str, workers: &str) -> Result<Bytes, NoAnswer> {
     let devices = number_of(devices, MOST_DEVICES)? as u32;
     let workers = number_of(workers, MOST_WORKERS)? as u8;
@@ -62,14 +62,15 @@ fn made(alloc: Global, devices: &str, workers: &str) -> Result<Bytes, NoAnswer> 
     Ok(make(alloc, devices, workers)?)
 }
 
-/// `trace DEVICES WORKERS`: the trace that is generated.
+/// Answers `trace DEVICES WORKERS`: the generated trace.
 fn trace(alloc: Global, said: &str) -> Result<String, NoAnswer> {
     let (devices, workers) = cut(said);
     let trace = made(alloc, devices, workers)?;
     Ok(shown(alloc, trace.as_slice())?)
 }
 
-/// `trace_line DEVICES WORKERS NUMBER`: a line of the trace that is generated, from 1.
+/// Answers `trace_line DEVICES WORKERS NUMBER`: a line of the generated trace, by its number from
+/// 1.
 fn trace_line(alloc: Global, said: &str) -> Result<String, NoAnswer> {
     let (devices, rest) = cut(said);
     let (workers, number) = cut(rest);
@@ -85,7 +86,7 @@ fn trace_line(alloc: Global, said: &str) -> Result<String, NoAnswer> {
     }
 }
 
-/// How many lines of a trace, of which the last is empty, are printed as they are read.
+/// Returns how many lines of a trace are printed as they are read. The last line is empty.
 fn read_again(alloc: Global, trace: &[u8]) -> Result<u64, Starved> {
     let mut count = 0u64;
     'lines: for line in trace.split(|octet| *octet == b'\n') {
@@ -96,8 +97,8 @@ fn read_again(alloc: Global, trace: &[u8]) -> Result<u64, Starved> {
     Ok(count)
 }
 
-/// `trace_lines DEVICES WORKERS`: how many lines of the trace that is generated are printed as
-/// they are read, and how many there are.
+/// Answers `trace_lines DEVICES WORKERS`: how many lines of the generated trace are printed as they
+/// are read, and how many there are.
 fn trace_lines(alloc: Global, said: &str) -> Result<String, NoAnswer> {
     let (devices, workers) = cut(said);
     let trace = made(alloc, devices, workers)?;
@@ -110,7 +111,7 @@ fn trace_lines(alloc: Global, said: &str) -> Result<String, NoAnswer> {
     Ok(format!(in alloc; "{read} of {feeds}")?)
 }
 
-/// The answer to a call about lines.
+/// Answers a call about lines.
 pub(crate) fn answer(alloc: Global, call: &str, said: &str) -> Result<Option<String>, NoAnswer> {
     let answer = match call {
         "line" => line(alloc, said)?,

@@ -1,4 +1,4 @@
-//! Messages: what is read of a datagram, and what is written.
+//! Messages: reading and writing datagrams.
 
 use crate::kinds::{kind_name, role_name};
 use crate::scripts::{message_of, written};
@@ -34,7 +34,7 @@ fn put_message(page: &mut String, view: &View<'_>) -> Result<(), Starved> {
     put_octets(page, view.payload)
 }
 
-/// Writes why octets are no message.
+/// Writes why octets are not a message.
 fn put_unread(page: &mut String, why: Unread) -> Result<(), Starved> {
     match why {
         Unread::Short => page.push_str("short")?,
@@ -47,7 +47,7 @@ fn put_unread(page: &mut String, why: Unread) -> Result<(), Starved> {
     Ok(())
 }
 
-/// `message HEX`: the message that a datagram is.
+/// Answers `message HEX`: the message of a datagram.
 fn message(alloc: Global, said: &str) -> Result<String, NoAnswer> {
     let datagram = datagram_of(alloc, said)?;
     let mut page = String::new(alloc);
@@ -58,7 +58,7 @@ fn message(alloc: Global, said: &str) -> Result<String, NoAnswer> {
     Ok(page)
 }
 
-/// `role MESSAGE`: what a message is for.
+/// Answers `role MESSAGE`: the purpose of a message.
 fn role(alloc: Global, said: &str) -> Result<String, NoAnswer> {
     let datagram = message_of(alloc, said)?;
     match view(datagram.as_slice()) {
@@ -67,7 +67,7 @@ fn role(alloc: Global, said: &str) -> Result<String, NoAnswer> {
     }
 }
 
-/// `octets MESSAGE`: how many octets the options of a message take.
+/// Answers `octets MESSAGE`: the length of the options of a message in octets.
 fn octets(alloc: Global, said: &str) -> Result<String, NoAnswer> {
     let datagram = message_of(alloc, said)?;
     let Ok(read) = view(datagram.as_slice()) else {
@@ -77,7 +77,7 @@ fn octets(alloc: Global, said: &str) -> Result<String, NoAnswer> {
     Ok(format!(in alloc; "{octets}")?)
 }
 
-/// `write MESSAGE`: the datagram of a message.
+/// Answers `write MESSAGE`: the datagram of a message.
 fn write(alloc: Global, said: &str) -> Result<String, NoAnswer> {
     let mut page = String::new(alloc);
     match written(alloc, said)? {
@@ -87,7 +87,7 @@ fn write(alloc: Global, said: &str) -> Result<String, NoAnswer> {
     Ok(page)
 }
 
-/// `note MESSAGE`: a message as a person reads it, its payload after two spaces on a line of its
+/// Answers `note MESSAGE`: a message in text, with its payload after two spaces on a line of its
 /// own.
 fn note(alloc: Global, said: &str) -> Result<String, NoAnswer> {
     let datagram = message_of(alloc, said)?;
@@ -96,7 +96,7 @@ fn note(alloc: Global, said: &str) -> Result<String, NoAnswer> {
     Ok(shown(alloc, page.as_bytes())?)
 }
 
-/// The answer to a call about messages.
+/// Answers a call about messages.
 pub(crate) fn answer(alloc: Global, call: &str, said: &str) -> Result<Option<String>, NoAnswer> {
     let answer = match call {
         "message" => message(alloc, said)?,

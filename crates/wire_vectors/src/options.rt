@@ -1,4 +1,4 @@
-//! What the options of a message mean.
+//! The meaning of a message's options.
 
 use crate::kinds::code_of;
 use crate::scripts::message_of;
@@ -24,7 +24,7 @@ fn put_path(page: &mut String, path: Path) -> Result<(), Starved> {
     Ok(())
 }
 
-/// The resource of a word; `other` is any other path.
+/// Returns the resource with a name; `other` is any other path.
 fn path_of(word: &str) -> Result<Path, NoAnswer> {
     match word {
         "/.well-known/core" => Ok(Path::Core),
@@ -37,7 +37,7 @@ fn path_of(word: &str) -> Result<Path, NoAnswer> {
     }
 }
 
-/// The location of a registration.
+/// Returns the location of a registration.
 fn location_of(word: &str) -> Result<Path, NoAnswer> {
     match word.strip_prefix("/rd/") {
         Some(number) => Ok(Path::Location(number_of(number, u64::MAX)?)),
@@ -45,7 +45,7 @@ fn location_of(word: &str) -> Result<Path, NoAnswer> {
     }
 }
 
-/// Writes the number of an option that is there.
+/// Writes the number of an option, if it is present.
 fn put_number(page: &mut String, name: &str, number: Option<u32>) -> Result<(), Starved> {
     if let Some(number) = number {
         write!(page, " {name}={number}")?;
@@ -53,7 +53,7 @@ fn put_number(page: &mut String, name: &str, number: Option<u32>) -> Result<(), 
     Ok(())
 }
 
-/// Writes the value of an option that is there.
+/// Writes the value of an option, if it is present.
 fn put_value(page: &mut String, name: &str, value: Option<&[u8]>) -> Result<(), Starved> {
     if let Some(value) = value {
         write!(page, " {name}=")?;
@@ -62,7 +62,7 @@ fn put_value(page: &mut String, name: &str, value: Option<&[u8]>) -> Result<(), 
     Ok(())
 }
 
-/// Writes a format that is named.
+/// Writes a content format, if one is given.
 fn put_format(page: &mut String, name: &str, format: Option<u16>) -> Result<(), Starved> {
     match format {
         Some(format) => put_number(page, name, Some(u32::from(format))),
@@ -70,7 +70,7 @@ fn put_format(page: &mut String, name: &str, format: Option<u16>) -> Result<(), 
     }
 }
 
-/// Writes what a message means: its path, and what else stands in it.
+/// Writes the meaning of a message: its path, and its other options.
 fn put_meaning(page: &mut String, meaning: &Meaning<'_>) -> Result<(), Starved> {
     put_path(page, meaning.path)?;
     put_number(page, "observe", meaning.observe)?;
@@ -104,7 +104,7 @@ fn put_refusal(page: &mut String, refusal: Refusal) -> Result<(), Starved> {
     Ok(page.push_str(why)?)
 }
 
-/// `meaning MESSAGE`: what the options of a message say.
+/// Answers `meaning MESSAGE`: the meaning of a message's options.
 fn meaning_of(alloc: Global, said: &str) -> Result<String, NoAnswer> {
     let datagram = message_of(alloc, said)?;
     let Ok(read) = view(datagram.as_slice()) else {
@@ -118,7 +118,7 @@ fn meaning_of(alloc: Global, said: &str) -> Result<String, NoAnswer> {
     Ok(page)
 }
 
-/// `request MESSAGE`: what a request means, or why it is refused.
+/// Answers `request MESSAGE`: the meaning of a request, or why it is refused.
 fn request_of(alloc: Global, said: &str) -> Result<String, NoAnswer> {
     let datagram = message_of(alloc, said)?;
     let Ok(read) = view(datagram.as_slice()) else {
@@ -132,7 +132,7 @@ fn request_of(alloc: Global, said: &str) -> Result<String, NoAnswer> {
     Ok(page)
 }
 
-/// Writes the query options, and the first of them once more as a piece.
+/// Writes the query options, and the first of them again as a piece.
 fn put_queries(page: &mut String, meaning: &Meaning<'_>) -> Result<(), Starved> {
     'queries: for query in queries(meaning) {
         page.push_str("[")?;
@@ -167,8 +167,8 @@ fn put_key(page: &mut String, alloc: Global, meaning: &Meaning<'_>) -> Result<()
     put_datagram(page, key.as_slice())
 }
 
-/// `queries MESSAGE`, `etags MESSAGE` and `key MESSAGE`: the query options, the entity tags and
-/// the key of a message.
+/// Answers `queries MESSAGE`, `etags MESSAGE` and `key MESSAGE`: the query options, the entity tags
+/// and the key of a message.
 fn part_of(alloc: Global, call: &str, said: &str) -> Result<String, NoAnswer> {
     let datagram = message_of(alloc, said)?;
     let Ok(read) = view(datagram.as_slice()) else {
@@ -186,7 +186,7 @@ fn part_of(alloc: Global, call: &str, said: &str) -> Result<String, NoAnswer> {
     Ok(page)
 }
 
-/// `allowed PATH CODE`: whether a resource has a method.
+/// Answers `allowed PATH CODE`: whether a resource has a method.
 fn is_allowed(alloc: Global, said: &str) -> Result<String, NoAnswer> {
     let (path, code) = cut(said);
     let path = path_of(path)?;
@@ -194,7 +194,7 @@ fn is_allowed(alloc: Global, said: &str) -> Result<String, NoAnswer> {
     Ok(String::from_str(alloc, yes_or_no(allowed(&path, code)))?)
 }
 
-/// The answer to a call about options.
+/// Answers a call about options.
 pub(crate) fn answer(alloc: Global, call: &str, said: &str) -> Result<Option<String>, NoAnswer> {
     let answer = match call {
         "meaning" => meaning_of(alloc, said)?,

@@ -1,11 +1,11 @@
-//! Peers: an address, as its octets in hexadecimal, and a port.
+//! Peers, given by the octets of an address in hexadecimal, and a port.
 
 use crate::texts::order_word;
 use rd_base::{Host, Peer, PeerBad, Starved, base_of, peer_read, peer_read_ascii, peer_text};
 use std::alloc::Global;
 use vector_words::{NoAnswer, cut, datagram_of, number_of, octets_of, put_datagram};
 
-/// The address of four octets or of sixteen.
+/// Returns the address of four octets or of sixteen.
 fn host_of(octets: &[u8]) -> Option<Host> {
     match octets {
         [a, b, c, d] => Some(Host::V4([*a, *b, *c, *d])),
@@ -14,7 +14,7 @@ fn host_of(octets: &[u8]) -> Option<Host> {
     }
 }
 
-/// The eight groups of an address of sixteen octets.
+/// Returns the eight groups of an address of sixteen octets.
 fn groups_of(octets: &[u8]) -> [u16; 8] {
     let mut groups = [0u16; 8];
     'groups: for (group, pair) in groups.iter_mut().zip(octets.chunks(2)) {
@@ -25,7 +25,7 @@ fn groups_of(octets: &[u8]) -> [u16; 8] {
     groups
 }
 
-/// The peer of an address and a port.
+/// Returns the peer at an address and a port.
 fn peer_of(alloc: Global, address: &str, port: &str) -> Result<Peer, NoAnswer> {
     let octets = datagram_of(alloc, address)?;
     let port = number_of(port, 65_535)? as u16;
@@ -56,7 +56,7 @@ fn put_host(page: &mut String, host: Host) -> Result<(), Starved> {
     }
 }
 
-/// A peer as its address and its port.
+/// Returns a peer as its address and its port.
 fn shown_peer(alloc: Global, read: Result<Peer, PeerBad>) -> Result<String, NoAnswer> {
     let Ok(Peer { host, port }) = read else {
         return Ok(String::from_str(alloc, "no peer")?);
@@ -67,18 +67,18 @@ fn shown_peer(alloc: Global, read: Result<Peer, PeerBad>) -> Result<String, NoAn
     Ok(page)
 }
 
-/// `peer TEXT`: the peer that a text prints.
+/// Answers `peer TEXT`: the peer that a text prints.
 fn peer(alloc: Global, said: &str) -> Result<String, NoAnswer> {
     shown_peer(alloc, peer_read(said))
 }
 
-/// `peer_octets OCTETS`: the peer that octets print.
+/// Answers `peer_octets OCTETS`: the peer that octets print.
 fn peer_octets(alloc: Global, said: &str) -> Result<String, NoAnswer> {
     let octets = octets_of(alloc, said)?;
     shown_peer(alloc, peer_read_ascii(octets.as_slice()))
 }
 
-/// `peer_text ADDRESS PORT`: a peer as text.
+/// Answers `peer_text ADDRESS PORT`: a peer as text.
 fn text_of_peer(alloc: Global, said: &str) -> Result<String, NoAnswer> {
     let (address, port) = cut(said);
     let peer = peer_of(alloc, address, port)?;
@@ -86,7 +86,7 @@ fn text_of_peer(alloc: Global, said: &str) -> Result<String, NoAnswer> {
     Ok(String::from_str(alloc, text.as_str())?)
 }
 
-/// `base_of ADDRESS PORT`: the base of what a peer registers without giving one.
+/// Answers `base_of ADDRESS PORT`: the base of a registration from a peer that gives none.
 fn base_of_peer(alloc: Global, said: &str) -> Result<String, NoAnswer> {
     let (address, port) = cut(said);
     let peer = peer_of(alloc, address, port)?;
@@ -94,7 +94,7 @@ fn base_of_peer(alloc: Global, said: &str) -> Result<String, NoAnswer> {
     Ok(String::from_str(alloc, text.as_str())?)
 }
 
-/// `peer_order ADDRESS PORT ADDRESS PORT`: the order of two peers.
+/// Answers `peer_order ADDRESS PORT ADDRESS PORT`: the order of two peers.
 fn peer_order(alloc: Global, said: &str) -> Result<String, NoAnswer> {
     let (address, rest) = cut(said);
     let (port, rest) = cut(rest);
@@ -104,7 +104,7 @@ fn peer_order(alloc: Global, said: &str) -> Result<String, NoAnswer> {
     Ok(String::from_str(alloc, order_word(one.cmp(&other)))?)
 }
 
-/// The answer to a call about peers.
+/// Answers a call about peers.
 pub(crate) fn answer(alloc: Global, call: &str, said: &str) -> Result<Option<String>, NoAnswer> {
     let answer = match call {
         "peer" => peer(alloc, said)?,

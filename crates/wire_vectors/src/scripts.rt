@@ -1,4 +1,4 @@
-//! Messages that are given in words, as `CON 0.02 m=0001 t=a1 [11 rd] [15 ep=node1] | </temp>`.
+//! Messages written as text, such as `CON 0.02 m=0001 t=a1 [11 rd] [15 ep=node1] | </temp>`.
 ghost use Rattle.std.specs.Prelude.{◌≡◌, ◌<◌, ◌≤◌, []};
 ghost use Rattle.message_model.specs.Codes as codes_of;
 ghost use Rattle.message_model.specs.Message.{end_number};
@@ -11,7 +11,7 @@ use rd_base::Bytes;
 use std::alloc::Global;
 use vector_words::{NoAnswer, cut, datagram_of, number_of, octets_of};
 
-/// What a message begins with.
+/// The beginning of a message.
 #[derive(Drop)]
 struct Head {
     /// The type.
@@ -36,7 +36,7 @@ struct Script {
     ghost ascends: { end_number 0 writer.options ≤ last },
 }
 
-/// What became of a step.
+/// The result of a step.
 #[derive(Clone, Copy, PartialEq, Eq)]
 enum Step {
     /// It is done.
@@ -45,7 +45,7 @@ enum Step {
     TooLong,
 }
 
-/// The Message ID of two octets in hexadecimal.
+/// Returns the Message ID of two octets in hexadecimal.
 fn mid_of(alloc: Global, word: &str) -> Result<u16, NoAnswer> {
     let octets = datagram_of(alloc, word)?;
     match octets.as_slice() {
@@ -54,7 +54,7 @@ fn mid_of(alloc: Global, word: &str) -> Result<u16, NoAnswer> {
     }
 }
 
-/// What stands after a mark.
+/// Returns the text after a mark, or `Form` if it does not begin with the mark.
 fn after<'a>(mark: &str, word: &'a str) -> Result<&'a str, NoAnswer> {
     match word.strip_prefix(mark) {
         Some(rest) => Ok(rest),
@@ -62,7 +62,7 @@ fn after<'a>(mark: &str, word: &'a str) -> Result<&'a str, NoAnswer> {
     }
 }
 
-/// The head of a message, from the words after its type.
+/// Returns the head of a message, from the fields after its type.
 fn head_of(
     alloc: Global,
     kind: Kind4,
@@ -79,7 +79,7 @@ fn head_of(
 }
 
 impl Script {
-    /// A message that is not empty, with neither options nor payload.
+    /// Begins a message that is not empty, with neither options nor payload.
     fn begin(head: &Head) -> Result<Script, NoAnswer> {
         let octets = head.token.as_slice();
         if octets.len() > MAX_TOKEN {
@@ -97,7 +97,7 @@ impl Script {
         })
     }
 
-    /// One more option.
+    /// Appends an option.
     fn put(&mut self, number: u32, value: &[u8]) -> Result<Step, NoAnswer>
         requires { number ≤ 65535 }
     {
@@ -114,7 +114,7 @@ impl Script {
         Ok(Step::Done)
     }
 
-    /// The option that stands in brackets, without the first of them.
+    /// Appends the option in brackets, given without the opening bracket.
     fn put_said(&mut self, alloc: Global, said: &str) -> Result<Step, NoAnswer> {
         let Some(said) = said.trim_end().strip_suffix(']') else {
             return Err(NoAnswer::Form);
@@ -125,7 +125,7 @@ impl Script {
         self.put(number, value.as_slice())
     }
 
-    /// The options, each in brackets.
+    /// Appends the options, each in brackets.
     fn put_all(&mut self, alloc: Global, said: &str) -> Result<Step, NoAnswer> {
         if said.is_empty() {
             return Ok(Step::Done);
@@ -138,7 +138,7 @@ impl Script {
         Ok(Step::Done)
     }
 
-    /// The datagram of the message with this payload; nothing where it is too long.
+    /// Returns the datagram of the message with this payload, or `None` if it is too long.
     fn finish(self, alloc: Global, payload: &[u8]) -> Result<Option<Bytes>, NoAnswer> {
         let Script {
             mut writer,
@@ -151,7 +151,7 @@ impl Script {
     }
 }
 
-/// The datagram of an empty message (RFC 7252 section 4.1).
+/// Returns the datagram of an empty message (RFC 7252 section 4.1).
 fn written_empty(alloc: Global, kind: Kind4, mid: u16) -> Result<Option<Bytes>, NoAnswer> {
     let mut writer = Writer::start(kind, 0, mid, TokenRef { octets: b"" });
     match writer.finish(b"") {
@@ -160,8 +160,8 @@ fn written_empty(alloc: Global, kind: Kind4, mid: u16) -> Result<Option<Bytes>, 
     }
 }
 
-/// The datagram of a message with this head, these options and this payload; nothing where it is
-/// too long.
+/// Returns the datagram of a message with this head, these options and this payload, or `None` if
+/// it is too long.
 fn written_parts(
     alloc: Global,
     head: &Head,
@@ -179,8 +179,8 @@ fn written_parts(
     script.finish(alloc, payload.as_slice())
 }
 
-/// The datagram of a message that is given in words; nothing where it is too long. `Form`: the
-/// words are not of that form, or no such message can be written. `Starved`: out of memory.
+/// Returns the datagram of a message written as text, or `None` if it is too long. Returns `Form`
+/// if the text does not have that form, or such a message cannot be written.
 pub(crate) fn written(alloc: Global, said: &str) -> Result<Option<Bytes>, NoAnswer> {
     let (front, payload) = match said.split_once(" | ") {
         Some(parts) => parts,
@@ -197,7 +197,7 @@ pub(crate) fn written(alloc: Global, said: &str) -> Result<Option<Bytes>, NoAnsw
     written_parts(alloc, &head, options, payload)
 }
 
-/// The datagram that is given in hexadecimal, or that of a message that is given in words.
+/// Returns the datagram that is given in hexadecimal, or that of a message written as text.
 pub(crate) fn message_of(alloc: Global, said: &str) -> Result<Bytes, NoAnswer> {
     let (word, _) = cut(said);
     if kind_of(word).is_none() {

@@ -5,7 +5,7 @@ use std::alloc::Global;
 use std::cmp::Ordering;
 use vector_words::{NoAnswer, cut, datagram_of, number_of, put_datagram, shown, text_of};
 
-/// `text TEXT MORE`: a copy of a text with another one appended.
+/// Answers `text TEXT MORE`: a copy of a text, with another one appended.
 fn text(alloc: Global, said: &str) -> Result<String, NoAnswer> {
     let (front, more) = cut(said);
     let mut text = Text::copy_of(alloc, text_of(alloc, front)?.as_str())?;
@@ -13,7 +13,7 @@ fn text(alloc: Global, said: &str) -> Result<String, NoAnswer> {
     Ok(shown(alloc, text.as_bytes())?)
 }
 
-/// `character TEXT CHARACTERS`: a copy of a text with characters appended one by one.
+/// Answers `character TEXT CHARACTERS`: a copy of a text, with characters appended one by one.
 fn character(alloc: Global, said: &str) -> Result<String, NoAnswer> {
     let (front, more) = cut(said);
     let mut text = Text::copy_of(alloc, text_of(alloc, front)?.as_str())?;
@@ -23,7 +23,7 @@ fn character(alloc: Global, said: &str) -> Result<String, NoAnswer> {
     Ok(shown(alloc, text.clone()?.as_bytes())?)
 }
 
-/// The word for an order.
+/// Returns the name of an order.
 pub(crate) fn order_word(order: Ordering) -> &'static str {
     match order {
         Ordering::Less => "less",
@@ -32,7 +32,7 @@ pub(crate) fn order_word(order: Ordering) -> &'static str {
     }
 }
 
-/// `text_order TEXT TEXT`: the order of two texts.
+/// Answers `text_order TEXT TEXT`: the order of two texts.
 fn text_order(alloc: Global, said: &str) -> Result<String, NoAnswer> {
     let (one, other) = cut(said);
     let one = Text::of(text_of(alloc, one)?);
@@ -40,7 +40,7 @@ fn text_order(alloc: Global, said: &str) -> Result<String, NoAnswer> {
     Ok(String::from_str(alloc, order_word(one.cmp(&other)))?)
 }
 
-/// `truncate NUMBER HEX`: the first octets.
+/// Answers `truncate NUMBER HEX`: the first octets.
 fn truncate(alloc: Global, said: &str) -> Result<String, NoAnswer> {
     let (count, octets) = cut(said);
     let count = number_of(count, 65_535)? as usize;
@@ -51,7 +51,7 @@ fn truncate(alloc: Global, said: &str) -> Result<String, NoAnswer> {
     Ok(page)
 }
 
-/// `later MOMENT MOMENT`: the later of two moments.
+/// Answers `later MOMENT MOMENT`: the later of two moments.
 fn later(alloc: Global, said: &str) -> Result<String, NoAnswer> {
     let (one, other) = cut(said);
     let one = Moment(number_of(one, u64::MAX)?);
@@ -60,7 +60,7 @@ fn later(alloc: Global, said: &str) -> Result<String, NoAnswer> {
     Ok(format!(in alloc; "{later}")?)
 }
 
-/// The answer to a call about texts, octets and moments.
+/// Answers a call about texts, octets and moments.
 pub(crate) fn answer(alloc: Global, call: &str, said: &str) -> Result<Option<String>, NoAnswer> {
     let answer = match call {
         "text" => text(alloc, said)?,

@@ -44,7 +44,13 @@ use Rattle.history_model.specs.declared.entries.Entry.{Entry}
 use Rattle.event_model.specs.declared.notes.Note.{Note}
 use Rattle.event_model.specs.declared.notes.Note.TheVariants as note
 use Rattle.event_model.specs.Events.{Event}
-use Rattle.event_model.specs.Repeats.{is_admission_of, is_admitting, is_failure_of, repeated, settled}
+use Rattle.event_model.specs.Repeats.{
+  is_admission_of,
+  is_admitting,
+  is_failure_of,
+  repeated,
+  settled,
+}
 use Rattle.journal_model.specs.declared.steps.Step.{Step}
 use Rattle.journal_model.specs.declared.steps.StepKind.{StepKind}
 use Rattle.journal_model.specs.declared.steps.StepKind.TheVariants as step

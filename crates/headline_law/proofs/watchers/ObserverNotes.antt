@@ -382,8 +382,8 @@ lookup_watches rows moment s m read asks none looks = by (is_later_block m) refl
         → is_later_block m ≡ b
         → WatchFacts rows moment step.Admit s (block_effects b rows moment s m).notes
     by true e =
-        asides of_read (λ o. refl) (λ p t. refl) (λ p n. refl) (λ p n. refl) rows moment step.Admit s
-        (later_block rows moment s m).notes (later_block-kept rows moment s m)
+        asides of_read (λ o. refl) (λ p t. refl) (λ p n. refl) (λ p n. refl) rows moment step.Admit
+        s (later_block rows moment s m).notes (later_block-kept rows moment s m)
     by false e = observe (observe_in m) e refl
 
 -- ---- what is heard
@@ -399,15 +399,15 @@ request_watches rows moment s m read asks = by (refusal_of_request m) refl
   where
     written : WatchFacts rows moment step.Admit s (write_effects (events rows) moment s m).notes
     written =
-        asides of_write (λ o. refl) (λ p t. refl) (λ p n. refl) (λ p n. refl) rows moment step.Admit s
-        (write_effects (events rows) moment s m).notes
+        asides of_write (λ o. refl) (λ p t. refl) (λ p n. refl) (λ p n. refl) rows moment step.Admit
+        s (write_effects (events rows) moment s m).notes
         (write_effects-notes (events rows) moment s m)
 
     there : (w : Method)
         → WatchFacts rows moment step.Admit s (served_on_location w rows moment s m).notes
     there get =
-        asides of_read (λ o. refl) (λ p t. refl) (λ p n. refl) (λ p n. refl) rows moment step.Admit s
-        (read_effects rows moment s m).notes (read_effects-kept rows moment s m)
+        asides of_read (λ o. refl) (λ p t. refl) (λ p n. refl) (λ p n. refl) rows moment step.Admit
+        s (read_effects rows moment s m).notes (read_effects-kept rows moment s m)
     there post = written
     there put = written
     there delete = written
@@ -552,8 +552,8 @@ role_watches role.Request true rows moment s m read is = tt
 role_watches role.Request false rows moment s m read is = request_watches rows moment s m read is
 role_watches role.Response true rows moment s m read is = tt
 role_watches role.Response false rows moment s m read is =
-    asides of_response (λ o. refl) (λ p t. refl) (λ p n. refl) (λ p n. refl) rows moment step.Admit s
-    (response_effects rows moment s m).notes (response_effects-notes rows moment s m)
+    asides of_response (λ o. refl) (λ p t. refl) (λ p n. refl) (λ p n. refl) rows moment step.Admit
+    s (response_effects rows moment s m).notes (response_effects-notes rows moment s m)
 role_watches role.Ignored starved rows moment s m read is = tt
 
 -- ---- ticks
@@ -709,7 +709,8 @@ effects_watch (step.Commit place) starved rows moment s = by starved (reading s.
     by b (Err fault) = tt
     by true (Ok m) = (tt, tt)
     by false (Ok m) =
-        asides of_commit (λ o. refl) (λ p t. refl) (λ p n. refl) (λ p n. refl) rows moment (step.Commit place) s
+        asides of_commit (λ o. refl) (λ p t. refl) (λ p n. refl) (λ p n. refl) rows moment
+        (step.Commit place) s
         (commit_effects rows moment place s m).notes (commit_effects-notes rows moment place s m)
 effects_watch (step.Keep body current) starved rows moment s = by starved (reading s.datagram)
   where
@@ -723,6 +724,6 @@ effects_watch (step.Keep body current) starved rows moment s = by starved (readi
         (sym (keep_effects-notes s m body current)) (tt, tt)
 effects_watch step.Tick starved rows moment s = tick_watches starved rows moment s
 effects_watch (step.Begin first) starved rows moment s =
-    asides of_commit (λ o. refl) (λ p t. refl) (λ p n. refl) (λ p n. refl) rows moment (step.Begin first) s
-    (beginning starved (entries rows) moment s first).notes
+    asides of_commit (λ o. refl) (λ p t. refl) (λ p n. refl) (λ p n. refl) rows moment
+    (step.Begin first) s (beginning starved (entries rows) moment s first).notes
     (beginning-notes of_commit (λ entry. refl) starved (entries rows) moment s first)

@@ -1,6 +1,6 @@
 -- The one table of what each step notes: nothing, or what a write, a lookup, a read of a
--- registration, an empty message, a response, a commit, a keep, a tick or a beginning notes, or that
--- a commit failed, where it ran out of memory.
+-- registration, an empty message, a response, a commit, a keep, a tick or a beginning notes, or
+-- that a commit failed because memory ran out.
 use Rattle.std.proofs.Common.{
   ◌≡◌,
   ℕ,

@@ -1,4 +1,4 @@
-//! A desk with one worker, to which the lines of a table come one after another.
+//! A desk with one worker, driven by the lines of a table.
 
 ghost use Rattle.std.specs.Prelude.{◌≡◌, ◌≤◌, ◌^◌, true, []};
 ghost use Rattle.journal_model.specs.Machine.{is_look_datagram};
@@ -13,27 +13,27 @@ use std::alloc::Global;
 use std::mem;
 use std::sync::Arc;
 
-/// The latest moment that a desk is handed.
+/// The latest moment that a desk accepts, in milliseconds.
 const LATEST: u64 = 1_000_000_000_000_000;
 
-/// The first word of a text, and what stands behind it.
+/// Returns the first word of a text, and the text after it.
 fn cut(text: &str) -> (&str, &str) {
     text.split_once(' ').unwrap_or((text, ""))
 }
 
-/// The number that a word says; 0 where it says none.
+/// Returns the number that a word is, or 0 if it is none.
 fn number_of(word: &str) -> u64 {
     word.parse::<u64>().unwrap_or(0)
 }
 
-/// The moment that a word says.
+/// Returns the moment that a word is, in milliseconds.
 fn moment_of(word: &str) -> Moment
     ensures { result.0 ≤ 10 ^ 15 }
 {
     Moment(number_of(word).min(LATEST))
 }
 
-/// The peer of a letter: A and B are devices, and C looks up.
+/// Returns the peer of a letter: A and B are devices, and C looks up.
 fn peer_of(letter: &str) -> Peer {
     let octets = match letter {
         "A" => [192, 0, 2, 10],
@@ -46,7 +46,7 @@ fn peer_of(letter: &str) -> Peer {
     }
 }
 
-/// Appends the octets that hexadecimal digits say; none where they are no digits.
+/// Appends the octets of hexadecimal digits; none if the text is not hexadecimal digits.
 fn push_digits(alloc: Global, octets: &mut Vec<u8>, digits: &str) -> Result<(), Starved> {
     match hex::decode(alloc, digits.as_bytes()) {
         Ok(more) => Ok(octets.extend_from_slice(more.as_slice())?),
@@ -55,7 +55,7 @@ fn push_digits(alloc: Global, octets: &mut Vec<u8>, digits: &str) -> Result<(), 
     }
 }
 
-/// The octets of parts with bars between them: hexadecimal digits and texts by turns.
+/// Returns the octets of parts with bars between them, alternately hexadecimal digits and text.
 fn octets_of(alloc: Global, word: &str) -> Result<Vec<u8>, Starved> {
     let mut octets = Vec::new(alloc);
     let mut is_text = false;
@@ -70,7 +70,8 @@ fn octets_of(alloc: Global, word: &str) -> Result<Vec<u8>, Starved> {
     Ok(octets)
 }
 
-/// A board: how many versions were laid on it, and the last of them. Contracts see none staged.
+/// A board with the number of versions that were staged on it, and the last of them. Contracts see
+/// none staged.
 #[derive(Drop)]
 struct Shelf {
     count: u64,
@@ -95,8 +96,8 @@ impl Board for Shelf {
     }
 }
 
-/// A desk with one worker: its job, from whom it heard what last, what the last step sent, and how
-/// many of these datagrams were told.
+/// A desk with one worker: its job, the peer and datagram that it last received, what the last step
+/// sent, and how many of these datagrams were compared.
 #[derive(Drop)]
 pub(crate) struct Station {
     alloc: Global,
@@ -109,7 +110,7 @@ pub(crate) struct Station {
     told: usize,
 }
 
-/// Whether a datagram answers this confirmable request by 5.00 alone.
+/// Returns whether a datagram answers this confirmable request by 5.00 alone.
 fn is_server_error(request: &View<'_>, answer: &[u8]) -> bool {
     match view(answer) {
         Ok(answer) => {
@@ -123,7 +124,7 @@ fn is_server_error(request: &View<'_>, answer: &[u8]) -> bool {
     }
 }
 
-/// How an observer stands: it is due, waits for an acknowledgement, both, or none of both.
+/// Returns the mark of an observer: it is due, waits for an acknowledgement, both, or neither.
 fn mark_of(watcher: &Watcher) -> char {
     match (watcher.due, watcher.waiting) {
         (true, false) => 'd',
@@ -134,7 +135,7 @@ fn mark_of(watcher: &Watcher) -> char {
 }
 
 impl Station {
-    /// A desk to which nothing came.
+    /// Creates a desk that has received nothing.
     pub(crate) fn new(alloc: Global) -> Result<Station, Starved> {
         let empty = Shelf {
             count: 0,
@@ -152,7 +153,7 @@ impl Station {
         })
     }
 
-    /// The datagram only looks, and is answered from the version now.
+    /// Answers the datagram, which is a look, from the current version.
     fn looks(&mut self, now: Moment) -> Stepped
         requires looks { is_look_datagram self.old.datagram.items ≡ true }
         requires empty { self.old.out ≡ [] }
@@ -169,7 +170,7 @@ impl Station {
         Stepped::Done
     }
 
-    /// The datagram comes, and the worker lets go of a job that it holds.
+    /// Handles the datagram. The worker drops a job that it holds.
     fn hears(&mut self, now: Moment) -> Stepped
         requires moment { now.0 ≤ 10 ^ 15 }
         requires empty { self.old.out ≡ [] }
@@ -187,7 +188,7 @@ impl Station {
         Stepped::Done
     }
 
-    /// The worker does its job, where it holds one.
+    /// Does the worker's job, if it holds one.
     fn works(&mut self, now: Moment) -> Stepped
         requires moment { now.0 ≤ 10 ^ 15 }
         requires empty { self.old.out ≡ [] }
@@ -199,7 +200,7 @@ impl Station {
         }
     }
 
-    /// Makes a step: a datagram comes, the worker does its job, or time passes.
+    /// Makes a step: the worker handles the datagram or does its job, or time passes.
     fn make(&mut self, verb: &str, now: Moment) -> Stepped
         requires { now.0 ≤ 10 ^ 15 }
     {
@@ -211,7 +212,8 @@ impl Station {
         }
     }
 
-    /// Whether a step without memory sent what it is to send: 5.00 to who asked, and else nothing.
+    /// Returns whether a step that ran out of memory sent what it must: 5.00 to the sender of a
+    /// request, and otherwise nothing.
     fn is_excused(&self) -> bool {
         let Ok(heard) = view(self.datagram.as_slice()) else {
             return self.out.is_empty();
@@ -224,8 +226,9 @@ impl Station {
         }
     }
 
-    /// Makes a step, and again where it found no memory: whether it sent then what it is to send.
-    /// A job that found none comes again by its datagram, which is no repeat.
+    /// Makes a step, and makes it again if it ran out of memory. Returns whether it then succeeded,
+    /// and had sent what it must before. A job that ran out of memory comes again with its
+    /// datagram, which is not a duplicate.
     fn step(&mut self, verb: &str, now: Moment) -> bool
         requires { now.0 ≤ 10 ^ 15 }
     {
@@ -241,7 +244,8 @@ impl Station {
         self.make(verb, now) == Stepped::Done
     }
 
-    /// Does what a line asks for: whether all was told before. When time passes nobody is heard.
+    /// Does what a line asks for. Returns whether all was compared before and the step was right.
+    /// In a tick no datagram is received.
     fn go_on(&mut self, verb: &str, words: &str) -> Result<bool, Starved> {
         if !self.is_told() {
             return Ok(false);
@@ -256,12 +260,13 @@ impl Station {
         Ok(self.step(verb, moment_of(moment)))
     }
 
-    /// Whether all was told that the step sent.
+    /// Returns whether all datagrams of the step were compared.
     pub(crate) fn is_told(&self) -> bool {
         self.out.at(self.told).is_none()
     }
 
-    /// Whether so many versions were laid, the last with as many entries as the desk's version.
+    /// Returns whether this number of versions was staged, the last with as many entries as the
+    /// desk's version.
     fn has_laid(&mut self, count: u64) -> bool {
         let entries = self.desk.version().entries();
         let shelf = self.desk.board();
@@ -271,7 +276,7 @@ impl Station {
         }
     }
 
-    /// Whether the observers stand as these marks say, in order.
+    /// Returns whether the observers have these marks, in order.
     fn is_watched(&self, marks: &str) -> bool {
         for (index, mark) in marks.chars().enumerate() {
             match self.desk.observer(index) {
@@ -282,7 +287,7 @@ impl Station {
         self.desk.watchers() == marks.len()
     }
 
-    /// The next datagram that the step sent is told: whether it is this one.
+    /// Compares the next datagram of the step. Returns whether it is this one.
     fn tell(&mut self, words: &str) -> Result<bool, Starved> {
         let (peer, word) = cut(words);
         let datagram = octets_of(self.alloc, word)?;
@@ -291,7 +296,7 @@ impl Station {
         Ok(next == Some((peer_of(peer), datagram.as_slice())))
     }
 
-    /// Whether a line holds: its step is made, or what it tells is so.
+    /// Returns whether a line holds: its step is right, or what it says is so.
     pub(crate) fn holds(&mut self, line: &str) -> Result<bool, Starved> {
         let (verb, words) = cut(line);
         match verb {

@@ -1,10 +1,10 @@
-//! Tables of a desk, which are told line by line, one table after another.
+//! Tables of a desk, which are read line by line, one table after another.
 
 use super::station::Station;
 use rd_base::Starved;
 use std::alloc::Global;
 
-/// The name of a table whose lines stand before each `desk`.
+/// The name of a table whose lines precede each `desk`.
 const NAMELESS: &str = "a table without a name";
 
 /// A line that does not hold.
@@ -16,7 +16,7 @@ struct Failing {
     line: String,
 }
 
-/// A table, as far as it was told.
+/// A table, as far as it was read.
 #[derive(Drop)]
 struct Table {
     /// Its name.
@@ -28,7 +28,7 @@ struct Table {
 }
 
 impl Table {
-    /// A table of which nothing was told.
+    /// Creates a table of which nothing was read.
     fn new(alloc: Global, name: &str) -> Result<Table, Starved> {
         Ok(Table {
             name: String::from_str(alloc, name)?,
@@ -37,7 +37,7 @@ impl Table {
         })
     }
 
-    /// The next line is told, where those before it held.
+    /// Handles the next line, if those before it held.
     fn take(&mut self, alloc: Global, number: u64, line: &str) -> Result<(), Starved> {
         if self.failing.is_some() || self.station.holds(line)? {
             return Ok(());
@@ -47,7 +47,7 @@ impl Table {
         Ok(())
     }
 
-    /// What is not as written: a line, or that the end comes before all was told.
+    /// Returns what is not as expected: a line, or that the table ends before all was compared.
     fn difference(&self, alloc: Global) -> Result<Option<String>, Starved> {
         let name = self.name.as_str();
         if let Some(Failing { number, line }) = &self.failing {
@@ -60,30 +60,30 @@ impl Table {
     }
 }
 
-/// How many tables have ended, and how many of them differ.
+/// The number of tables that have ended, and of those that differ.
 #[derive(Clone, Copy)]
 pub struct Tally {
-    /// How many have ended.
+    /// The number of tables that have ended.
     pub tables: u64,
-    /// How many of these differ.
+    /// The number of these that differ.
     pub differ: u64,
 }
 
-/// Tables whose lines come one after another.
+/// Tables that are read line by line.
 #[derive(Drop)]
 pub struct Tables {
-    /// Where their memory comes from.
+    /// The allocator of their memory.
     alloc: Global,
     /// The table to which the next line belongs, if there is one.
     table: Option<Table>,
-    /// How many lines came.
+    /// The number of lines that were read.
     lines: u64,
-    /// What is counted of the tables.
+    /// The counts of the tables.
     tally: Tally,
 }
 
 impl Tables {
-    /// No line came yet.
+    /// Creates tables of which no line was read.
     pub fn new(alloc: Global) -> Tables {
         Tables {
             alloc,
@@ -96,12 +96,16 @@ impl Tables {
         }
     }
 
-    /// What is counted of the tables so far.
+    /// Returns the counts of the tables so far.
     pub fn tally(&self) -> Tally {
         self.tally
     }
 
-    /// The table ends, if there is one. Answers how it came out.
+    /// Ends the table, if there is one. Returns its result.
+    ///
+    /// # Errors
+    ///
+    /// `Starved` if memory runs out.
     pub fn end(&mut self) -> Result<Option<String>, Starved> {
         let Some(table) = &self.table else {
             return Ok(None);
@@ -115,14 +119,14 @@ impl Tables {
         Ok(Some(format!(in self.alloc; "{name}: as written")?))
     }
 
-    /// The next table begins. Answers how the one before it came out.
+    /// Begins the next table. Returns the result of the one before it.
     fn begin(&mut self, name: &str) -> Result<Option<String>, Starved> {
         let ended = self.end()?;
         self.table = Some(Table::new(self.alloc, name)?);
         Ok(ended)
     }
 
-    /// A line of a table comes.
+    /// Handles a line of a table.
     fn go_on(&mut self, line: &str) -> Result<(), Starved> {
         if self.table.is_none() {
             self.table = Some(Table::new(self.alloc, NAMELESS)?);
@@ -133,7 +137,11 @@ impl Tables {
         }
     }
 
-    /// The next line comes. Where it begins a table, answers how the one before it came out.
+    /// Handles the next line. If it begins a table, returns the result of the one before it.
+    ///
+    /// # Errors
+    ///
+    /// `Starved` if memory runs out.
     pub fn take(&mut self, line: &str) -> Result<Option<String>, Starved> {
         self.lines = self.lines.saturating_add(1);
         if let Some(name) = line.strip_prefix("desk ") {

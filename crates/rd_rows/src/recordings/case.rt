@@ -6,9 +6,9 @@ use std::alloc::Global;
 /// What is done with a file.
 #[derive(Clone, Copy, Debug, PartialEq, Eq)]
 pub(crate) enum Verb {
-    /// It is read as a whole.
+    /// The whole file is read.
     Read,
-    /// Each front of it is read.
+    /// Each prefix of it is read.
     Fronts,
     /// Its trace is replayed.
     Replay,
@@ -21,12 +21,13 @@ pub(crate) struct Case {
     pub verb: Verb,
     /// The name of the file.
     pub file: String,
-    /// The words of the command line.
+    /// The arguments of the command line.
     pub words: Vec<String>,
 }
 
 impl Case {
-    /// The case of a line, which has a number. `Form`: it begins with no verb, or names no file.
+    /// Returns the case of a line with this number, or `Form` if it begins with no verb or names no
+    /// file.
     pub(crate) fn read(alloc: Global, number: u64, line: &str) -> Result<Case, Fault> {
         let mut words = line.split(' ');
         let verb = match words.next() {

@@ -1,27 +1,27 @@
-//! The fronts of a file: its first octets, so many.
+//! The prefixes of a file.
 
 use super::runs::run;
 use crate::faults::Fault;
 use rd_base::Starved;
 use std::alloc::Global;
 
-/// How what comes of a front ends.
+/// How the result of a prefix ends.
 #[derive(Clone, Copy, Debug, PartialEq, Eq)]
 struct Ending {
     /// The status.
     code: u8,
-    /// How many lines are written.
+    /// The number of lines of the output.
     lines: usize,
-    /// How many lines are said.
+    /// The number of lines of the error text.
     said: usize,
 }
 
-/// How many lines octets have.
+/// Returns the number of line feeds in octets.
 fn lines_of(octets: &[u8]) -> usize {
     octets.iter().filter(|octet| **octet == b'\n').count()
 }
 
-/// How what comes of a front ends.
+/// Returns how the result of a prefix ends.
 fn ending_of(alloc: Global, words: &[String], front: &[u8]) -> Result<Ending, Starved> {
     let run = run(alloc, words, front)?;
     Ok(Ending {
@@ -31,7 +31,8 @@ fn ending_of(alloc: Global, words: &[String], front: &[u8]) -> Result<Ending, St
     })
 }
 
-/// How what comes of each front of a file ends, where it does not end as with one octet less.
+/// Returns how the result of each prefix of a file ends, if it does not end as that of the prefix
+/// with one octet less.
 pub(crate) fn fronts_text(alloc: Global, words: &[String], file: &[u8]) -> Result<String, Fault> {
     let mut text = String::new(alloc);
     let mut last = None;

@@ -1,4 +1,4 @@
-//! The trace of a capture, replayed beside what the server of the capture sent.
+//! The trace of a capture, replayed and compared with what the server of the capture sent.
 
 use super::runs::{run, source_of};
 use crate::faults::Fault;
@@ -6,19 +6,20 @@ use rd_base::{Bytes, MemSink};
 use std::alloc::Global;
 use trace_replay::replay;
 
-/// The word by which what was sent is written.
+/// The argument with which the datagrams that were sent are written.
 const REPLIES: &str = "--replies";
 
-/// The word by which each datagram is put at the worker that answered it.
+/// The argument with which each datagram is given to the worker that answered it.
 const WORKERS: &str = "--workers";
 
-/// The word for the workers of a replay of such a trace: as many as a server has at most.
+/// The argument for the workers of a replay of such a trace: the maximum number of a server's
+/// workers.
 const SIXTEEN: &str = "--workers=16";
 
-/// What a line of the output begins with that no server sends.
+/// The beginning of the line of the output that no server sends.
 const END: &str = "end ";
 
-/// The words of a replay of a trace that these words of `rd_capture` give.
+/// Returns the arguments of a replay of the trace that these arguments of `rd_capture` give.
 fn replay_words(alloc: Global, words: &[String]) -> Result<Vec<String>, Fault> {
     let mut more = Vec::new(alloc);
     if words.iter().any(|word| word.as_str() == WORKERS) {
@@ -27,7 +28,7 @@ fn replay_words(alloc: Global, words: &[String]) -> Result<Vec<String>, Fault> {
     Ok(more)
 }
 
-/// What replaying a trace with these words writes.
+/// Returns what the replay of a trace with these arguments writes.
 fn replayed(alloc: Global, words: &[String], trace: &[u8]) -> Result<MemSink, Fault> {
     let mut source = source_of(alloc, trace)?;
     let mut out = MemSink::of(alloc, Bytes::new(alloc));
@@ -36,7 +37,7 @@ fn replayed(alloc: Global, words: &[String], trace: &[u8]) -> Result<MemSink, Fa
     Ok(out)
 }
 
-/// What the server of a capture sent, by these words of `rd_capture`.
+/// Returns what the server of a capture sent, read with these arguments of `rd_capture`.
 fn replies(alloc: Global, words: &[String], file: &[u8]) -> Result<MemSink, Fault> {
     let mut more = Vec::new(alloc);
     'words: for word in words {
@@ -47,8 +48,8 @@ fn replies(alloc: Global, words: &[String], file: &[u8]) -> Result<MemSink, Faul
     Ok(sent.out)
 }
 
-/// The number, from 1, of the first line in which what was sent and what a replay sends differ,
-/// if there is one. The line that ends the output of a replay is left out.
+/// Returns the number, from 1, of the first line in which what was sent and what a replay sends
+/// differ, or `None` if they are the same. The line that ends the output of a replay is left out.
 fn first_difference(sent: &str, replayed: &str) -> Option<u64> {
     let mut came = replayed.lines().filter(|line| !line.starts_with(END));
     let mut number = 0u64;
@@ -64,8 +65,8 @@ fn first_difference(sent: &str, replayed: &str) -> Option<u64> {
     None
 }
 
-/// Whether what the server of a capture sent is what the replay of its trace sends, where both are
-/// read by these words of `rd_capture`.
+/// Returns whether the server of a capture sent what the replay of its trace sends, as text. Both
+/// are read with these arguments of `rd_capture`.
 pub(crate) fn replay_text(alloc: Global, words: &[String], file: &[u8]) -> Result<String, Fault> {
     let trace = run(alloc, words, file)?;
     let more = replay_words(alloc, words)?;

@@ -5,26 +5,26 @@ use rd_base::{Bytes, MemSink, MemSource, Starved};
 use recording::{Status, record};
 use std::alloc::Global;
 
-/// How many octets of a capture are printed in a line.
+/// The number of octets of a capture that are printed in a line.
 const LINE: usize = 32;
 
-/// What came of a run.
+/// The result of a run.
 #[derive(Drop)]
 pub(crate) struct Outcome {
     /// How it ended.
     pub status: Status,
-    /// What was written.
+    /// The output.
     pub out: MemSink,
-    /// What was said.
+    /// The error text.
     pub err: MemSink,
 }
 
-/// Octets in memory as a source.
+/// Returns a source of octets in memory.
 pub(crate) fn source_of(alloc: Global, octets: &[u8]) -> Result<MemSource, Starved> {
     Ok(MemSource::of(Bytes::copy_of(alloc, octets)?, Bytes::new(alloc)))
 }
 
-/// Runs words over a file.
+/// Runs `record` with arguments over a file.
 pub(crate) fn run(alloc: Global, words: &[String], file: &[u8]) -> Result<Outcome, Starved> {
     let mut source = source_of(alloc, file)?;
     let mut out = MemSink::of(alloc, Bytes::new(alloc));
@@ -33,12 +33,12 @@ pub(crate) fn run(alloc: Global, words: &[String], file: &[u8]) -> Result<Outcom
     Ok(Outcome { status, out, err })
 }
 
-/// Whether words ask for a capture.
+/// Returns whether arguments ask for a capture.
 fn are_for_capture(words: &[String]) -> bool {
     words.iter().any(|word| word.as_str() == "--pcap")
 }
 
-/// Adds octets in hexadecimal digits.
+/// Appends octets in hexadecimal digits.
 fn push_digits(text: &mut String, alloc: Global, octets: &[u8]) -> Result<(), Fault> {
     'lines: for line in octets.chunks(LINE) {
         let Ok(digits) = hex::encode(alloc, line) else {
@@ -50,13 +50,13 @@ fn push_digits(text: &mut String, alloc: Global, octets: &[u8]) -> Result<(), Fa
     Ok(())
 }
 
-/// Adds text.
+/// Appends text.
 fn push_text(text: &mut String, alloc: Global, octets: &[u8]) -> Result<(), Fault> {
     let more = String::from_utf8_lossy(alloc, octets)?;
     Ok(text.push_str(more.as_str())?)
 }
 
-/// What comes of words and a file: what is written, what is said, and the status.
+/// Returns the result of arguments and a file: the output, the error text, and the status.
 pub(crate) fn run_text(alloc: Global, words: &[String], file: &[u8]) -> Result<String, Fault> {
     let run = run(alloc, words, file)?;
     let mut text = String::new(alloc);

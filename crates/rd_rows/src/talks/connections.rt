@@ -1,4 +1,4 @@
-//! What a directory answers to connections, however their octets are cut.
+//! The answers of a directory to connections, however their octets are cut.
 ghost use Rattle.std.specs.Prelude.{◌≡◌, IfOk};
 
 use super::pieces::{Cutting, Pieces};
@@ -9,13 +9,14 @@ use std::sync::Wait;
 use udp_link::{MemClock, Moments, Words};
 use vector_words::{NoAnswer, datagram_of, put_datagram};
 
-/// The most octets that are shown of what was written; of more their number and the last two.
+/// The maximum number of written octets that are shown. Of more, the number and the last two are
+/// shown.
 const MOST_SHOWN: usize = 1000;
 
-/// The port of the first connection's peer. Each further one has the next.
+/// The port of the first connection's peer. Each further connection has the next port.
 const FIRST_PORT: u16 = 40_000;
 
-/// The word for why a message is bad.
+/// Returns the name of the reason why a message is bad.
 fn bad_name(why: StreamBad) -> &'static str {
     match why {
         StreamBad::Format => "format",
@@ -26,7 +27,7 @@ fn bad_name(why: StreamBad) -> &'static str {
     }
 }
 
-/// The words for how a conversation ended.
+/// Returns the name of how a conversation ended.
 fn end_name(end: TalkEnd) -> &'static str {
     match end {
         TalkEnd::Closed => "closed",
@@ -38,7 +39,7 @@ fn end_name(end: TalkEnd) -> &'static str {
     }
 }
 
-/// Writes what was written, or how much it is.
+/// Writes the octets that were written, or their number.
 fn put_written(page: &mut String, octets: &[u8]) -> Result<(), Starved> {
     if octets.len() <= MOST_SHOWN {
         return put_datagram(page, octets);
@@ -63,7 +64,7 @@ fn put_outcome(page: &mut String, outcome: Result<Talked, TalkFault>) -> Result<
     Ok(())
 }
 
-/// A new hall, and its seat.
+/// Makes a new hall and its seat.
 fn new_hall<R: Wait + AllocGlobal>(rt: &R) -> Result<(Hall, Seat), Starved>
     ensures { IfOk result (λ made. made.1.hall ≡ made.0) }
 {
@@ -74,7 +75,7 @@ fn new_hall<R: Wait + AllocGlobal>(rt: &R) -> Result<(Hall, Seat), Starved>
     Ok((hall, seat))
 }
 
-/// A connection from this port, whose octets are cut so: writes what is answered.
+/// Makes a connection from this port, with its octets cut like this, and writes the answer.
 fn put_talk<R: Wait + AllocGlobal>(
     rt: &R,
     page: &mut String,
@@ -109,7 +110,7 @@ fn put_talk<R: Wait + AllocGlobal>(
     put_outcome(page, outcome)
 }
 
-/// Connections one after the other with one seat, each cut so.
+/// Makes connections one after the other with one seat, each cut like this.
 fn put_talks<R: Wait + AllocGlobal>(
     rt: &R,
     page: &mut String,
@@ -132,7 +133,7 @@ fn put_talks<R: Wait + AllocGlobal>(
     Ok(())
 }
 
-/// What a new directory answers to connections, each cut so.
+/// Returns the answers of a new directory to connections, each cut like this.
 fn answered<R: Wait + AllocGlobal>(
     rt: &R,
     said: &str,
@@ -146,21 +147,22 @@ fn answered<R: Wait + AllocGlobal>(
     Ok(page)
 }
 
-/// Each connection in one piece, as far as a reading has room.
+/// Each connection in one piece, as far as a read has room.
 const WHOLE: Cutting = Cutting {
     first: 0,
     next: usize::MAX,
 };
 
-/// Each octet alone.
+/// Each octet by itself.
 const SINGLE: Cutting = Cutting { first: 0, next: 1 };
 
-/// `talk CONNECTION ..`: what a new directory answers to connections, one after the other.
+/// Returns the answers of a new directory to connections, one after the other: `talk CONNECTION
+/// ..`.
 pub(crate) fn talk<R: Wait + AllocGlobal>(rt: &R, said: &str) -> Result<String, NoAnswer> {
     answered(rt, said, WHOLE)
 }
 
-/// The first place where the connections can be cut so that something else is answered.
+/// Returns the first index at which the connections can be cut so that the answer differs.
 fn first_other<R: Wait + AllocGlobal>(
     rt: &R,
     said: &str,
@@ -178,8 +180,8 @@ fn first_other<R: Wait + AllocGlobal>(
     Ok(None)
 }
 
-/// `cuts CONNECTION ..`: the same, and whether it is the same at every cutting of each of them into
-/// two and into single octets.
+/// Returns the same, if it is the same for each cutting of each connection into two and into single
+/// octets, or else the first difference: `cuts CONNECTION ..`.
 pub(crate) fn cuts<R: Wait + AllocGlobal>(rt: &R, said: &str) -> Result<String, NoAnswer> {
     let whole = answered(rt, said, WHOLE)?;
     if let Some(at) = first_other(rt, said, whole.as_str())? {

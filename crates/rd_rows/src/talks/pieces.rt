@@ -6,13 +6,13 @@ use rd_base::{Got, Source};
 /// How octets are cut.
 #[derive(Clone, Copy, Debug, PartialEq, Eq)]
 pub(crate) struct Cutting {
-    /// How many the first piece has, if there are so many.
+    /// The length of the first piece, if there are as many octets.
     pub first: usize,
-    /// How many each further piece has, at least one.
+    /// The length of each further piece, at least one.
     pub next: usize,
 }
 
-/// Octets as a source that gives them piece by piece. It tells nothing.
+/// A source that gives octets piece by piece. It exposes nothing.
 #[derive(Debug, Drop)]
 pub(crate) struct Pieces<'a> {
     octets: &'a [u8],
@@ -21,7 +21,7 @@ pub(crate) struct Pieces<'a> {
 }
 
 impl<'a> Pieces<'a> {
-    /// A source that gives these octets, cut so.
+    /// Creates a source that gives these octets, cut like this.
     pub(crate) fn of(octets: &'a [u8], cutting: Cutting) -> Pieces<'a> {
         Pieces {
             octets,
@@ -30,7 +30,7 @@ impl<'a> Pieces<'a> {
         }
     }
 
-    /// How many octets the next piece has.
+    /// Returns the length of the next piece.
     fn size(&self) -> usize {
         if self.at < self.cutting.first {
             return self.cutting.first - self.at;

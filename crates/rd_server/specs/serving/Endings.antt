@@ -16,7 +16,7 @@ use Rattle.rd_server.specs.declared.serving.statuses.ServeStatus.TheVariants as 
 abbrev pub none_served : Served
 none_served = record { heard = 0; sent = 0; lost = 0; too_long = 0; starved = 0 }
 
--- the sums of two
+-- the sums of two counts
 abbrev pub both_served : Served → Served → Served
 both_served a b = record {
   heard = a.heard + b.heard;
@@ -26,7 +26,7 @@ both_served a b = record {
   starved = a.starved + b.starved;
 }
 
--- the sums of two, or the first fault that applies: want of memory before a link
+-- the sums of two counts, or the first fault that applies: memory precedes a link
 abbrev pub join : Result Served ServeFault → Result Served ServeFault → Result Served ServeFault
 join (Ok a) (Ok b) = Ok (both_served a b)
 join (Ok a) (Err f) = Err f
@@ -34,12 +34,13 @@ join (Err f) (Ok b) = Err f
 join (Err fault.Memory) (Err g) = Err fault.Memory
 join (Err fault.Link) (Err g) = Err g
 
+-- the same, for those of more ends
 abbrev pub joined_after : Result Served ServeFault → List (Result Served ServeFault)
     → Result Served ServeFault
 joined_after so_far [] = so_far
 joined_after so_far (o ∷ more) = joined_after (join so_far o) more
 
--- the sums of all, where all were served
+-- the sums of all, if all were served
 abbrev pub joined : List (Result Served ServeFault) → Result Served ServeFault
 joined outcomes = joined_after (Ok none_served) outcomes
 
@@ -50,8 +51,8 @@ abbrev pub served_line : Served → List ℕ
 served_line s = codes "served " ++ (decimal s.heard ++ (codes " " ++ (decimal s.sent
     ++ (codes " " ++ (decimal s.lost ++ codes "\n")))))
 
--- How a server ends, by the outcomes of its workers: what it wrote, and that the count of the
--- output's faults rose exactly where the line was not written whole.
+-- How a server ends, from the outcomes of its workers: what it wrote, and that the count of the
+-- output's faults rose exactly if the line was not written whole.
 abbrev pub Concludes : Result Served ServeFault → Option (List ℕ) → Option (List ℕ) → ℕ → ℕ
     → ServeStatus → Type 0
 Concludes (Ok sums) old new faults faults_then status.Done =

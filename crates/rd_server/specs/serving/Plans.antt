@@ -1,4 +1,4 @@
--- The words of `rd_serve`: a port, and a number of workers and how many turns each has, or a number
+-- The arguments of `rd_serve`: a port, and a number of workers and of receives of each, or a number
 -- of connections over TCP.
 use Rattle.std.specs.Prelude.{◌≡◌, ◌≤◌, ℕ, Bool, ◌&&◌, ◌||◌, List, [], ◌∷◌, ◌++◌}
 use Rattle.std.specs.Prelude.{codes, decimal, bytes_eq}
@@ -34,11 +34,11 @@ use Rattle.trace_replay.specs.Words.{IsWithin, count_of, number_found, once}
 abbrev pub max_port : ℕ
 max_port = 65_535
 
--- the most turns of a worker
+-- the maximum number of receives of a worker
 abbrev pub max_turns : ℕ
 max_turns = 1_000_000_000_000
 
--- the most connections over TCP
+-- the maximum number of connections over TCP
 abbrev pub max_streams : ℕ
 max_streams = 1_000_000
 
@@ -57,7 +57,7 @@ is_option text = is_some (option_of text)
 abbrev pub nothing_asked : ServeAsked
 nothing_asked = record { port = None; workers = None; turns = None; tcp = None }
 
--- an option and its value more, each once at most
+-- what is asked for with one option and its value more, each given at most once
 abbrev pub given_to : Option ServeOption → List ℕ → ServeAsked → Option ServeAsked
 given_to None value asked = None
 given_to (Some serve_option.Port) value asked = option_map
@@ -76,9 +76,8 @@ given_to (Some serve_option.Tcp) value asked = option_map
 abbrev pub given : List ℕ → List ℕ → ServeAsked → Option ServeAsked
 given name value asked = given_to (option_of name) value asked
 
--- what is asked for, where nothing is said by default: CoAP's own port (RFC 7252 section 12.6),
--- four
--- workers, and as many turns as may be
+-- what is asked for, with defaults for what is not given: CoAP's own port (RFC 7252 section 12.6),
+-- four workers, and as many receives as possible
 abbrev pub plan_of : ServeAsked → ServePlan
 plan_of asked = record {
   port = unwrap_or asked.port 5683;
@@ -87,14 +86,15 @@ plan_of asked = record {
   tcp = asked.tcp;
 }
 
--- beside connections over TCP nothing but a port is said
+-- more than a port is given alongside connections over TCP
 abbrev pub is_mixed : ServeAsked → Bool
 is_mixed asked = is_some asked.tcp && (is_some asked.workers || is_some asked.turns)
 
+-- the plan, unless the options exclude one another
 abbrev pub plan_by : ServeAsked → Option ServePlan
 plan_by asked = if is_mixed asked then None else Some (plan_of asked)
 
--- what words ask for, where they are those of the program
+-- what arguments ask for, if they are those of the program
 abbrev pub plan_said : List (List ℕ) → Option ServePlan
 plan_said words = words_after is_option given (Some nothing_asked) words >>= plan_by
 
@@ -108,7 +108,7 @@ pub record IsPlan (plan : ServePlan) : Type 0 where
   pub most_turns : plan.turns ≤ max_turns
   pub tcp : IsWithin max_streams plan.tcp
 
--- what the words were read as: for want of memory alone words of the program are not read
+-- what the arguments were read as; arguments of the program are not read only if memory runs out
 abbrev pub IsPlanRead : Option ServePlan → Result ServePlan WordsFault → Type 0
 IsPlanRead None (Err fault.Usage) = ⊤
 IsPlanRead (Some plan) (Ok read) = read ≡ plan
@@ -117,8 +117,8 @@ IsPlanRead _ _ = ⊥
 
 -- ---- as clap reads it
 
--- a plan in words, in one order, each option joined with its value; the connections over TCP, which
--- no default stands for, are read before
+-- a plan as arguments, in one order, each option joined with its value; the number of connections
+-- over TCP, which has no default, is read before
 abbrev pub words_of : ServePlan → List (List ℕ)
 words_of plan = (codes "--port=" ++ decimal plan.port)
     ∷ (codes "--workers=" ++ decimal plan.workers) ∷ (codes "--turns=" ++ decimal plan.turns) ∷ []
@@ -129,12 +129,12 @@ pub record HasPlan (plan : ServePlan) (matches : ArgMatches) : Type 0 where
   pub workers : first_value (found_of matches) (codes "workers") ≡ Some (decimal plan.workers)
   pub turns : first_value (found_of matches) (codes "turns") ≡ Some (decimal plan.turns)
 
--- the words of a plan are read, for want of memory alone they are not
+-- the arguments of a plan are read, unless memory runs out
 abbrev pub ReadsPlan : ServePlan → Result ArgMatches Error → Type 0
 ReadsPlan plan (Ok matches) = HasPlan plan matches
 ReadsPlan plan (Err error) = kind_of error ≡ OutOfMemory
 
--- the plan whose numbers were found, for so many connections over TCP
+-- the plan whose numbers were found, with this number of connections over TCP
 abbrev pub plan_found : Option ℕ → ArgMatches → Option ServePlan
 plan_found tcp matches = number_found max_port (codes "port") matches
     >>= (λ port. number_found max_workers (codes "workers") matches

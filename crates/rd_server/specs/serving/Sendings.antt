@@ -1,4 +1,4 @@
--- The datagrams that a worker sends, and what came of each. The last stands first.
+-- The datagrams that a worker passes to its link, and the result of each send, newest first.
 use Rattle.std.specs.Prelude.{ℕ, ◌+◌, List, [], ◌∷◌, ◌++◌}
 use Rattle.udp_link.specs.Links.{Datagram}
 use Rattle.udp_link.specs.declared.links.LinkCall.{LinkCall}
@@ -6,7 +6,7 @@ use Rattle.udp_link.specs.declared.links.LinkCall.TheVariants as link
 use Rattle.udp_link.specs.declared.links.Went.{Went}
 use Rattle.udp_link.specs.declared.links.Went.TheVariants as went
 
--- a datagram that was to be sent, and what came of it
+-- a datagram that was to be sent, and the result
 abbrev pub Sending : Type 0
 Sending = Datagram × Went
 
@@ -20,7 +20,7 @@ abbrev pub sendings_order : List Sending → List LinkCall
 sendings_order [] = []
 sendings_order (s ∷ earlier) = link.Send ∷ sendings_order earlier
 
--- the datagrams that went, in order, without those that were lost
+-- the datagrams that were sent, in order, without those that were lost
 abbrev pub went_more : List Datagram → Datagram → Went → List Datagram
 went_more earlier datagram went.Sent = earlier ++ datagram ∷ []
 went_more earlier datagram went.Failed = earlier
@@ -29,7 +29,7 @@ abbrev pub all_went : List Sending → List Datagram
 all_went [] = []
 all_went (s ∷ earlier) = went_more (all_went earlier) s.0 s.1
 
--- how many were lost
+-- the number of datagrams that were lost
 abbrev pub lost_more : ℕ → Went → ℕ
 lost_more earlier went.Sent = earlier
 lost_more earlier went.Failed = earlier + 1

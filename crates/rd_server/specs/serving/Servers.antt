@@ -1,5 +1,4 @@
--- The ends of a server: what each of them shows before its service and after it, and the sums of
--- all.
+-- The ends of a server: what each exposes before its service and after it, and the sums of all.
 use Rattle.std.specs.Prelude.{◌≡◌, ◌⊎◌, ℕ, ◌<◌, List, [], ◌∷◌, ◌++◌, length, slice_index_or}
 use Rattle.std.specs.Prelude.{Option, Some, None, Ok, Err, IfOk, IfSome, IfNone, All, ⊤}
 use Rattle.std.specs.Io.KnownBytes.{Appends}
@@ -17,22 +16,22 @@ use Rattle.rd_server.specs.serving.Workers.{WorkerSeen, link_seen, worker_seen}
 use Rattle.rd_server.specs.serving.Service.{Serves, CountsTold}
 use Rattle.rd_server.specs.serving.Endings.{none_served, both_served, served_line}
 
--- an end that was given a seat, or none, and was not served yet
+-- an end that was given a seat or none, and has not been served
 abbrev pub seated : {L C : Type 0} → End L C → Option SeatSeen → End L C
 seated end seat =
     record { link = end.link; clock = end.clock; seat = seat; outcome = Err fault.Memory }
 
--- an end that has no seat was not served
+-- an end without a seat, which was not served
 pub record IsUnserved {L C : Type 0} (end : End L C) : Type 0 where
   pub seat : end.seat ≡ None
   pub outcome : end.outcome ≡ Err fault.Memory
 
--- each seat that an end has is of this hall
+-- each seat that an end has is one of this hall
 abbrev pub AreOfHall : {L C : Type 0} → HallSeen → List (End L C) → Type 0
 AreOfHall hall ends = All (λ end. IfSome end.seat (λ seat. seat.hall ≡ hall)) ends
 
--- Each end has the new seat of its number in a hall that has as many workers as there are ends. Its
--- link and its clock are as they were.
+-- Each end has the new seat of its number, in a hall that has as many workers as there are ends.
+-- Its link and its clock are as they were.
 pub record AreSeated {L C : Type 0} (hall : HallSeen) (old new : List (End L C)) : Type 0 where
   pub workers : hall.workers ≡ length old
   pub each : (worker : ℕ) (d : End L C) → worker < length old
@@ -46,12 +45,12 @@ pub record AreLeft {L C : Type 0} (old new : List (End L C)) : Type 0 where
       → slice_index_or new worker d ≡ seated (slice_index_or old worker d) None
 
 module _ {L C : Type 0} (l : links.Ghosts L) (c : clocks.Ghosts C) where
-  -- an end with this seat, as a worker has it
+  -- a worker with this seat, and the link and the clock of an end
   abbrev pub end_seen : SeatSeen → End L C → WorkerSeen
   end_seen seat end = worker_seen l c seat end.link end.clock
 
-  -- An end whose seat, which was this one, served so many turns: it keeps the seat, and what came
-  -- of the service.
+  -- An end whose seat, which was this one, served this number of receives. It keeps the seat and
+  -- the result of the service.
   pub record EndServes (number : ℕ) (before : SeatSeen) (old new : End L C) : Type 0 where
     pub seat : SeatSeen
     pub kept : new.seat ≡ Some seat
@@ -59,8 +58,8 @@ module _ {L C : Type 0} (l : links.Ghosts L) (c : clocks.Ghosts C) where
     pub told : IfOk new.outcome
         (λ served. CountsTold served (end_seen before old).link (end_seen seat new).link)
 
-  -- An end that served by this seat of a hall, from where the seat stood. The seat is of that hall
-  -- still, and whatever calls it had made before, it went on with further ones.
+  -- An end that served by this seat of a hall, from where the seat was. The seat is still one of
+  -- that hall. Whatever calls it had made before, it made further ones.
   pub record EndGoesOn (number : ℕ) (hall : HallSeen) (before : SeatSeen) (old new : End L C)
       : Type 0 where
     pub serves : EndServes number before old new
@@ -68,8 +67,8 @@ module _ {L C : Type 0} (l : links.Ghosts L) (c : clocks.Ghosts C) where
     pub called : (worker : ℕ) (earlier : List runs.Call) → HasCalled hall worker earlier before
         → (calls : List runs.Call) × HasCalled hall worker (calls ++ earlier) serves.seat
 
-  -- Each end that has a seat served by it. One that has none was not served, and its link and its
-  -- clock are as they were.
+  -- Each end that has a seat served by it. An end without a seat was not served, and its link and
+  -- its clock are as they were.
   abbrev pub EachGoesOn : ℕ → HallSeen → List (End L C) → List (End L C) → Type 0
   EachGoesOn number hall old new = (worker : ℕ) (d : End L C) → worker < length old
       → IfSome (slice_index_or old worker d).seat (λ before. EndGoesOn number hall before
@@ -77,8 +76,8 @@ module _ {L C : Type 0} (l : links.Ghosts L) (c : clocks.Ghosts C) where
       × IfNone (slice_index_or old worker d).seat
       (slice_index_or new worker d ≡ seated (slice_index_or old worker d) None)
 
-  -- Each end has the seat of its number in one new hall, by which it served. The seat is of that
-  -- hall still after its calls, and one of its journal.
+  -- An end that has the seat of its number in one new hall, and served by it. After its calls the
+  -- seat is still one of that hall, and one of its journal.
   pub record EndServed (number : ℕ) (hall : HallSeen) (worker : ℕ) (old new : End L C)
       : Type 0 where
     pub serves : EndServes number (new_seat hall worker) old new
@@ -86,21 +85,22 @@ module _ {L C : Type 0} (l : links.Ghosts L) (c : clocks.Ghosts C) where
     pub calls : List runs.Call
     pub is_seat : IsSeatAfter calls serves.seat
 
+  -- each end was served so
   abbrev pub EachServed : ℕ → HallSeen → List (End L C) → List (End L C) → Type 0
   EachServed number hall old new = (worker : ℕ) (d : End L C) → worker < length old
       → EndServed number hall worker (slice_index_or old worker d) (slice_index_or new worker d)
 
-  -- The ends of a server: all were served in one hall, which has as many workers as there are
-  -- ends; or no hall was made, and no link and no clock was used.
+  -- The ends of a server: all were served in one hall, which has as many workers as there are ends;
+  -- or no hall was made, and no link and no clock was used.
   abbrev pub AreServed : ℕ → List (End L C) → List (End L C) → ServeStatus → Type 0
   AreServed number old new result = ((hall : HallSeen)
       × (hall.workers ≡ length old) × EachServed number hall old new)
       ⊎ (AreLeft old new × (result ≡ status.Memory))
 
 module _ {L C : Type 0} (l : links.Ghosts L) where
-  -- The sums of all ends, in their order, onto those of the ends before them: each was served to
-  -- the end, and where its link tells its datagrams, its counts are how many of them were taken
-  -- that are not too long, and by how many those that are gone grew.
+  -- The sums of all ends, in order, added to those of the ends before. Each end was served to the
+  -- end. If its link exposes its datagrams, its counts are how many were taken that are not too
+  -- long, and by how many those that are gone grew.
   abbrev pub AddUp : Served → List (End L C) → List (End L C) → Served → Type 0
   AddUp before [] [] sums = sums ≡ before
   AddUp before (old ∷ olds) (new ∷ news) sums = (one : Served)
@@ -109,7 +109,7 @@ module _ {L C : Type 0} (l : links.Ghosts L) where
       × AddUp (both_served before one) olds news sums
   AddUp before _ _ sums = ⊥
 
-  -- where the line is written, its sums are those of all ends
+  -- if the line is written, its sums are those of all ends
   abbrev pub PrintsSums : List (End L C) → List (End L C) → Option (List ℕ) → Option (List ℕ)
       → ServeStatus → Type 0
   PrintsSums olds news before now status.Done = (sums : Served)

@@ -1,4 +1,4 @@
--- The service of a worker: all its turns, how it ends, and what its counts tell.
+-- The service of a worker: all its receives, how it ends, and what its counts say.
 use Rattle.std.specs.Prelude.{◌≡◌, ℕ, ◌+◌, ◌≤◌, ◌<◌, Bool, true, false, nat_le}
 use Rattle.std.specs.Prelude.{List, [], ◌∷◌, ◌++◌, length, filter, Result, Ok, Err}
 use Rattle.rd_base.specs.Outside.{Rose}
@@ -29,7 +29,7 @@ use Rattle.rd_server.specs.serving.Sums.{IsSumOf}
 
 -- ---- what turns do
 
--- what one turn did, where so many datagrams were heard before
+-- what one receive and its calls did, after this number of handled datagrams
 pub record TurnMade (earlier : ℕ) (t : Turn) (before after : WorkerSeen) : Type 0 where
   pub follows : Follows earlier t.came t.calls
   pub coming : WhereTold (λ old new. Comes old t.came new) before.link.coming after.link.coming
@@ -43,21 +43,21 @@ pub record TurnMade (earlier : ℕ) (t : Turn) (before after : WorkerSeen) : Typ
   pub words : WhereTold (λ old new. Chain GivesWord old t.calls new)
       before.clock.words after.clock.words
 
--- What all turns of a worker did.
+-- What all receives of a worker and their calls did.
 pub record Works (turns : List Turn) (before after : WorkerSeen) : Type 0 where
-  -- after each receive those calls were made
+  -- each receive was followed by its calls
   pub turned : AreTurns turns
-  -- what came was coming, in order
+  -- what was received was coming, in order
   pub coming : WhereTold (λ old new. Chain TurnComes old turns new)
       before.link.coming after.link.coming
-  -- what went is what the rows and looks of the calls send, in order, without what was lost
+  -- what was sent is what the rows and looks of the calls send, in order, without what was lost
   pub gone : Goes (calls_went (calls_of turns)) before.link.gone after.link.gone
-  -- Where the link tells its calls: turn after turn one receive, and then the sends of its calls.
-  -- So what a turn sends goes out before the next receive.
+  -- If the link exposes its calls: each receive is followed by the sends of its calls. So what
+  -- follows a receive is sent before the next receive.
   pub order : Orders (turns_order turns) before.link.order after.link.order
   -- what was lost raised the count of sends that failed
   pub lost : RisesBy (calls_lost (calls_of turns)) before.link.send_faults after.link.send_faults
-  -- each call led the seat from where the one before it had led it
+  -- each call led the seat on from where the one before it had led it
   pub seat : Chain Does before.seat (calls_of turns) after.seat
   -- moments and words are those that the clock gave, in order
   pub moments : WhereTold (λ old new. Chain GivesMoment old (calls_of turns) new)
@@ -67,20 +67,20 @@ pub record Works (turns : List Turn) (before after : WorkerSeen) : Type 0 where
 
 -- ---- how the service ends
 
--- a receive failed, and its count rose; or it did not, and the count stands
+-- the receive failed and its count rose; or it did not, and the count stays
 abbrev pub GoesOn : Bool → Turn → ℕ → ℕ → Type 0
 GoesOn true t faults faults_then = Came t.came × (faults_then ≡ faults)
 GoesOn false t faults faults_then =
     (t.came ≡ Failed) × (faults ≤ faults_then) × Rose faults faults_then
 
--- the last receive failed, which raised its count, before so many turns were made
+-- the last receive failed, which raised its count, before this number of receives was made
 abbrev pub StopsAfter : ℕ → List Turn → ℕ → ℕ → Type 0
 StopsAfter number [] faults faults_then = ⊥
 StopsAfter number (t ∷ earlier) faults faults_then = (t.came ≡ Failed) × AllCame earlier
     × (length earlier < number) × (faults ≤ faults_then) × Rose faults faults_then
 
--- So many turns were made, of which none failed, and these are their sums; or a receive failed; or
--- memory ran out before the first.
+-- This number of receives was made, none of which failed, and these are the sums; or a receive
+-- failed; or memory ran out before the first.
 abbrev pub EndsAs : ℕ → List Turn → ℕ → ℕ → Result Served ServeFault → Type 0
 EndsAs number turns faults faults_then (Ok served) = (length turns ≡ number) × AllCame turns
     × IsSumOf turns served × (faults_then ≡ faults)
@@ -98,18 +98,18 @@ pub record Serves (number : ℕ) (before after : WorkerSeen) (result : Result Se
 
 -- ---- what its counts tell
 
--- a datagram is not longer than the longest that is read
+-- a datagram is at most as long as the longest that is read
 abbrev pub is_within : Datagram → Bool
 is_within d = nat_le (length d.1) MAX_DATAGRAM
 
--- these datagrams were taken of those that were coming, so many of which were not too long
+-- these datagrams were taken of those that were coming; this number of them were not too long
 pub record Takes (heard : ℕ) (old new : List Datagram) : Type 0 where
   pub taken : List Datagram
   pub first : old ≡ taken ++ new
   pub number : heard ≡ length (filter is_within taken)
 
--- Where the link tells its datagrams: how many were heard is how many were taken that are not too
--- long, and how many were sent is by how many those that are gone grew.
+-- If the link exposes its datagrams: as many were handled as were taken that are not too long, and
+-- as many were sent as those that are gone grew by.
 pub record CountsTold (served : Served) (before after : LinkSeen) : Type 0 where
   pub heard : WhereTold (Takes served.heard) before.coming after.coming
   pub sent : WhereTold (λ old new. length new ≡ length old + served.sent)

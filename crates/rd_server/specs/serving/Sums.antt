@@ -12,7 +12,7 @@ use Rattle.rd_server.specs.serving.Turns.{
   turns_long,
 }
 
--- how many more were sent, lost and starved; what was heard stands
+-- this number more were sent, lost and out of memory; what was handled stays
 pub record CountsMore (sent lost starved : ℕ) (before after : Served) : Type 0 where
   pub sent_more : after.sent ≡ before.sent + sent
   pub lost_more : after.lost ≡ before.lost + lost
@@ -28,7 +28,7 @@ abbrev pub CountsCalls : List Call → Served → Served → Type 0
 CountsCalls calls before after =
     CountsMore (length (calls_went calls)) (calls_lost calls) (calls_starved calls) before after
 
--- what one turn counts
+-- what one receive with its calls counts
 pub record CountsTurn (t : Turn) (before after : Served) : Type 0 where
   pub heard_then : after.heard ≡ heard_more before.heard t.came
   pub sent_then : after.sent ≡ before.sent + length (calls_went t.calls)
@@ -36,7 +36,7 @@ pub record CountsTurn (t : Turn) (before after : Served) : Type 0 where
   pub long_then : after.too_long ≡ long_more before.too_long t.came
   pub starved_then : after.starved ≡ before.starved + calls_starved t.calls
 
--- the sums of all turns
+-- the sums of all receives
 pub record IsSumOf (turns : List Turn) (served : Served) : Type 0 where
   pub heard : served.heard ≡ turns_heard turns
   pub sent : served.sent ≡ length (calls_went (calls_of turns))
@@ -46,7 +46,7 @@ pub record IsSumOf (turns : List Turn) (served : Served) : Type 0 where
 
 -- ---- room for counts
 
--- no count is above this
+-- no count exceeds this limit
 pub record IsBelow (limit : ℕ) (served : Served) : Type 0 where
   pub heard : served.heard ≤ limit
   pub sent : served.sent ≤ limit
@@ -54,15 +54,15 @@ pub record IsBelow (limit : ℕ) (served : Served) : Type 0 where
   pub too_long : served.too_long ≤ limit
   pub starved : served.starved ≤ limit
 
--- whatever bound the counts had, they have one that is so much higher
+-- whatever limit the counts had, they now have one that is higher by this number
 abbrev pub GrowsBy : ℕ → Served → Served → Type 0
 GrowsBy more before after = (limit : ℕ) → IsBelow limit before → IsBelow (limit + more) after
 
--- there is room for all that calls of one turn may count
+-- there is room for all that the calls of one receive can count
 abbrev pub HasRoom : Served → Type 0
 HasRoom served = IsBelow (10 ^ 17) served
 
--- the most that each count of a worker comes to, and that of a server
+-- the limits of each count of a worker, and of a server
 abbrev pub worker_most : ℕ
 worker_most = 10 ^ 16
 

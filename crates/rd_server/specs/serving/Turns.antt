@@ -1,4 +1,4 @@
--- The turns of a worker: what came over its link, and the calls that follow. The last stands first.
+-- The receives of a worker, with the calls that follow each, newest first.
 use Rattle.std.specs.Prelude.{◌≡◌, ℕ, ◌+◌, ◌%◌, ◌==◌, ◌≤◌, ◌<◌}
 use Rattle.std.specs.Prelude.{List, [], ◌∷◌, ◌++◌, length, ⊤}
 use Rattle.rd_base.specs.declared.peers.Peer.{Peer}
@@ -9,21 +9,21 @@ use Rattle.udp_link.specs.declared.links.LinkCall.TheVariants as link
 use Rattle.rd_seat.specs.Callers.{Ticks, TicksWhere, Hears}
 use Rattle.rd_server.specs.serving.Calls.{Call, calls_order}
 
--- what a receive gave
+-- the result of a receive
 pub data Outcome : Type 0 where
   Heard : Peer → List ℕ → Outcome
   TooLong : Outcome
   Nothing : Outcome
   Failed : Outcome
 
--- a turn: one receive, and the calls that follow it
+-- one receive, and the calls that follow it
 pub record Turn : Type 0 where
   pub came : Outcome
   pub calls : List Call
 
 -- ---- which calls follow
 
--- a datagram of this number, from 1 on, is heard; after each sixteenth time passes
+-- the datagram of this number, from 1, is handled; after each sixteenth, time passes
 pub record HearsAt (number : ℕ) (peer : Peer) (datagram : List ℕ) (calls : List Call)
     : Type 0 where
   pub heard : List Call
@@ -33,7 +33,7 @@ pub record HearsAt (number : ℕ) (peer : Peer) (datagram : List ℕ) (calls : L
   pub hears : Hears peer datagram heard
   pub sixteenth : TicksWhere (number % 16 == 0) ticks
 
--- which calls follow what came, where so many datagrams were heard before
+-- the calls that follow a receive, after this number of handled datagrams
 abbrev pub Follows : ℕ → Outcome → List Call → Type 0
 Follows earlier (Heard peer datagram) calls = HearsAt (earlier + 1) peer datagram calls
 Follows earlier TooLong calls = Ticks calls
@@ -42,7 +42,7 @@ Follows earlier Failed calls = calls ≡ []
 
 -- ---- what came
 
--- what came is the first of what was coming
+-- what was received is the first of what was coming
 abbrev pub Comes : List Datagram → Outcome → List Datagram → Type 0
 Comes before (Heard peer datagram) now = before ≡ (peer, datagram) ∷ now
 Comes before TooLong now =
@@ -60,17 +60,17 @@ Came _ = ⊤
 
 -- ---- all turns of a worker
 
--- the calls of all turns
+-- the calls of all receives
 abbrev pub calls_of : List Turn → List Call
 calls_of [] = []
 calls_of (t ∷ earlier) = t.calls ++ calls_of earlier
 
--- The calls of the link: turn after turn one receive, and then the sends of its calls.
+-- The calls of the link: each receive is followed by the sends of its calls.
 abbrev pub turns_order : List Turn → List LinkCall
 turns_order [] = []
 turns_order (t ∷ earlier) = calls_order t.calls ++ link.Receive ∷ turns_order earlier
 
--- how many datagrams were heard
+-- the number of datagrams that were handled
 abbrev pub heard_more : ℕ → Outcome → ℕ
 heard_more earlier (Heard peer datagram) = earlier + 1
 heard_more earlier _ = earlier
@@ -79,7 +79,7 @@ abbrev pub turns_heard : List Turn → ℕ
 turns_heard [] = 0
 turns_heard (t ∷ earlier) = heard_more (turns_heard earlier) t.came
 
--- how many were too long
+-- the number of datagrams that were too long
 abbrev pub long_more : ℕ → Outcome → ℕ
 long_more earlier TooLong = earlier + 1
 long_more earlier _ = earlier
@@ -88,7 +88,7 @@ abbrev pub turns_long : List Turn → ℕ
 turns_long [] = 0
 turns_long (t ∷ earlier) = long_more (turns_long earlier) t.came
 
--- after each receive those calls were made
+-- each receive was followed by its calls
 abbrev pub AreTurns : List Turn → Type 0
 AreTurns [] = ⊤
 AreTurns (t ∷ earlier) = AreTurns earlier × Follows (turns_heard earlier) t.came t.calls

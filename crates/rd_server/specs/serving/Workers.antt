@@ -1,4 +1,4 @@
--- What a worker has: its seat, its link and its clock; and what calls do with them.
+-- What a worker has, its seat, its link and its clock, and what calls do with them.
 use Rattle.std.specs.Prelude.{◌≡◌, ℕ, ◌+◌, ◌-◌, ◌^◌, ◌≤◌, ◌<◌, List, ◌++◌, Option}
 use Rattle.udp_link.specs.Links.{Datagram}
 use Rattle.udp_link.specs.Told.{WhereTold, Stays}
@@ -14,7 +14,7 @@ use Rattle.rd_server.specs.serving.Calls.{Call, Does, calls_went, calls_lost, ca
 
 -- ---- what is seen of them
 
--- what a link shows
+-- what a link exposes
 pub record LinkSeen : Type 0 where
   pub coming : Option (List Datagram)
   pub gone : Option (List Datagram)
@@ -44,7 +44,7 @@ worker_seen l c seat link clock =
 
 -- ---- what is done with them
 
--- these went, behind what had gone before
+-- these datagrams were sent, after those that had been sent
 abbrev pub Goes : List Datagram → Option (List Datagram) → Option (List Datagram) → Type 0
 Goes went before now = WhereTold (λ old new. new ≡ old ++ went) before now
 
@@ -52,7 +52,7 @@ Goes went before now = WhereTold (λ old new. new ≡ old ++ went) before now
 abbrev pub Orders : List LinkCall → Option (List LinkCall) → Option (List LinkCall) → Type 0
 Orders made before now = WhereTold (λ old new. new ≡ made ++ old) before now
 
--- a count of faults rose by this at least, unless it stands at the last value of 64 bits
+-- a count of faults rose by this number at least, unless it has the greatest value of 64 bits
 pub record RisesBy (n before now : ℕ) : Type 0 where
   pub kept : before ≤ now
   pub rose : now < 2 ^ 64 - 1 → before + n ≤ now

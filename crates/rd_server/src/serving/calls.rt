@@ -1,4 +1,5 @@
-//! Calls of the seat: the clock is asked, the seat is called, and what comes out is sent.
+//! Calls of a seat: the clock is read, the seat is called, and the datagrams that come out are
+//! sent.
 ghost use Rattle.std.specs.Prelude.{◌≡◌, ◌+◌, ◌∷◌, [], IfSome, option_map};
 ghost use Rattle.journal_model.specs.declared.steps.StepKind.TheVariants as step;
 ghost use Rattle.coap_answers.specs.Outboxes.{most_datagrams};
@@ -18,7 +19,7 @@ use rd_seat::{Gate, Seat, SeatHeard};
 use std::sync::Wait;
 use udp_link::{Clock, Link};
 
-/// Time passes at the seat.
+/// Lets time pass at the seat.
 pub(crate) fn tick<R: Wait, L: Link, C: Clock, G: Gate>(
     post: &Post<R, G>,
     seat: &mut Seat,
@@ -41,7 +42,7 @@ pub(crate) fn tick<R: Wait, L: Link, C: Clock, G: Gate>(
     finish(link, is_starved(stepped), &mut tally.out, &mut tally.served);
 }
 
-/// The job that is left.
+/// Returns the job that is left, if there is one.
 fn job_in(heard: SeatHeard) -> Option<Job>
     ensures { result ≡ job_held heard }
 {
@@ -51,7 +52,7 @@ fn job_in(heard: SeatHeard) -> Option<Job>
     }
 }
 
-/// The seat hears a datagram, and leaves a job or none.
+/// Has the seat handle a datagram. Returns the job that it leaves, if there is one.
 pub(crate) fn hear<R: Wait, L: Link, C: Clock, G: Gate>(
     post: &Post<R, G>,
     seat: &mut Seat,
@@ -81,7 +82,7 @@ pub(crate) fn hear<R: Wait, L: Link, C: Clock, G: Gate>(
     job_in(heard)
 }
 
-/// The seat does the job that the datagram before left.
+/// Has the seat do the job that the last datagram left.
 pub(crate) fn go<R: Wait, L: Link, C: Clock, G: Gate>(
     post: &Post<R, G>,
     seat: &mut Seat,

@@ -10,7 +10,7 @@ use crate::serving::statuses::ServeStatus;
 use rd_base::{Bytes, Sink, Starved, write_all};
 use std::alloc::Global;
 
-/// The sums of two, or the first fault that applies.
+/// Adds two counts, or returns the first fault that applies.
 fn join(
     so_far: Result<Served, ServeFault>,
     next: Result<Served, ServeFault>,
@@ -34,7 +34,7 @@ fn join(
     }
 }
 
-/// The sums of all ends, or the first fault that applies.
+/// Returns the sums of all ends, or the first fault that applies.
 pub(crate) fn joined<L, C>(ends: &[End<L, C>]) -> Result<Served, ServeFault>
     requires number { length ends.now ≤ 16 }
     requires few { All (λ end. IfOk end.outcome (IsBelow worker_most)) ends.now }
@@ -49,7 +49,7 @@ pub(crate) fn joined<L, C>(ends: &[End<L, C>]) -> Result<Served, ServeFault>
     sums
 }
 
-/// The line of the sums.
+/// Returns the line of the sums.
 fn line_of(alloc: Global, sums: Served) -> Result<Bytes, Starved>
     ensures { IfOk result (λ line. line ≡ served_line sums) }
 {
@@ -63,7 +63,7 @@ fn line_of(alloc: Global, sums: Served) -> Result<Bytes, Starved>
     Ok(Bytes::of(text.into_bytes()))
 }
 
-/// Writes the sums, where all were served.
+/// Writes the sums if all were served.
 pub(crate) fn conclude<K: Sink>(
     alloc: Global,
     outcome: Result<Served, ServeFault>,

@@ -15,25 +15,25 @@ use std::thread;
 use std::thread::Threads;
 use udp_link::{Clock, Link};
 
-/// The most threads that serve: one for each end.
+/// The maximum number of threads that serve: one for each end.
 const MOST_THREADS: usize = MAX_WORKERS as usize;
 
-/// What one worker of a server has. A server gives it its seat, and leaves that and what came of
-/// the service here.
+/// What one worker of a server has: its link and its clock. The server gives it a seat, and leaves
+/// the seat and the result of the service here.
 #[derive(Drop)]
 pub struct End<L, C> {
-    /// Where its datagrams come from and go to.
+    /// The link that its datagrams come from and go to.
     pub link: L,
-    /// Where its moments and words come from.
+    /// The clock that gives its moments and random words.
     pub clock: C,
-    /// The seat by which it was served; none where it was not.
+    /// The seat by which it was served, or `None` if it was not served.
     pub seat: Option<Seat>,
-    /// What came of its service: out of memory, where it was not served.
+    /// The result of its service: `Memory` if it was not served.
     pub outcome: Result<Served, ServeFault>,
 }
 
 impl<L, C> End<L, C> {
-    /// An end that was not served yet.
+    /// Creates an end that has not been served.
     pub fn of(link: L, clock: C) -> End<L, C>
         ensures link { result.link ≡ link }
         ensures clock { result.clock ≡ clock }
@@ -73,7 +73,7 @@ pub(crate) fn unseat_ends<L, C>(ends: &mut [End<L, C>])
     }
 }
 
-/// Serves one end, where it has a seat. One that has none is not served.
+/// Serves one end if it has a seat.
 fn work<R: Wait + AllocGlobal, L: Link, C: Clock, G: Gate>(
     rt: &R,
     hall: &Hall,

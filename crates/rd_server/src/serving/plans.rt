@@ -1,4 +1,4 @@
-//! The words of the command line of `rd_serve`: their form is tested, and clap reads their values.
+//! The arguments of `rd_serve`. Their form is checked here, and clap reads their values.
 ghost use Rattle.std.specs.Prelude.{◌≡◌, Some, IfOk, map};
 ghost use Rattle.std.specs.String.{string_bytes};
 ghost use Rattle.rd_server.specs.serving.Plans as spec;
@@ -14,22 +14,23 @@ use trace_replay::{Asked, WordsFault, count_of, words_ask};
 /// The last port of UDP (RFC 768).
 const MAX_PORT: u64 = 65_535;
 
-/// The most connections over TCP.
+/// The maximum number of connections over TCP.
 const MAX_STREAMS: u64 = 1_000_000;
 
-/// The most turns of a worker.
+/// The maximum number of receives of a worker.
 const MAX_TURNS: u64 = 1_000_000_000_000;
 
-/// What the words of `rd_serve` ask for.
+/// What the arguments of `rd_serve` ask for.
 #[derive(Clone, Copy, Debug, PartialEq, Eq)]
 pub struct ServePlan {
-    /// The port of UDP or TCP, from 1 on: 5,683 where nothing is said (RFC 7252 section 12.6).
+    /// The port of UDP or TCP, from 1: 5,683 by default (RFC 7252 section 12.6).
     pub port: u16,
-    /// How many workers serve, from 1 to 16: four where nothing is said.
+    /// The number of workers, from 1 to 16: four by default.
     pub workers: u8,
-    /// How many receives each worker makes, from 1 to 10^12: so many where nothing is said.
+    /// The number of receives that each worker makes, from 1 to 10^12: 10^12 by default.
     pub turns: u64,
-    /// How many connections over TCP are served in their place, from 1 to 1,000,000.
+    /// The number of connections over TCP that are served instead of UDP, from 1 to 1,000,000, if
+    /// it is given.
     pub tcp: Option<u64>,
 }
 
@@ -38,28 +39,28 @@ pub struct ServePlan {
 enum ServeOption {
     /// `--port`: the port.
     Port,
-    /// `--workers`: how many workers.
+    /// `--workers`: the number of workers.
     Workers,
-    /// `--turns`: how many turns each has.
+    /// `--turns`: the number of receives of each worker.
     Turns,
-    /// `--tcp`: how many connections over TCP.
+    /// `--tcp`: the number of connections over TCP.
     Tcp,
 }
 
-/// What words ask for, as far as they were read.
+/// What arguments ask for, as far as they were read.
 #[derive(Clone, Copy, Debug, PartialEq, Eq)]
 struct ServeAsked {
-    /// The port, where it is said.
+    /// The port, if it is given.
     port: Option<u16>,
-    /// How many workers, where it is said.
+    /// The number of workers, if it is given.
     workers: Option<u8>,
-    /// How many turns, where it is said.
+    /// The number of receives of each worker, if it is given.
     turns: Option<u64>,
-    /// How many connections over TCP, where it is said.
+    /// The number of connections over TCP, if it is given.
     tcp: Option<u64>,
 }
 
-/// The option that a text names.
+/// Returns the option that a text names.
 fn option_of(text: &[u8]) -> Option<ServeOption>
     ensures { result ≡ spec.option_of text.now }
 {
@@ -79,7 +80,7 @@ fn option_of(text: &[u8]) -> Option<ServeOption>
 }
 
 impl ServeAsked {
-    /// With the port, where it was not said.
+    /// Adds the port, unless it was given before.
     fn with_port(self, value: &[u8]) -> Option<ServeAsked>
         ensures { result ≡ spec.given_to (Some serve_option.Port) value.now self }
     {
@@ -93,7 +94,7 @@ impl ServeAsked {
         })
     }
 
-    /// With the number of workers, where it was not said.
+    /// Adds the number of workers, unless it was given before.
     fn with_workers(self, value: &[u8]) -> Option<ServeAsked>
         ensures { result ≡ spec.given_to (Some serve_option.Workers) value.now self }
     {
@@ -107,7 +108,7 @@ impl ServeAsked {
         })
     }
 
-    /// With the number of turns, where it was not said.
+    /// Adds the number of receives, unless it was given before.
     fn with_turns(self, value: &[u8]) -> Option<ServeAsked>
         ensures { result ≡ spec.given_to (Some serve_option.Turns) value.now self }
     {
@@ -121,7 +122,7 @@ impl ServeAsked {
         })
     }
 
-    /// With the number of connections over TCP, where it was not said.
+    /// Adds the number of connections over TCP, unless it was given before.
     fn with_tcp(self, value: &[u8]) -> Option<ServeAsked>
         ensures { result ≡ spec.given_to (Some serve_option.Tcp) value.now self }
     {
@@ -135,14 +136,14 @@ impl ServeAsked {
         })
     }
 
-    /// Whether more than a port is said beside connections over TCP.
+    /// Returns whether more than a port is given alongside connections over TCP.
     fn is_mixed(self) -> bool
         ensures { result ≡ spec.is_mixed self }
     {
         self.tcp.is_some() && (self.workers.is_some() || self.turns.is_some())
     }
 
-    /// The plan, with what is said by default.
+    /// Returns the plan, with defaults for what is not given.
     fn plan(self) -> ServePlan
         ensures { result ≡ spec.plan_of self }
     {
@@ -174,7 +175,7 @@ impl Asked for ServeAsked {
     }
 }
 
-/// A plan in words, in one order, each option joined with its value.
+/// Returns a plan as arguments, in one order, each option joined with its value.
 fn words_of(alloc: Global, plan: ServePlan) -> Result<Vec<String>, Starved>
     ensures { IfOk result (λ words. map string_bytes words.items ≡ spec.words_of plan) }
 {
@@ -191,7 +192,7 @@ fn words_of(alloc: Global, plan: ServePlan) -> Result<Vec<String>, Starved>
     Ok(words)
 }
 
-/// What clap reads in the words of a plan.
+/// Parses the arguments of a plan with clap.
 fn matches_of<'a>(alloc: Global, words: &'a [String]) -> Result<ArgMatches<'a>, Error>
     ensures { (plan : ServePlan) → map string_bytes words.entry.now ≡ spec.words_of plan
         → ReadsPlan plan result }
@@ -209,7 +210,7 @@ fn matches_of<'a>(alloc: Global, words: &'a [String]) -> Result<ArgMatches<'a>, 
     command.try_get_matches_from(words)
 }
 
-/// The plan whose numbers clap found, for so many connections over TCP.
+/// Returns the plan whose numbers clap found, with this number of connections over TCP.
 fn plan_in(matches: &ArgMatches, tcp: Option<u64>) -> Option<ServePlan>
     ensures { result ≡ spec.plan_found tcp matches.now }
 {
@@ -230,7 +231,7 @@ fn plan_in(matches: &ArgMatches, tcp: Option<u64>) -> Option<ServePlan>
     })
 }
 
-/// The plan as clap reads it in its words.
+/// Returns the plan as clap reads it from its arguments.
 fn plan_read(alloc: Global, plan: ServePlan) -> Result<ServePlan, Starved>
     requires { IsPlan plan }
     ensures { IfOk result (λ read. read ≡ plan) }
@@ -245,11 +246,16 @@ fn plan_read(alloc: Global, plan: ServePlan) -> Result<ServePlan, Starved>
     Ok(read)
 }
 
-/// What the words of `rd_serve` ask for: `--port` with a number from 1 to 65,535, `--workers` with
-/// one from 1 to 16, and `--turns` with one from 1 to 10^12, or in place of these two `--tcp` with
-/// one from 1 to 1,000,000, each once at most, in any order, as two words or joined by `=`.
+/// Returns what the arguments of `rd_serve` ask for.
 ///
-/// `Usage`: they are others. `Starved`: out of memory.
+/// They are `--port` with a number from 1 to 65,535, `--workers` with a number from 1 to 16, and
+/// `--turns` with a number from 1 to 10^12. Instead of the last two there can be `--tcp` with a
+/// number from 1 to 1,000,000. Each is given at most once, in any order, as two arguments or joined
+/// by `=`.
+///
+/// # Errors
+///
+/// `Usage` if the arguments are not these; `Starved` if memory runs out.
 pub fn serve_words(alloc: Global, words: &[String]) -> Result<ServePlan, WordsFault>
     ensures read { IsPlanRead (plan_said (map string_bytes words.now)) result }
     ensures within { IfOk result IsPlan }

@@ -1,11 +1,11 @@
-//! Where a worker works, and what it has at hand there.
+//! The context in which a worker works, and what it carries.
 ghost use Rattle.std.specs.Prelude.{◌≡◌, []};
 
 use crate::serving::served::Served;
 use rd_desk::Outbox;
 use rd_seat::Hall;
 
-/// Where a worker works: the runtime, the hall of its seat, and the gate that it passes.
+/// The context of a worker: the runtime, the hall of its seat, and the gate that it passes.
 #[derive_where(Clone, Copy)]
 pub(crate) struct Post<'a, R, G> {
     pub(crate) rt: &'a R,
@@ -13,8 +13,7 @@ pub(crate) struct Post<'a, R, G> {
     pub(crate) gate: &'a G,
 }
 
-/// What a worker has at hand: an outbox, which is empty between two calls of its seat, and its
-/// counts.
+/// What a worker carries: an outbox, which is empty between two calls of its seat, and its counts.
 #[derive(Drop)]
 pub(crate) struct Tally {
     pub(crate) out: Outbox,

@@ -1,4 +1,4 @@
-//! What comes out of a call of the seat is sent.
+//! Sending the datagrams that come out of a call of the seat.
 ghost use Rattle.std.specs.Prelude.{◌≡◌, ◌+◌, ◌^◌, ◌∷◌, [], List};
 ghost use Rattle.udp_link.specs.declared.links.Went.{Went};
 ghost use Rattle.coap_answers.specs.Outboxes.{most_datagrams};
@@ -26,7 +26,7 @@ fn send_one<L: Link>(link: &mut L, peer: Peer, datagram: &[u8], served: &mut Ser
     }
 }
 
-/// Sends all that came out, in order.
+/// Sends all datagrams that came out, in order.
 fn send_all<L: Link>(link: &mut L, out: &Outbox, served: &mut Served)
     requires { IsBelow (10 ^ 17 + 1) served.old }
     ensures sends { (sendings : List Sending) × (all_sent sendings ≡ out.now)
@@ -44,8 +44,8 @@ fn send_all<L: Link>(link: &mut L, out: &Outbox, served: &mut Served)
     }
 }
 
-/// After a call of the seat: counts whether it ran out of memory, and sends all that came out of
-/// it. The outbox is empty then.
+/// Counts whether a call of the seat ran out of memory, sends all datagrams that came out of it,
+/// and empties the outbox.
 pub(crate) fn finish<L: Link>(link: &mut L, starved: bool, out: &mut Outbox, served: &mut Served)
     requires { HasRoom served.old }
     ensures sends { (sendings : List Sending) × (all_sent sendings ≡ out.old)

@@ -9,15 +9,15 @@ use rd_seat::SeatHeard;
 /// What a worker served.
 #[derive(Clone, Copy, Debug, PartialEq, Eq, Default)]
 pub struct Served {
-    /// How many datagrams were heard.
+    /// The number of datagrams that were received and handled.
     pub heard: u64,
-    /// How many datagrams were sent.
+    /// The number of datagrams that were sent.
     pub sent: u64,
-    /// How many were lost, since their send failed.
+    /// The number of datagrams that were lost because their send failed.
     pub lost: u64,
-    /// How many came that were too long to be heard.
+    /// The number of received datagrams that were too long to be handled.
     pub too_long: u64,
-    /// How many calls of the seat ran out of memory.
+    /// The number of calls of the seat that ran out of memory.
     pub starved: u64,
 }
 
@@ -26,18 +26,18 @@ pub struct Served {
 pub enum ServeFault {
     /// A receive failed.
     Link,
-    /// Out of memory, before the first receive.
+    /// Memory ran out before the first receive.
     Memory,
 }
 
-/// Whether a step ran out of memory.
+/// Returns whether a step ran out of memory.
 pub(crate) fn is_starved(stepped: Stepped) -> bool
     ensures { result ≡ is_starved_step stepped }
 {
     stepped == Stepped::Starved
 }
 
-/// Whether memory ran out while a datagram was heard.
+/// Returns whether memory ran out while a datagram was handled.
 pub(crate) fn is_starved_hearing(heard: &SeatHeard) -> bool
     ensures { result ≡ is_starved_hearing heard.now }
 {

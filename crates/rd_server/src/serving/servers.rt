@@ -13,10 +13,18 @@ use std::sync::Wait;
 use std::thread::Threads;
 use udp_link::{Clock, Link};
 
-/// Makes a hall for 1 to 16 ends, in which nothing is registered, and gives each end the seat of
-/// its number. Seats may be called before the ends are served ([`serve_seats`]).
+/// Makes a hall for the ends and gives each end the seat of its number. Nothing is registered in
+/// the hall.
 ///
-/// `Starved`: out of memory. Then no end has a seat.
+/// Seats can be called before the ends are served ([`serve_seats`]).
+///
+/// # Requires
+///
+/// There are 1 to 16 ends.
+///
+/// # Errors
+///
+/// `Starved` if memory runs out. No end then has a seat.
 pub fn make_hall<R: Wait + AllocGlobal, L, C>(
     rt: &R,
     ends: &mut [End<L, C>],
@@ -34,16 +42,25 @@ pub fn make_hall<R: Wait + AllocGlobal, L, C>(
     Ok(hall)
 }
 
-/// Serves by the seats that the ends have in a hall: each end has so many turns, at most 10^12, all
-/// ends at the same time, as [`serve_worker`] does, by its seat and from where that stands. Where
-/// a thread cannot be started, its work is done by the caller. Once all have ended, the hall ends,
-/// and the line `served HEARD SENT LOST` with their sums is written, where all were served to the
-/// end. Each end keeps its seat and what came of its service. An end without a seat is not served.
+/// Serves by the seats that the ends have in a hall.
 ///
-/// `Memory`: out of memory, or an end has no seat: an end whose outcome says so received nothing,
-/// and where none does, all were served to the end and only the line was not written. `Link`: a
-/// receive of one of the ends failed. `Write`: the output failed; then a front of the line was
-/// written, and not all. Of these the first that applies.
+/// Each end makes `turns` receives, as [`serve_worker`] does, and its seat goes on from its present
+/// state. All ends serve at the same time. If a thread cannot be started, the caller does its work.
+/// When all have finished, the hall ends. If all were served to the end, the line `served HEARD
+/// SENT LOST` with their sums is written. Each end keeps its seat and the result of its service. An
+/// end without a seat is not served.
+///
+/// Returns the first of these that applies:
+/// - `Memory` if memory ran out or an end has no seat. An end whose outcome is `Memory` has
+///   received nothing. If no outcome is, all ends were served to the end, and only the line was not
+///   written.
+/// - `Link` if a receive of one of the ends failed.
+/// - `Write` if the output failed. A prefix of the line was then written, but not all of it.
+/// - `Done` otherwise.
+///
+/// # Requires
+///
+/// There are at most 16 ends, `turns` is at most 10^12, and each seat is one of this hall.
 ///
 /// [`serve_worker`]: crate::serve_worker
 pub fn serve_seats<
@@ -58,7 +75,7 @@ pub fn serve_seats<
     requires hall { AreOfHall hall ends.old }
     // Each end was served by the seat that it had.
     ensures served { EachGoesOn L.Link.own C.Clock.own turns hall ends.old ends.new }
-    // What was written, and which status comes, by what came of the ends.
+    // What was written, and the status, follow from the outcomes of the ends.
     ensures concludes { Concludes (joined (map (λ end. end.outcome) ends.new))
         (K.holds out.old) (K.holds out.new) (K.faults out.old) (K.faults out.new) result }
     // The sums that were written are those of all ends.
@@ -70,14 +87,20 @@ pub fn serve_seats<
     conclude(rt.alloc(), joined(ends), out)
 }
 
-/// Serves one directory, in which nothing is registered at first, over 1 to 16 ends: it makes a
-/// hall for them ([`make_hall`]) and serves by its seats ([`serve_seats`]).
+/// Serves one directory, in which nothing is registered at first, over the ends. It makes a hall
+/// for them ([`make_hall`]) and serves by its seats ([`serve_seats`]).
 ///
-/// `Memory`: out of memory. Where no end has a seat, nothing was received. Where they have theirs,
-/// an end whose outcome is out of memory received nothing, whatever the others did; and where
-/// there is none, all were served to the end and only the line was not written. `Link`: a receive
-/// of one of the ends failed. `Write`: the output failed; then a front of the line was written, and
-/// not all. Of these the first that applies.
+/// Returns the first of these that applies:
+/// - `Memory` if memory ran out. If no end has a seat, nothing was received. Otherwise an end whose
+///   outcome is `Memory` has received nothing, whatever the others did. If no outcome is, all ends
+///   were served to the end, and only the line was not written.
+/// - `Link` if a receive of one of the ends failed.
+/// - `Write` if the output failed. A prefix of the line was then written, but not all of it.
+/// - `Done` otherwise.
+///
+/// # Requires
+///
+/// There are 1 to 16 ends, and `turns` is at most 10^12.
 pub fn serve<
     R: Threads + Wait + Sync + AllocGlobal,
     L: Link + Send,
@@ -89,7 +112,7 @@ pub fn serve<
     requires turns { turns ≤ 10 ^ 12 }
     // All ends were served by the seats of one new hall, or memory ran out before.
     ensures served { AreServed L.Link.own C.Clock.own turns ends.old ends.new result }
-    // What was written, and which status comes, by what came of the ends.
+    // What was written, and the status, follow from the outcomes of the ends.
     ensures concludes { Concludes (joined (map (λ end. end.outcome) ends.new))
         (K.holds out.old) (K.holds out.new) (K.faults out.old) (K.faults out.new) result }
     // The sums that were written are those of all ends.

@@ -1,6 +1,6 @@
 //! How a server ends.
 
-/// How a server ends: the first that applies of memory, a link and the output.
+/// How a server ends. If several apply, memory precedes a link, and a link precedes the output.
 #[derive(Clone, Copy, Debug, PartialEq, Eq)]
 pub enum ServeStatus {
     /// Every worker was served to the end, and the line of their sums was written.
@@ -9,6 +9,6 @@ pub enum ServeStatus {
     Link,
     /// The output failed.
     Write,
-    /// Out of memory.
+    /// Memory ran out.
     Memory,
 }

@@ -1,4 +1,4 @@
-//! Turns: one receive, and the calls that follow it.
+//! One receive, and the calls that follow it.
 ghost use Rattle.std.specs.Prelude.{◌≡◌, ◌≤◌, ◌*◌, ◌^◌, List, length};
 ghost use Rattle.udp_link.specs.declared.links.TheConstants.{MAX_DATAGRAM};
 ghost use Rattle.rd_seat.specs.Callers.{Hears};
@@ -16,10 +16,10 @@ use rd_seat::{Gate, Seat};
 use std::sync::Wait;
 use udp_link::{Came, Clock, Link, MAX_DATAGRAM};
 
-/// After so many datagrams that were heard time passes.
+/// The number of handled datagrams after which time passes.
 const HEARD_BEFORE_TICK: u64 = 16;
 
-/// A datagram is heard, and its job is done at once.
+/// Has the seat handle a datagram, and does its job at once.
 fn answer<R: Wait, L: Link, C: Clock, G: Gate>(
     post: &Post<R, G>,
     seat: &mut Seat,
@@ -44,7 +44,7 @@ fn answer<R: Wait, L: Link, C: Clock, G: Gate>(
     }
 }
 
-/// A datagram is heard, the last of those that are counted, and after each sixteenth time passes.
+/// Has the seat handle a datagram, which is already counted. Lets time pass after each sixteenth.
 fn hear_datagram<R: Wait, L: Link, C: Clock, G: Gate>(
     post: &Post<R, G>,
     seat: &mut Seat,
@@ -70,7 +70,7 @@ fn hear_datagram<R: Wait, L: Link, C: Clock, G: Gate>(
     }
 }
 
-/// One turn: a receive, and the calls that follow it. False: the receive failed.
+/// Makes one receive and the calls that follow it. Returns false if the receive failed.
 pub(crate) fn turn<R: Wait, L: Link, C: Clock, G: Gate>(
     post: &Post<R, G>,
     seat: &mut Seat,

@@ -12,7 +12,7 @@ use rd_seat::{Gate, Hall, Seat};
 use std::sync::Wait;
 use udp_link::{Clock, Link, MAX_DATAGRAM};
 
-/// Turn after turn, so many, until a receive fails.
+/// Makes `turns` receives, each with its calls, until one fails.
 fn run<R: Wait, L: Link, C: Clock, G: Gate>(
     post: &Post<R, G>,
     seat: &mut Seat,
@@ -45,15 +45,22 @@ fn run<R: Wait, L: Link, C: Clock, G: Gate>(
     Ok(tally.served)
 }
 
-/// Serves what comes over a link, by a seat of the hall: so many turns, at most 10^12, each of
-/// which is one receive. A datagram is heard, and its job is done at once; time passes after each
-/// receive to which nothing came, after each datagram that was too long, and after each sixteenth
-/// that was heard. Before each call of the seat the clock is asked for a moment, and before those
-/// that hear or in which time passes for a word. What comes out is sent; a datagram whose send
-/// fails is lost. It waits for turns at the hall.
+/// Serves datagrams that come over a link, by a seat of the hall, for `turns` receives.
 ///
-/// `Link`: a receive failed, which ends the service. `Memory`: out of memory, before the first
-/// receive.
+/// Each datagram is handled, and its job is done at once. Time passes after each receive that gave
+/// no datagram, after each datagram that was too long, and after each sixteenth that was handled.
+/// Before each call of the seat, the clock is read for a moment; before a call that handles a
+/// datagram or lets time pass, also for a random word. The datagrams that come out are sent; one
+/// whose send fails is lost. The worker waits for its turns at the hall.
+///
+/// # Requires
+///
+/// The seat is one of this hall, and `turns` is at most 10^12.
+///
+/// # Errors
+///
+/// - `Link` if a receive failed, which ends the service.
+/// - `Memory` if memory runs out before the first receive.
 pub fn serve_worker<R: Wait + AllocGlobal, L: Link, C: Clock, G: Gate>(
     rt: &R,
     hall: &Hall,
@@ -66,11 +73,11 @@ pub fn serve_worker<R: Wait + AllocGlobal, L: Link, C: Clock, G: Gate>(
     requires hall { seat.old.hall ≡ hall.now }
     requires turns { turns ≤ 10 ^ 12 }
     ensures hall { seat.new.hall ≡ seat.old.hall }
-    // Each receive has its calls, in order, what they send was sent, and the counts are their sums.
+    // Each receive has its calls, in order; what they send was sent, and the counts are their sums.
     ensures serves { Serves turns
         (worker_seen L.Link.own C.Clock.own seat.old link.old clock.old)
         (worker_seen L.Link.own C.Clock.own seat.new link.new clock.new) result }
-    // Where the link tells its datagrams, what was heard and sent is so many of them.
+    // If the link exposes its datagrams, the counts say how many were handled and sent.
     ensures told { IfOk result (λ served.
         CountsTold served (link_seen L.Link.own link.old) (link_seen L.Link.own link.new)) }
     ensures few { IfOk result (IsBelow worker_most) }

@@ -35,8 +35,8 @@ publish_made-requires g c =
     (seen_of c.args.pass.now) c.deref_mut.result.now h)
 
 -- what was published stands for the journal with the row
-pub give-requires-clause-value : goal.give-requires-clause-value
-give-requires-clause-value g c =
+pub give_back-requires-clause-value : goal.give_back-requires-clause-value
+give_back-requires-clause-value g c =
     let stepped = subst (λ (d : Shown PublisherSeen). IfSome g.S.Added.added (λ (r : Row).
     HasStepped g.E.Entering.entered r (number_of c.args.pass.now) (seen_of c.args.pass.now) d))
     (sym c.deref_mut.ensures.value) c.requires.stepped in
@@ -52,8 +52,8 @@ give-requires-clause-value g c =
     stepped
 
 -- the board has its name still
-pub give-requires-clause-value_label : goal.give-requires-clause-value_label
-give-requires-clause-value_label g c =
+pub give_back-requires-clause-value_label : goal.give_back-requires-clause-value_label
+give_back-requires-clause-value_label g c =
     ap (λ (d : Shown PublisherSeen). d.board.name)
     (c.meet.ensures.desk ∙ (c.deref_mut-2.ensures.value ∙ c.publish_made.ensures.value))
     ∙ (board_published-name g.E.Entering.entered c.deref_mut.result.now
@@ -69,12 +69,12 @@ returns g c =
     (sym c.deref_mut.ensures.value) c.requires.stepped in
     three g.S.Added.added (λ (r : Row). HasStepped g.E.Entering.entered r
     (number_of c.args.pass.now) (seen_of c.args.pass.now) c.deref_mut.result.now)
-    (λ (r : Row). seen_of c.give.new.pass ≡ r ∷ seen_of c.args.pass.now)
-    (λ (r : Row). mine_of c.give.new.pass ≡ r ∷ mine_of c.args.pass.now)
-    (λ (r : Row). HasEnded r c.args.pass.now c.give.new.pass c.args.looker.now c.meet.new.looker)
-    stepped c.give.ensures.seen c.give.ensures.mine
+    (λ (r : Row). seen_of c.give_back.new.pass ≡ r ∷ seen_of c.args.pass.now)
+    (λ (r : Row). mine_of c.give_back.new.pass ≡ r ∷ mine_of c.args.pass.now)
+    (λ (r : Row). HasEnded r c.args.pass.now c.give_back.new.pass c.args.looker.now c.meet.new.looker)
+    stepped c.give_back.ensures.seen c.give_back.ensures.mine
     (λ r h seen mine.
-    let told : c.deref_mut-2.result.now.board.told ≡ entries (seen_of c.give.new.pass) =
+    let told : c.deref_mut-2.result.now.board.told ≡ entries (seen_of c.give_back.new.pass) =
     ap (λ (d : Shown PublisherSeen). d.board.told)
     (c.deref_mut-2.ensures.value ∙ c.publish_made.ensures.value)
     ∙ ((stepped-StandsAtTurn g.E.Entering.entered r (number_of c.args.pass.now)
@@ -83,18 +83,18 @@ returns g c =
     c.publish_made.ensures.value c.publish_made.ensures.published)).told
     ∙ ap entries (sym seen)) in
     record {
-      lock = c.give.ensures.lock;
+      lock = c.give_back.ensures.lock;
       hall = λ i. record {
-        id = c.give.ensures.lock i;
-        workers = c.give.ensures.passes i;
+        id = c.give_back.ensures.lock i;
+        workers = c.give_back.ensures.passes i;
       };
-      idle = c.give.ensures.idle;
-      number = c.give.ensures.number;
-      label = c.give.ensures.label;
+      idle = c.give_back.ensures.idle;
+      number = c.give_back.ensures.number;
+      label = c.give_back.ensures.label;
       seen = seen;
       mine = mine;
-      own = c.give.ensures.own;
-      below = c.give.ensures.below;
+      own = c.give_back.ensures.own;
+      below = c.give_back.ensures.below;
       name = c.meet.ensures.name;
       met = c.meet.ensures.seen;
       met_own = subst (λ (h : List Entry). IsFront h c.meet.new.looker.seen) told
