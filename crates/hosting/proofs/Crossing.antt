@@ -58,4 +58,4 @@ teller_send κ C W c w = search (sendable, std.crosses, counts_sync) depth 20
 -- a counted link may, where the link over which it stands, its clock and its output may
 pub counted_send : (κ : NamedLft) (L C W : RattleType) → IsSend L → IsSend C → IsSend W
     → IsSend (CountedLink.the_row κ L C W)
-counted_send κ L C W l c w = search (sendable, std.crosses, teller_send κ C W c w) depth 20
+counted_send κ L C W l c w = search (sendable, std.crosses, teller_send) depth 20

@@ -10,8 +10,8 @@ mod endings;
 
 use endings::Ending;
 use hosting::{
-    CountedLink, Counts, Crew, Failure, Guard, GuardedLink, HostClock, HostLink, HostPlan, Listener,
-    Origin, Routes, Teller, Wanted, read_words,
+    CountedLink, Counts, Crew, Failure, Guard, GuardedLink, HostClock, HostLink, HostPlan,
+    Listener, Origin, Routes, Teller, Wanted, read_words,
 };
 use rd_base::{Peer, Starved, StdSink};
 use rd_desk::Stepped;
