@@ -5,18 +5,34 @@ source is an address of 127.0.0.0/8.
 """
 
 import contextlib
+import os
+import select
 import shlex
 import socket
 import subprocess
+import time
+from collections import Counter
 
-from messages import (ACK, BLOCK1, CON, GET, NON, OBSERVE, POST, octets, path, query,
+from messages import (ACK, BLOCK1, BLOCK2, CON, GET, NON, OBSERVE, POST, octets, path, query,
                       received)
 
 # The code 4.29 (RFC 8516 section 3).
 TOO_MANY = 0x9D
 
-# The shares of the server of these cases, in writes, and how many query options a lookup may have.
-SHARE, CRITERIA = 8, 4
+# The shares of the server of these cases, in writes and in lookups, and how many query options a
+# lookup may have.
+SHARE, LOOKUPS, CRITERIA = 8, 12, 4
+
+# How long no line is said after one, in seconds, and how much longer these cases wait.
+PAUSE, SPARE = 60, 5
+
+# What each answer counts as in the line, and each request to which nothing comes.
+COUNTED = {"2.01": "registered", "2.05": "found", "4.29 Max-Age": "4.29",
+           "4.00 query": "4.00-query", "nothing": "dropped"}
+
+# The names that stand in each line.
+NAMES = ["heard", "answered", "ignored", "dropped", "registered", "updated", "removed", "found",
+         "notified"]
 
 # How many first blocks and how many observations a source may send in a window, and how long a
 # window is, in seconds.
@@ -26,6 +42,9 @@ BEGINNINGS, OBSERVATIONS, WINDOW = 16, 64, 247
 FOREIGN = "192.0.2.7"
 
 TOKEN = b"\xd1\xd2"
+
+# What was sent to the server of these cases, by the names of its line.
+SENT = Counter()
 
 
 class Source:
@@ -38,6 +57,14 @@ class Source:
         self.mid = 0
 
     def sends(self, datagram: bytes, seconds: float = 5) -> str:
+        """What comes of a datagram, which is counted."""
+        came = self.comes(datagram, seconds)
+        SENT["heard"] += 1
+        SENT["ignored" if came == "nothing" else "answered"] += 1
+        SENT[COUNTED.get(came, came)] += 1
+        return came
+
+    def comes(self, datagram: bytes, seconds: float) -> str:
         """What comes of a datagram: its type, code, Message ID and token, as far as they are those
         of the request, and whether Max-Age is within a window."""
         self.asking.settimeout(seconds)
@@ -69,10 +96,10 @@ class Source:
 
 
 def ended(run, name: str, words: list[str], wanted: list[str]):
-    """A case: rd_host does not start, and says why in one line."""
+    """A case: the status with which rd_host ends, and what it says."""
     done = subprocess.run([run.beside("rd_host"), *words], stdin=subprocess.DEVNULL,
                           stdout=subprocess.PIPE, stderr=subprocess.PIPE, timeout=5, check=False)
-    said = (done.stdout + done.stderr).decode().splitlines()
+    said = (done.stderr + done.stdout).decode().splitlines()
     run.tell(name, shlex.join(["rd_host", *words]), wanted, [f"status {done.returncode}", *said])
 
 
@@ -96,8 +123,22 @@ def ends(run):
            "2001:db8::/32"])
     ended(run, "a number that comes twice", ["--listen", taken, "--turns=1", "--turns=2"],
           ["status 3", "--turns: it stands twice"])
+    ended(run, "a word without a value that comes twice", ["--quiet", "--quiet"],
+          ["status 3", "--quiet: it stands twice"])
     ended(run, "another word", ["--listen", taken, "--quick"],
           ["status 3", "--quick: no option of rd_host (--help tells them)"])
+
+
+def starts(run):
+    """What it takes, and what it does by default."""
+    brief = ["--workers=1", "--turns=1", "--begin=41"]
+    line = "rd_host 0.1.0: listen={} workers=1 share=1024 criteria=16 begin=41"
+    served = "served 0 0 0"
+    ended(run, "no address", brief,
+          ["status 0", line.format("[::1]:5683,127.0.0.1:5683"), served])
+    port = run.port("spelled")
+    ended(run, "another spelling of an address", ["--listen", f"[0:0::0001]:{port}", *brief],
+          ["status 0", line.format(f"[::1]:{port}"), served])
 
 
 def shares(run, opened):
@@ -136,6 +177,12 @@ def shares(run, opened):
 
 def limits(run, opened):
     """What else does not reach the directory."""
+    many = Source(run, opened, "127.0.0.7")
+    run.tell("lookups have a share where that is said", "(octets) from 127.0.0.7",
+             ["2.05"] * LOOKUPS + ["4.29 Max-Age"], [many.looks(1) for _ in range(LOOKUPS + 1)])
+    later = [*path("rd-lookup", "ep"), (BLOCK2, b"\x16")]
+    run.tell("a later block of a lookup is none", "(octets) from 127.0.0.7", ["not 4.29"],
+             ["not 4.29" if "4.29" not in many.asks(GET, later) else "4.29"])
     one = Source(run, opened, "127.0.0.6")
     run.tell("a lookup with as many query options as may be", "(octets)", ["2.05"],
              [one.looks(CRITERIA)])
@@ -144,18 +191,53 @@ def limits(run, opened):
              [Source(run, opened, "127.1.0.1").registers("stranger", seconds=0.3)])
 
 
+def lines(run, until: float) -> list[str]:
+    """What the server says on standard error until a moment."""
+    said, end = b"", run.server.stderr.fileno()
+    while (left := until - time.monotonic()) > 0:
+        if select.select([end], [], [], left)[0]:
+            said += os.read(end, 4096)
+    return said.decode().splitlines()
+
+
+def told(said: list[str]) -> dict[str, int]:
+    """The sums of what lines say, by name."""
+    sums = Counter()
+    for line in said:
+        parts = line.removeprefix("rd_host: ").split()
+        sums.update({name: int(number) for name, _, number in
+                     (part.partition("=") for part in parts)})
+    return dict(sums)
+
+
+def counts(run, since: float):
+    """The lines that say once a minute what was counted."""
+    said = lines(run, since + PAUSE + SPARE)
+    wanted = dict.fromkeys(NAMES, 0) | dict(SENT)
+    run.tell("what was counted is said, at most once a minute", "two lines on standard error",
+             ["2 lines", *(f"{name}={wanted[name]}" for name in sorted(wanted))],
+             [f"{len(said)} lines", *(f"{name}={number}" for name, number in
+                                      sorted(told(said).items()))])
+    said = lines(run, time.monotonic() + PAUSE + SPARE)
+    run.tell("where nothing changed, nothing is said", "no line on standard error", [], said)
+
+
 def run(run_of_cases):
     """Runs the cases."""
     run_of_cases.group("What rd_host says, and what it keeps from the directory")
     at = f"127.0.0.1:{run_of_cases.port('server')}"
     words = ["--listen", at, "--workers=2", f"--share={SHARE}", f"--criteria={CRITERIA}",
-             "--allow=127.0.0.0/16", "--trust=127.0.9.0/24", "--begin=41"]
+             f"--lookups={LOOKUPS}", "--allow=127.0.0.0/16", "--trust=127.0.9.0/24", "--begin=41"]
+    SENT.clear()
     run_of_cases.server = run_of_cases.start([run_of_cases.beside("rd_host"), *words])
     said = run_of_cases.server.stderr.readline().decode().strip()
     run_of_cases.tell("the line at the start", shlex.join(["rd_host", *words]),
                       [f"rd_host 0.1.0: listen={at} workers=2 share={SHARE} criteria={CRITERIA} "
                        "begin=41"], [said])
     ends(run_of_cases)
+    starts(run_of_cases)
+    since = time.monotonic()
     with contextlib.ExitStack() as opened:
         shares(run_of_cases, opened)
         limits(run_of_cases, opened)
+    counts(run_of_cases, since)

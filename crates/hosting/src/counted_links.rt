@@ -62,7 +62,7 @@ impl<C: Clock, W: Write> Teller<'_, C, W> {
     fn tell(&mut self) {
         self.in_a_row = 0;
         if self.counts.is_due(self.clock.now()) {
-            if let Ok(Some(line)) = self.counts.line(self.alloc) {
+            if let Ok(line) = self.counts.line(self.alloc) {
                 let _ = self.out.write_all(line.as_bytes());
             }
         }

@@ -180,24 +180,30 @@ impl Counts {
         }
     }
 
-    /// Whether a line may be said now, by this caller alone.
+    /// Whether something was counted since the last line.
+    fn has_changed(&self) -> bool {
+        self.events
+            .iter()
+            .any(|number| number.load(Ordering::SeqCst) > 0)
+    }
+
+    /// Whether a line is to be said now, by this caller alone.
     pub(crate) fn is_due(&self, now: Moment) -> bool {
         let next = self.next.load(Ordering::SeqCst);
         let then = now.0.saturating_add(PAUSE);
         next <= now.0
+            && self.has_changed()
             && self
                 .next
                 .compare_exchange(next, then, Ordering::SeqCst, Ordering::SeqCst)
                 .is_ok()
     }
 
-    /// The line that says what was counted since the last one; nothing where that is nothing.
-    pub(crate) fn line(&self, alloc: Global) -> Result<Option<String>, Starved> {
+    /// The line that says what was counted since the last one.
+    pub(crate) fn line(&self, alloc: Global) -> Result<String, Starved> {
         let mut line = String::from_str(alloc, "rd_host:")?;
-        let mut changed = false;
         for (place, name) in NAMES.iter().enumerate() {
             let number = taken(self.events.as_slice(), place);
-            changed = changed || number > 0;
             write!(line, " {name}={number}")?;
         }
         for (place, (code, word)) in REFUSALS.iter().enumerate() {
@@ -211,6 +217,6 @@ impl Counts {
             write!(line, " refused={others}")?;
         }
         line.push('\n')?;
-        Ok(if changed { Some(line) } else { None })
+        Ok(line)
     }
 }
