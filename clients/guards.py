@@ -16,8 +16,8 @@ from collections import Counter
 from messages import (ACK, BLOCK1, BLOCK2, CON, GET, NON, OBSERVE, POST, octets, path, query,
                       received)
 
-# The code 4.29 (RFC 8516 section 3).
-TOO_MANY = 0x9D
+# The least code of a refusal (RFC 7252 section 5.9), and 4.29 (RFC 8516 section 3).
+BAD_REQUEST, TOO_MANY = 0x80, 0x9D
 
 # The shares of the server of these cases, in writes and in lookups, and how many query options a
 # lookup may have.
@@ -27,8 +27,7 @@ SHARE, LOOKUPS, CRITERIA = 8, 12, 4
 PAUSE, SPARE = 60, 5
 
 # What each answer counts as in the line, and each request to which nothing comes.
-COUNTED = {"2.01": "registered", "2.05": "found", "4.29 Max-Age": "4.29",
-           "4.00 query": "4.00-query", "nothing": "dropped"}
+COUNTED = {"2.01": "registered", "2.05": "found", "4.29 Max-Age": "4.29", "nothing": "dropped"}
 
 # The names that stand in each line.
 NAMES = ["heard", "answered", "ignored", "dropped", "registered", "updated", "removed", "found",
@@ -61,12 +60,12 @@ class Source:
         came = self.comes(datagram, seconds)
         SENT["heard"] += 1
         SENT["ignored" if came == "nothing" else "answered"] += 1
-        SENT[COUNTED.get(came, came)] += 1
+        SENT[COUNTED.get(came, came.replace(" ", "-"))] += 1
         return came
 
     def comes(self, datagram: bytes, seconds: float) -> str:
-        """What comes of a datagram: its type, code, Message ID and token, as far as they are those
-        of the request, and whether Max-Age is within a window."""
+        """What comes of a datagram: its code, where its type, Message ID and token are those of an
+        answer to it; and the word of a refusal, or whether Max-Age is within a window."""
         self.asking.settimeout(seconds)
         self.asking.send(datagram)
         for each in received(self.asking):
@@ -78,7 +77,8 @@ class Source:
             if each[1] == TOO_MANY:
                 is_age = rest[:2] == b"\xd1\x01" and len(rest) == 3 and 1 <= rest[2] <= WINDOW
                 return f"{code} Max-Age" if is_age else f"{code} {rest.hex()}"
-            return f"{code} query" if rest == b"\xffquery" else code
+            word = rest[1:].decode() if each[1] >= BAD_REQUEST and rest[:1] == b"\xff" else ""
+            return f"{code} {word}".rstrip()
         return "nothing"
 
     def asks(self, code: int, options: list, kind: int = CON, seconds: float = 5) -> str:
