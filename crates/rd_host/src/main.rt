@@ -73,7 +73,9 @@ fn listeners_at(rt: &HostRuntime, plan: &HostPlan) -> Result<Vec<Listener>, Endi
     let mut listeners = Vec::new(rt.alloc());
     'addresses: for address in plan.listen.as_slice() {
         if let Some(listener) = listener_at(rt, *address)? {
-            listeners.push(listener)?;
+            if listeners.push(listener).is_err() {
+                return Err(Failure::Memory.into());
+            }
         }
     }
     if listeners.is_empty() {
