@@ -1,3 +1,7 @@
 mod EndLaws
+mod LinkLaws
+mod NetworkNames
 mod OptionSteps
+mod ShareLaws
 mod examples
+pub mod Crossing

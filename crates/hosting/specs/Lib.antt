@@ -1,4 +1,12 @@
 pub mod Words
+pub mod Widths
+pub mod Networks
+pub mod Addresses
+pub mod Askings
+pub mod Deeds
+pub mod Shares
+pub mod ShareLogs
+pub mod Refusals
 pub mod Mapped
 pub mod Routes
 pub mod Times

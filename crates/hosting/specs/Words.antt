@@ -1,13 +1,16 @@
 -- The words of `rd_host`: the addresses at which it listens, how many workers each has, how many
--- turns each of them, and above which number the run begins.
+-- turns each of them, above which number the run begins, and what its guard keeps from it.
 use Rattle.std.specs.Prelude.{◌≡◌, ◌≤◌, ℕ, ◌+◌, ◌/◌, List, [], ◌∷◌}
 use Rattle.std.specs.Prelude.{◌++◌, length, codes}
 use Rattle.std.specs.Prelude.{Option, Some, None, Result, Ok, Err, option_and_then, option_map}
 use Rattle.std.specs.Prelude.{IfSome, bytes_eq, drop, is_some, min, nat_le, position, take}
 use Rattle.std.specs.Prelude.{unwrap_or}
-use Rattle.std.specs.Prelude.{◌&&◌, ◌||◌, ◌==◌, ⊤, if◌then◌else◌}
-use Rattle.rd_base.specs.Peers.{peer_of}
+use Rattle.std.specs.Prelude.{◌&&◌, ◌||◌, ◌==◌, ⊤, true, false, if◌then◌else◌}
+use Rattle.rd_base.specs.declared.peers.Host.TheVariants as host
+use Rattle.rd_base.specs.declared.peers.Peer.{Peer}
 use Rattle.line_model.specs.Numbers.{number_of}
+use Rattle.hosting.specs.Addresses.{address_of}
+use Rattle.hosting.specs.Networks.{network_of}
 use Rattle.hosting.specs.declared.options.OptionName.{OptionName}
 use Rattle.hosting.specs.declared.options.OptionName.TheVariants as option_name
 use Rattle.hosting.specs.declared.options.HostOption.{HostOption}
@@ -31,6 +34,24 @@ max_turns = 1_000_000_000_000
 abbrev pub max_begin : ℕ
 max_begin = 100_000_000_000_000
 
+-- the greatest share of a source, in writes, and what it is where it is not said
+abbrev pub max_share : ℕ
+max_share = 4096
+
+abbrev pub default_share : ℕ
+default_share = 1024
+
+-- the greatest share of a source, in lookups; there is none where it is not said
+abbrev pub max_lookups : ℕ
+max_lookups = 65_535
+
+-- the greatest limit of query options of a lookup, and what it is where it is not said
+abbrev pub max_criteria : ℕ
+max_criteria = 768
+
+abbrev pub default_criteria : ℕ
+default_criteria = 16
+
 -- ---- options
 
 -- the number is from 1 on
@@ -41,24 +62,43 @@ from_one n = if nat_le 1 n then Some n else None
 abbrev pub count_of : ℕ → List ℕ → Option ℕ
 count_of limit text = option_and_then from_one (number_of limit text)
 
+-- the option of the guard that a word names
+abbrev pub guard_name_of : List ℕ → Option OptionName
+guard_name_of word =
+    if bytes_eq word (codes "--allow") then Some option_name.Allow
+    else (if bytes_eq word (codes "--trust") then Some option_name.Trust
+    else (if bytes_eq word (codes "--share") then Some option_name.Share
+    else (if bytes_eq word (codes "--criteria") then Some option_name.Criteria
+    else (if bytes_eq word (codes "--lookups") then Some option_name.Lookups else None))))
+
 -- the option that a word names
 abbrev pub name_of : List ℕ → Option OptionName
 name_of word =
     if bytes_eq word (codes "--listen") then Some option_name.Listen
     else (if bytes_eq word (codes "--workers") then Some option_name.Workers
     else (if bytes_eq word (codes "--turns") then Some option_name.Turns
-    else (if bytes_eq word (codes "--begin") then Some option_name.Begin else None)))
+    else (if bytes_eq word (codes "--begin") then Some option_name.Begin
+    else guard_name_of word)))
 
--- An option with its value: an address as it is printed (RFC 5952), with a port from 1 on, or a
--- number from 1 to its limit.
+-- An option with its value: an address with a port from 1 on, a network, or a number from 1 to its
+-- limit; of the guard, from 0.
 abbrev pub option_of : OptionName → List ℕ → Option HostOption
-option_of option_name.Listen value = option_map (λ p. host_option.Listen p) (peer_of value)
+option_of option_name.Listen value = option_map (λ p. host_option.Listen p) (address_of value)
 option_of option_name.Workers value =
     option_map (λ n. host_option.Workers n) (count_of max_ends value)
 option_of option_name.Turns value =
     option_map (λ n. host_option.Turns n) (count_of max_turns value)
 option_of option_name.Begin value =
     option_map (λ n. host_option.Begin n) (count_of max_begin value)
+option_of option_name.Allow value = option_map (λ n. host_option.Allow n) (network_of value)
+option_of option_name.Trust value = option_map (λ n. host_option.Trust n) (network_of value)
+option_of option_name.Share value =
+    option_map (λ n. host_option.Share n) (number_of max_share value)
+option_of option_name.Criteria value =
+    option_map (λ n. host_option.Criteria n) (number_of max_criteria value)
+option_of option_name.Lookups value =
+    option_map (λ n. host_option.Lookups n) (number_of max_lookups value)
+option_of option_name.Quiet value = None
 
 -- what stands before the first `=`, and what stands after it
 abbrev pub cut : List ℕ → Option (List ℕ × List ℕ)
@@ -69,13 +109,14 @@ abbrev pub named : Option OptionName → List ℕ → Option HostOption
 named None value = None
 named (Some name) value = option_of name value
 
--- an option in one word, in which its name and its value are joined
+-- an option in one word: one with no value, or its name and its value joined
 abbrev pub of_parts : Option (List ℕ × List ℕ) → Option HostOption
 of_parts None = None
 of_parts (Some parts) = named (name_of parts.0) parts.1
 
 abbrev pub joined : List ℕ → Option HostOption
-joined word = of_parts (cut word)
+joined word =
+    if bytes_eq word (codes "--quiet") then Some host_option.Quiet else of_parts (cut word)
 
 -- an option before others, where each is one
 abbrev pub before : Option HostOption → Option (List HostOption) → Option (List HostOption)
@@ -99,14 +140,25 @@ Begins words (Some next) = options_of words ≡ before (Some next.0) (options_of
 
 -- nothing is asked for
 abbrev pub nothing_asked : HostAsked
-nothing_asked = record { listen = []; workers = None; turns = None; begin = None }
+nothing_asked = record {
+  listen = [];
+  workers = None;
+  turns = None;
+  begin = None;
+  allow = [];
+  trust = [];
+  share = None;
+  criteria = None;
+  lookups = None;
+  quiet = false;
+}
 
 -- a number that is said once at most
 abbrev pub once : Option ℕ → ℕ → Option ℕ
 once None n = Some n
 once (Some earlier) n = None
 
--- an option more: any number of addresses, each number once
+-- an option more: any number of addresses and networks, each number once
 abbrev pub asked_with : HostAsked → HostOption → Option HostAsked
 asked_with asked (host_option.Listen address) =
     Some (record asked { listen = asked.listen ++ address ∷ [] })
@@ -116,6 +168,18 @@ asked_with asked (host_option.Turns n) =
     option_map (λ said. record asked { turns = Some said }) (once asked.turns n)
 asked_with asked (host_option.Begin n) =
     option_map (λ said. record asked { begin = Some said }) (once asked.begin n)
+asked_with asked (host_option.Allow network) =
+    Some (record asked { allow = asked.allow ++ network ∷ [] })
+asked_with asked (host_option.Trust network) =
+    Some (record asked { trust = asked.trust ++ network ∷ [] })
+asked_with asked (host_option.Share n) =
+    option_map (λ said. record asked { share = Some said }) (once asked.share n)
+asked_with asked (host_option.Criteria n) =
+    option_map (λ said. record asked { criteria = Some said }) (once asked.criteria n)
+asked_with asked (host_option.Lookups n) =
+    option_map (λ said. record asked { lookups = Some said }) (once asked.lookups n)
+asked_with asked host_option.Quiet =
+    if asked.quiet then None else Some (record asked { quiet = true })
 
 -- all options, in order
 unfoldable pub asked_from : Option HostAsked → List HostOption → Option HostAsked
@@ -146,14 +210,31 @@ plan_with asked workers =
       workers = workers;
       turns = unwrap_or asked.turns max_turns;
       begin = asked.begin;
+      allow = asked.allow;
+      trust = asked.trust;
+      share = unwrap_or asked.share default_share;
+      criteria = unwrap_or asked.criteria default_criteria;
+      lookups = unwrap_or asked.lookups 0;
+      quiet = asked.quiet;
     }) else None
+
+-- where it listens if that is not said: at the port of RFC 7252 section 12.6 of loopback
+abbrev pub default_listen : List Peer
+default_listen =
+    record { host = host.V6 (0 ∷ 0 ∷ 0 ∷ 0 ∷ 0 ∷ 0 ∷ 0 ∷ 1 ∷ []); port = 5683 }
+    ∷ record { host = host.V4 (127 ∷ 0 ∷ 0 ∷ 1 ∷ []); port = 5683 } ∷ []
+
+abbrev pub settled : HostAsked → HostAsked
+settled asked =
+    if nat_le 1 (length asked.listen) then asked else record asked { listen = default_listen }
 
 abbrev pub plan_of : HostAsked → Option HostPlan
 plan_of asked = plan_with asked (unwrap_or asked.workers (default_each (length asked.listen)))
 
 -- what words ask to be served, where they are those of the program
 abbrev pub plan_said : List (List ℕ) → Option HostPlan
-plan_said words = option_and_then plan_of (asked_by nothing_asked words)
+plan_said words =
+    option_and_then (λ asked. plan_of (settled asked)) (asked_by nothing_asked words)
 
 -- a question about the program is one word that stands alone
 abbrev pub question_in : List ℕ → Option Wanted
@@ -191,11 +272,20 @@ IsOption (host_option.Listen address) = ⊤
 IsOption (host_option.Workers n) = IsCount max_ends n
 IsOption (host_option.Turns n) = IsCount max_turns n
 IsOption (host_option.Begin n) = IsCount max_begin n
+IsOption (host_option.Allow network) = ⊤
+IsOption (host_option.Trust network) = ⊤
+IsOption (host_option.Share n) = n ≤ max_share
+IsOption (host_option.Criteria n) = n ≤ max_criteria
+IsOption (host_option.Lookups n) = n ≤ max_lookups
+IsOption host_option.Quiet = ⊤
 
 pub record IsAsked (asked : HostAsked) : Type 0 where
   pub workers : IfSome asked.workers (IsCount max_ends)
   pub turns : IfSome asked.turns (IsCount max_turns)
   pub begin : IfSome asked.begin (IsCount max_begin)
+  pub share : IfSome asked.share (λ n. n ≤ max_share)
+  pub criteria : IfSome asked.criteria (λ n. n ≤ max_criteria)
+  pub lookups : IfSome asked.lookups (λ n. n ≤ max_lookups)
 
 -- the numbers of a plan
 pub record IsPlan (plan : HostPlan) : Type 0 where
@@ -205,6 +295,9 @@ pub record IsPlan (plan : HostPlan) : Type 0 where
   pub some_turns : 1 ≤ plan.turns
   pub most_turns : plan.turns ≤ max_turns
   pub begin : IfSome plan.begin (IsCount max_begin)
+  pub share : plan.share ≤ max_share
+  pub criteria : plan.criteria ≤ max_criteria
+  pub lookups : plan.lookups ≤ max_lookups
 
 abbrev pub IsWanted : Wanted → Type 0
 IsWanted wanted.Help = ⊤

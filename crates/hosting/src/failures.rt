@@ -2,13 +2,16 @@
 ghost use Rattle.std.specs.Prelude.{◌≤◌};
 
 use crate::crews::Trouble;
-use rd_base::{Peer, Starved, peer_text};
+use rd_base::{Host, Peer, Starved, peer_text};
 use std::alloc::{AllocError, Global};
 use std::io;
 use std::io::ErrorKind;
 
 /// The number of Linux for a family of addresses that the machine does not have.
 const EAFNOSUPPORT: i32 = 97;
+
+/// The loopback address of IPv6 (RFC 4291 section 2.5.3).
+const LOOPBACK: [u16; 8] = [0, 0, 0, 0, 0, 0, 0, 1];
 
 /// The first port that needs no privilege.
 const FIRST_FREE_PORT: u16 = 1024;
@@ -22,6 +25,8 @@ pub enum Failure {
     Unread,
     /// No socket could be made at this address, for this reason of the system.
     Socket(Peer, io::Error),
+    /// No address is left, since the machine has no IPv6.
+    NoAddress,
     /// All links of the server ended, for this trouble where one is known.
     Link(Option<Trouble>),
     /// The output could not be written.
@@ -77,6 +82,13 @@ fn socket_line(alloc: Global, address: &Peer, fault: &io::Error) -> Result<Strin
     })
 }
 
+/// The line for an address that is left out.
+fn left_out_line(alloc: Global, address: &Peer) -> Result<String, Starved> {
+    let text = peer_text(alloc, address)?;
+    let text = text.as_str();
+    Ok(format!(in alloc; "{text}: left out, since this machine has no IPv6\n")?)
+}
+
 /// The line for a trouble of the links.
 fn trouble_line(alloc: Global, trouble: &Trouble) -> Result<String, Starved> {
     Ok(match trouble {
@@ -91,7 +103,27 @@ fn trouble_line(alloc: Global, trouble: &Trouble) -> Result<String, Starved> {
     })
 }
 
+/// Whether a socket at an IPv6 address was refused since the machine has no IPv6: it has no such
+/// sockets, or no loopback among its addresses.
+fn lacks_v6(host: Host, fault: &io::Error) -> bool {
+    match host {
+        Host::V4(_) => false,
+        Host::V6(groups) => {
+            fault.raw_os_error() == Some(EAFNOSUPPORT)
+                || fault.kind() == ErrorKind::AddrNotAvailable && groups == LOOPBACK
+        }
+    }
+}
+
 impl Failure {
+    /// Tells whether a socket was refused since the machine has no IPv6.
+    pub fn is_for_want_of_v6(&self) -> bool {
+        match self {
+            Failure::Socket(address, fault) => lacks_v6(address.host, fault),
+            _ => false,
+        }
+    }
+
     /// Gives the exit status.
     pub fn status(&self) -> u8
         ensures { 1 ≤ result }
@@ -101,7 +133,19 @@ impl Failure {
             Failure::Write => 2,
             Failure::Words(_) | Failure::Unread => 3,
             Failure::Memory => 5,
-            Failure::Socket(..) | Failure::Keys | Failure::Clock => 6,
+            Failure::Socket(..) | Failure::NoAddress | Failure::Keys | Failure::Clock => 6,
+        }
+    }
+
+    /// Gives the line that is said of an address that is left out.
+    ///
+    /// # Errors
+    ///
+    /// Out of memory.
+    pub fn left_out(&self, alloc: Global) -> Result<String, Starved> {
+        match self {
+            Failure::Socket(address, _) => left_out_line(alloc, address),
+            _ => self.line(alloc),
         }
     }
 
@@ -111,6 +155,7 @@ impl Failure {
             Failure::Words(_) => "words: not those of rd_host (--help tells them)\n",
             Failure::Unread => "words: one is not UTF-8\n",
             Failure::Socket(..) => "socket: the system refuses it\n",
+            Failure::NoAddress => "--listen: no address is left, since this machine has no IPv6\n",
             Failure::Link(_) => "link: receives fail\n",
             Failure::Write => "standard output: it cannot be written\n",
             Failure::Memory => "memory: it ran out\n",

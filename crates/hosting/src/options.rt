@@ -5,7 +5,10 @@ ghost use Rattle.std.specs.String.{string_bytes};
 ghost use Rattle.hosting.specs.Words as spec;
 ghost use Rattle.hosting.specs.Words.{Begins, IsCount, IsOption};
 
-use rd_base::{Peer, PeerBad, peer_read_ascii};
+use crate::addresses::address_read;
+use crate::networks::network_read;
+use crate::prefixes::Network;
+use rd_base::Peer;
 use trace_text::{number_read, offset_of};
 
 /// The most ends of a server, over all its addresses.
@@ -16,6 +19,15 @@ pub(crate) const MAX_TURNS: u64 = 1_000_000_000_000;
 
 /// The greatest number above which a run may be told to begin.
 pub(crate) const MAX_BEGIN: u64 = 100_000_000_000_000;
+
+/// The greatest share, in writes: as many as the directory remembers of all.
+pub(crate) const MAX_SHARE: u64 = 4096;
+
+/// The greatest share in lookups.
+pub(crate) const MAX_LOOKUPS: u64 = 65_535;
+
+/// The greatest limit of query options: as many as fit a datagram.
+pub(crate) const MAX_CRITERIA: u64 = 768;
 
 /// What an option is named.
 #[derive(Clone, Copy, Debug, PartialEq, Eq)]
@@ -28,6 +40,18 @@ pub(crate) enum OptionName {
     Turns,
     /// `--begin`: above which number the run begins.
     Begin,
+    /// `--allow`: a network whose datagrams are heard.
+    Allow,
+    /// `--trust`: a network that has no share.
+    Trust,
+    /// `--share`: how many writes each source may send in a window.
+    Share,
+    /// `--criteria`: how many query options a lookup may have.
+    Criteria,
+    /// `--lookups`: how many lookups each source may send in a window.
+    Lookups,
+    /// `--quiet`: that it says no line while it serves.
+    Quiet,
 }
 
 /// An option with its value.
@@ -41,6 +65,40 @@ pub(crate) enum HostOption {
     Turns(u64),
     /// Above which number the run begins.
     Begin(u64),
+    /// A network whose datagrams are heard.
+    Allow(Network),
+    /// A network that has no share.
+    Trust(Network),
+    /// How many writes each source may send in a window.
+    Share(u16),
+    /// How many query options a lookup may have.
+    Criteria(u16),
+    /// How many lookups each source may send in a window.
+    Lookups(u16),
+    /// It says no line while it serves.
+    Quiet,
+}
+
+/// The option of the guard that a word names.
+fn guard_name_of(word: &[u8]) -> Option<OptionName>
+    ensures { result ≡ spec.guard_name_of word.now }
+{
+    if word == b"--allow".as_slice() {
+        return Some(OptionName::Allow);
+    }
+    if word == b"--trust".as_slice() {
+        return Some(OptionName::Trust);
+    }
+    if word == b"--share".as_slice() {
+        return Some(OptionName::Share);
+    }
+    if word == b"--criteria".as_slice() {
+        return Some(OptionName::Criteria);
+    }
+    if word == b"--lookups".as_slice() {
+        return Some(OptionName::Lookups);
+    }
+    None
 }
 
 /// The option that a word names.
@@ -59,7 +117,7 @@ pub(crate) fn name_of(word: &[u8]) -> Option<OptionName>
     if word == b"--begin".as_slice() {
         return Some(OptionName::Begin);
     }
-    None
+    guard_name_of(word)
 }
 
 /// The number from 1 to a limit that a text prints in decimal, without a leading zero.
@@ -79,10 +137,8 @@ fn address_of(value: &[u8]) -> Option<HostOption>
     ensures value { result ≡ spec.option_of OptionName.Listen value.now }
     ensures within { IfSome result IsOption }
 {
-    match peer_read_ascii(value) {
-        Ok(address) => Some(HostOption::Listen(address)),
-        Err(PeerBad) => None,
-    }
+    let address = address_read(value)?;
+    Some(HostOption::Listen(address))
 }
 
 /// An option with its value, where it takes such a value.
@@ -95,6 +151,14 @@ fn option_of(name: OptionName, value: &[u8]) -> Option<HostOption>
         OptionName::Workers => Some(HostOption::Workers(count_of(MAX_ENDS, value)? as u8)),
         OptionName::Turns => Some(HostOption::Turns(count_of(MAX_TURNS, value)?)),
         OptionName::Begin => Some(HostOption::Begin(count_of(MAX_BEGIN, value)?)),
+        OptionName::Allow => Some(HostOption::Allow(network_read(value)?)),
+        OptionName::Trust => Some(HostOption::Trust(network_read(value)?)),
+        OptionName::Share => Some(HostOption::Share(number_read(MAX_SHARE, value)? as u16)),
+        OptionName::Criteria => {
+            Some(HostOption::Criteria(number_read(MAX_CRITERIA, value)? as u16))
+        }
+        OptionName::Lookups => Some(HostOption::Lookups(number_read(MAX_LOOKUPS, value)? as u16)),
+        OptionName::Quiet => None,
     }
 }
 
@@ -108,11 +172,14 @@ fn cut(text: &[u8]) -> Option<(&[u8], &[u8])>
     }
 }
 
-/// An option in one word, in which its name and its value are joined.
+/// An option in one word, which has no value, or in which its name and its value are joined.
 fn joined(word: &[u8]) -> Option<HostOption>
     ensures value { result ≡ spec.joined word.now }
     ensures within { IfSome result IsOption }
 {
+    if word == b"--quiet".as_slice() {
+        return Some(HostOption::Quiet);
+    }
     let (name, value) = cut(word)?;
     option_of(name_of(name)?, value)
 }

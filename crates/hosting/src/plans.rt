@@ -5,9 +5,31 @@ ghost use Rattle.hosting.specs.Words as spec;
 ghost use Rattle.hosting.specs.Words.{IsAsked, IsOption, IsPlan, IsRead, IsWanted};
 
 use crate::options::{HostOption, MAX_ENDS, MAX_TURNS, first_option};
+use crate::prefixes::Network;
 use crate::wanted::{HostFault, Wanted};
-use rd_base::{List, Peer};
+use rd_base::{Host, List, Peer};
 use std::alloc::Global;
+
+/// The share of a source where it is not said, in writes.
+const DEFAULT_SHARE: u16 = 1024;
+
+/// How many query options a lookup may have where that is not said.
+const DEFAULT_CRITERIA: u16 = 16;
+
+/// The port of CoAP (RFC 7252 section 12.6).
+const PORT: u16 = 5683;
+
+/// Where it listens if that is not said.
+const LOOPBACK_V6: Peer = Peer {
+    host: Host::V6([0, 0, 0, 0, 0, 0, 0, 1]),
+    port: PORT,
+};
+
+/// The same, in the other family.
+const LOOPBACK_V4: Peer = Peer {
+    host: Host::V4([127, 0, 0, 1]),
+    port: PORT,
+};
 
 /// What the words of `rd_host` ask to be served.
 #[derive(Debug, Drop)]
@@ -20,6 +42,18 @@ pub struct HostPlan {
     pub turns: u64,
     /// Above which number the run begins, from 1 to 10^14, where it is said.
     pub begin: Option<u64>,
+    /// The networks whose datagrams are heard; where there is none, all are.
+    pub allow: List<Network>,
+    /// The networks that have no share.
+    pub trust: List<Network>,
+    /// How many writes each source may send in a window, at most 4,096; 0 for any number.
+    pub share: u16,
+    /// How many query options a lookup may have, at most 768; 0 for any number.
+    pub criteria: u16,
+    /// How many lookups each source may send in a window; 0 for any number.
+    pub lookups: u16,
+    /// That it says no line while it serves.
+    pub quiet: bool,
 }
 
 impl HostPlan {
@@ -46,6 +80,18 @@ pub(crate) struct HostAsked {
     pub(crate) turns: Option<u64>,
     /// Above which number the run begins, where it is said.
     pub(crate) begin: Option<u64>,
+    /// The networks whose datagrams are heard.
+    pub(crate) allow: List<Network>,
+    /// The networks that have no share.
+    pub(crate) trust: List<Network>,
+    /// How many writes each source may send, where it is said.
+    pub(crate) share: Option<u16>,
+    /// How many query options a lookup may have, where it is said.
+    pub(crate) criteria: Option<u16>,
+    /// How many lookups each source may send, where it is said.
+    pub(crate) lookups: Option<u16>,
+    /// That it says no line while it serves.
+    pub(crate) quiet: bool,
 }
 
 impl HostAsked {
@@ -58,6 +104,12 @@ impl HostAsked {
             workers: None,
             turns: None,
             begin: None,
+            allow: List::new(alloc),
+            trust: List::new(alloc),
+            share: None,
+            criteria: None,
+            lookups: None,
+            quiet: false,
         }
     }
 
@@ -67,21 +119,11 @@ impl HostAsked {
         ensures read { IsRead (spec.asked_with self (HostOption.Listen address)) result }
         ensures within { IfOk result IsAsked }
     {
-        let HostAsked {
-            mut listen,
-            workers,
-            turns,
-            begin,
-        } = self;
-        if listen.push(address).is_err() {
+        let mut asked = self;
+        if asked.listen.push(address).is_err() {
             return Err(HostFault::Starved);
         }
-        Ok(HostAsked {
-            listen,
-            workers,
-            turns,
-            begin,
-        })
+        Ok(asked)
     }
 
     /// With the number of workers, where it was not said.
@@ -132,6 +174,95 @@ impl HostAsked {
         })
     }
 
+    /// With a network more whose datagrams are heard.
+    fn with_allowed(self, network: Network) -> Result<HostAsked, HostFault>
+        requires { IsAsked self }
+        ensures read { IsRead (spec.asked_with self (HostOption.Allow network)) result }
+        ensures within { IfOk result IsAsked }
+    {
+        let mut asked = self;
+        if asked.allow.push(network).is_err() {
+            return Err(HostFault::Starved);
+        }
+        Ok(asked)
+    }
+
+    /// With a network more that has no share.
+    fn with_trusted(self, network: Network) -> Result<HostAsked, HostFault>
+        requires { IsAsked self }
+        ensures read { IsRead (spec.asked_with self (HostOption.Trust network)) result }
+        ensures within { IfOk result IsAsked }
+    {
+        let mut asked = self;
+        if asked.trust.push(network).is_err() {
+            return Err(HostFault::Starved);
+        }
+        Ok(asked)
+    }
+
+    /// With the share of a source, where it was not said.
+    fn with_share(self, share: u16) -> Result<HostAsked, HostFault>
+        requires asked { IsAsked self }
+        requires option { IsOption (HostOption.Share share) }
+        ensures read { IsRead (spec.asked_with self (HostOption.Share share)) result }
+        ensures within { IfOk result IsAsked }
+    {
+        if self.share.is_some() {
+            return Err(HostFault::Usage);
+        }
+        Ok(HostAsked {
+            share: Some(share),
+            ..self
+        })
+    }
+
+    /// With how many query options a lookup may have, where it was not said.
+    fn with_criteria(self, criteria: u16) -> Result<HostAsked, HostFault>
+        requires asked { IsAsked self }
+        requires option { IsOption (HostOption.Criteria criteria) }
+        ensures read { IsRead (spec.asked_with self (HostOption.Criteria criteria)) result }
+        ensures within { IfOk result IsAsked }
+    {
+        if self.criteria.is_some() {
+            return Err(HostFault::Usage);
+        }
+        Ok(HostAsked {
+            criteria: Some(criteria),
+            ..self
+        })
+    }
+
+    /// With how many lookups each source may send, where it was not said.
+    fn with_lookups(self, lookups: u16) -> Result<HostAsked, HostFault>
+        requires asked { IsAsked self }
+        requires option { IsOption (HostOption.Lookups lookups) }
+        ensures read { IsRead (spec.asked_with self (HostOption.Lookups lookups)) result }
+        ensures within { IfOk result IsAsked }
+    {
+        if self.lookups.is_some() {
+            return Err(HostFault::Usage);
+        }
+        Ok(HostAsked {
+            lookups: Some(lookups),
+            ..self
+        })
+    }
+
+    /// With no lines while it serves, where that was not said.
+    fn with_quiet(self) -> Result<HostAsked, HostFault>
+        requires { IsAsked self }
+        ensures read { IsRead (spec.asked_with self HostOption.Quiet) result }
+        ensures within { IfOk result IsAsked }
+    {
+        if self.quiet {
+            return Err(HostFault::Usage);
+        }
+        Ok(HostAsked {
+            quiet: true,
+            ..self
+        })
+    }
+
     /// With an option more.
     pub(crate) fn with(self, option: HostOption) -> Result<HostAsked, HostFault>
         requires asked { IsAsked self }
@@ -144,7 +275,29 @@ impl HostAsked {
             HostOption::Workers(workers) => self.with_workers(workers),
             HostOption::Turns(turns) => self.with_turns(turns),
             HostOption::Begin(begin) => self.with_begin(begin),
+            HostOption::Allow(network) => self.with_allowed(network),
+            HostOption::Trust(network) => self.with_trusted(network),
+            HostOption::Share(share) => self.with_share(share),
+            HostOption::Criteria(criteria) => self.with_criteria(criteria),
+            HostOption::Lookups(lookups) => self.with_lookups(lookups),
+            HostOption::Quiet => self.with_quiet(),
         }
+    }
+
+    /// With the addresses of loopback, where none is said.
+    fn settled(self) -> Result<HostAsked, HostFault>
+        requires { IsAsked self }
+        ensures read { IsRead (Some (spec.settled self)) result }
+        ensures within { IfOk result IsAsked }
+    {
+        if !self.listen.is_empty() {
+            return Ok(self);
+        }
+        let mut asked = self;
+        if asked.listen.push(LOOPBACK_V6).is_err() || asked.listen.push(LOOPBACK_V4).is_err() {
+            return Err(HostFault::Starved);
+        }
+        Ok(asked)
     }
 
     /// The plan, with what is said by default; none where there is no address, or are too many
@@ -168,6 +321,12 @@ impl HostAsked {
             workers,
             turns: self.turns.unwrap_or(MAX_TURNS),
             begin: self.begin,
+            allow: self.allow,
+            trust: self.trust,
+            share: self.share.unwrap_or(DEFAULT_SHARE),
+            criteria: self.criteria.unwrap_or(DEFAULT_CRITERIA),
+            lookups: self.lookups.unwrap_or(0),
+            quiet: self.quiet,
         })
     }
 }
@@ -211,10 +370,12 @@ fn question_of(words: &[String]) -> Option<Wanted>
     None
 }
 
-/// What the words of `rd_host` want: `--listen` with an address and its port, once at least,
+/// What the words of `rd_host` want: `--listen` with an address and its port, any number of times;
 /// `--workers` with a number from 1 on, by which there are 16 ends at most, `--turns` with one from
-/// 1 to 10^12, and `--begin` with one from 1 to 10^14, these three once at most, in any order, as two
-/// words or joined by `=`; or a question about the program alone.
+/// 1 to 10^12, `--begin` with one from 1 to 10^14, `--share` with one up to 4,096, `--criteria` with
+/// one up to 768, `--lookups` with one up to 65,535, and `--quiet` with nothing, these once at most;
+/// `--allow` and `--trust` with a network; in any order, as two words or joined by `=`; or a
+/// question about the program alone.
 ///
 /// `Usage`: they are others. `Starved`: out of memory.
 pub fn host_words(alloc: Global, words: &[String]) -> Result<Wanted, HostFault>
@@ -225,6 +386,10 @@ pub fn host_words(alloc: Global, words: &[String]) -> Result<Wanted, HostFault>
         return Ok(question);
     }
     let asked = match words_ask(alloc, words) {
+        Ok(asked) => asked,
+        Err(fault) => return Err(fault),
+    };
+    let asked = match asked.settled() {
         Ok(asked) => asked,
         Err(fault) => return Err(fault),
     };

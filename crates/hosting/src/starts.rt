@@ -19,17 +19,23 @@ fn listen_text(alloc: Global, plan: &HostPlan) -> Result<String, Starved> {
 
 impl HostPlan {
     /// Gives the line that is said at the start: the name, the version, the addresses, how many
-    /// workers each of them has, and above which number the run begins.
+    /// workers each of them has, the share of a source and the limit of query options, and above
+    /// which number the run begins.
     ///
     /// # Errors
     ///
     /// Out of memory.
     pub fn start_line(&self, alloc: Global, begin: u64) -> Result<String, Starved> {
         let listen = listen_text(alloc, self)?;
-        let workers = self.workers;
+        let HostPlan {
+            workers,
+            share,
+            criteria,
+            ..
+        } = self;
         let mut line = String::from_str(alloc, NAME_AND_VERSION)?;
         write!(line, ": listen={listen} workers={workers}")?;
-        write!(line, " begin={begin}\n")?;
+        write!(line, " share={share} criteria={criteria} begin={begin}\n")?;
         Ok(line)
     }
 }

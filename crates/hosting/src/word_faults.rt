@@ -4,7 +4,8 @@ ghost use Rattle.hosting.specs.Words.{IsWanted};
 
 use crate::failures::Failure;
 use crate::options::{
-    HostOption, MAX_BEGIN, MAX_ENDS, MAX_TURNS, OptionName, first_option, name_of,
+    HostOption, MAX_BEGIN, MAX_CRITERIA, MAX_ENDS, MAX_LOOKUPS, MAX_SHARE, MAX_TURNS, OptionName,
+    first_option, name_of,
 };
 use crate::plans::{HostAsked, host_words};
 use crate::wanted::{HostFault, Wanted};
@@ -18,6 +19,12 @@ fn name_text(name: OptionName) -> &'static str {
         OptionName::Workers => "--workers",
         OptionName::Turns => "--turns",
         OptionName::Begin => "--begin",
+        OptionName::Allow => "--allow",
+        OptionName::Trust => "--trust",
+        OptionName::Share => "--share",
+        OptionName::Criteria => "--criteria",
+        OptionName::Lookups => "--lookups",
+        OptionName::Quiet => "--quiet",
     }
 }
 
@@ -28,6 +35,12 @@ fn option_name(option: &HostOption) -> OptionName {
         HostOption::Workers(_) => OptionName::Workers,
         HostOption::Turns(_) => OptionName::Turns,
         HostOption::Begin(_) => OptionName::Begin,
+        HostOption::Allow(_) => OptionName::Allow,
+        HostOption::Trust(_) => OptionName::Trust,
+        HostOption::Share(_) => OptionName::Share,
+        HostOption::Criteria(_) => OptionName::Criteria,
+        HostOption::Lookups(_) => OptionName::Lookups,
+        HostOption::Quiet => OptionName::Quiet,
     }
 }
 
@@ -44,8 +57,21 @@ fn wrong_address(alloc: Global, name: &str, value: &str) -> Result<String, Starv
 }
 
 /// What is wrong about a number.
-fn wrong_number(alloc: Global, name: &str, value: &str, most: u64) -> Result<String, Starved> {
-    Ok(format!(in alloc; "{name}: \"{value}\" is no number from 1 to {most}")?)
+fn wrong_number(
+    alloc: Global,
+    name: &str,
+    value: &str,
+    least: u64,
+    most: u64,
+) -> Result<String, Starved> {
+    Ok(format!(in alloc; "{name}: \"{value}\" is no number from {least} to {most}")?)
+}
+
+/// What is wrong about a network.
+fn wrong_network(alloc: Global, name: &str, value: &str) -> Result<String, Starved> {
+    Ok(format!(in alloc;
+        "{name}: \"{value}\" is no network; give one as 192.0.2.0/24 or 2001:db8::/32"
+    )?)
 }
 
 /// What is wrong about the value of an option.
@@ -53,9 +79,14 @@ fn wrong_value(alloc: Global, name: OptionName, value: &str) -> Result<String, S
     let text = name_text(name);
     match name {
         OptionName::Listen => wrong_address(alloc, text, value),
-        OptionName::Workers => wrong_number(alloc, text, value, MAX_ENDS),
-        OptionName::Turns => wrong_number(alloc, text, value, MAX_TURNS),
-        OptionName::Begin => wrong_number(alloc, text, value, MAX_BEGIN),
+        OptionName::Workers => wrong_number(alloc, text, value, 1, MAX_ENDS),
+        OptionName::Turns => wrong_number(alloc, text, value, 1, MAX_TURNS),
+        OptionName::Begin => wrong_number(alloc, text, value, 1, MAX_BEGIN),
+        OptionName::Allow | OptionName::Trust => wrong_network(alloc, text, value),
+        OptionName::Share => wrong_number(alloc, text, value, 0, MAX_SHARE),
+        OptionName::Criteria => wrong_number(alloc, text, value, 0, MAX_CRITERIA),
+        OptionName::Lookups => wrong_number(alloc, text, value, 0, MAX_LOOKUPS),
+        OptionName::Quiet => Ok(format!(in alloc; "{text}: it has no value")?),
     }
 }
 
@@ -85,13 +116,7 @@ fn wrong_word(alloc: Global, word: &str, rest: &[String]) -> Result<String, Star
 
 /// What is wrong about options of which each is one of the program.
 fn wrong_plan(alloc: Global, asked: &HostAsked) -> Result<String, Starved> {
-    let addresses = asked.listen.len();
-    if addresses == 0 {
-        return Ok(String::from_str(
-            alloc,
-            "--listen: no address is given; give one as 192.0.2.1:5683 or [2001:db8::1]:5683",
-        )?);
-    }
+    let addresses = asked.listen.len().max(1);
     let workers = asked.workers.unwrap_or(1);
     Ok(format!(in alloc;
         "--workers: {workers} for each of {addresses} addresses are more than {MAX_ENDS} in all"

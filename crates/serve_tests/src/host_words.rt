@@ -18,12 +18,22 @@ const WORDS: &str = "\
 4 1000000000000 127.0.0.1:1 above 1 | --listen=127.0.0.1:1 --begin 1
 1 2 127.0.0.1:1 above 100000000000000 | --begin=100000000000000 --turns 2 --listen=127.0.0.1:1 \
 --workers=1
+4 1000000000000 127.0.0.1:1 allow 8 allow 32 allow 48 | --listen=127.0.0.1:1 --allow 10.0.0.0/8 \
+--allow=192.0.2.1 --allow=2001:DB8:0::/48
+4 1000000000000 127.0.0.1:1 trust 0 trust 128 | --listen=127.0.0.1:1 --trust=::/0 --trust ::1
+4 1000000000000 127.0.0.1:1 share 0 criteria 0 | --listen=127.0.0.1:1 --share=0 --criteria 0
+4 1000000000000 127.0.0.1:1 share 4096 criteria 768 | --listen=127.0.0.1:1 --share=4096 \
+--criteria=768
+1 1000000000000 [::1]:5683 127.0.0.1:5683 | --workers=1
+4 1000000000000 [::1]:5683 127.0.0.1:5683 |
+4 1000000000000 [::1]:5683 127.0.0.1:5683 above 1 | --begin=1
+4 1000000000000 [::1]:5683 127.0.0.1:5683 quiet | --quiet
+4 1000000000000 [::1]:5683 | --listen=[0:0::1]:5683
+4 1000000000000 [2001:db8::1]:1 | --listen=[2001:0DB8:0:0:0:0:0:1]:1
 help | --help
 help | -h
 version | --version
 version | -V
-refused |
-refused | --workers=1
 refused | --listen=0.0.0.0:5683 --listen=[::]:5684 --workers=9
 refused | --listen=127.0.0.1:1 --workers=17
 refused | --listen=127.0.0.1:1 --workers=0
@@ -35,7 +45,6 @@ refused | --listen=127.0.0.1:1 --turns=1 --turns=1
 refused | --listen=127.0.0.1:1 --begin=0
 refused | --listen=127.0.0.1:1 --begin=100000000000001
 refused | --listen=127.0.0.1:1 --begin=1 --begin=1
-refused | --begin=1
 refused | --listen=127.0.0.1:1 --begin
 refused | --listen=127.0.0.1:0
 refused | --listen=127.0.0.1:65536
@@ -43,8 +52,20 @@ refused | --listen=127.0.0.1
 refused | --listen=:5683
 refused | --listen=localhost:5683
 refused | --listen=::1:5683
-refused | --listen=[0:0::1]:5683
+refused | --listen=[127.0.0.1]:5683
+refused | --listen=[::1:5683
+refused | --listen=[::1]5683
+refused | --listen=[::1]:05683
+refused | --listen=127.0.0.1:1 --quiet --quiet
+refused | --quiet=1
 refused | --listen=[fe80::1%eth0]:5683
+refused | --listen=127.0.0.1:1 --allow=10.0.0.0/33
+refused | --listen=127.0.0.1:1 --allow=10.0.0/8
+refused | --listen=127.0.0.1:1 --trust=::/129
+refused | --listen=127.0.0.1:1 --trust=fe80::%eth0/64
+refused | --listen=127.0.0.1:1 --share=4097
+refused | --listen=127.0.0.1:1 --share=1 --share=2
+refused | --listen=127.0.0.1:1 --criteria=769
 refused | --listen
 refused | --listen --listen=127.0.0.1:1
 refused | --listen=127.0.0.1:1 --port=1
@@ -60,6 +81,11 @@ fn told(alloc: Global, plan: &HostPlan) -> Result<String, Fail> {
         workers,
         turns,
         begin,
+        allow,
+        trust,
+        share,
+        criteria,
+        quiet,
     } = plan;
     let mut text = format!(in alloc; "{workers} {turns}")?;
     for address in listen.as_slice() {
@@ -68,6 +94,18 @@ fn told(alloc: Global, plan: &HostPlan) -> Result<String, Fail> {
     }
     if let Some(begin) = begin {
         write!(text, " above {begin}")?;
+    }
+    for network in allow.as_slice() {
+        write!(text, " allow {}", network.bits)?;
+    }
+    for network in trust.as_slice() {
+        write!(text, " trust {}", network.bits)?;
+    }
+    if (*share, *criteria) != (1024, 16) {
+        write!(text, " share {share} criteria {criteria}")?;
+    }
+    if *quiet {
+        text.push_str(" quiet")?;
     }
     Ok(text)
 }

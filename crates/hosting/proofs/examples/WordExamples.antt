@@ -1,5 +1,5 @@
 -- What words of `rd_host` want, computed.
-use Rattle.std.proofs.Common.{◌≡◌, ℕ, [], ◌∷◌, codes, replicate, Some, None, refl}
+use Rattle.std.proofs.Common.{◌≡◌, ℕ, [], ◌∷◌, codes, replicate, Some, None, false, true, refl}
 use Rattle.std.specs.Prelude.{⊤, Option}
 use Rattle.std.specs.Fmt.{digits}
 use Rattle.rd_base.specs.declared.peers.Host.TheVariants as host
@@ -8,10 +8,11 @@ use Rattle.line_model.proofs.OnLiterals.{trace_on_literals}
 use Rattle.line_model.specs.Numbers.{number_of}
 use Rattle.hosting.specs.declared.plans.HostPlan.{HostPlan}
 use Rattle.hosting.specs.declared.wanted.Wanted.TheVariants as wanted
-use Rattle.hosting.specs.Words.{asked_from, options_of, plan_of, wanted_of}
+use Rattle.hosting.specs.Networks.{host_of}
+use Rattle.hosting.specs.Words.{asked_from, default_listen, options_of, plan_of, wanted_of}
 
 unfoldable on_literals : ⊤
-unfolding options_of asked_from number_of digits trace_on_literals
+unfolding options_of asked_from number_of digits trace_on_literals host_of
 on_literals = tt
 
 abbrev inner : Peer
@@ -30,6 +31,12 @@ one : wanted_of (codes "--listen" ∷ codes "192.0.2.1:5683" ∷ [])
       workers = 4;
       turns = 1_000_000_000_000;
       begin = None;
+      allow = [];
+      trust = [];
+      share = 1024;
+      criteria = 16;
+      lookups = 0;
+      quiet = false;
     }))
 unfolding on_literals
 one = refl
@@ -37,7 +44,18 @@ one = refl
 -- two, both spellings, and as many workers as they may have
 two : wanted_of (codes "--workers=8" ∷ codes "--listen=[2001:db8::1]:61616" ∷ codes "--turns"
     ∷ codes "1" ∷ codes "--listen" ∷ codes "192.0.2.1:5683" ∷ [])
-    ≡ Some (wanted.Serve (record { listen = outer ∷ inner ∷ []; workers = 8; turns = 1; begin = None }))
+    ≡ Some (wanted.Serve (record {
+      listen = outer ∷ inner ∷ [];
+      workers = 8;
+      turns = 1;
+      begin = None;
+      allow = [];
+      trust = [];
+      share = 1024;
+      criteria = 16;
+      lookups = 0;
+      quiet = false;
+    }))
 unfolding on_literals
 two = refl
 
@@ -47,15 +65,59 @@ many : wanted_of (codes "--workers=9" ∷ codes "--listen=[2001:db8::1]:61616"
 unfolding on_literals
 many = refl
 
--- no address
-nowhere : wanted_of (codes "--workers=1" ∷ []) ≡ None
+-- no address: that of loopback, in both families
+abbrev loopback : ℕ → HostPlan
+loopback workers = record {
+  listen = default_listen;
+  workers = workers;
+  turns = 1_000_000_000_000;
+  begin = None;
+  allow = [];
+  trust = [];
+  share = 1024;
+  criteria = 16;
+  lookups = 0;
+  quiet = false;
+}
+
+nowhere : wanted_of (codes "--workers=1" ∷ []) ≡ Some (wanted.Serve (loopback 1))
 unfolding on_literals
 nowhere = refl
 
 -- no words
-nothing : wanted_of [] ≡ None
+nothing : wanted_of [] ≡ Some (wanted.Serve (loopback 4))
 unfolding on_literals
 nothing = refl
+
+-- another spelling, and no lines while it serves
+other_spelling : wanted_of (codes "--quiet" ∷ codes "--listen=[2001:DB8:0:0::1]:61616" ∷ [])
+    ≡ Some (wanted.Serve (record {
+      listen = outer ∷ [];
+      workers = 4;
+      turns = 1_000_000_000_000;
+      begin = None;
+      allow = [];
+      trust = [];
+      share = 1024;
+      criteria = 16;
+      lookups = 0;
+      quiet = true;
+    }))
+unfolding on_literals
+other_spelling = refl
+
+-- an IPv4 address takes no brackets, an IPv6 address needs them, and there is no zone
+bracketed : wanted_of (codes "--listen=[192.0.2.1]:5683" ∷ []) ≡ None
+unfolding on_literals
+bracketed = refl
+
+bare : wanted_of (codes "--listen=::1:5683" ∷ []) ≡ None
+unfolding on_literals
+bare = refl
+
+with_zone : wanted_of (codes "--listen=[fe80::1%1]:5683" ∷ []) ≡ None
+unfolding on_literals
+with_zone = refl
 
 -- no port, and no number from 1 on
 no_port : wanted_of (codes "--listen=192.0.2.1" ∷ []) ≡ None
@@ -97,13 +159,32 @@ plan_at addresses =
       workers = None;
       turns = Some 7;
       begin = Some 9;
+      allow = [];
+      trust = [];
+      share = Some 0;
+      criteria = Some 7;
+      lookups = None;
+      quiet = false;
     })
 
-sixteen : plan_at 16
-    ≡ Some (record { listen = replicate 16 inner; workers = 1; turns = 7; begin = Some 9 })
+abbrev planned : ℕ → ℕ → HostPlan
+planned addresses workers = record {
+  listen = replicate addresses inner;
+  workers = workers;
+  turns = 7;
+  begin = Some 9;
+  allow = [];
+  trust = [];
+  share = 0;
+  criteria = 7;
+  lookups = 0;
+  quiet = false;
+}
+
+sixteen : plan_at 16 ≡ Some (planned 16 1)
 sixteen = refl
 
-five : plan_at 5 ≡ Some (record { listen = replicate 5 inner; workers = 3; turns = 7; begin = Some 9 })
+five : plan_at 5 ≡ Some (planned 5 3)
 five = refl
 
 seventeen : plan_at 17 ≡ None

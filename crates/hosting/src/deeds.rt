@@ -1,0 +1,58 @@
+//! What a message that a server sends says was done.
+ghost use Rattle.std.specs.Prelude.{◌≡◌};
+ghost use Rattle.hosting.specs.Deeds as spec;
+
+use coap_message::{Kind4, View};
+use message_model::codes::{BAD_REQUEST, CHANGED, CONTENT, CREATED, DELETED, VALID};
+
+/// What a message says was done.
+#[derive(Clone, Copy, Debug, PartialEq, Eq)]
+pub(crate) enum Deed {
+    /// A registration was made (2.01).
+    Registered,
+    /// A registration was changed, or refreshed (2.04).
+    Updated,
+    /// A registration was removed (2.02).
+    Removed,
+    /// A lookup or a read was answered (2.05, 2.03).
+    Found,
+    /// An observer is told what changed: it has to acknowledge that (RFC 7641 section 4.5).
+    Notified,
+    /// A request was refused (4.00 and above).
+    Refused,
+    /// Anything else.
+    Other,
+}
+
+/// What a message with content says was done.
+fn found_by(kind: Kind4) -> Deed
+    ensures { result ≡ spec.found_by kind }
+{
+    match kind {
+        Kind4::Con => Deed::Notified,
+        Kind4::Non | Kind4::Ack => Deed::Found,
+        Kind4::Rst => Deed::Other,
+    }
+}
+
+/// What a message of this type and code says was done.
+fn deed_by(kind: Kind4, code: u8) -> Deed
+    ensures { result ≡ spec.deed_by kind code }
+{
+    match code {
+        CREATED => Deed::Registered,
+        CHANGED => Deed::Updated,
+        DELETED => Deed::Removed,
+        VALID => Deed::Found,
+        CONTENT => found_by(kind),
+        _ if BAD_REQUEST <= code => Deed::Refused,
+        _ => Deed::Other,
+    }
+}
+
+/// What a message says was done.
+pub(crate) fn deed_of(view: &View<'_>) -> Deed
+    ensures { result ≡ spec.deed_by view.now.kind view.now.code }
+{
+    deed_by(view.kind, view.code)
+}
