@@ -25,7 +25,7 @@ RUN_LIMIT, AT_A_TIME = 120, 3
 JUDGES = {
     "clients": ["clients/run.py", "--workers", "1", "--stop"],
     "run": ["hostile/run.py", "--thousands", "6", "--stop"],
-    "each": ["hostile/each.py", "--count", "2000", "--seconds", "12", "--stop"],
+    "each": ["hostile/each.py", "--count", "2000", "--seconds", "30", "--stop"],
     "soak": ["hostile/soak.py", "--seconds", "12", "--stop"],
 }
 
