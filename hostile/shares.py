@@ -4,9 +4,9 @@
 First each limit of fill.py is filled from as many addresses of 127.0.1.0/24 as that takes, which
 send one after the other, each until it is past its share. A line says how many of its requests the
 first of them had taken, what a device of another address is answered then, how many addresses fill
-the limit, and what a device is answered then. Then 200 devices of addresses of their own register and refresh, while 64 other
-addresses send 20,000 datagrams, and while one address looks up and observes with 768 criteria. A
-line says how many were refused, and how long the longest answer took.
+the limit, and what a device is answered then. Then 200 devices of addresses of their own register
+and refresh, while 64 other addresses send 20,000 datagrams, and while one address looks up and
+observes with 768 criteria. A line says how many were refused, and how long the longest answer took.
 
 `--bin FOLDER` says where the program is. The status is 1 where a device was refused.
 """
