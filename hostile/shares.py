@@ -3,10 +3,10 @@
 
 First each limit of fill.py is filled from as many addresses of 127.0.1.0/24 as that takes, which
 send one after the other, each until it is past its share. A line says how many of its requests the
-first of them had taken, what a device of another address is answered then, and how many addresses
-fill the limit. Then 200 devices of addresses of their own register and refresh, while 64 other
-addresses send 20,000 datagrams, and while one address looks up and observes with 768 criteria. A
-line says how many were refused, and how long the longest answer took.
+first of them had taken, what a device of another address is answered then, how many addresses fill
+the limit, and what a device is answered then. Then 200 devices of addresses of their own register
+and refresh, while 64 other addresses send 20,000 datagrams, and while one address looks up and
+observes with 768 criteria. A line says how many were refused, and how long the longest answer took.
 
 `--bin FOLDER` says where the program is. The status is 1 where a device was refused.
 """
@@ -29,9 +29,12 @@ from wire import BLOCK1, HOST, OBSERVE, Wrong, block
 # The code 4.29 (RFC 8516 section 3), and the most addresses that a limit takes.
 TOO_MANY, MOST_SOURCES = 0x9D, 64
 
-# How many devices there are, how often each of them refreshes, and how long one waits before it
-# sends again, in seconds.
-DEVICES, REFRESHES, AGAIN = 200, 5, 2
+# How many devices there are, how many requests each of them sends, which leaves room for what the
+# others may send, and how long one waits before it sends again, in seconds.
+DEVICES, ROUNDS, AGAIN = 200, 5, 2
+
+# How long the devices take, and how long one address looks, in seconds.
+DURATION = 15
 
 # How many datagrams come from how many other addresses, and the share that they have.
 HOSTILE, OTHERS, SHARE = 20_000, 64, 32
@@ -127,13 +130,16 @@ def tell(program: str, limit: fill.Limit):
     """Fills a limit from as many addresses as that takes, and tells a line."""
     number, is_full, one, device = 0, False, 0, ""
     with serving(program) as port:
-        for sources in range(1, MOST_SOURCES + 1):
-            source = Source(f"127.0.1.{sources}", port)
-            if limit.before and sources == 1:
+        sources = 0
+        for place in range(1, MOST_SOURCES + 1):
+            source = Source(f"127.0.1.{place}", port)
+            if limit.before and place == 1:
                 fill_from(source, limit.before, 0)
+            before = number
             number, is_full = fill_from(source, limit, number)
+            sources += number > before
             source.close()
-            if sources == 1:
+            if place == 1:
                 one, device = number, register("127.0.2.1", port)
             if is_full:
                 break
@@ -168,7 +174,7 @@ class Device:
         return answer is not None and answer.code >> 5 == 2
 
 
-def hostile(port: int, is_over: threading.Event):
+def hostile(port: int):
     """Datagrams by chance from many addresses, as fast as they go out."""
     chance = random.Random(1)
     sockets = [opened(f"127.0.4.{place + 1}", port, 0) for place in range(OTHERS)]
@@ -183,37 +189,33 @@ def hostile(port: int, is_over: threading.Event):
         with contextlib.suppress(OSError):
             sockets[number % OTHERS].send(data)
         if number % 40 == 0:
-            time.sleep(0.01)
-    is_over.set()
+            time.sleep(0.02)
 
 
-def looking(port: int, is_over: threading.Event):
+def looking(port: int):
     """Lookups and observations with as many criteria as fit, one after the other."""
     options = path("rd-lookup", "res") + query(*["ep=*"] * CRITERIA)
     observed = [(OBSERVE, b"")] + options
     with opened("127.0.4.1", port) as asking:
         number = 0
-        until = time.monotonic() + 20
+        until = time.monotonic() + DURATION
         while time.monotonic() < until:
             number = number + 1 & 0xFFFF
             asked(asking, fill.request(number, GET, observed if number % 2 else options), 1)
-    is_over.set()
 
 
 def beside(program: str, name: str, attack, *words: str) -> int:
     """Devices that register and refresh beside an attack; how many requests are refused."""
-    is_over, refused, served = threading.Event(), 0, 0
+    refused, served = 0, 0
     with serving(program, *words) as port:
         devices = [Device(number, port) for number in range(DEVICES)]
-        attacking = threading.Thread(target=attack, args=(port, is_over))
+        attacking = threading.Thread(target=attack, args=(port,))
         attacking.start()
-        rounds = 0
-        while rounds <= REFRESHES or not is_over.is_set():
-            for device in devices:
-                is_taken = device.is_served()
-                served += is_taken
-                refused += not is_taken
-            rounds += 1
+        for device in devices * ROUNDS:
+            is_taken = device.is_served()
+            served += is_taken
+            refused += not is_taken
+            time.sleep(DURATION / (DEVICES * ROUNDS))
         attacking.join()
     longest = max(device.longest for device in devices)
     print(f"{name:<58}{served:>8,} served {refused:>4} refused  longest {longest:.3f} s",

@@ -30,6 +30,7 @@ const WORDS: &str = "\
 4 1000000000000 [::1]:5683 127.0.0.1:5683 quiet | --quiet
 4 1000000000000 [::1]:5683 | --listen=[0:0::1]:5683
 4 1000000000000 [2001:db8::1]:1 | --listen=[2001:0DB8:0:0:0:0:0:1]:1
+4 1000000000000 127.0.0.1:1 lookups 65535 | --listen=127.0.0.1:1 --lookups=65535
 help | --help
 help | -h
 version | --version
@@ -66,6 +67,7 @@ refused | --listen=127.0.0.1:1 --trust=fe80::%eth0/64
 refused | --listen=127.0.0.1:1 --share=4097
 refused | --listen=127.0.0.1:1 --share=1 --share=2
 refused | --listen=127.0.0.1:1 --criteria=769
+refused | --listen=127.0.0.1:1 --lookups=65536
 refused | --listen
 refused | --listen --listen=127.0.0.1:1
 refused | --listen=127.0.0.1:1 --port=1
@@ -85,6 +87,7 @@ fn told(alloc: Global, plan: &HostPlan) -> Result<String, Fail> {
         trust,
         share,
         criteria,
+        lookups,
         quiet,
     } = plan;
     let mut text = format!(in alloc; "{workers} {turns}")?;
@@ -103,6 +106,9 @@ fn told(alloc: Global, plan: &HostPlan) -> Result<String, Fail> {
     }
     if (*share, *criteria) != (1024, 16) {
         write!(text, " share {share} criteria {criteria}")?;
+    }
+    if *lookups > 0 {
+        write!(text, " lookups {lookups}")?;
     }
     if *quiet {
         text.push_str(" quiet")?;
