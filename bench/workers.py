@@ -4,7 +4,8 @@
 PROGRAM is a proved `rd_serve`. Each row is of a server of one or of four workers, to which clients
 at 64 ports, or at one, send registrations of new names. It has the processor time of the server for
 each write, how many writes it answered in a second, and how often its threads gave up a processor.
-The load has the same processors as the server. Each figure is the median of rounds in turn.
+The load has the last processor, and the server the others. Each figure is the median of rounds in
+turn.
 """
 
 import argparse
@@ -16,7 +17,7 @@ import serve
 NEW = serve.Request(serve.REGISTRATION.target, serve.REGISTRATION.links)
 
 # How many names are registered, from how many ports, by how many workers, and in how many rounds.
-NAMES, PORTS, WORKERS, ROUNDS = 4_000, (64, 1), (1, 4), 5
+NAMES, PORTS, WORKERS, ROUNDS = 4_000, (64, 1), (1, 4), 9
 
 
 def switches(server: serve.Server) -> int:
@@ -30,9 +31,11 @@ def switches(server: serve.Server) -> int:
 
 def measured(program: str, workers: int, ports: int) -> tuple[float, float, float]:
     """Microseconds, writes a second and switches a write, on a new server."""
-    with serve.running(serve.rd_serve(program, workers, serve.processors())) as server:
+    places = serve.processors()
+    own, others = places[:-1] or places, places[-1:]
+    with serve.running(serve.rd_serve(program, workers, own)) as server:
         before, spent = switches(server), server.nanoseconds()
-        load = server.begin_load(NEW, NAMES, NAMES, ports, ports, places=serve.processors())
+        load = server.begin_load(NEW, NAMES, NAMES, ports, ports, places=others)
         answers = server.end_load([load])
         if answers.count != NAMES:
             raise serve.Missing(f"{answers.count:,} of {NAMES:,} were answered")
