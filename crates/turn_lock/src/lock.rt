@@ -15,8 +15,11 @@ use std::sync::Wait;
 use std::sync::atomic::{AtomicU64, Ordering};
 use std::time::Duration;
 
-/// For how long a worker sleeps at most before it looks for the turn again, in milliseconds.
-const LONGEST_SLEEP: u64 = 5;
+/// For how long a worker sleeps at most before it looks for the turn again, in microseconds.
+const LONGEST_SLEEP: u64 = 250;
+
+/// The number of gives that find a sleeper, of which one wakes it.
+const GIVES: u64 = 8;
 
 /// A value that many workers change in turn. A lock may be dropped if its value may be. Any other
 /// lock is taken apart by [`TurnLock::end`] or [`TurnLock::into_inner`].
@@ -26,6 +29,8 @@ pub struct TurnLock<T: Replays> {
     /// How many workers sleep until the turn is given back, or are about to. If it is 0, giving the
     /// turn back wakes no worker.
     sleepers: AtomicU64,
+    /// How often a give that may wake a worker found one asleep, modulo 2^64.
+    found: AtomicU64,
     ghost words: { table.shared.table_id.words ≡ 1 },
     ghost slots: { table.shared.table_id.slots ≡ 1 },
 }
@@ -152,16 +157,16 @@ impl<T: Replays> TurnLock<T> {
         unreachable!()
     }
 
-    /// Sleeps while the word is this one, for at most 5 ms.
+    /// Sleeps while the word is this one, for at most 250 µs.
     ///
     /// The sleeper is counted before the word is compared. A give changes the word before it reads
     /// the count. So if it finds no sleeper, it changed the word before the comparison, and no
-    /// worker sleeps through it. A give that wakes nobody is followed by another of the same
-    /// worker. If that worker is held up, a sleeper looks again by itself.
+    /// worker sleeps through it. A give that wakes nobody leaves the turn free. Then a sleeper
+    /// finds it when it looks again by itself.
     fn sleep<R: Wait>(&self, rt: &R, word: u64) {
         self.sleepers.fetch_add(1, Ordering::SeqCst);
         let expected = (word & 0xffff_ffff) as u32;
-        let most = Duration::from_millis(LONGEST_SLEEP);
+        let most = Duration::from_micros(LONGEST_SLEEP);
         self.table.shared.park_timeout(rt, 0, expected, most);
         self.sleepers.fetch_sub(1, Ordering::SeqCst);
     }
@@ -202,7 +207,7 @@ impl<T: Replays> TurnLock<T> {
     }
 
     /// Gives the turn back with the value and one more row, which the caller's contract names
-    /// (`S`), and wakes a worker that sleeps.
+    /// (`S`), and may wake a worker that sleeps.
     ///
     /// # Requires
     ///
@@ -228,7 +233,7 @@ impl<T: Replays> TurnLock<T> {
         self.give_back::<S>(pass, value, Wake::One);
     }
 
-    /// Gives the turn back as [`TurnLock::give`] does, and wakes one worker or nobody.
+    /// Gives the turn back as [`TurnLock::give`] does, and may wake one worker, or wakes nobody.
     ///
     /// # Requires
     ///
@@ -257,9 +262,16 @@ impl<T: Replays> TurnLock<T> {
         self.wake(wake);
     }
 
-    /// Wakes a worker that sleeps, if one sleeps and one is to be woken.
+    /// Wakes a worker that sleeps, if one sleeps and one is to be woken: by every eighth give.
+    ///
+    /// A worker that is woken by each give would mostly find the turn taken again, or take it from
+    /// a worker that has all it needs in the caches of its processor. Either way one of the two
+    /// sleeps again.
     fn wake(&self, wake: Wake) {
-        if wake == Wake::One && self.sleepers.load(Ordering::SeqCst) != 0 {
+        if wake == Wake::One
+            && self.sleepers.load(Ordering::SeqCst) != 0
+            && self.found.fetch_add(1, Ordering::Relaxed) % GIVES == 0
+        {
             self.table.shared.wake_one(0);
         }
     }
@@ -376,6 +388,7 @@ impl<T: Replays> TurnLock<T> {
         let lock = TurnLock {
             table,
             sleepers: AtomicU64::new(0),
+            found: AtomicU64::new(0),
         };
         let passes = lock.cut(passes, seat, seats as usize);
         Ok((lock, Passes::of(passes)))
@@ -413,7 +426,11 @@ impl<T: Replays> TurnLock<T> {
             T.stands history value) }
         ensures value_label { IfFree result (λ value. T.label value ≡ label_of pass) }
     {
-        let TurnLock { table, sleepers: _ } = self;
+        let TurnLock {
+            table,
+            sleepers: _,
+            found: _,
+        } = self;
         let Pass { seat, word: _ } = pass;
         let seat = ManuallyDrop::into_inner(seat);
         TurnLock::left(table.close_with(seat))
@@ -424,7 +441,11 @@ impl<T: Replays> TurnLock<T> {
     pub fn into_inner(self) -> Ended<T>
         ensures value { IfFree result (λ value. (history : List T.Row) × T.stands history value) }
     {
-        let TurnLock { table, sleepers: _ } = self;
+        let TurnLock {
+            table,
+            sleepers: _,
+            found: _,
+        } = self;
         TurnLock::left(table.close())
     }
 }
