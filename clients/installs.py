@@ -181,7 +181,8 @@ def case(run, name: str, words: list[str], lines: list[str], wanted: list[str]) 
 def start(run, after: str, *more: str):
     """Starts rd_host at two addresses, and waits until its sockets are there."""
     port = run.port("server")
-    words = ["--listen", f"127.0.0.1:{port}", "--listen", f"[::1]:{port}", *more]
+    words = ["--listen", f"127.0.0.1:{port}", "--listen", f"[::1]:{port}",
+             "--trust", "127.0.0.0/8", "--trust", "::1", *more]
     run.server = run.start([run.beside("rd_host"), *words])
     if not run.server.stderr.readline().startswith(b"rd_host "):
         run.end_ungreeted()
