@@ -67,6 +67,7 @@ hostile: build-rd_serve build-rd_host build-rd_commission build-rd_replay build-
 	@python3 hostile/each.py --seed $(SEED)
 	@python3 hostile/streams.py --seed $(SEED)
 	@python3 hostile/fill.py
+	@python3 hostile/shares.py
 	@python3 hostile/memory.py
 	@python3 hostile/system.py
 
@@ -113,4 +114,6 @@ edits:
 	@python3 gate/edits.py
 
 test:
-	@RT_JOBS=$(LANES) rt ci; status=$$?; python3 gate/edits.py --check || test $$status -ne 0 || status=1; exit $$status
+	@RT_JOBS=$(LANES) rt ci; status=$$?; \
+		python3 gate/edits.py --check || test $$status -ne 0 || status=1; \
+		python3 docs/check.py || test $$status -ne 0 || status=1; exit $$status

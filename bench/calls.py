@@ -6,7 +6,9 @@ machine gives nearly the same figures. 64 clients ask, each from a port of its o
 a time, as bench/serve.py has them. The table has a row for each kind of request and a column for
 each server: rd_serve and rd_host with one worker, and libcoap's coap-rd where it is installed.
 Registrations of a new name begin among 128 and end among 1,152. Observers watch queries that no
-request of these touches. The status is 1 where a request was not answered as it should be.
+request of these touches. rd_host runs with no bound of a sender and no counts; the rows "by
+default" and "at two addresses" are of one lookup with its bounds and counts, as it has them where
+nothing is said. The status is 1 where a request was not answered as it should be.
 """
 
 import argparse
@@ -207,6 +209,17 @@ def kind_of(program: str) -> tuple[str, Callable[[int], list[str]], bool]:
     return name, lambda port: [program, "--port", str(port), "--workers", "1"], True
 
 
+def rows_by_default(program: str) -> Iterator[tuple[str, float]]:
+    """What a lookup costs rd_host with its bounds and counts, at one address and at two."""
+    one = [program, "--workers", "1", "--listen"]
+    again = [number for _ in range(MANY // CLIENTS) for number in range(1, CLIENTS + 1)]
+    for name, more in [("by default", []), ("by default, at two addresses", ["--listen"])]:
+        with running(lambda port: [*one, f"{HOST}:{port}", *more,
+                                   *(f"[::1]:{port}" for _ in more)]) as server:
+            server.register(range(1, STANDING + 1))
+            yield f"a lookup, one listed, {name}", server.cost(LOOKUP, again)
+
+
 def rows(words: Callable[[int], list[str]], is_ours: bool, is_quick: bool
          ) -> Iterator[tuple[str, float]]:
     """What each kind of request costs."""
@@ -249,9 +262,11 @@ def main():
     for program in programs:
         if not shutil.which(program):
             sys.exit(f"{program} is not there: make build")
-        name, given, is_ours = kind_of(os.path.abspath(shutil.which(program)))
+        path = os.path.abspath(shutil.which(program))
+        name, given, is_ours = kind_of(path)
         try:
-            for row, cost in rows(given, is_ours, words.quick):
+            more = rows_by_default(path) if name == "rd_host" else []
+            for row, cost in itertools.chain(rows(given, is_ours, words.quick), more):
                 print(f"{name:<10} {row:<56} {cost:>12,.0f}", flush=True)
         except Missing as missing:
             sys.exit(f"{name}: {missing}")

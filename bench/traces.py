@@ -48,6 +48,9 @@ SHORT = 300
 OBSERVERS = 64
 LISTED = 50
 
+# As many criteria as fit a datagram of 4,096 octets, all the same, which each registration meets.
+SAME_CRITERIA = ["ep=*"] * 768
+
 # How many links a registration has whose lease is updated.
 LINKS = [1, 1_000]
 
@@ -176,10 +179,9 @@ class Trace:
             part = body[start : start + BLOCK]
             self.write(device(number), POST, [*options, (BLOCK1, value)], part)
 
-    def look(self, pattern: str = "", before=(), after=(), peer: str = CLIENT):
-        """A client looks up the links that meet a pattern, or all of them (RFC 9176 section 6)."""
-        criteria = query(pattern) if pattern else []
-        options = [*before, *path("rd-lookup", "res"), *criteria, *after]
+    def look(self, *criteria: str, before=(), after=(), peer: str = CLIENT):
+        """A client looks up the links that meet criteria, or all of them (RFC 9176 section 6)."""
+        options = [*before, *path("rd-lookup", "res"), *query(*criteria), *after]
         self.come(peer, message(CON, GET, self.next_mid(), b"\xa1", options))
 
     def join(self, observers: int, middle: int):
@@ -306,15 +308,15 @@ def removals(size: int, calls: int) -> tuple[Trace, Trace]:
     return before, after
 
 
-def lookups(pattern: str, is_long: bool = False, with_tag: bool = False):
-    """A client looks up links by a pattern, in which `#` is the number in the middle."""
+def lookups(*criteria: str, is_long: bool = False, with_tag: bool = False):
+    """A client looks up links by criteria, in which `#` is the number in the middle."""
 
     def make(size: int, calls: int) -> tuple[Trace, Trace]:
         before = settled(size)
         after = grown(before)
         tag = [(ETAG, tag_of(size))] if with_tag else []
         for _ in range(calls):
-            after.look(pattern.replace("#", str(size // 2)), before=tag)
+            after.look(*(each.replace("#", str(size // 2)) for each in criteria), before=tag)
             if is_long:
                 after.go()
         return before, after
@@ -366,6 +368,22 @@ def notices(size: int, calls: int) -> tuple[Trace, Trace]:
     return before, after
 
 
+def observed_by_many_criteria(size: int, calls: int) -> tuple[Trace, Trace]:
+    """Devices register again, each with another link, and observers by many criteria are told."""
+    before = settled(size)
+    for number in range(OBSERVERS):
+        before.look(*SAME_CRITERIA, before=[(OBSERVE, b"")], peer=observer(number))
+        before.go()
+    after = grown(before)
+    for call in range(calls):
+        after.register(spread(call, size), edition=call + 1)
+        after.tick(after.moment)
+        for number in range(OBSERVERS):
+            mid = call * OBSERVERS + number
+            after.come(observer(number), message(ACK, EMPTY, mid, token=b""))
+    return before, after
+
+
 def sweeps(size: int, calls: int) -> tuple[Trace, Trace]:
     """Leases lapse, one at a time, each before a tick."""
     before = Trace()
@@ -409,11 +427,15 @@ KINDS = [
     Kind("lookup by ep, one listed", lookups("ep=n#"), MANY, CONTENT),
     Kind("the same with the tag of the listing", lookups("ep=n#", with_tag=True), MANY, VALID),
     Kind("lookup by a wildcard, fifty listed", lookups("g=f0-*", is_long=True), FEW, CONTENT),
-    Kind("lookup of all", lookups("", is_long=True), FEW, CONTENT),
+    Kind("lookup of all", lookups(is_long=True), FEW, CONTENT),
+    Kind("lookup of all by 768 criteria that are the same", lookups(*SAME_CRITERIA, is_long=True),
+         FEW, CONTENT),
     Kind("the second block of a listing of all that is kept", blocks, MANY, CONTENT),
     Kind("an observer that joins, one of 64", joins, OBSERVERS, CONTENT),
     Kind("a tick with nothing due", idle_ticks, MANY, CONTENT, answers=0),
     Kind("a tick with 64 notices", notices, FEW, CONTENT, answers=OBSERVERS),
+    Kind("registration and tick, 64 observers by 768 criteria", observed_by_many_criteria, FEW,
+         CONTENT, answers=OBSERVERS),
     Kind("a tick that sweeps one", sweeps, FEW, CONTENT, answers=0),
 ]
 

@@ -354,7 +354,7 @@ def observing_blocks(run):
     many = sensors(60)
     sent, listing = ",".join(many), at(run.base("wall"), many)
     first, *rest = blocks(listing, 1_024)
-    watch = run.begin("the observer got the first block as a notice, and then the rest",
+    watch = run.begin("the observer got the first block as a notification, and then the rest",
                       ["-s", "3"], "/rd-lookup/res?ep=wall")
     run.ask("while a client observes a device, it registers a long list",
             post_file(run.folder, "many.links", sent), "/rd?ep=wall",

@@ -40,6 +40,15 @@ BEGINNINGS, OBSERVATIONS, WINDOW = 16, 64, 247
 # An address that no machine has (RFC 5737).
 FOREIGN = "192.0.2.7"
 
+# What a shell does in a network of its own before it starts a program: that network has loopback
+# and no IPv6.
+WITHOUT_V6 = """
+ip link set lo up || exit 1
+off=/proc/sys/net/ipv6/conf/all/disable_ipv6
+[ ! -e "$off" ] || echo 1 > "$off" || exit 1
+exec "$0" "$@"
+"""
+
 TOKEN = b"\xd1\xd2"
 
 # What was sent to the server of these cases, by the names of its line.
@@ -141,6 +150,46 @@ def starts(run):
           ["status 0", line.format(f"[::1]:{port}"), served])
 
 
+def outside(words: list[str]) -> list[str]:
+    """The words of a program in a network of its own that has no IPv6."""
+    as_root = [] if os.geteuid() == 0 else ["--map-root-user"]
+    return ["unshare", "--net", *as_root, "sh", "-c", WITHOUT_V6, *words]
+
+
+def beside(process: subprocess.Popen, words: list[str]) -> list[str]:
+    """The words of a program in the network of a process."""
+    as_root = [] if os.geteuid() == 0 else ["--user", "--preserve-credentials"]
+    return ["nsenter", "--target", str(process.pid), "--net", *as_root, *words]
+
+
+def why_not(words: list[str]) -> str:
+    """Why this system does not run a program; nothing where it does."""
+    try:
+        done = subprocess.run(words, stdin=subprocess.DEVNULL, stdout=subprocess.DEVNULL,
+                              stderr=subprocess.PIPE, text=True, timeout=5, check=False)
+    except (OSError, subprocess.TimeoutExpired) as error:
+        return str(error)
+    return done.stderr.strip() or "it fails" if done.returncode else ""
+
+
+def serves_v4(run):
+    """What it does by default on a host without IPv6; skipped where the system makes no network."""
+    if why := why_not(outside(["true"])):
+        print(f"skipped  a host without IPv6: {why}", flush=True)
+        return
+    words = ["--workers=1", "--begin=41"]
+    process = run.start(outside([run.beside("rd_host"), *words]))
+    left_out, start = (process.stderr.readline().decode().strip() for _ in range(2))
+    client = subprocess.run(
+        beside(process, [run.client, "-B", "5", "coap://127.0.0.1/.well-known/core?rt=core.rd"]),
+        stdin=subprocess.DEVNULL, stdout=subprocess.PIPE, timeout=10, check=False)
+    process.kill()
+    run.tell("a host without IPv6", shlex.join(["rd_host", *words]),
+             ["[::1]:5683: left out, since this machine has no IPv6", "begin=41",
+              '</rd>;rt="core.rd";ct=40'],
+             [left_out, start.rpartition(" ")[2], client.stdout.decode().strip()])
+
+
 def shares(run, opened):
     """What a source may send in a window, and what is answered past that."""
     one, again = Source(run, opened, "127.0.0.2"), Source(run, opened, "127.0.0.2")
@@ -236,6 +285,7 @@ def run(run_of_cases):
                        "begin=41"], [said])
     ends(run_of_cases)
     starts(run_of_cases)
+    serves_v4(run_of_cases)
     since = time.monotonic()
     with contextlib.ExitStack() as opened:
         shares(run_of_cases, opened)

@@ -7,7 +7,9 @@ number registrations is open, so the script compares the set of numbers.
 """
 
 import contextlib
+import os
 import re
+import resource
 import shlex
 import socket
 import subprocess
@@ -34,6 +36,9 @@ RUN_LIMIT = 200
 GIVES_UP = 110
 LIFETIME = 4
 
+# Octets: how much room a run has that is to run out of it, and a list that is longer.
+ROOM, LONG_LINE = 32 << 20, 48 << 20
+
 # Lines of a list that are bad, each with its words and with what is said of it.
 FAULTS = [
     ("a name in place of an address", [], "coap://example.com/rd?ep=a&base=coap://b", "ask"),
@@ -42,6 +47,10 @@ FAULTS = [
     ("a port that is none", [], "coap://127.0.0.1:70000/rd?ep=a&base=coap://b", "ask"),
     ("links that are too long", [], f"coap://127.0.0.1/rd?ep=a&base=coap://b </{'x' * 1_300}>",
      "ask"),
+    ("a segment that is too long", [], f"coap://127.0.0.1/{'x' * 256}?ep=a&base=coap://b", "ask"),
+    ("a parameter that is too long", [], f"coap://127.0.0.1/rd?ep={'x' * 253}&base=coap://b",
+     "ask"),
+    ("a parameter that is no text", [], "coap://127.0.0.1/rd?ep=%FF&base=coap://b", "ask"),
     ("digits that are none", [], "coap://127.0.0.1/rd?ep=a&base=coap://b 0x3c2", "form"),
     ("no base", [], "coap://127.0.0.1/rd?ep=a </a>", "base"),
     ("a link-local directory", [], "coap://[fe80::1]/rd?ep=a&base=coap://b", "zone"),
@@ -171,6 +180,19 @@ def shown(words: list[str], lines: list[str]) -> str:
     return f"echo {first}{more} | {shlex.join(['rd_install', *words])}"
 
 
+def fails(run, name: str, line: str, words: list[str], wanted: list[str], **how):
+    """A case: what a run says whose list, output or memory is another."""
+    given = {"stdin": subprocess.DEVNULL, "stdout": subprocess.DEVNULL, **how}
+    done = subprocess.run([run.beside("rd_install"), *words], stderr=subprocess.PIPE,
+                          cwd=run.folder, check=False, timeout=RUN_LIMIT, **given)
+    run.tell(name, line, wanted, [f"status {done.returncode}", *done.stderr.decode().splitlines()])
+
+
+def has_little_room():
+    """Limits the memory of a process."""
+    resource.setrlimit(resource.RLIMIT_AS, (ROOM, ROOM))
+
+
 def case(run, name: str, words: list[str], lines: list[str], wanted: list[str]) -> list[str]:
     """A case: what a run over a list says."""
     came = made(run, words, lines)
@@ -298,6 +320,27 @@ def faults(run):
          ["status 4", "line 4097: many"])
     case(run, "a location with a query", ["refresh"], ["1 created coap://127.0.0.1/rd/1?a"],
          ["status 4", "line 1: ask"])
+    case(run, "a location without a path", ["remove"], ["coap://127.0.0.1"],
+         ["status 4", "line 1: ask"])
+    case(run, "no base for what is kept", ["keep"], ["coap://127.0.0.1/rd?ep=a"],
+         ["status 4", "line 1: base"])
+    with contextlib.ExitStack() as opened:
+        full = opened.enter_context(open("/dev/full", "wb"))
+        listed = opened.enter_context((Path(run.folder) / "listed").open("w+b"))
+        folder = os.open(run.folder, os.O_RDONLY)
+        opened.callback(os.close, folder)
+        fails(run, "a list that cannot be read", "rd_install register < .", ["register"],
+              ["status 4", "read failed"], stdin=folder)
+        listed.write(line_of(1, f"coap://127.0.0.1:{run.port('server')}").encode() + b"\n")
+        listed.seek(0)
+        fails(run, "an output that cannot be written", "rd_install register < listed > /dev/full",
+              ["register"], ["status 2", "write failed"], stdin=listed, stdout=full)
+        listed.seek(0)
+        listed.write(b"#" * LONG_LINE)
+        listed.seek(0)
+        fails(run, "a list for which the memory is too small",
+              f"ulimit -v {ROOM >> 10}; rd_install register < listed", ["register"],
+              ["status 5", "memory"], stdin=listed, preexec_fn=has_little_room)
     usage = "usage: rd_install [--from ADDRESS] register|refresh|remove|keep < LIST"
     for words in ([], ["registers"], ["--from", "register"], ["--from", "192.0.2", "register"]):
         case(run, "words that it has not", words, [""], ["status 3", usage])

@@ -53,7 +53,7 @@ def is_answer(message: Message) -> bool:
     return message.kind in (ACK, NON) and message.code >> 5 in (2, 4, 5)
 
 
-def is_notice(message: Message) -> bool:
+def is_notification(message: Message) -> bool:
     """Whether a message is a notice to an observer."""
     return message.kind == CON and message.code == CONTENT
 
@@ -189,14 +189,14 @@ class Late(Fault):
     """Notices come so many milliseconds late."""
 
     def answered(self, client, message):
-        return [(self.number / 1_000 if is_notice(message) else 0, message)]
+        return [(self.number / 1_000 if is_notification(message) else 0, message)]
 
 
 class Swallowed(Fault):
     """Each one of so many notices is acknowledged by the relay, and reaches nobody."""
 
     def answered(self, client, message):
-        if not is_notice(message) or not self.is_next():
+        if not is_notification(message) or not self.is_next():
             return [(0, message)]
         self.relay.to_server(client, Message(ACK, EMPTY, message.mid, b"", (), b""))
         return []
@@ -308,7 +308,7 @@ FAULTS = {
               "each Nth block says that it is the last"),
     "listing": (on_answers(is_listing, last_link_less), 5, "each Nth listing lacks its last link"),
     "stale": (Stale, 1, "a lookup is answered as it was the time before"),
-    "observe": (on_answers(lambda each: is_notice(each) and bool(each.values(OBSERVE)),
+    "observe": (on_answers(lambda each: is_notification(each) and bool(each.values(OBSERVE)),
                            lambda each: with_option(each, OBSERVE, lambda _: b"\x01")), 1,
                 "the value of Observe in each Nth notice is 1"),
     "notices": (Swallowed, 3, "each Nth notice is acknowledged, and reaches nobody"),

@@ -198,9 +198,9 @@ class Strangers:
             name = {ACK: "ACK", RST: "RST"}.get(answer.kind, "empty")
         else:
             name = CLASSES.get(answer.code >> 5, "other")
-            is_notice = answer.kind == CON and answer.code >> 5 == 2
-            name = "notices" if is_notice else name
-            if answer.code >> 5 in (2, 4, 5) and not is_notice:
+            is_notification = answer.kind == CON and answer.code >> 5 == 2
+            name = "notices" if is_notification else name
+            if answer.code >> 5 in (2, 4, 5) and not is_notification:
                 self.answers[answer.refusal()] += 1
         self.classes[name] += 1
 

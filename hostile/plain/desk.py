@@ -483,10 +483,10 @@ class Desk:
                 observer.is_due = False
                 body = lookup.listing(observer.query, self.history.live(self.moment))
                 if body != observer.body:
-                    self.send_notice(observer, body)
+                    self.send_notification(observer, body)
                     sent += 1
 
-    def send_notice(self, observer: Observer, body: bytes):
+    def send_notification(self, observer: Observer, body: bytes):
         """Sends a notice."""
         size, tag, mid = observer.block.size, self.history.tag(self.moment), self.draw()
         options = [(ETAG, tag), (OBSERVE, spell_number(self.observers.next_value())), LINKS]

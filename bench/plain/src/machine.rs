@@ -15,7 +15,7 @@ use crate::Unhandled;
 use std::fmt;
 use std::rc::Rc;
 
-/// The most notices of one tick.
+/// The most notifications of one tick.
 const MOST_NOTICES: usize = 64;
 
 /// How many Message IDs the worker draws before it begins again.
@@ -99,7 +99,7 @@ fn listing(directory: &Directory, query: &Query, room: &mut Vec<u8>) -> Rc<[u8]>
     }
 }
 
-/// Ends an answer or a notice with a block of a listing (RFC 7959 section 2.4).
+/// Ends an answer or a notification with a block of a listing (RFC 7959 section 2.4).
 fn put_listing(
     writer: Writer<'_>,
     given: Given,
@@ -333,17 +333,17 @@ impl Machine {
         Ok(())
     }
 
-    /// Time passes: notices are sent again, observers whose listing changed are told, and what is
+    /// Time passes: notifications are sent again, observers whose listing changed are told, and what is
     /// old is forgotten.
     fn tick(&mut self, moment: u64, word: u32) {
         self.pass(moment);
-        self.notices_again();
-        self.notices(word);
+        self.notifications_again();
+        self.notifications(word);
         self.exchanges.age(self.moment);
     }
 
-    /// Notices whose wait has ended are sent again; after the last time their observer goes.
-    fn notices_again(&mut self) {
+    /// Notifications whose wait has ended are sent again; after the last time their observer goes.
+    fn notifications_again(&mut self) {
         let mut index = 0;
         while index < self.watching.observers.len() {
             let due = self.watching.due(index, self.moment);
@@ -353,16 +353,16 @@ impl Machine {
             }
             let observer = &self.watching.observers[index];
             if let (Due::Again, Some(flight)) = (due, &observer.flight) {
-                let notice = &flight.octets;
+                let notification = &flight.octets;
                 self.sent
-                    .push(observer.peer, |octets| octets.extend_from_slice(notice));
+                    .push(observer.peer, |octets| octets.extend_from_slice(notification));
             }
             index += 1;
         }
     }
 
-    /// Observers whose listing changed are told, if no other notice waits for their peer.
-    fn notices(&mut self, word: u32) {
+    /// Observers whose listing changed are told, if no other notification waits for their peer.
+    fn notifications(&mut self, word: u32) {
         let mut awaited = self.watching.awaited();
         let mut left = MOST_NOTICES;
         for index in 0..self.watching.observers.len() {
@@ -373,7 +373,7 @@ impl Machine {
             if !self.watching.is_due(observer) || awaited.contains(&observer.peer) {
                 continue;
             }
-            if self.notice(index, word) {
+            if self.notification(index, word) {
                 awaited.push(self.watching.observers[index].peer);
                 left -= 1;
             }
@@ -392,7 +392,7 @@ impl Machine {
     }
 
     /// An observer is told of its listing, if that is another than it was given last.
-    fn notice(&mut self, index: usize, word: u32) -> bool {
+    fn notification(&mut self, index: usize, word: u32) -> bool {
         let place = self.watching.observers[index].place;
         let Some((body, changes)) = self.watched_listing(place) else {
             return false;
@@ -420,11 +420,11 @@ impl Machine {
         };
         let mid = (self.drawn % MIDS) as u16;
         self.drawn += 1;
-        let notice = self.sent.push(peer, |octets| {
+        let notification = self.sent.push(peer, |octets| {
             let writer = Writer::start(octets, Kind::Con, codes::CONTENT, mid, token.octets());
             put_listing(writer, given, has_more.then_some(first), (part, has_more));
         });
-        let flight = Flight::start(notice.into(), self.moment, word);
+        let flight = Flight::start(notification.into(), self.moment, word);
         self.watching.observers[index].flight = Some(flight);
         true
     }

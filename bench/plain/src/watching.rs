@@ -14,7 +14,7 @@ const MOST: usize = 1_024;
 const MOST_QUERIES: usize = 256;
 
 /// The least wait for an acknowledgement in milliseconds, how many waits there are, and how often
-/// a notice is sent again.
+/// a notification is sent again.
 const LEAST_WAIT: u64 = 2_000;
 const WAITS: u64 = 1_001;
 const MOST_AGAIN: u8 = 4;
@@ -31,9 +31,9 @@ pub struct Watch {
     pub body: Option<Rc<[u8]>>,
 }
 
-/// A notice that waits for its acknowledgement.
+/// A notification that waits for its acknowledgement.
 pub struct Flight {
-    /// The octets of the notice.
+    /// The octets of the notification.
     pub octets: Box<[u8]>,
     /// When it was sent last.
     sent: u64,
@@ -43,7 +43,7 @@ pub struct Flight {
     again: u8,
 }
 
-/// What is due of a notice that waits.
+/// What is due of a notification that waits.
 #[derive(PartialEq, Eq)]
 pub enum Due {
     Nothing,
@@ -52,7 +52,7 @@ pub enum Due {
 }
 
 impl Flight {
-    /// A notice that is sent for the first time.
+    /// A notification that is sent for the first time.
     pub fn start(octets: Box<[u8]>, now: u64, word: u32) -> Flight {
         let wait = LEAST_WAIT + u64::from(word) % WAITS;
         Flight {
@@ -80,7 +80,7 @@ impl Flight {
 
 /// An observer.
 pub struct Observer {
-    /// Where its notices go.
+    /// Where its notifications go.
     pub peer: Peer,
     /// The token that they have.
     pub token: Token,
@@ -94,7 +94,7 @@ pub struct Observer {
     pub place: usize,
     /// How many changes the listing had when it was last looked at for the observer.
     pub seen: u64,
-    /// The notice that waits for its acknowledgement.
+    /// The notification that waits for its acknowledgement.
     pub flight: Option<Flight>,
 }
 
@@ -223,7 +223,7 @@ impl Watching {
         Ok(())
     }
 
-    /// What is due of the notice of the observer with an index.
+    /// What is due of the notification of the observer with an index.
     pub fn due(&mut self, index: usize, now: u64) -> Due {
         match &mut self.observers[index].flight {
             Some(flight) => flight.tick(now),
@@ -237,7 +237,7 @@ impl Watching {
         watch.is_some_and(|watch| watch.changes != observer.seen)
     }
 
-    /// The peers for whose acknowledgement a notice waits.
+    /// The peers for whose acknowledgement a notification waits.
     pub fn awaited(&self) -> Vec<Peer> {
         let in_flight = self
             .observers

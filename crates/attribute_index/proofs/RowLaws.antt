@@ -71,7 +71,8 @@ value_total =
 
 pub row_total : IsTotalOrder row_cmp
 row_total =
-    then_total (on_total (λ row. row.value) value_total) (on_total (λ row. row.number) nat_cmp_total)
+    then_total (on_total (λ row. row.value) value_total)
+    (on_total (λ row. row.number) nat_cmp_total)
 
 -- the entry of a value and a number
 abbrev pub entry_at : List ℕ × List ℕ → ℕ → Entry

@@ -171,7 +171,8 @@ wanted_behind name pattern value h =
 -- what stands between the first that may be wanted and a wanted value is wanted
 pub wanted_between : (name pattern : List ℕ) (value other : List ℕ × List ℕ)
     → is_le (value_cmp (first_wanted name pattern) value) ≡ true
-    → is_le (value_cmp value other) ≡ true → is_wanted name pattern other ≡ true → is_wanted name pattern value ≡ true
+    → is_le (value_cmp value other) ≡ true → is_wanted name pattern other ≡ true
+    → is_wanted name pattern value ≡ true
 unfolding matches_value
 wanted_between name pattern value other h below matches =
     let parts = and_parts (bytes_eq other.0 name) (matches_value pattern other.1) matches in

@@ -17,8 +17,8 @@ pub record IsReadyFor (number : ℕ) (m : Message) : Type 0 where
   pub ascends : end_number 0 m.options ≤ number
 
 -- Returns a confirmable message that says a reply, with a token (RFC 7641 section 4.2).
-abbrev pub notice_saying : ℕ → List ℕ → Reply → Message
-notice_saying mid token reply = record {
+abbrev pub notification_saying : ℕ → List ℕ → Reply → Message
+notification_saying mid token reply = record {
   kind = Con;
   code = reply.code;
   mid = mid;

@@ -17,7 +17,7 @@ ghost use Rattle.journal_model.specs.UnfinishedRow.{drawing};
 ghost use Rattle.coap_answers.specs.Outboxes.{most_datagrams};
 ghost use Rattle.coap_answers.specs.Replies.{IsReply, reply_said, options_of, tag_octets};
 ghost use Rattle.coap_answers.specs.Replies.{location_option, format_option, block1_options};
-ghost use Rattle.coap_answers.specs.Writing.{IsReadyFor, with_options, notice_saying};
+ghost use Rattle.coap_answers.specs.Writing.{IsReadyFor, with_options, notification_saying};
 ghost use Rattle.journal_model.specs.Bodies.{tag_option, observe_option, block2_option};
 ghost use Rattle.journal_model.specs.Changes.{location_options};
 ghost use Rattle.message_model.specs.Numbers.{uint_bytes};
@@ -326,7 +326,7 @@ pub fn answer(mids: &mut Mids, peer: Peer, view: &View<'_>, reply: &Reply<'_>, o
 /// # Errors
 ///
 /// `Starved` if memory runs out.
-pub fn spell_notice(
+pub fn spell_notification(
     alloc: Global,
     mid: u16,
     token: TokenRef<'_>,
@@ -334,7 +334,7 @@ pub fn spell_notice(
 ) -> Result<Bytes, Starved>
     requires reply { IsReply reply.now }
     ensures spelled { IfOk result (λ octets. octets
-        ≡ spelling (notice_saying mid token.entry.octets.now (reply_said reply.now))) }
+        ≡ spelling (notification_saying mid token.entry.octets.now (reply_said reply.now))) }
     ensures short { IfOk result (λ octets. length octets ≤ longest_datagram) }
 {
     let mut writer = Writer::start(Kind4::Con, reply.code, mid, token);

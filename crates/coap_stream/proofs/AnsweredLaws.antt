@@ -16,7 +16,7 @@ use Rattle.std.proofs.Common.{
   ◌∙◌,
   arith,
 }
-use Rattle.rd_base.specs.declared.peers.Peer.{Peer}
+use Rattle.coap_stream.specs.declared.lines.Line.{Line}
 use Rattle.message_model.specs.Spelling.{spelling}
 use Rattle.stream_reader.specs.Shown.{Shown}
 use Rattle.coap_stream.specs.declared.purposes.Meant.{Meant}
@@ -36,9 +36,9 @@ use Rattle.coap_stream.specs.Talks.{
   Exchange,
   AnswersAs,
   AnswersRequest,
-  saying,
   replies_to,
 }
+use Rattle.coap_stream.specs.Manners.{saying, sized_by}
 use Rattle.coap_stream.specs.Made.{VoiceSeen, IsAsked, Speaks}
 use Rattle.coap_stream.specs.Answered.{IsDone, MessageDone, RequestDone}
 
@@ -60,12 +60,12 @@ says_done message octets a v w dropped dropped_then speaks same = record {
 }
 
 -- A request that is answered without a seat.
-pub said_done : (peer : Peer) (asked : ℕ) (message : Shown) (why : Unasked) (a : CallerSeen)
+pub said_done : (line : Line) (asked most : ℕ) (message : Shown) (why : Unasked) (a : CallerSeen)
     (v w : VoiceSeen) (dropped dropped_then : ℕ)
     → Speaks v (saying (unasked_code why) message.token (unasked_diagnostic why)) w
     → dropped_then ≡ dropped
-    → RequestDone peer asked message (Some why) a a v w dropped dropped_then
-said_done peer asked message why a v w dropped dropped_then speaks same =
+    → RequestDone line asked most message (Some why) a a v w dropped dropped_then
+said_done line asked most message why a v w dropped dropped_then speaks same =
     let octets = saying (unasked_code why) message.token (unasked_diagnostic why) in
     record {
       exchange = says_exchange message octets;
@@ -75,18 +75,18 @@ said_done peer asked message why a v w dropped dropped_then speaks same =
     }
 
 -- One that is handed to the seat.
-pub asked_done : (peer : Peer) (asked : ℕ) (message : Shown) (datagram : List ℕ) (n : ℕ)
+pub asked_done : (line : Line) (asked most : ℕ) (message : Shown) (datagram : List ℕ) (n : ℕ)
     (a b : CallerSeen) (v w : VoiceSeen) (dropped dropped_then : ℕ)
-    → datagram ≡ spelling (heard_as asked message)
-    → IsAsked peer (asked + 1) datagram n a b v w
+    → datagram ≡ spelling (sized_by line.manner most (heard_as asked message))
+    → IsAsked line (asked + 1) most datagram n a b v w
     → dropped_then ≡ dropped + n
     → n ≤ 1152
-    → RequestDone peer asked message None a b v w dropped dropped_then
-asked_done peer asked message datagram n a b v w dropped dropped_then is i drops few = record {
+    → RequestDone line asked most message None a b v w dropped dropped_then
+asked_done line asked most message datagram n a b v w dropped dropped_then is i drops few = record {
   exchange = record {
     message = message;
     calls = i.ticks ++ i.heard;
-    written = replies_to peer (calls_sent i.heard);
+    written = replies_to line most (calls_sent i.heard);
     dropped = n;
   };
   same = refl;
@@ -94,7 +94,7 @@ asked_done peer asked message datagram n a b v w dropped dropped_then is i drops
     heard = i.heard;
     ticks = i.ticks;
     whole = refl;
-    hears = subst (λ (d : List ℕ). Hears peer d i.heard) is i.hears;
+    hears = subst (λ (d : List ℕ). Hears line.peer d i.heard) is i.hears;
     due = i.due;
     written = refl;
     dropped = i.drops;
@@ -115,29 +115,29 @@ Speaks-as v w code other token payload word is same speaks =
 -- ---- messages
 
 -- A message that leads to no call.
-pub message_said : (peer : Peer) (asked : ℕ) (message : Shown) (m : Meant) (octets : List ℕ)
+pub message_said : (line : Line) (asked most : ℕ) (message : Shown) (m : Meant) (octets : List ℕ)
     (a : CallerSeen) (v w : VoiceSeen) (dropped : ℕ)
     → meant_by message.code ≡ m
-    → AnswersAs peer asked m (says_exchange message octets)
+    → AnswersAs line asked most m (says_exchange message octets)
     → Speaks v octets w
-    → MessageDone peer asked message a a v w dropped dropped
-message_said peer asked message m octets a v w dropped is answers speaks = record {
+    → MessageDone line asked most message a a v w dropped dropped
+message_said line asked most message m octets a v w dropped is answers speaks = record {
   exchange = says_exchange message octets;
   same = refl;
   answers =
-      subst (λ (x : Meant). AnswersAs peer asked x (says_exchange message octets)) (sym is)
+      subst (λ (x : Meant). AnswersAs line asked most x (says_exchange message octets)) (sym is)
       answers;
   done = says_done message octets a v w dropped dropped speaks refl;
 }
 
 -- A request.
-pub message_asked : (peer : Peer) (asked : ℕ) (message : Shown) (a b : CallerSeen)
+pub message_asked : (line : Line) (asked most : ℕ) (message : Shown) (a b : CallerSeen)
     (v w : VoiceSeen) (dropped dropped_then : ℕ)
     → meant_by message.code ≡ meant.Request
-    → RequestDone peer asked message (unasked_of (heard_as asked message)) a b v w
+    → RequestDone line asked most message (unasked_of (heard_as asked message)) a b v w
     dropped dropped_then
-    → MessageDone peer asked message a b v w dropped dropped_then
-message_asked peer asked message a b v w dropped dropped_then is r =
+    → MessageDone line asked most message a b v w dropped dropped_then
+message_asked line asked most message a b v w dropped dropped_then is r =
     let e = r.exchange in
     let means : meant_by e.message.code ≡ meant.Request =
     ap (λ (s : Shown). meant_by s.code) r.same ∙ is in
@@ -145,8 +145,8 @@ message_asked peer asked message a b v w dropped dropped_then is r =
       exchange = e;
       same = r.same;
       answers =
-          subst (λ (x : Meant). AnswersAs peer asked x e) (sym means)
-          (subst (λ (s : Shown). AnswersRequest peer asked (unasked_of (heard_as asked s)) e)
+          subst (λ (x : Meant). AnswersAs line asked most x e) (sym means)
+          (subst (λ (s : Shown). AnswersRequest line asked most (unasked_of (heard_as asked s)) e)
           (sym r.same) r.answers);
       done = r.done;
     }

@@ -5,7 +5,7 @@ use Rattle.std.proofs.Common.{refl, sym, ap, subst, ◌∙◌, append_assoc, app
 use Rattle.std.specs.Prelude.{reverse, IfOk, IfSome}
 use Rattle.std.specs.Io.KnownBytes.{Consumes, IsAtEnd}
 use Rattle.std.proofs.lemmas.List.{reverse-append}
-use Rattle.rd_base.specs.declared.peers.Peer.{Peer}
+use Rattle.coap_stream.specs.declared.lines.Line.{Line}
 use Rattle.stream_model.specs.declared.messages.StreamBad.{StreamBad}
 use Rattle.stream_model.specs.Streams.{stream_of}
 use Rattle.stream_reader.specs.Shown.{Shown, shown_in}
@@ -22,7 +22,7 @@ use Rattle.coap_stream.specs.Talks.{
   ended_by,
   most_asked,
 }
-use Rattle.coap_stream.specs.Endings.{TalkSeen, AreAll, AreShown, EndsSo, Talks}
+use Rattle.coap_stream.specs.Endings.{TalkSeen, AreAll, AreShown, EndsSo, TalksOver}
 use Rattle.coap_stream.specs.Asked.{asked_after, asked_in, asked_over, end_with, unless_ended}
 use Rattle.coap_stream.proofs.TalkLaws.{asks_few, not_spent}
 
@@ -39,19 +39,19 @@ below_most (e ∷ es) few open_still =
     less : (n : ℕ) → n ≤ 65536 → (n ≡ 65536 → ⊥) → n < 65536
     less n few other = omega (arith, few, other)
 
-pub asked_most : (peer : Peer) (es : List Exchange) → AreAnswered peer es
+pub asked_most : (line : Line) (es : List Exchange) → AreAnswered line es
     → asked_of es ≤ 65536
-asked_most peer [] answered = omega arith
-asked_most peer (e ∷ es) answered =
-    let before = below_most es (asked_most peer es answered.0) answered.1 in
+asked_most line [] answered = omega arith
+asked_most line (e ∷ es) answered =
+    let before = below_most es (asked_most line es answered.0) answered.1 in
     let more = asks_few (meant_by e.message.code)
     (unasked_of (heard_as (asked_of es) e.message)) in
     omega (arith, before, more)
 
-pub talk_most : (peer : Peer) (before after : TalkSeen) (t : Talked)
-    → Talks peer before after (Ok t) → t.asked ≤ 65536
-talk_most peer before after t talks =
-    let most = asked_most peer talks.exchanges talks.answered in
+pub talk_most : (line : Line) (before after : TalkSeen) (t : Talked)
+    → TalksOver line before after (Ok t) → t.asked ≤ 65536
+talk_most line before after t talks =
+    let most = asked_most line talks.exchanges talks.answered in
     omega (arith, most, talks.concludes.1)
 
 -- ---- message by message
@@ -72,18 +72,18 @@ one_asked octets e n more shown =
     ap (λ (o : Option Shown). unless_ended (end_with o (asked_after n o)) (asked_after n o)
     (asked_over (asked_after n o) more)) shown
 
-are_asked : (peer : Peer) (messages : List (List ℕ)) (es : List Exchange)
+are_asked : (line : Line) (messages : List (List ℕ)) (es : List Exchange)
     (more : List (List ℕ))
     → AreShown messages es
-    → AreAnswered peer es
+    → AreAnswered line es
     → asked_over 0 (reverse messages ++ more)
     ≡ unless_ended (ended_by es) (asked_of es) (asked_over (asked_of es) more)
-are_asked peer [] [] more shown answered = refl
-are_asked peer (octets ∷ messages) [] more shown answered = absurd shown
-are_asked peer [] (e ∷ es) more shown answered = absurd shown
-are_asked peer (octets ∷ messages) (e ∷ es) more shown answered =
+are_asked line [] [] more shown answered = refl
+are_asked line (octets ∷ messages) [] more shown answered = absurd shown
+are_asked line [] (e ∷ es) more shown answered = absurd shown
+are_asked line (octets ∷ messages) (e ∷ es) more shown answered =
     ap (asked_over 0) (reverse_more messages octets more)
-    ∙ are_asked peer messages es (octets ∷ more) shown.1 answered.0
+    ∙ are_asked line messages es (octets ∷ more) shown.1 answered.0
     ∙ ap (λ (o : Option TalkEnd). unless_ended o (asked_of es)
     (asked_over (asked_of es) (octets ∷ more))) answered.1
     ∙ one_asked octets e (asked_of es) more shown.0
@@ -91,29 +91,29 @@ are_asked peer (octets ∷ messages) (e ∷ es) more shown answered =
 -- ---- a conversation
 
 -- All messages were answered, and none of them ended it.
-all_asked : (peer : Peer) (messages : List (List ℕ)) (es : List Exchange) (octets : List ℕ)
+all_asked : (line : Line) (messages : List (List ℕ)) (es : List Exchange) (octets : List ℕ)
     (why : Option StreamBad)
     → AreShown messages es
-    → AreAnswered peer es
+    → AreAnswered line es
     → AreAll messages why (stream_of octets)
     → ended_by es ≡ None
     → asked_in octets ≡ asked_of es
-all_asked peer messages es octets why shown answered all open_still =
+all_asked line messages es octets why shown answered all open_still =
     ap (asked_over 0) (all.all ∙ sym (append-nil (reverse messages)))
-    ∙ are_asked peer messages es [] shown answered
+    ∙ are_asked line messages es [] shown answered
     ∙ ap (λ (o : Option TalkEnd). unless_ended o (asked_of es) (asked_of es)) open_still
 
 -- The last of them ended it, whatever follows.
-first_asked : (peer : Peer) (messages : List (List ℕ)) (es : List Exchange) (octets : List ℕ)
+first_asked : (line : Line) (messages : List (List ℕ)) (es : List Exchange) (octets : List ℕ)
     (more : List (List ℕ)) (end : TalkEnd)
     → AreShown messages es
-    → AreAnswered peer es
+    → AreAnswered line es
     → (stream_of octets).messages ≡ reverse messages ++ more
     → ended_by es ≡ Some end
     → asked_in octets ≡ asked_of es
-first_asked peer messages es octets more end shown answered first ended =
+first_asked line messages es octets more end shown answered first ended =
     ap (asked_over 0) first
-    ∙ are_asked peer messages es more shown answered
+    ∙ are_asked line messages es more shown answered
     ∙ ap (λ (o : Option TalkEnd). unless_ended o (asked_of es)
     (asked_over (asked_of es) more)) ended
 
@@ -129,11 +129,11 @@ nothing_left : (left : Option (List ℕ)) (rest : List ℕ)
 nothing_left left rest is at_end = subst IsAtEnd is at_end
 
 -- A conversation hands to the seat what the octets say.
-pub talk_counts : (peer : Peer) (before after : TalkSeen) (t : Talked) (octets : List ℕ)
-    → Talks peer before after (Ok t)
+pub talk_counts : (line : Line) (before after : TalkSeen) (t : Talked) (octets : List ℕ)
+    → TalksOver line before after (Ok t)
     → before.source.left ≡ Some octets
     → t.asked ≡ asked_in octets
-talk_counts peer before after t octets talks told =
+talk_counts line before after t octets talks told =
     talks.concludes.1 ∙ sym (by t.end talks.concludes.0)
   where
     es : List Exchange
@@ -153,12 +153,12 @@ talk_counts peer before after t octets talks told =
         sym (append-nil talks.taken) ∙ ap (λ (l : List ℕ). talks.taken ++ l) (sym none)
         ∙ sym whole.2 in
         ap asked_in (sym same)
-        ∙ all_asked peer talks.messages es talks.taken why talks.shown talks.answered all goes
+        ∙ all_asked line talks.messages es talks.taken why talks.shown talks.answered all goes
 
     ended : (end : TalkEnd) → ended_by es ≡ Some end → asked_in octets ≡ asked_of es
     ended end is =
         ap asked_in whole.2
-        ∙ first_asked peer talks.messages es (talks.taken ++ whole.0)
+        ∙ first_asked line talks.messages es (talks.taken ++ whole.0)
         (talks.first whole.0).more end talks.shown talks.answered (talks.first whole.0).all is
 
     by : (end : TalkEnd)
@@ -168,7 +168,7 @@ talk_counts peer before after t octets talks told =
     by end_as.Cut so = at_end None so.0 so.2 so.3
     by (end_as.Refused why) so =
         ap asked_in whole.2
-        ∙ all_asked peer talks.messages es (talks.taken ++ whole.0) (Some why)
+        ∙ all_asked line talks.messages es (talks.taken ++ whole.0) (Some why)
         talks.shown talks.answered (so.0 whole.0) so.1
     by end_as.Released so = ended end_as.Released so
     by end_as.Aborted so = ended end_as.Aborted so
@@ -176,19 +176,19 @@ talk_counts peer before after t octets talks told =
 
 -- ---- whatever it answers
 
-pub counts_told : (peer : Peer) (before after : TalkSeen) (r : Result Talked TalkFault)
-    → Talks peer before after r
+pub counts_told : (line : Line) (before after : TalkSeen) (r : Result Talked TalkFault)
+    → TalksOver line before after r
     → IfOk r (λ t. IfSome before.source.left (λ octets. t.asked ≡ asked_in octets))
-counts_told peer before after (Err why) talks = tt
-counts_told peer before after (Ok t) talks = by before.source.left refl
+counts_told line before after (Err why) talks = tt
+counts_told line before after (Ok t) talks = by before.source.left refl
   where
     by : (left : Option (List ℕ)) → before.source.left ≡ left
         → IfSome left (λ octets. t.asked ≡ asked_in octets)
     by None is = tt
-    by (Some octets) is = talk_counts peer before after t octets talks is
+    by (Some octets) is = talk_counts line before after t octets talks is
 
-pub most_told : (peer : Peer) (before after : TalkSeen) (r : Result Talked TalkFault)
-    → Talks peer before after r
+pub most_told : (line : Line) (before after : TalkSeen) (r : Result Talked TalkFault)
+    → TalksOver line before after r
     → IfOk r (λ t. t.asked ≤ most_asked)
-most_told peer before after (Err why) talks = tt
-most_told peer before after (Ok t) talks = talk_most peer before after t talks
+most_told line before after (Err why) talks = tt
+most_told line before after (Ok t) talks = talk_most line before after t talks

@@ -9,18 +9,20 @@ use Rattle.message_model.proofs.Notation.{hex}
 use Rattle.message_model.proofs.OnLiterals.{messages_on_literals}
 use Rattle.reference_model.specs.References.{before}
 use Rattle.stream_model.specs.Messages as stream_messages
-use Rattle.stream_model.specs.declared.messages.StreamBad.TheVariants as bad
 use Rattle.stream_model.specs.declared.signals.TheConstants as signals
 use Rattle.stream_reader.specs.Shown.{Shown}
 use Rattle.coap_stream.specs.declared.purposes.Meant.TheVariants as meant
 use Rattle.coap_stream.specs.declared.refusing.Unasked.TheVariants as unasked_for
 use Rattle.coap_stream.specs.declared.talked.TalkEnd.TheVariants as end_as
 use Rattle.coap_stream.specs.Requests.{meant_by, heard_as, unasked_of}
-use Rattle.coap_stream.specs.Talks.{saying, opening, farewell, carried_of}
+use Rattle.coap_stream.specs.declared.lines.Line.{Line}
+use Rattle.coap_stream.specs.declared.lines.Manner.TheVariants as manner
+use Rattle.coap_stream.specs.Manners.{abort_by, abort_with, opening_by, saying}
+use Rattle.coap_stream.specs.Talks.{farewell, carried_of}
 
 -- ---- signals
 
-opened : opening ≡ hex (codes "00e1")
+opened : opening_by manner.Plain ≡ hex (codes "00e1")
 unfolding messages_on_literals stream_messages.lengths_spelling stream_messages.nibble_of
     stream_messages.extension_of
 opened = refl
@@ -30,18 +32,30 @@ unfolding messages_on_literals stream_messages.lengths_spelling stream_messages.
     stream_messages.extension_of
 ponged = refl
 
-aborted : farewell (end_as.Refused bad.First) ≡ hex (codes "00e5")
+aborted : abort_by manner.Plain None ≡ hex (codes "00e5")
 unfolding messages_on_literals stream_messages.lengths_spelling stream_messages.nibble_of
     stream_messages.extension_of
 aborted = refl
 
-released : farewell end_as.Spent ≡ hex (codes "00e4")
+released : (line : Line) → farewell line end_as.Spent None ≡ hex (codes "00e4")
 unfolding messages_on_literals stream_messages.lengths_spelling stream_messages.nibble_of
     stream_messages.extension_of
-released = refl
+released line = refl
 
-closed : farewell end_as.Closed ≡ []
-closed = refl
+closed : (line : Line) → farewell line end_as.Closed None ≡ []
+closed line = refl
+
+-- In full: the CSM offers blocks, a Pong keeps the custody of its Ping, and an Abort names an
+-- option.
+opened_full : opening_by manner.Full ≡ hex (codes "10e140")
+unfolding messages_on_literals stream_messages.lengths_spelling stream_messages.nibble_of
+    stream_messages.extension_of
+opened_full = refl
+
+aborted_full : abort_with (Some 9) ≡ hex (codes "20e52109")
+unfolding messages_on_literals stream_messages.lengths_spelling stream_messages.nibble_of
+    stream_messages.extension_of
+aborted_full = refl
 
 ping_is_one : meant_by 0xe2 ≡ meant.Ping
 ping_is_one = refl

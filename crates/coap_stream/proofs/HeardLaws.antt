@@ -28,6 +28,8 @@ use Rattle.std.proofs.Common.{
   append-nil,
   arith,
 }
+use Rattle.std.specs.List.{list_any}
+use Rattle.std.specs.Prelude.{◌||◌}
 use Rattle.std.proofs.lemmas.Bool.{ltb-true, ltb-false, le-ltb, ne_eqb}
 use Rattle.std.proofs.lemmas.List.{length-append}
 use Rattle.std.proofs.lemmas.Bool.Decides.{nat_tests}
@@ -45,7 +47,8 @@ use Rattle.message_model.proofs.OptionLemmas.{extension_short, extension_middle}
 use Rattle.message_model.proofs.OrderLemmas.{end_number-push}
 use Rattle.coap_message.proofs.MessageSizes as sizes
 use Rattle.coap_message.proofs.WriterLemmas.{spelled_option}
-use Rattle.coap_message.specs.PartialMessages.{with_last_option, bare_message}
+use Rattle.coap_message.specs.PartialMessages.{with_last_option, with_payload, bare_message}
+use Rattle.coap_stream.specs.Manners.{is_from_block2}
 use Rattle.message_model.specs.declared.messages.Kind4.{Kind4}
 use Rattle.stream_reader.specs.Shown.{Shown}
 use Rattle.coap_stream.specs.Requests.{is_not_observe, with_options, heard_as, IsRequest}
@@ -315,3 +318,73 @@ heard_size mid s fits =
     let whole =
     length-append s.token (options_spelling 0 options ++ payload_spelling s.payload) in
     omega (arith, few, parts, whole, fits.token, fits.fits)
+
+-- ---- a request that asks for blocks
+
+below_all : (o : Opt) (b : Bool) → (is_from_block2 o || b) ≡ false
+    → (o.0 ≤ 23) × (b ≡ false)
+below_all o b none = by (is_from_block2 o) refl none
+  where
+    low : is_from_block2 o ≡ false → o.0 ≤ 23
+    low is = grind (arith, nat_tests)
+
+    by : (x : Bool) → is_from_block2 o ≡ x → (x || b) ≡ false → (o.0 ≤ 23) × (b ≡ false)
+    by true is e = absurd cc
+    by false is e = (low is, e)
+
+-- The last option comes before Block2.
+pub end_below : (before : ℕ) (options : List Opt) → before ≤ 23
+    → list_any is_from_block2 options ≡ false → end_number before options ≤ 23
+end_below before [] few none = few
+end_below before (o ∷ options) few none =
+    let first = below_all o (list_any is_from_block2 options) none in
+    end_below o.0 options first.0 first.1
+
+-- One option more takes no more than its value and five octets.
+push_size : (before : ℕ) (options : List Opt) (o : Opt)
+    → length (options_spelling before (options ++ o ∷ []))
+    ≤ length (options_spelling before options) + (5 + length o.1)
+push_size before [] o =
+    let whole = options_size before o [] in
+    let one = option_size before o in
+    let none : length (options_spelling o.0 []) ≡ 0 = no_options o.0 in
+    let nothing : length (options_spelling before []) ≡ 0 = no_options before in
+    let delta = sizes.extension_short (o.0 - before) in
+    let size = sizes.extension_short (length o.1) in
+    omega (arith, whole, one, none, nothing, delta, size)
+push_size before (p ∷ options) o =
+    let more = push_size p.0 options o in
+    let whole = options_size before p (options ++ o ∷ []) in
+    let others = options_size before p options in
+    omega (arith, more, whole, others)
+
+pub sized_size : (mid : ℕ) (s : Shown) (o : Opt)
+    → IsRequest s
+    → length o.1 ≤ 1
+    → length (spelling (with_options (heard_as mid s) (o ∷ []))) ≤ 1280
+unfolding spelling header_spelling
+sized_size mid s o fits few =
+    let options = filter is_not_observe s.options in
+    let kept = filtered_size 0 s.options fits.options in
+    let more = push_size 0 options o in
+    let parts =
+    length-append (options_spelling 0 (options ++ o ∷ [])) (payload_spelling s.payload) in
+    let whole =
+    length-append s.token (options_spelling 0 (options ++ o ∷ []) ++ payload_spelling s.payload) in
+    omega (arith, kept, more, parts, whole, few, fits.token, fits.fits)
+
+-- The same without the payload.
+pub opened_size : (m : Message) (o : Opt) (payload : List ℕ)
+    → m.payload ≡ []
+    → length (spelling (with_options (with_payload m payload) (o ∷ []))) ≤ 1280
+    → length (spelling (with_last_option m o)) ≤ 1280
+unfolding spelling header_spelling payload_spelling
+opened_size m o payload none few =
+    let options = options_spelling 0 (m.options ++ o ∷ []) in
+    let parts = length-append options (payload_spelling payload) in
+    let whole = length-append m.token (options ++ payload_spelling payload) in
+    let bare : length (payload_spelling m.payload) ≡ 0 =
+    ap (λ (l : List ℕ). length (payload_spelling l)) none in
+    let part = length-append options (payload_spelling m.payload) in
+    let all = length-append m.token (options ++ payload_spelling m.payload) in
+    omega (arith, parts, whole, bare, part, all, few)

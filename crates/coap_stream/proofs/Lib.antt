@@ -1,5 +1,6 @@
 pub mod SpokenLaws
 pub mod HeardLaws
+pub mod SignalLaws
 pub mod RefusingLaws
 pub mod CallLaws
 pub mod VoiceLaws
@@ -9,5 +10,7 @@ pub mod AnsweredLaws
 pub mod TalkLaws
 pub mod PieceLaws
 pub mod AskedLaws
+mod DuplicateRows
+mod DuplicateLaws
 pub mod ServingLaws
 mod Examples

@@ -15,7 +15,7 @@ use Rattle.std.proofs.Common.{
 use Rattle.std.specs.Prelude.{if◌then◌else◌}
 use Rattle.std.specs.Option.{option_map}
 use Rattle.std.proofs.lemmas.List.{length-append}
-use Rattle.rd_base.specs.declared.peers.Peer.{Peer}
+use Rattle.coap_stream.specs.declared.lines.Line.{Line}
 use Rattle.rd_seat.specs.Callers.{CallerSeen}
 use Rattle.message_model.specs.Codes.{is_request_code}
 use Rattle.stream_model.specs.declared.messages.Judged.{Judged}
@@ -159,14 +159,14 @@ within_message old new piece fed_so more =
 -- ---- what was heard
 
 -- A message that was heard from a reader is the one that its octets show.
-pub as_shown : (peer : Peer) (h : Held) (end : Option TalkEnd) (a b : CallerSeen)
+pub as_shown : (line : Line) (h : Held) (end : Option TalkEnd) (a b : CallerSeen)
     (now : TalkSeen) (still : Bool) (w : VoiceSeen) (counts counted : Counts)
     → IsGood h.is_first h.pending
     → still ≡ true
-    → WasHeard peer (message_of h) end a b (voice_of still now) w counts counted
-    → WasHeard peer (shown_in h.pending) end a b (voice_of true now) w counts counted
-as_shown peer h end a b now still w counts counted good is was =
-    subst (λ (o : Option Shown). WasHeard peer o end a b (voice_of true now) w counts counted)
+    → WasHeard line (message_of h) end a b (voice_of still now) w counts counted
+    → WasHeard line (shown_in h.pending) end a b (voice_of true now) w counts counted
+as_shown line h end a b now still w counts counted good is was =
+    subst (λ (o : Option Shown). WasHeard line o end a b (voice_of true now) w counts counted)
     (message_shown h good)
     (subst (λ (x : Bool).
-    WasHeard peer (message_of h) end a b (voice_of x now) w counts counted) is was)
+    WasHeard line (message_of h) end a b (voice_of x now) w counts counted) is was)

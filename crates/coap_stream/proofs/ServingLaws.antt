@@ -32,6 +32,7 @@ use Rattle.coap_stream.specs.declared.serving.StreamsFault.{StreamsFault}
 use Rattle.coap_stream.specs.declared.serving.StreamsFault.TheVariants as streams_fault
 use Rattle.coap_stream.specs.Asked.{asked_in, asked_in_all}
 use Rattle.coap_stream.specs.Calls.{as_they_came}
+use Rattle.coap_stream.specs.Manners.{plain_line}
 use Rattle.coap_stream.specs.Talks.{calls_of}
 use Rattle.coap_stream.specs.Endings.{TalkSeen, Talks}
 use Rattle.coap_stream.specs.Serving.{
@@ -122,7 +123,7 @@ pub one_few : (peer : Peer) (before after : TalkSeen) (r : Result Talked TalkFau
     → Talks peer before after r → (n : ℕ) → Ok n ≡ asked_unless r → n ≤ 65536
 one_few peer before after (Ok t) talks n is =
     let same : n ≡ t.asked = cc in
-    let most = talk_most peer before after t talks in
+    let most = talk_most (plain_line peer) before after t talks in
     omega (arith, same, most)
 one_few peer before after (Err fault.Read) talks n is =
     let same : n ≡ 0 = cc in omega (arith, same)
@@ -297,7 +298,7 @@ connection_counts : (peer : Peer) (before after : TalkSeen) (r : Result Talked T
     → before.source.left ≡ Some octets
     → asked_of r ≡ asked_in octets
 connection_counts peer before after (Ok t) octets talks fed unfailed told =
-    talk_counts peer before after t octets talks told
+    talk_counts (plain_line peer) before after t octets talks told
 connection_counts peer before after (Err fault.Read) octets talks fed unfailed told =
     absurd unfailed
 connection_counts peer before after (Err fault.Write) octets talks fed unfailed told =

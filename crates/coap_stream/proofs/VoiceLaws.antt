@@ -33,12 +33,12 @@ use Rattle.std.proofs.Common.{
 use Rattle.std.specs.Io.KnownBytes.{Appends}
 use Rattle.std.proofs.KnownBytes.{Appends-trans, Appends-nil}
 use Rattle.std.proofs.lemmas.Bool.{le-ltb}
-use Rattle.std.proofs.lemmas.List.{length-append, take-append-le}
+use Rattle.std.proofs.lemmas.List.{length-append, length-take-le, take-append-le}
 use Rattle.std.proofs.Math.Seq.{take-append-add}
 use Rattle.std.specs.List.{slice_get}
 use Rattle.rd_base.proofs.lemmas.Options.{some_same, none_some}
 use Rattle.rd_base.specs.Outside.{Rose}
-use Rattle.rd_base.specs.declared.peers.Peer.{Peer}
+use Rattle.coap_stream.specs.declared.lines.Line.{Line}
 use Rattle.udp_link.specs.Links.{Datagram}
 use Rattle.message_model.specs.Message.{Message}
 use Rattle.message_model.specs.Spelling.{
@@ -52,7 +52,17 @@ use Rattle.coap_message.specs.PartialMessages.{longest_datagram}
 use Rattle.stream_model.specs.Messages.{nibble_of, extension_of, lengths_spelling}
 use Rattle.coap_stream.specs.Spoken.{IsPut}
 use Rattle.coap_stream.specs.Made.{VoiceSeen, Speaks, SpeaksBy}
-use Rattle.coap_stream.specs.Talks.{carried, carried_in, carried_of, reply_of, replies_to}
+use Rattle.coap_stream.specs.Manners.{saying, too_long_in}
+use Rattle.coap_stream.specs.Talks.{
+  carried,
+  carried_in,
+  carried_of,
+  carried_within,
+  is_beyond,
+  reply_of,
+  replies_to,
+}
+use Rattle.message_model.specs.Codes as code_named
 
 -- Nothing is said.
 pub Speaks-none : (v : VoiceSeen) → Speaks v [] v
@@ -119,19 +129,19 @@ Speaks-then a b c xs ys r s = by a.open_still b.open_still c.open_still r s
 
 -- ---- replies
 
-replies-push : (peer : Peer) (ds : List Datagram) (d : Datagram)
-    → replies_to peer (ds ++ d ∷ []) ≡ replies_to peer ds ++ reply_of peer d
-replies-push peer [] d = append-nil (reply_of peer d)
-replies-push peer (e ∷ ds) d =
-    ap (λ (l : List ℕ). reply_of peer e ++ l) (replies-push peer ds d)
-    ∙ sym (append_assoc (reply_of peer e) (replies_to peer ds) (reply_of peer d))
+replies-push : (line : Line) (most : ℕ) (ds : List Datagram) (d : Datagram)
+    → replies_to line most (ds ++ d ∷ []) ≡ replies_to line most ds ++ reply_of line most d
+replies-push line most [] d = append-nil (reply_of line most d)
+replies-push line most (e ∷ ds) d =
+    ap (λ (l : List ℕ). reply_of line most e ++ l) (replies-push line most ds d)
+    ∙ sym (append_assoc (reply_of line most e) (replies_to line most ds) (reply_of line most d))
 
-pub replies-then : (peer : Peer) (xs ys : List Datagram)
-    → replies_to peer (xs ++ ys) ≡ replies_to peer xs ++ replies_to peer ys
-replies-then peer [] ys = refl
-replies-then peer (x ∷ xs) ys =
-    ap (λ (l : List ℕ). reply_of peer x ++ l) (replies-then peer xs ys)
-    ∙ sym (append_assoc (reply_of peer x) (replies_to peer xs) (replies_to peer ys))
+pub replies-then : (line : Line) (most : ℕ) (xs ys : List Datagram)
+    → replies_to line most (xs ++ ys) ≡ replies_to line most xs ++ replies_to line most ys
+replies-then line most [] ys = refl
+replies-then line most (x ∷ xs) ys =
+    ap (λ (l : List ℕ). reply_of line most x ++ l) (replies-then line most xs ys)
+    ∙ sym (append_assoc (reply_of line most x) (replies_to line most xs) (replies_to line most ys))
 
 take_more : {A : Type 0} (l : List A) (n : ℕ) (x : A) → slice_get l n ≡ Some x
     → take (suc n) l ≡ take n l ++ x ∷ []
@@ -140,21 +150,21 @@ take_more (y ∷ l) zero x h = ap (λ (z : _). z ∷ []) (some_same h)
 take_more (y ∷ l) (suc n) x h = ap (λ (k : List _). y ∷ k) (take_more l n x h)
 
 -- The next datagram of an outbox.
-pub Speaks-next : (a b c : VoiceSeen) (peer : Peer) (out : List Datagram) (d : Datagram)
+pub Speaks-next : (a b c : VoiceSeen) (line : Line) (most : ℕ) (out : List Datagram) (d : Datagram)
     (index : ℕ)
     → slice_get out index ≡ Some d
-    → Speaks a (replies_to peer (take index out)) b
-    → Speaks b (reply_of peer d) c
-    → Speaks a (replies_to peer (take (index + 1) out)) c
-Speaks-next a b c peer out d index at so_far next =
+    → Speaks a (replies_to line most (take index out)) b
+    → Speaks b (reply_of line most d) c
+    → Speaks a (replies_to line most (take (index + 1) out)) c
+Speaks-next a b c line most out d index at so_far next =
     let step : index + 1 ≡ suc index = omega arith in
-    let more : replies_to peer (take (index + 1) out)
-    ≡ replies_to peer (take index out) ++ reply_of peer d =
-    ap (λ (n : ℕ). replies_to peer (take n out)) step
-    ∙ ap (replies_to peer) (take_more out index d at)
-    ∙ replies-push peer (take index out) d in
+    let more : replies_to line most (take (index + 1) out)
+    ≡ replies_to line most (take index out) ++ reply_of line most d =
+    ap (λ (n : ℕ). replies_to line most (take n out)) step
+    ∙ ap (replies_to line most) (take_more out index d at)
+    ∙ replies-push line most (take index out) d in
     subst (λ (l : List ℕ). Speaks a l c) (sym more)
-    (Speaks-then a b c (replies_to peer (take index out)) (reply_of peer d) so_far next)
+    (Speaks-then a b c (replies_to line most (take index out)) (reply_of line most d) so_far next)
 
 -- ---- a datagram
 
@@ -210,3 +220,37 @@ pub carried_of-read : (d : List ℕ) (m : Message)
     → carried m ≡ carried_of d
 carried_of-read d m is short =
     rw (le-ltb longest_datagram (length d) short) (ap carried_in is)
+
+-- What is written of a datagram, if it is not too long for the peer.
+pub within_as : (most : Option ℕ) (d : List ℕ) (size : ℕ) (b : Bool)
+    → size ≡ length (carried_of d)
+    → b ≡ is_beyond most size
+    → b ≡ false
+    → carried_of d ≡ carried_within most d
+within_as most d size b is by none =
+    let e : is_beyond most (length (carried_of d)) ≡ false =
+    sym (ap (is_beyond most) is) ∙ sym by ∙ none in
+    rw e refl
+
+-- And if it is.
+pub beyond_as : (most : Option ℕ) (d : List ℕ) (size : ℕ) (b : Bool) (m : Message)
+    → size ≡ length (carried_of d)
+    → b ≡ is_beyond most size
+    → b ≡ true
+    → reading d ≡ Ok m
+    → saying code_named.internal_server_error m.token [] ≡ carried_within most d
+beyond_as most d size b m is by one read =
+    let e : is_beyond most (length (carried_of d)) ≡ true =
+    sym (ap (is_beyond most) is) ∙ sym by ∙ one in
+    rw e (ap too_long_in (sym read))
+
+-- How many octets are written of a datagram.
+pub carried_size : (m : Message) (d octets : List ℕ) (n : ℕ)
+    → take n octets ≡ carried m
+    → n ≤ length octets
+    → Ok m ≡ reading d
+    → length d ≤ longest_datagram
+    → n ≡ length (carried_of d)
+carried_size m d octets n put within read short =
+    sym (length-take-le n octets within)
+    ∙ ap (λ (l : List ℕ). length l) (put ∙ carried_of-read d m read short)

@@ -1,6 +1,6 @@
 -- What was done for one message of a connection.
 use Rattle.std.specs.Prelude.{◌≡◌, ◌+◌, ◌≤◌, ℕ, Option}
-use Rattle.rd_base.specs.declared.peers.Peer.{Peer}
+use Rattle.coap_stream.specs.declared.lines.Line.{Line}
 use Rattle.coap_answers.specs.Outboxes.{most_datagrams}
 use Rattle.stream_reader.specs.Shown.{Shown}
 use Rattle.coap_stream.specs.declared.refusing.Unasked.{Unasked}
@@ -18,19 +18,19 @@ pub record IsDone (e : Exchange) (before after : CallerSeen) (voice spoken : Voi
   pub few : e.dropped ≤ most_datagrams
 
 -- A request that was answered. It has the reason why it is answered without a seat, if there is
--- one, and the number of requests passed to the seat before.
-pub record RequestDone (peer : Peer) (asked : ℕ) (message : Shown) (why : Option Unasked)
+-- one, the number of requests passed to the seat before, and how many octets the peer accepts.
+pub record RequestDone (line : Line) (asked most : ℕ) (message : Shown) (why : Option Unasked)
     (before after : CallerSeen) (voice spoken : VoiceSeen) (dropped dropped_then : ℕ)
     : Type 0 where
   pub exchange : Exchange
   pub same : exchange.message ≡ message
-  pub answers : AnswersRequest peer asked why exchange
+  pub answers : AnswersRequest line asked most why exchange
   pub done : IsDone exchange before after voice spoken dropped dropped_then
 
 -- The same of any message.
-pub record MessageDone (peer : Peer) (asked : ℕ) (message : Shown) (before after : CallerSeen)
+pub record MessageDone (line : Line) (asked most : ℕ) (message : Shown) (before after : CallerSeen)
     (voice spoken : VoiceSeen) (dropped dropped_then : ℕ) : Type 0 where
   pub exchange : Exchange
   pub same : exchange.message ≡ message
-  pub answers : Answers peer asked exchange
+  pub answers : Answers line asked most exchange
   pub done : IsDone exchange before after voice spoken dropped dropped_then

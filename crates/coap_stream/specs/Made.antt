@@ -2,8 +2,6 @@
 -- output.
 use Rattle.std.specs.Prelude.{
   ◌≡◌,
-  ◌%◌,
-  ◌==◌,
   ◌≤◌,
   ℕ,
   Bool,
@@ -17,9 +15,10 @@ use Rattle.std.specs.Prelude.{take, Option}
 use Rattle.std.specs.Io.KnownBytes.{Appends}
 use Rattle.rd_base.specs.Outside.{Rose}
 use Rattle.rd_base.specs.declared.outside.Sink as sinks
-use Rattle.rd_base.specs.declared.peers.Peer.{Peer}
 use Rattle.rd_seat.specs.Callers as callers
 use Rattle.rd_seat.specs.Callers.{CallerSeen, Hears, TicksWhere}
+use Rattle.coap_stream.specs.declared.lines.Line.{Line}
+use Rattle.coap_stream.specs.Manners.{is_due}
 use Rattle.coap_stream.specs.Calls.{Call, as_they_came, calls_sent}
 use Rattle.coap_stream.specs.Talks.{replies_to}
 
@@ -59,13 +58,13 @@ Speaks before octets after = SpeaksBy before.open_still after.open_still octets 
 -- ---- a request that is passed to the seat
 
 -- A request that was passed to the seat. The seat handled it and did its job, the replies were
--- written, and time passed after each 64th request.
-pub record IsAsked (peer : Peer) (number : ℕ) (datagram : List ℕ) (dropped : ℕ)
+-- written, and time passed if it was due.
+pub record IsAsked (line : Line) (number most : ℕ) (datagram : List ℕ) (dropped : ℕ)
     (before after : CallerSeen) (voice spoken : VoiceSeen) : Type 0 where
   pub heard : List Call
   pub ticks : List Call
-  pub hears : Hears peer datagram heard
-  pub due : TicksWhere (number % 64 == 0) ticks
+  pub hears : Hears line.peer datagram heard
+  pub due : TicksWhere (is_due line.manner number) ticks
   pub made : CallsMade (ticks ++ heard) before after
-  pub written : Speaks voice (replies_to peer (calls_sent heard)) spoken
+  pub written : Speaks voice (replies_to line most (calls_sent heard)) spoken
   pub drops : dropped ≡ length (calls_sent ticks)

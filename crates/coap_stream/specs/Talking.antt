@@ -12,11 +12,13 @@ use Rattle.std.specs.Prelude.{
   List,
   [],
 }
-use Rattle.std.specs.Prelude.{length, reverse, Option, Some, None, Result, Ok, Err}
+use Rattle.std.specs.Prelude.{length, reverse, Option, Some, None, Result, Ok, Err, ⊤}
 use Rattle.std.specs.Io.KnownBytes.{Consumes}
-use Rattle.rd_base.specs.declared.peers.Peer.{Peer}
+use Rattle.coap_stream.specs.declared.lines.Line.{Line}
+use Rattle.stream_model.specs.declared.messages.Judged.TheVariants as judged
+use Rattle.stream_model.specs.declared.messages.StreamBad.{StreamBad}
 use Rattle.stream_model.specs.Streams.{Stream, stream_of, partial}
-use Rattle.stream_reader.specs.Reading.{Held, stream_after}
+use Rattle.stream_reader.specs.Reading.{Held, held_as, stream_after}
 use Rattle.stream_reader.specs.Shown.{Shown}
 use Rattle.rd_seat.specs.Callers.{CallerSeen}
 use Rattle.coap_stream.specs.declared.talked.TalkEnd.{TalkEnd}
@@ -28,6 +30,7 @@ use Rattle.coap_stream.specs.declared.talks.Heard.{Heard}
 use Rattle.coap_stream.specs.declared.talks.Heard.TheVariants as heard
 use Rattle.coap_stream.specs.Requests.{meant_by}
 use Rattle.coap_stream.specs.Made.{VoiceSeen, CallsMade, Speaks}
+use Rattle.coap_stream.specs.Manners.{size_after}
 use Rattle.coap_stream.specs.Answered.{MessageDone}
 use Rattle.coap_stream.specs.Talks.{
   Exchange,
@@ -42,25 +45,28 @@ use Rattle.coap_stream.specs.Talks.{
   ended_by,
   most_asked,
   opening,
+  size_of_all,
 }
 use Rattle.coap_stream.specs.Endings.{TalkSeen, AreShown, AreFirst, EndsSo}
 
 -- ---- one message
 
--- The counts of a conversation.
+-- The counts of a conversation, and how many octets its peer accepts.
 pub record Counts : Type 0 where
   pub asked : ℕ
   pub dropped : ℕ
+  pub most : ℕ
 
 -- A complete message that was answered. It ends the conversation as `end` says, if it does.
-pub record WasHeard (peer : Peer) (message : Option Shown) (end : Option TalkEnd)
+pub record WasHeard (line : Line) (message : Option Shown) (end : Option TalkEnd)
     (before after : CallerSeen) (voice spoken : VoiceSeen) (counts counted : Counts)
     : Type 0 where
   pub shown : Shown
   pub is : message ≡ Some shown
-  pub done : MessageDone peer counts.asked shown before after voice spoken
+  pub done : MessageDone line counts.asked counts.most shown before after voice spoken
       counts.dropped counted.dropped
   pub asked : counted.asked ≡ counts.asked + asked_by counts.asked shown
+  pub most : counted.most ≡ size_after counts.most shown
   pub ends : end ≡ end_by (ends_by (meant_by shown.code)) (counted.asked == most_asked)
 
 -- ---- all messages so far
@@ -73,48 +79,68 @@ abbrev pub voice_of : Bool → TalkSeen → VoiceSeen
 voice_of still t = record { holds = t.holds; faults = t.write_faults; open_still = still }
 
 -- A conversation in which messages of what was read were answered.
-pub record Answering (peer : Peer) (before now : TalkSeen) (still : Bool) (counts : Counts)
+pub record Answering (line : Line) (before now : TalkSeen) (still : Bool) (counts : Counts)
     (taken : List ℕ) (messages : List (List ℕ)) (exchanges : List Exchange) : Type 0 where
   pub read : Consumes before.source.left now.source.left taken
   pub read_faults : now.source.faults ≡ before.source.faults
   pub shown : AreShown messages exchanges
-  pub answered : AreAnswered peer exchanges
+  pub answered : AreAnswered line exchanges
   pub made : CallsMade (calls_of exchanges) before.caller now.caller
-  pub written : Speaks (voice_of true before) (opening ++ written_of exchanges)
+  pub written : Speaks (voice_of true before) (opening line ++ written_of exchanges)
       (voice_of still now)
   pub asked : counts.asked ≡ asked_of exchanges
   pub dropped : counts.dropped ≡ dropped_of exchanges
+  pub most : counts.most ≡ size_of_all exchanges
+
+-- Octets that stand among others, before these.
+pub record IsAmong (taken octets behind : List ℕ) : Type 0 where
+  pub spent : List ℕ
+  pub whole : taken ≡ spent ++ (octets ++ behind)
+
+-- A bad message that a reader holds.
+pub record HoldsBad (why : StreamBad) (taken : List ℕ) (held : Held) : Type 0 where
+  pub more : List ℕ
+  pub among : IsAmong taken held.pending more
+  pub verdict : held_as held ≡ judged.Bad why
+
+-- States that the reader holds the message that ended the conversation, if it is bad.
+abbrev pub HoldsCause : TalkEnd → List ℕ → Held → Type 0
+HoldsCause (end_as.Refused why) taken held = HoldsBad why taken held
+HoldsCause end taken held = ⊤
 
 -- A conversation that continues. What was read so far begins with these messages, all of which are
 -- answered. The rest is what the reader finds in the remaining octets of the last piece and in any
 -- that follow.
-pub record TalksSo (peer : Peer) (before now : TalkSeen) (counts : Counts) (held : Held)
+pub record TalksSo (line : Line) (before now : TalkSeen) (counts : Counts) (held : Held)
     (rest : List ℕ) : Type 0 where
   pub taken : List ℕ
   pub messages : List (List ℕ)
   pub exchanges : List Exchange
-  pub answering : Answering peer before now true counts taken messages exchanges
+  pub answering : Answering line before now true counts taken messages exchanges
   pub stream : (further : List ℕ)
       → stream_of (taken ++ further)
       ≡ with_messages messages (stream_after held (rest ++ further))
   pub goes_on : ended_by exchanges ≡ None
+  -- The octets that the reader holds are the last before the rest.
+  pub among : IsAmong taken held.pending rest
 
 -- A conversation that ends as `end` says.
-pub record TalksTo (peer : Peer) (before now : TalkSeen) (counts : Counts) (end : TalkEnd)
-    : Type 0 where
+pub record TalksTo (line : Line) (before now : TalkSeen) (counts : Counts) (held : Held)
+    (end : TalkEnd) : Type 0 where
   pub taken : List ℕ
   pub messages : List (List ℕ)
   pub exchanges : List Exchange
-  pub answering : Answering peer before now true counts taken messages exchanges
+  pub answering : Answering line before now true counts taken messages exchanges
   pub first : (further : List ℕ) → AreFirst messages (stream_of (taken ++ further))
   pub ends : EndsSo end taken messages exchanges now.source.left
+  pub cause : HoldsCause end taken held
 
 -- A conversation in which a write failed.
-pub record TalksUntil (peer : Peer) (before now : TalkSeen) (counts : Counts) : Type 0 where
+pub record TalksUntil (line : Line) (before now : TalkSeen) (counts : Counts) : Type 0 where
   pub taken : List ℕ
   pub messages : List (List ℕ)
   pub exchanges : List Exchange
-  pub answering : Answering peer before now false counts taken messages exchanges
+  pub answering : Answering line before now false counts taken messages exchanges
   pub first : (further : List ℕ) → AreFirst messages (stream_of (taken ++ further))
 
 -- ---- after a piece
@@ -127,11 +153,11 @@ WouldEnd end_as.Cut s = (rest : List ℕ) × (0 < length rest) × (s ≡ partial
 WouldEnd _ s = ⊥
 
 -- States the result of a piece.
-abbrev pub IsHeard : Heard → Peer → TalkSeen → TalkSeen → Counts → Held → Type 0
-IsHeard (heard.Open end) peer before now counts held =
-    TalksSo peer before now counts held [] × WouldEnd end (stream_after held [])
-IsHeard (heard.Ended end) peer before now counts held = TalksTo peer before now counts end
-IsHeard heard.Failed peer before now counts held = TalksUntil peer before now counts
+abbrev pub IsHeard : Heard → Line → TalkSeen → TalkSeen → Counts → Held → Type 0
+IsHeard (heard.Open end) line before now counts held =
+    TalksSo line before now counts held [] × WouldEnd end (stream_after held [])
+IsHeard (heard.Ended end) line before now counts held = TalksTo line before now counts held end
+IsHeard heard.Failed line before now counts held = TalksUntil line before now counts
 
 -- Returns whether the conversation continues.
 abbrev pub is_open : Heard → Bool

@@ -1,22 +1,8 @@
 -- The responses of a conversation: each message of a connection with the calls that it led to and
 -- the octets that were written for it (RFC 8323 sections 3.3, 3.4 and 5).
-use Rattle.std.specs.Prelude.{
-  ◌≡◌,
-  ℕ,
-  ◌+◌,
-  ◌%◌,
-  ◌==◌,
-  Bool,
-  true,
-  false,
-  List,
-  [],
-  ◌∷◌,
-  ◌++◌,
-}
+use Rattle.std.specs.Prelude.{◌≡◌, ℕ, ◌+◌, ◌==◌, Bool, true, false, List, [], ◌∷◌, ◌++◌}
 use Rattle.std.specs.Prelude.{length, Option, Some, None, Result, Ok, Err, nat_lt}
 use Rattle.std.specs.Prelude.{if◌then◌else◌, ⊤}
-use Rattle.rd_base.specs.declared.peers.Peer.{Peer}
 use Rattle.udp_link.specs.Links.{Datagram}
 use Rattle.message_model.specs.Spelling.{spelling, payload_spelling, options_spelling}
 use Rattle.message_model.specs.Reading.{reading}
@@ -28,6 +14,9 @@ use Rattle.stream_model.specs.declared.signals.TheConstants as signals
 use Rattle.stream_model.specs.Messages.{stream_spelling}
 use Rattle.stream_reader.specs.Shown.{Shown}
 use Rattle.rd_seat.specs.Callers.{Hears, TicksWhere}
+use Rattle.coap_stream.specs.declared.lines.Line.{Line}
+use Rattle.coap_stream.specs.declared.lines.Manner.{Manner}
+use Rattle.coap_stream.specs.declared.lines.Manner.TheVariants as manner
 use Rattle.coap_stream.specs.declared.purposes.Meant.{Meant}
 use Rattle.coap_stream.specs.declared.purposes.Meant.TheVariants as meant
 use Rattle.coap_stream.specs.declared.refusing.Unasked.{Unasked}
@@ -42,25 +31,31 @@ use Rattle.coap_stream.specs.Requests.{
   unasked_diagnostic,
 }
 use Rattle.coap_stream.specs.Calls.{Call, calls_sent}
+use Rattle.coap_stream.specs.Manners.{
+  saying,
+  opening_by,
+  pong_by,
+  abort_by,
+  is_due,
+  usual_size,
+  size_after,
+  sized_by,
+  too_long_in,
+}
 
 -- ---- what is written
 
--- Returns the octets of a message with this code, token and payload, and without options.
-abbrev pub saying : ℕ → List ℕ → List ℕ → List ℕ
-saying code token payload =
-    stream_spelling (record { code = code; token = token; tail = payload_spelling payload })
+-- Returns the octets of the CSM that begins a connection (RFC 8323 section 5.3).
+abbrev pub opening : Line → List ℕ
+opening line = opening_by line.manner
 
--- The octets of the CSM that begins each connection (RFC 8323 section 5.3).
-abbrev pub opening : List ℕ
-opening = saying signals.CSM [] []
-
--- Returns what is written last. An Abort follows a bad message (RFC 8323 section 5.6), and a
--- Release follows the last possible request (RFC 8323 section 5.5). Otherwise nothing more is
--- written.
-abbrev pub farewell : TalkEnd → List ℕ
-farewell (end_as.Refused why) = saying signals.ABORT [] []
-farewell end_as.Spent = saying signals.RELEASE [] []
-farewell _ = []
+-- Returns what is written last. An Abort follows a bad message (RFC 8323 section 5.6), whose cause
+-- may be this option. A Release follows the last possible request (RFC 8323 section 5.5). Otherwise
+-- nothing more is written.
+abbrev pub farewell : Line → TalkEnd → Option ℕ → List ℕ
+farewell line (end_as.Refused why) bad = abort_by line.manner bad
+farewell line end_as.Spent bad = saying signals.RELEASE [] []
+farewell line _ bad = []
 
 -- Returns the octets of the message in a datagram, without its type and Message ID (RFC 8323
 -- section 3.2).
@@ -80,14 +75,32 @@ abbrev pub carried_of : List ℕ → List ℕ
 carried_of datagram =
     if nat_lt longest_datagram (length datagram) then [] else carried_in (reading datagram)
 
--- Returns these octets of a datagram, or none if it is not for this peer.
-abbrev pub reply_of : Peer → Datagram → List ℕ
-reply_of peer d = if is_same_peer d.0 peer then carried_of d.1 else []
+-- Returns how many octets a message to the peer may have, if the manner keeps to what it accepts.
+abbrev pub most_by : Manner → ℕ → Option ℕ
+most_by manner.Plain most = None
+most_by manner.Full most = Some most
 
--- Returns the replies: the octets of the datagrams for this peer, in order.
-abbrev pub replies_to : Peer → List Datagram → List ℕ
-replies_to peer [] = []
-replies_to peer (d ∷ ds) = reply_of peer d ++ replies_to peer ds
+-- Returns whether so many octets are more than these.
+abbrev pub is_beyond : Option ℕ → ℕ → Bool
+is_beyond None size = false
+is_beyond (Some most) size = nat_lt most size
+
+-- Returns the octets of a datagram if they are not too many, and otherwise those of a 5.00.
+abbrev pub carried_within : Option ℕ → List ℕ → List ℕ
+carried_within most datagram =
+    if is_beyond most (length (carried_of datagram)) then too_long_in (reading datagram)
+    else carried_of datagram
+
+-- Returns what is written of a datagram to a peer that accepts so many octets. It is nothing if the
+-- datagram is not for this peer.
+abbrev pub reply_of : Line → ℕ → Datagram → List ℕ
+reply_of line most d =
+    if is_same_peer d.0 line.peer then carried_within (most_by line.manner most) d.1 else []
+
+-- Returns the replies: what is written of the datagrams for this peer, in order.
+abbrev pub replies_to : Line → ℕ → List Datagram → List ℕ
+replies_to line most [] = []
+replies_to line most (d ∷ ds) = reply_of line most d ++ replies_to line most ds
 
 -- ---- one message
 
@@ -106,35 +119,37 @@ pub record Says (octets : List ℕ) (e : Exchange) : Type 0 where
   pub dropped : e.dropped ≡ 0
 
 -- A message for which the seat handles this datagram and does its job at once, and the replies are
--- written. After each 64th request, time passes.
-pub record Asks (peer : Peer) (number : ℕ) (datagram : List ℕ) (e : Exchange) : Type 0 where
+-- written. Time passes when it is due.
+pub record Asks (line : Line) (number most : ℕ) (datagram : List ℕ) (e : Exchange)
+    : Type 0 where
   pub heard : List Call
   pub ticks : List Call
   pub whole : e.calls ≡ ticks ++ heard
-  pub hears : Hears peer datagram heard
-  pub due : TicksWhere (number % 64 == 0) ticks
-  pub written : e.written ≡ replies_to peer (calls_sent heard)
+  pub hears : Hears line.peer datagram heard
+  pub due : TicksWhere (is_due line.manner number) ticks
+  pub written : e.written ≡ replies_to line most (calls_sent heard)
   pub dropped : e.dropped ≡ length (calls_sent ticks)
 
--- States how a request is answered, given how many requests were passed to the seat before. If
--- there is a reason, it is answered without a seat.
-abbrev pub AnswersRequest : Peer → ℕ → Option Unasked → Exchange → Type 0
-AnswersRequest peer before (Some why) e =
+-- States how a request is answered, given how many requests were passed to the seat before, and how
+-- many octets the peer accepts. If there is a reason, it is answered without a seat.
+abbrev pub AnswersRequest : Line → ℕ → ℕ → Option Unasked → Exchange → Type 0
+AnswersRequest line before most (Some why) e =
     Says (saying (unasked_code why) e.message.token (unasked_diagnostic why)) e
-AnswersRequest peer before None e =
-    Asks peer (before + 1) (spelling (heard_as before e.message)) e
+AnswersRequest line before most None e =
+    Asks line (before + 1) most
+    (spelling (sized_by line.manner most (heard_as before e.message))) e
 
 -- States how a message is answered, by its purpose.
-abbrev pub AnswersAs : Peer → ℕ → Meant → Exchange → Type 0
-AnswersAs peer before meant.Passed e = Says [] e
-AnswersAs peer before meant.Ping e = Says (saying signals.PONG e.message.token []) e
-AnswersAs peer before meant.Release e = Says [] e
-AnswersAs peer before meant.Abort e = Says [] e
-AnswersAs peer before meant.Request e =
-    AnswersRequest peer before (unasked_of (heard_as before e.message)) e
+abbrev pub AnswersAs : Line → ℕ → ℕ → Meant → Exchange → Type 0
+AnswersAs line before most meant.Passed e = Says [] e
+AnswersAs line before most meant.Ping e = Says (pong_by line.manner e.message) e
+AnswersAs line before most meant.Release e = Says [] e
+AnswersAs line before most meant.Abort e = Says [] e
+AnswersAs line before most meant.Request e =
+    AnswersRequest line before most (unasked_of (heard_as before e.message)) e
 
-abbrev pub Answers : Peer → ℕ → Exchange → Type 0
-Answers peer before e = AnswersAs peer before (meant_by e.message.code) e
+abbrev pub Answers : Line → ℕ → ℕ → Exchange → Type 0
+Answers line before most e = AnswersAs line before most (meant_by e.message.code) e
 
 -- ---- all of them, the last first
 
@@ -154,6 +169,11 @@ asked_by before message =
 abbrev pub asked_of : List Exchange → ℕ
 asked_of [] = 0
 asked_of (e ∷ earlier) = asked_of earlier + asked_by (asked_of earlier) e.message
+
+-- Returns how many octets the peer accepts after all messages.
+abbrev pub size_of_all : List Exchange → ℕ
+size_of_all [] = usual_size
+size_of_all (e ∷ earlier) = size_after (size_of_all earlier) e.message
 
 abbrev pub dropped_of : List Exchange → ℕ
 dropped_of [] = 0
@@ -191,9 +211,9 @@ ended_by (e ∷ earlier) =
     end_by (ends_by (meant_by e.message.code)) (asked_of (e ∷ earlier) == most_asked)
 
 -- States that each message is answered, and that none before it ended the conversation.
-abbrev pub AreAnswered : Peer → List Exchange → Type 0
-AreAnswered peer [] = ⊤
-AreAnswered peer (e ∷ earlier) =
-    AreAnswered peer earlier
+abbrev pub AreAnswered : Line → List Exchange → Type 0
+AreAnswered line [] = ⊤
+AreAnswered line (e ∷ earlier) =
+    AreAnswered line earlier
     × (ended_by earlier ≡ None)
-    × Answers peer (asked_of earlier) e
+    × Answers line (asked_of earlier) (size_of_all earlier) e

@@ -2,15 +2,18 @@
 #![tactic(auto)]
 
 mod answering;
+mod blocks;
 mod calls;
 mod carried;
 mod connections;
 mod doors;
 mod heard;
+mod lines;
 mod memory_door;
 mod purposes;
 mod refusing;
 mod serving;
+mod signals;
 mod spoken;
 mod talked;
 mod talks;
@@ -24,5 +27,5 @@ pub use serving::{StreamsStatus, serve_streams};
 pub use spoken::write_frame;
 pub use stream_reader::{Fed, Frame, StreamBad, StreamReader};
 pub use talked::{TalkEnd, TalkFault, Talked};
-pub use talks::converse;
+pub use talks::{attend, converse};
 pub use tcp_door::{TcpAccept, TcpConnection, TcpSink, TcpSource};

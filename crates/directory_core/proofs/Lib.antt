@@ -26,3 +26,4 @@ pub mod SeekerLaws
 pub mod RaceLaws
 pub mod CandidateLaws
 pub mod LookupLaws
+pub mod DistinctLaws

@@ -3,8 +3,8 @@ ghost use Rattle.std.specs.Prelude.{◌≡◌, ◌<◌, ◌-◌, fold, Option};
 ghost use Rattle.std.specs.Option.{option_copied};
 ghost use Rattle.directory_core.specs.LiveCounts.{without_lapse, without_lapses};
 
-use crate::kept::Kept;
 use crate::records::Records;
+use crate::stored_record::StoredRecord;
 use lease_queue::LapsedIter;
 use rd_base::{Moment, Steps};
 use std::sync::ledger::{Blank, Ledger};
@@ -20,7 +20,7 @@ pub struct Counts {
 
 /// Returns the counts without a record, if it exists and lapses after this moment. Otherwise it was
 /// not counted.
-fn counts_without(counts: Counts, kept: Option<&Kept>, from: Moment) -> Counts
+fn counts_without(counts: Counts, kept: Option<&StoredRecord>, from: Moment) -> Counts
     ensures { result ≡ without_lapse from.0 counts (option_copied kept.entry) }
 {
     let Some(kept) = kept else {

@@ -11,6 +11,7 @@ ghost use Rattle.directory_core.specs.Pages.{finished, live_lines};
 use crate::Directory;
 use crate::pages::Page;
 use crate::races::fewest_carriers;
+use distinct_criteria::without_repeated;
 use rd_base::{Bytes, Moment, Query, Starved, Steps};
 use std::sync::ledger::Ledger;
 
@@ -40,6 +41,31 @@ impl Directory {
             }
             None => page.add_all(self.alloc, query, &self.records, now, steps),
         }
+    }
+
+    /// Returns the listing of a lookup at this moment, as [`lookup`](Directory::lookup) does, but
+    /// judges a repeated criterion as often as it stands in the query.
+    fn look<L: Ledger>(
+        &self,
+        query: &Query,
+        now: Moment,
+        steps: &mut Steps<L>,
+    ) -> Result<Bytes, Starved>
+        requires after_at { self.now.at ≤ now.0 }
+        requires after_sweep { self.now.swept ≤ now.0 }
+        ensures listing { (first : ℕ) (history : List Entry)
+            → VersionStandsFor first history self.now
+            → IfOk result (λ octets. octets ≡ listing query.now history now.0) }
+        ensures counted { (entries : List index.Entry) (criterion : Criterion)
+            → AreEntriesOf self.now.records entries
+            → Contains (attribute_criteria query.now.criteria) criterion
+            → steps.new
+            ≤ steps.old + length (attribute_criteria query.now.criteria) *
+            (length (index.carriers_of criterion.name criterion.pattern entries) + 1) }
+    {
+        let mut page = Page::of(self.alloc, query);
+        self.fill(&mut page, query, now, steps)?;
+        Ok(page.into_text())
     }
 
     /// Returns the listing of a lookup at this moment.
@@ -75,8 +101,9 @@ impl Directory {
             ≤ steps.old + length (attribute_criteria query.now.criteria) *
             (length (index.carriers_of criterion.name criterion.pattern entries) + 1) }
     {
-        let mut page = Page::of(self.alloc, query);
-        self.fill(&mut page, query, now, steps)?;
-        Ok(page.into_text())
+        match without_repeated(self.alloc, query)? {
+            Some(distinct) => self.look(&distinct, now, steps),
+            None => self.look(query, now, steps),
+        }
     }
 }

@@ -5,8 +5,8 @@ ghost use Rattle.rd_base.proofs.lemmas.Pairs.{PairsByRecursion};
 ghost use Rattle.record_model.specs.ListingLines.{shown};
 ghost use Rattle.directory_core.specs.Pages.{finished, live_part, live_lines, numbered_lines};
 
-use crate::kept::Kept;
 use crate::records::Records;
+use crate::stored_record::StoredRecord;
 use listing::{lines, page_bounds};
 use rd_base::{Bytes, Moment, Query, Starved, Steps};
 use std::alloc::Global;
@@ -39,7 +39,13 @@ impl Page {
     }
 
     /// Adds the lines that the record contributes to the query, if it is live at this moment.
-    fn add(&mut self, alloc: Global, query: &Query, kept: &Kept, now: Moment) -> Result<(), Starved>
+    fn add(
+        &mut self,
+        alloc: Global,
+        query: &Query,
+        kept: &StoredRecord,
+        now: Moment,
+    ) -> Result<(), Starved>
         ensures { OnOk result ((more : List (List ℕ))
             → finished self.new more
             ≡ finished self.old (live_part query.now now.0 kept.now ++ more)) }

@@ -19,14 +19,14 @@ use std::sync::ledger::Ledger;
 
 /// A cursor over the carriers of a criterion, with the numbers that it returned.
 #[derive(Drop)]
-pub struct Racer<'a> {
+pub struct CarrierCursor<'a> {
     /// The numbers that it returned, in order.
     numbers: Vec<u64>,
     /// The remaining carriers.
     left: Carriers<'a>,
 }
 
-impl<'a> Model for Racer<'a> {
+impl<'a> Model for CarrierCursor<'a> {
     ghost use Rattle.directory_core.specs.Races.{Run};
 
     ghost Value = { Run };
@@ -34,7 +34,7 @@ impl<'a> Model for Racer<'a> {
     ghost view = { λ r. record { given = r.numbers.items; left = r.left } };
 }
 
-impl<'a> Racer<'a> {
+impl<'a> CarrierCursor<'a> {
     /// Takes the next number of the cursor. Returns false if the cursor is at its end.
     fn advance<L: Ledger>(&mut self, steps: &mut Steps<L>) -> Result<bool, Starved>
         ensures turned { HasTurned self.old self.new result }
@@ -61,10 +61,10 @@ fn racers_of<'a>(
     alloc: Global,
     index: &'a AttributeIndex,
     criteria: &[Criterion],
-) -> Result<Vec<Racer<'a>>, Starved>
-    ensures { IfOk result (λ racers. racers.items ≡ races.runs_of index.now criteria.now) }
+) -> Result<Vec<CarrierCursor<'a>>, Starved>
+    ensures { IfOk result (λ cursors. cursors.items ≡ races.runs_of index.now criteria.now) }
 {
-    let mut racers = Vec::new(alloc);
+    let mut cursors = Vec::new(alloc);
     let mut rest = criteria;
     'criteria: while let Some((criterion, more)) = rest.split_first() {
         rest = more;
@@ -72,27 +72,30 @@ fn racers_of<'a>(
             continue;
         }
         let left = index.carriers(alloc, criterion.name.as_str(), criterion.pattern.as_str())?;
-        racers.push(Racer {
+        cursors.push(CarrierCursor {
             numbers: Vec::new(alloc),
             left,
         })?;
     }
-    Ok(racers)
+    Ok(cursors)
 }
 
 /// Advances the cursors alternately until one of them ends, and returns its index.
-fn race<L: Ledger>(racers: &mut [Racer<'_>], steps: &mut Steps<L>) -> Result<usize, Starved>
-    requires { 0 < length racers.old }
-    ensures within { IfOk result (λ at. at < length racers.new) }
-    ensures ended { IfOk result (λ at. HoldsAt (λ run. whole run ≡ run.given) racers.new at) }
-    ensures same { OnOk result (map whole racers.new ≡ map whole racers.old) }
-    ensures counted { AllByRecursion (λ numbers. steps.new ≤ steps.old + length racers.old *
-        (length numbers + 1)) (map whole racers.old) }
+fn race<L: Ledger>(
+    cursors: &mut [CarrierCursor<'_>],
+    steps: &mut Steps<L>,
+) -> Result<usize, Starved>
+    requires { 0 < length cursors.old }
+    ensures within { IfOk result (λ at. at < length cursors.new) }
+    ensures ended { IfOk result (λ at. HoldsAt (λ run. whole run ≡ run.given) cursors.new at) }
+    ensures same { OnOk result (map whole cursors.new ≡ map whole cursors.old) }
+    ensures counted { AllByRecursion (λ numbers. steps.new ≤ steps.old + length cursors.old *
+        (length numbers + 1)) (map whole cursors.old) }
 {
     let mut at = 0;
-    'turns: while racers[at].advance(steps)? {
+    'turns: while cursors[at].advance(steps)? {
         at += 1;
-        if at == racers.len() {
+        if at == cursors.len() {
             at = 0;
         }
     }
@@ -100,14 +103,18 @@ fn race<L: Ledger>(racers: &mut [Racer<'_>], steps: &mut Steps<L>) -> Result<usi
 }
 
 /// Returns the numbers of the cursor that ends first when all advance alternately.
-fn fewest<L: Ledger>(mut racers: Vec<Racer<'_>>, steps: &mut Steps<L>) -> Result<Vec<u64>, Starved>
-    requires { 0 < vec_len racers }
-    ensures found { IfOk result (λ numbers. Contains (map whole racers.entry.items) numbers.items) }
-    ensures counted { AllByRecursion (λ numbers. steps.new ≤ steps.old + vec_len racers.entry *
-        (length numbers + 1)) (map whole racers.entry.items) }
+fn fewest<L: Ledger>(
+    mut cursors: Vec<CarrierCursor<'_>>,
+    steps: &mut Steps<L>,
+) -> Result<Vec<u64>, Starved>
+    requires { 0 < vec_len cursors }
+    ensures found { IfOk result
+        (λ numbers. Contains (map whole cursors.entry.items) numbers.items) }
+    ensures counted { AllByRecursion (λ numbers. steps.new ≤ steps.old + vec_len cursors.entry *
+        (length numbers + 1)) (map whole cursors.entry.items) }
 {
-    let at = race(racers.as_mut_slice(), steps)?;
-    Ok(racers.swap_remove(at).numbers)
+    let at = race(cursors.as_mut_slice(), steps)?;
+    Ok(cursors.swap_remove(at).numbers)
 }
 
 /// Returns the numbers in ascending order, each once.
@@ -141,10 +148,10 @@ pub(crate) fn fewest_carriers<L: Ledger>(
         ≤ steps.old + length (attribute_criteria criteria.now) *
         (length (carriers_of criterion.name criterion.pattern index.now) + 1) }
 {
-    let racers = racers_of(alloc, index, criteria)?;
-    if racers.is_empty() {
+    let cursors = racers_of(alloc, index, criteria)?;
+    if cursors.is_empty() {
         return Ok(None);
     }
-    let numbers = fewest(racers, steps)?;
+    let numbers = fewest(cursors, steps)?;
     Ok(Some(sorted(numbers)))
 }

@@ -15,15 +15,19 @@ ghost use Rattle.directory_core.specs.Shown as shown;
 
 use crate::Directory;
 use crate::counts::{Counts, counts_after};
-use crate::kept::Kept;
 use crate::names::NumbersUnder;
 use crate::records::Records;
+use crate::stored_record::StoredRecord;
 use rd_base::{Moment, Name, Record, Steps, Tag};
 use std::marker::Brand;
 use std::sync::ledger::{Blank, Ledger};
 
 /// Returns the record, if it has this name and is live.
-fn live_of_name<'a>(kept: Option<&'a Kept>, name: &Name, now: Moment) -> Option<&'a Kept>
+fn live_of_name<'a>(
+    kept: Option<&'a StoredRecord>,
+    name: &Name,
+    now: Moment,
+) -> Option<&'a StoredRecord>
     ensures { option_copied result ≡ if_live_named name.now now.0 (option_copied kept.entry) }
 {
     let kept = kept?;
@@ -43,7 +47,7 @@ fn first_of_name<'a, L: Ledger>(
     mut numbers: NumbersUnder<'_>,
     name: &Name,
     now: Moment,
-) -> Option<&'a Kept>
+) -> Option<&'a StoredRecord>
     requires name { blank.name ≡ L.name }
     requires parts { blank.parts ≡ L.parts }
     requires some { 0 < L.parts }
@@ -103,7 +107,7 @@ impl Directory {
     }
 
     /// Returns the live record with this number.
-    pub(crate) fn live_numbered(&self, number: u64, now: Moment) -> Option<&Kept>
+    pub(crate) fn live_numbered(&self, number: u64, now: Moment) -> Option<&StoredRecord>
         ensures value { option_copied result ≡ numbered number (live_among now.0 self.now.records) }
         ensures there { IfSome result (λ kept. numbered number self.now.records ≡ Some kept.now) }
         ensures stored { IfSome result (λ kept. numbered kept.now.number self.now.records ≡ Some
@@ -119,7 +123,7 @@ impl Directory {
     }
 
     /// Returns the live record with this name.
-    pub(crate) fn live_named(&self, name: &Name, now: Moment) -> Option<&Kept>
+    pub(crate) fn live_named(&self, name: &Name, now: Moment) -> Option<&StoredRecord>
         ensures value { option_copied result
             ≡ find (is_live_named name.now now.0) self.now.records }
         ensures stored { IfSome result (λ kept. numbered kept.now.number self.now.records ≡ Some

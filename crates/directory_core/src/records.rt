@@ -10,7 +10,7 @@ ghost use Rattle.history_model.specs.Replay.{is_numbered, numbered};
 ghost use Rattle.history_model.proofs.NumberLaws.{IsBelow};
 ghost use Rattle.directory_core.specs.NumberOrder.{with_record};
 
-use crate::kept::Kept;
+use crate::stored_record::StoredRecord;
 use chunk_map::{ChunkMap, RangeIter};
 use rd_base::Starved;
 use std::alloc::Global;
@@ -20,7 +20,7 @@ use std::marker::Model;
 #[derive(Drop)]
 pub struct Records {
     /// Each record under its number.
-    pairs: ChunkMap<u64, Kept>,
+    pairs: ChunkMap<u64, StoredRecord>,
 }
 
 impl Model for Records {
@@ -60,14 +60,14 @@ impl Records {
     }
 
     /// Returns the record with this number, if there is one. Does not allocate.
-    pub(crate) fn get(&self, number: u64) -> Option<&Kept>
+    pub(crate) fn get(&self, number: u64) -> Option<&StoredRecord>
         ensures { option_copied result ≡ numbered number self.now }
     {
         self.pairs.get(&number)
     }
 
     /// Returns a cursor over all records, which can seek ascending numbers. Does not allocate.
-    pub(crate) fn seeker(&self) -> RangeIter<'_, u64, Kept>
+    pub(crate) fn seeker(&self) -> RangeIter<'_, u64, StoredRecord>
         ensures found { (n : ℕ) → lookup (is_at (nat_cmp n)) result ≡ numbered n self.now }
         ensures ascends { IsAscending nat_cmp result }
     {
@@ -75,14 +75,14 @@ impl Records {
     }
 
     /// Returns a cursor over all records, in ascending number. Does not allocate.
-    pub(crate) fn all(&self) -> RangeIter<'_, u64, Kept>
+    pub(crate) fn all(&self) -> RangeIter<'_, u64, StoredRecord>
         ensures { values_of result ≡ self.now }
     {
         self.pairs.range(&0)
     }
 
     /// Returns the records with one more, which replaces any record with its number.
-    pub(crate) fn put(&self, kept: Kept) -> Result<Records, Starved>
+    pub(crate) fn put(&self, kept: StoredRecord) -> Result<Records, Starved>
         ensures records { IfOk result (λ records. records ≡ with_record kept self.now) }
         ensures rising { IfOk result (λ records. PairsByRecursion IsBelow records) }
     {

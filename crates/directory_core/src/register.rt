@@ -13,8 +13,8 @@ ghost use Rattle.directory_core.specs.EntryAnswers as answers;
 ghost use Rattle.directory_core.specs.LiveCounts.{counts_of};
 
 use crate::counts::Counts;
-use crate::kept::Kept;
 use crate::links_after::LinksAfter;
+use crate::stored_record::StoredRecord;
 use crate::{Directory, Refusal};
 use history_model::limits::MAX_REGISTRATIONS;
 use rd_base::Moment;
@@ -61,7 +61,7 @@ impl Directory {
         &self,
         now: Moment,
         counts: Counts,
-        old: &Kept,
+        old: &StoredRecord,
         draft: Draft,
     ) -> Result<Directory, Refusal>
         requires after_at { self.now.at ≤ now.0 }

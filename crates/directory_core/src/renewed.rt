@@ -13,9 +13,9 @@ ghost use Rattle.directory_core.specs.LiveCounts.{counts_of};
 
 use crate::counts::Counts;
 use crate::index::{index_renewed, index_with, index_without};
-use crate::kept::Kept;
 use crate::links_after::LinksAfter;
 use crate::room::{record_from, room_for_entry, text_with};
+use crate::stored_record::StoredRecord;
 use crate::{Directory, Refusal};
 use rd_base::Moment;
 use registration::{Draft, weight};
@@ -28,7 +28,7 @@ impl Directory {
         &self,
         now: Moment,
         counts: Counts,
-        old: &Kept,
+        old: &StoredRecord,
         granted: Moment,
         draft: Draft,
         links: LinksAfter,
@@ -56,7 +56,7 @@ impl Directory {
             Ok(text) => text,
             Err(refusal) => return Err(refusal),
         };
-        let kept = Kept::of(self.alloc, record_from(number, granted, draft), octets)?;
+        let kept = StoredRecord::of(self.alloc, record_from(number, granted, draft), octets)?;
         let leases = self.leases.take(old.lapse(), number)?;
         let leases = leases.with(kept.lapse(), number)?;
         let names = self.names.share()?;
@@ -110,7 +110,7 @@ impl Directory {
             Ok(text) => text,
             Err(refusal) => return Err(refusal),
         };
-        let kept = Kept::of(self.alloc, record_from(number, now, draft), octets)?;
+        let kept = StoredRecord::of(self.alloc, record_from(number, now, draft), octets)?;
         let leases = self.leases.put(kept.lapse(), number)?;
         let names = self.names.put(&kept.as_record().name, number)?;
         let index = index_with(self.alloc, &self.index, kept.as_record())?;
@@ -136,7 +136,7 @@ impl Directory {
         &self,
         now: Moment,
         counts: Counts,
-        old: &Kept,
+        old: &StoredRecord,
     ) -> Result<Directory, Refusal>
         requires after_at { self.now.at ≤ now.0 }
         requires after_sweep { self.now.swept ≤ now.0 }

@@ -38,7 +38,7 @@ use Rattle.event_model.specs.AdmissionOrder.{is_aside}
 use Rattle.event_model.specs.Uploads.{upload, live_upload, uploads, uploads_at, upload_of}
 use Rattle.event_model.specs.KeptAnswers.{names_used, kept_answer, kept_answer_of, kept_answers_at}
 use Rattle.event_model.specs.Observers.{observers, last_body_formed}
-use Rattle.event_model.specs.Flights.{OctetsSent, flight, waiting_notice}
+use Rattle.event_model.specs.Flights.{OctetsSent, flight, waiting_notification}
 use Rattle.event_model.specs.Due.{Transition, is_due, watching, observers_standing}
 use Rattle.event_model.specs.Fetches.{
   Request,
@@ -184,7 +184,7 @@ observers_standing-event : (octets : OctetsSent) (transitions : List Transition)
     → about_observers e.note ≡ false
     → observers_standing octets (e ∷ events) transitions
     ≡ observers_standing octets events transitions
-unfolding observers_standing observers last_body_formed last_said is_due waiting_notice flight
+unfolding observers_standing observers last_body_formed last_said is_due waiting_notification flight
     events_since
 observers_standing-event octets transitions e events other = by e.note other
   where

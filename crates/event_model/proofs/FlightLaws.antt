@@ -47,14 +47,14 @@ use Rattle.event_model.specs.Flights.{
   Sent,
   OctetsSent,
   is_forming_for,
-  notice_mid,
+  notification_mid,
   is_landing_of,
   is_again_of,
   Flight,
   flight_after,
   flight,
-  notice_sent,
-  waiting_notice,
+  notification_sent,
+  waiting_notification,
 }
 use Rattle.event_model.proofs.NotedLaws.{event_at}
 use Rattle.event_model.proofs.AsideLaws.{notes_aside}
@@ -92,9 +92,9 @@ about_flights _ = false
 -- one that builds a body for the observer: its notification, where it is one
 pub flight-formed : (o : Observer) (e : Event) (before : List Event)
     → is_forming_for (name_of o) e.note ≡ true
-    → flight o (e ∷ before) ≡ option_map (flight_formed e) (notice_mid e.note)
+    → flight o (e ∷ before) ≡ option_map (flight_formed e) (notification_mid e.note)
 unfolding flight events_since
-flight-formed o e before forms = rw forms (by (notice_mid e.note))
+flight-formed o e before forms = rw forms (by (notification_mid e.note))
   where
     by : (mid : Option ℕ)
         → option_and_then (flight_after o.peer e []) mid ≡ option_map (flight_formed e) mid
@@ -165,11 +165,11 @@ flight-unformed o e before quiet =
 
     formed : (last : Option Event)
         → option_and_then
-        (λ x. option_and_then (flight_after o.peer x (e ∷ later)) (notice_mid x.note)) last
+        (λ x. option_and_then (flight_after o.peer x (e ∷ later)) (notification_mid x.note)) last
         ≡ option_and_then (flight_with o.peer e) (option_and_then
-        (λ x. option_and_then (flight_after o.peer x later) (notice_mid x.note)) last)
+        (λ x. option_and_then (flight_after o.peer x later) (notification_mid x.note)) last)
     formed None = refl
-    formed (Some x) = with_mid x (notice_mid x.note)
+    formed (Some x) = with_mid x (notification_mid x.note)
 
 -- ---- by its note
 
@@ -310,9 +310,9 @@ sent_first octets peer e mid = record {
   resend = record { sent = e.moment; wait = first_wait e.word; again = 0 };
 }
 
-pub notice_sent-formed : (octets : OctetsSent) (peer : Peer) (e : Event) (mid : ℕ)
-    → notice_sent octets peer (flight_formed e mid) ≡ sent_first octets peer e mid
-notice_sent-formed octets peer e mid = by (first_wait e.word * 2 ^ 0) (omega arith)
+pub notification_sent-formed : (octets : OctetsSent) (peer : Peer) (e : Event) (mid : ℕ)
+    → notification_sent octets peer (flight_formed e mid) ≡ sent_first octets peer e mid
+notification_sent-formed octets peer e mid = by (first_wait e.word * 2 ^ 0) (omega arith)
   where
     by : (wait : ℕ)
         → wait ≡ first_wait e.word
@@ -333,23 +333,25 @@ sent_with true moment waits = record {
 }
 sent_with false moment waits = waits
 
-pub notice_sent-again : (octets : OctetsSent) (peer : Peer) (again : Bool) (e : Event) (f : Flight)
-    → notice_sent octets peer (with_again again e f)
-    ≡ sent_with again e.moment (notice_sent octets peer f)
-notice_sent-again octets peer true e f = rw (retransmission-again f.formed e f.again) refl
-notice_sent-again octets peer false e f = refl
+pub notification_sent-again : (octets : OctetsSent) (peer : Peer) (again : Bool) (e : Event)
+    (f : Flight)
+    → notification_sent octets peer (with_again again e f)
+    ≡ sent_with again e.moment (notification_sent octets peer f)
+notification_sent-again octets peer true e f = rw (retransmission-again f.formed e f.again) refl
+notification_sent-again octets peer false e f = refl
 
 -- so it is of what waits for an observer
-pub waiting_notice-Formed : (octets : OctetsSent) (o : Observer) (place moment word : ℕ)
+pub waiting_notification-Formed : (octets : OctetsSent) (o : Observer) (place moment word : ℕ)
     (peer : Peer) (token body : List ℕ) (mid : Option ℕ) (before : List Event)
     → is_same_request (peer, token) (name_of o) ≡ true
-    → waiting_notice octets (event_at place moment word (note.Formed peer token body mid) ∷ before)
+    → waiting_notification octets (event_at place moment word (note.Formed peer token body mid)
+    ∷ before)
     o
     ≡ option_map (sent_first octets o.peer
     (event_at place moment word (note.Formed peer token body mid))) mid
-unfolding waiting_notice
-waiting_notice-Formed octets o place moment word peer token body mid before same =
-    ap (option_map (notice_sent octets o.peer))
+unfolding waiting_notification
+waiting_notification-Formed octets o place moment word peer token body mid before same =
+    ap (option_map (notification_sent octets o.peer))
     (flight-Formed o place moment word peer token body mid before same)
     ∙ by mid
   where
@@ -357,98 +359,103 @@ waiting_notice-Formed octets o place moment word peer token body mid before same
     e = event_at place moment word (note.Formed peer token body mid)
 
     by : (m : Option ℕ)
-        → option_map (notice_sent octets o.peer) (option_map (flight_formed e) m)
+        → option_map (notification_sent octets o.peer) (option_map (flight_formed e) m)
         ≡ option_map (sent_first octets o.peer e) m
     by None = refl
-    by (Some m) = ap (λ (x : Sent). Some x) (notice_sent-formed octets o.peer e m)
+    by (Some m) = ap (λ (x : Sent). Some x) (notification_sent-formed octets o.peer e m)
 
-pub waiting_notice-Again : (octets : OctetsSent) (o : Observer) (place moment word : ℕ)
+pub waiting_notification-Again : (octets : OctetsSent) (o : Observer) (place moment word : ℕ)
     (peer : Peer) (mid : ℕ) (before : List Event)
-    → waiting_notice octets (event_at place moment word (note.Again peer mid) ∷ before) o
+    → waiting_notification octets (event_at place moment word (note.Again peer mid) ∷ before) o
     ≡ option_map
     (λ waits. sent_with (is_again_of o.peer waits.mid (note.Again peer mid)) moment waits)
-    (waiting_notice octets before o)
-unfolding waiting_notice
-waiting_notice-Again octets o place moment word peer mid before =
-    ap (option_map (notice_sent octets o.peer)) (flight-Again o place moment word peer mid before)
+    (waiting_notification octets before o)
+unfolding waiting_notification
+waiting_notification-Again octets o place moment word peer mid before =
+    ap (option_map (notification_sent octets o.peer))
+    (flight-Again o place moment word peer mid before)
     ∙ by (flight o before)
   where
     e : Event
     e = event_at place moment word (note.Again peer mid)
 
     by : (f : Option Flight)
-        → option_map (notice_sent octets o.peer)
+        → option_map (notification_sent octets o.peer)
         (option_map (λ x. with_again (is_again_of o.peer x.mid (note.Again peer mid)) e x) f)
         ≡ option_map
         (λ waits. sent_with (is_again_of o.peer waits.mid (note.Again peer mid)) moment waits)
-        (option_map (notice_sent octets o.peer) f)
+        (option_map (notification_sent octets o.peer) f)
     by None = refl
     by (Some f) =
         ap (λ (x : Sent). Some x)
-        (notice_sent-again octets o.peer (is_again_of o.peer f.mid (note.Again peer mid)) e f)
+        (notification_sent-again octets o.peer (is_again_of o.peer f.mid (note.Again peer mid)) e f)
 
 -- what waits is no longer waited for, or goes on
 abbrev pub waits_unless : Bool → Sent → Option Sent
 waits_unless true waits = None
 waits_unless false waits = Some waits
 
-pub waiting_notice-Landed : (octets : OctetsSent) (o : Observer) (place moment word : ℕ)
+pub waiting_notification-Landed : (octets : OctetsSent) (o : Observer) (place moment word : ℕ)
     (peer : Peer) (mid : ℕ) (before : List Event)
-    → waiting_notice octets (event_at place moment word (note.Landed peer mid) ∷ before) o
+    → waiting_notification octets (event_at place moment word (note.Landed peer mid) ∷ before) o
     ≡ option_and_then
     (λ waits. waits_unless (is_landing_of o.peer waits.mid (note.Landed peer mid)) waits)
-    (waiting_notice octets before o)
-unfolding waiting_notice
-waiting_notice-Landed octets o place moment word peer mid before =
-    ap (option_map (notice_sent octets o.peer)) (flight-Landed o place moment word peer mid before)
+    (waiting_notification octets before o)
+unfolding waiting_notification
+waiting_notification-Landed octets o place moment word peer mid before =
+    ap (option_map (notification_sent octets o.peer))
+    (flight-Landed o place moment word peer mid before)
     ∙ by (flight o before)
   where
     one : (f : Flight) (landed : Bool)
-        → option_map (notice_sent octets o.peer) (unless_landed landed f)
-        ≡ waits_unless landed (notice_sent octets o.peer f)
+        → option_map (notification_sent octets o.peer) (unless_landed landed f)
+        ≡ waits_unless landed (notification_sent octets o.peer f)
     one f true = refl
     one f false = refl
 
     by : (f : Option Flight)
-        → option_map (notice_sent octets o.peer) (option_and_then
+        → option_map (notification_sent octets o.peer) (option_and_then
         (λ x. unless_landed (is_landing_of o.peer x.mid (note.Landed peer mid)) x) f)
         ≡ option_and_then
         (λ waits. waits_unless (is_landing_of o.peer waits.mid (note.Landed peer mid)) waits)
-        (option_map (notice_sent octets o.peer) f)
+        (option_map (notification_sent octets o.peer) f)
     by None = refl
     by (Some f) = one f (is_landing_of o.peer f.mid (note.Landed peer mid))
 
-pub waiting_notice-Formed_other : (octets : OctetsSent) (o : Observer) (place moment word : ℕ)
+pub waiting_notification-Formed_other : (octets : OctetsSent) (o : Observer) (place moment word : ℕ)
     (peer : Peer) (token body : List ℕ) (mid : Option ℕ) (before : List Event)
     → is_same_request (peer, token) (name_of o) ≡ false
-    → waiting_notice octets (event_at place moment word (note.Formed peer token body mid) ∷ before)
+    → waiting_notification octets (event_at place moment word (note.Formed peer token body mid)
+    ∷ before)
     o
-    ≡ waiting_notice octets before o
-unfolding waiting_notice
-waiting_notice-Formed_other octets o place moment word peer token body mid before other =
-    ap (option_map (notice_sent octets o.peer))
+    ≡ waiting_notification octets before o
+unfolding waiting_notification
+waiting_notification-Formed_other octets o place moment word peer token body mid before other =
+    ap (option_map (notification_sent octets o.peer))
     (flight-Formed_other o place moment word peer token body mid before other)
 
-pub waiting_notice-quiet : (octets : OctetsSent) (o : Observer) (e : Event) (before : List Event)
+pub waiting_notification-quiet : (octets : OctetsSent) (o : Observer) (e : Event)
+    (before : List Event)
     → about_flights e.note ≡ false
-    → waiting_notice octets (e ∷ before) o ≡ waiting_notice octets before o
-unfolding waiting_notice
-waiting_notice-quiet octets o e before other =
-    ap (option_map (notice_sent octets o.peer)) (flight-quiet o e before other)
+    → waiting_notification octets (e ∷ before) o ≡ waiting_notification octets before o
+unfolding waiting_notification
+waiting_notification-quiet octets o e before other =
+    ap (option_map (notification_sent octets o.peer)) (flight-quiet o e before other)
 
 -- two ways to find the octets of rows that agree on the row that built the notification
-pub waiting_notice-octets : (one two : OctetsSent) (o : Observer) (events : List Event)
+pub waiting_notification-octets : (one two : OctetsSent) (o : Observer) (events : List Event)
     → ((f : Flight)
     → flight o events ≡ Some f
     → one f.formed.place o.peer f.mid ≡ two f.formed.place o.peer f.mid)
-    → waiting_notice one events o ≡ waiting_notice two events o
-unfolding waiting_notice
-waiting_notice-octets one two o events agree = by (flight o events) agree
+    → waiting_notification one events o ≡ waiting_notification two events o
+unfolding waiting_notification
+waiting_notification-octets one two o events agree = by (flight o events) agree
   where
     by : (found : Option Flight)
         → ((f : Flight)
         → found ≡ Some f
         → one f.formed.place o.peer f.mid ≡ two f.formed.place o.peer f.mid)
-        → option_map (notice_sent one o.peer) found ≡ option_map (notice_sent two o.peer) found
+        → option_map (notification_sent one o.peer) found
+        ≡ option_map (notification_sent two o.peer) found
     by None h = refl
     by (Some f) h = rw (h f refl) refl

@@ -33,7 +33,13 @@ use Rattle.event_model.specs.declared.notes.Observer.{Observer}
 use Rattle.event_model.specs.Same.{RequestName, is_same_request}
 use Rattle.event_model.specs.Events.{Event, last_said}
 use Rattle.event_model.specs.Observers.{name_of, observers, last_body_formed}
-use Rattle.event_model.specs.Flights.{Sent, OctetsSent, is_landing_of, is_again_of, waiting_notice}
+use Rattle.event_model.specs.Flights.{
+  Sent,
+  OctetsSent,
+  is_landing_of,
+  is_again_of,
+  waiting_notification,
+}
 use Rattle.event_model.specs.Due.{Transition, Watching, watching, observers_standing}
 use Rattle.event_model.proofs.NotedLaws.{event_at}
 use Rattle.event_model.proofs.DueLaws.{due_quiet, due_looked}
@@ -47,11 +53,11 @@ use Rattle.event_model.proofs.FlightLaws.{
   sent_first,
   sent_with,
   waits_unless,
-  waiting_notice-Formed,
-  waiting_notice-Formed_other,
-  waiting_notice-Again,
-  waiting_notice-Landed,
-  waiting_notice-quiet,
+  waiting_notification-Formed,
+  waiting_notification-Formed_other,
+  waiting_notification-Again,
+  waiting_notification-Landed,
+  waiting_notification-quiet,
 }
 
 -- ---- lists
@@ -130,7 +136,8 @@ watching-Watched : (octets : OctetsSent) (seen : List Transition) (place moment 
 unfolding last_body_formed last_said
 watching-Watched octets seen place moment word added before o =
     rw (due_quiet o before seen place moment word (note.Watched added ∷ []) refl)
-    (rw (waiting_notice-quiet octets o (event_at place moment word (note.Watched added)) before
+    (rw (waiting_notification-quiet octets o (event_at place moment word (note.Watched added))
+    before
     refl) refl)
 
 watching-Unwatched : (octets : OctetsSent) (seen : List Transition) (place moment word : ℕ)
@@ -140,7 +147,8 @@ watching-Unwatched : (octets : OctetsSent) (seen : List Transition) (place momen
 unfolding last_body_formed last_said
 watching-Unwatched octets seen place moment word peer token before o =
     rw (due_quiet o before seen place moment word (note.Unwatched peer token ∷ []) refl)
-    (rw (waiting_notice-quiet octets o (event_at place moment word (note.Unwatched peer token))
+    (rw (waiting_notification-quiet octets o (event_at place moment word
+    (note.Unwatched peer token))
     before refl) refl)
 
 -- a notification that is retransmitted, or acknowledged
@@ -149,22 +157,22 @@ watching-Again : (octets : OctetsSent) (seen : List Transition) (place moment wo
     → watching octets (event_at place moment word (note.Again peer mid) ∷ before) seen o
     ≡ with_waits (watching octets before seen o) (option_map
     (λ waits. sent_with (is_again_of o.peer waits.mid (note.Again peer mid)) moment waits)
-    (waiting_notice octets before o))
+    (waiting_notification octets before o))
 unfolding last_body_formed last_said
 watching-Again octets seen place moment word peer mid before o =
     rw (due_quiet o before seen place moment word (note.Again peer mid ∷ []) refl)
-    (rw (waiting_notice-Again octets o place moment word peer mid before) refl)
+    (rw (waiting_notification-Again octets o place moment word peer mid before) refl)
 
 watching-Landed : (octets : OctetsSent) (seen : List Transition) (place moment word : ℕ)
     (peer : Peer) (mid : ℕ) (before : List Event) (o : Observer)
     → watching octets (event_at place moment word (note.Landed peer mid) ∷ before) seen o
     ≡ with_waits (watching octets before seen o) (option_and_then
     (λ waits. waits_unless (is_landing_of o.peer waits.mid (note.Landed peer mid)) waits)
-    (waiting_notice octets before o))
+    (waiting_notification octets before o))
 unfolding last_body_formed last_said
 watching-Landed octets seen place moment word peer mid before o =
     rw (due_quiet o before seen place moment word (note.Landed peer mid ∷ []) refl)
-    (rw (waiting_notice-Landed octets o place moment word peer mid before) refl)
+    (rw (waiting_notification-Landed octets o place moment word peer mid before) refl)
 
 -- one of two
 either : (b : Bool) → (b || false) ≡ b
@@ -194,12 +202,12 @@ watching-Formed octets seen place moment word peer token body mid before low o =
     by true same =
         rw (due_looked o before seen place moment word (note.Formed peer token body mid ∷ []) low
         (either (is_same_request (peer, token) (name_of o)) ∙ same))
-        (rw (waiting_notice-Formed octets o place moment word peer token body mid before same)
+        (rw (waiting_notification-Formed octets o place moment word peer token body mid before same)
         (rw same refl))
     by false other =
         rw (due_quiet o before seen place moment word (note.Formed peer token body mid ∷ [])
         (either (is_same_request (peer, token) (name_of o)) ∙ other))
-        (rw (waiting_notice-Formed_other octets o place moment word peer token body mid before
+        (rw (waiting_notification-Formed_other octets o place moment word peer token body mid before
         other) (rw other refl))
 
 -- its listing is found unchanged, or another's
@@ -220,12 +228,14 @@ watching-Unchanged octets seen place moment word peer token before low o =
     by true same =
         rw (due_looked o before seen place moment word (note.Unchanged peer token ∷ []) low
         (either (is_same_request (peer, token) (name_of o)) ∙ same))
-        (rw (waiting_notice-quiet octets o (event_at place moment word (note.Unchanged peer token))
+        (rw (waiting_notification-quiet octets o
+        (event_at place moment word (note.Unchanged peer token))
         before refl) refl)
     by false other =
         rw (due_quiet o before seen place moment word (note.Unchanged peer token ∷ [])
         (either (is_same_request (peer, token) (name_of o)) ∙ other))
-        (rw (waiting_notice-quiet octets o (event_at place moment word (note.Unchanged peer token))
+        (rw (waiting_notification-quiet octets o
+        (event_at place moment word (note.Unchanged peer token))
         before refl) refl)
 
 -- ---- all that stand

@@ -29,7 +29,7 @@ use Rattle.event_model.specs.declared.notes.Observer.{Observer}
 use Rattle.event_model.specs.Same.{RequestName, is_same_request}
 use Rattle.event_model.specs.Events.{Event, last_event}
 use Rattle.event_model.specs.Observers.{name_of, observers, last_body_formed}
-use Rattle.event_model.specs.Flights.{Sent, OctetsSent, waiting_notice}
+use Rattle.event_model.specs.Flights.{Sent, OctetsSent, waiting_notification}
 
 -- A row whose step is no look, as observers see it: its place, and the history and the moment
 -- before it and after it.
@@ -87,7 +87,7 @@ watching octets events transitions o = record {
   observer = o;
   due = is_due o events transitions;
   last_body = last_body_formed (name_of o) events;
-  waits = waiting_notice octets events o;
+  waits = waiting_notification octets events o;
 }
 
 -- Returns the observers, in the order in which they were added.

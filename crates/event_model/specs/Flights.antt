@@ -88,9 +88,9 @@ is_forming_for name (note.Formed peer token body mid) = is_same_request (peer, t
 is_forming_for name _ = false
 
 -- Returns the Message ID of the notification that a note builds.
-abbrev pub notice_mid : Note → Option ℕ
-notice_mid (note.Formed peer token body mid) = mid
-notice_mid _ = None
+abbrev pub notification_mid : Note → Option ℕ
+notification_mid (note.Formed peer token body mid) = mid
+notification_mid _ = None
 
 -- Returns whether a note says that the notification with a peer and a Message ID was acknowledged.
 abbrev pub is_landing_of : Peer → ℕ → Note → Bool
@@ -125,7 +125,7 @@ flight o events =
     option_and_then
     (λ formed. option_and_then
     (flight_after o.peer formed (events_since (is_forming_for (name_of o)) events))
-    (notice_mid formed.note))
+    (notification_mid formed.note))
     (last_event (is_forming_for (name_of o)) events)
 
 -- Returns whether a notification is in flight to one of the observers of a peer, which then gets no
@@ -135,13 +135,14 @@ is_waited_for peer events =
     list_any (λ o. is_same_peer o.peer peer && is_some (flight o events)) (observers events)
 
 -- Returns a notification in flight to a peer as a message that waits, by the octets that rows sent.
-abbrev pub notice_sent : OctetsSent → Peer → Flight → Sent
-notice_sent octets peer f = record {
+abbrev pub notification_sent : OctetsSent → Peer → Flight → Sent
+notification_sent octets peer f = record {
   mid = f.mid;
   octets = octets f.formed.place peer f.mid;
   resend = retransmission f.formed f.again;
 }
 
 -- Returns the notification in flight to an observer as such a message.
-unfoldable pub waiting_notice : OctetsSent → List Event → Observer → Option Sent
-waiting_notice octets events o = option_map (notice_sent octets o.peer) (flight o events)
+unfoldable pub waiting_notification : OctetsSent → List Event → Observer → Option Sent
+waiting_notification octets events o = option_map (notification_sent octets o.peer)
+    (flight o events)

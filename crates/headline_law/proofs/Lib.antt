@@ -28,12 +28,14 @@
 -- registration its source.
 --   Below, in sends: BodyAnswers (an answer bears the block of its body that is wanted), PlainSteps
 -- (what refusals, writes and changes send is neither 2.05 nor 2.03),
---   TickSends (what is retransmitted), ValidSends (2.03); in flights: WaitedPeers and NoticesAgain
+--   TickSends (what is retransmitted), ValidSends (2.03); in flights: WaitedPeers and
+-- NotificationsAgain
 -- (the first part of a tick).
 --   sends: LookupSends (looks, lookups, reads of a registration, keeps), PlainCommits (commits and
 -- responses), StepOutcomes (one table of what each step but a tick sends);
 --   RowSends and ValidLaw have that 2.03 is sent exactly where a look names the tag.
---   flights: TickNotices, FreshNotices and TickFolds (one record of what a tick did so far, and
+--   flights: TickNotifications, FreshNotifications and TickFolds (one record of what a tick did so
+-- far, and
 -- each notification more), KnownFlights and TickFlights (the row that built
 --   each notification in flight), FirstBodies (other rows build no notification), CarriedListings
 -- (what it is to carry the listing or the source of the row that built it).

@@ -49,7 +49,13 @@ use Rattle.journal_model.specs.declared.rows.Row.{Row}
 use Rattle.journal_model.specs.Journal.{events}
 use Rattle.journal_model.specs.Effects.{empty_message}
 use Rattle.journal_model.specs.Requests.{asked_block}
-use Rattle.journal_model.specs.SentDatagrams.{Datagram, IsFitting, IsAnswer, IsNotice, SendsFirst}
+use Rattle.journal_model.specs.SentDatagrams.{
+  Datagram,
+  IsFitting,
+  IsAnswer,
+  IsNotification,
+  SendsFirst,
+}
 use Rattle.journal_model.specs.Headline.{Headline}
 use Rattle.journal_model.specs.AdmittedWrites.{AdmittedAt}
 use Rattle.journal_model.specs.CarriedBlocks.{IsBlockOf}
@@ -202,7 +208,8 @@ tick_refuses = row_of step.Tick [] false ((peer 1, spelling (refusal (193 ∷ []
 pub tick_refuses_falls : Headline (tick_refuses ∷ []) → ⊥
 unfolding messages_on_literals
 tick_refuses_falls h =
-    let it : IsNotice (record { row = tick_refuses; before = [] }) (peer 1) (refusal (193 ∷ [])) =
+    let it : IsNotification (record { row = tick_refuses; before = [] }) (peer 1)
+    (refusal (193 ∷ [])) =
     h.sends.addressed
     (sent_first tick_refuses (peer 1) (spelling (refusal (193 ∷ []))) (refusal (193 ∷ [])) []
     refl refl) refl in
@@ -213,16 +220,17 @@ abbrev with_body : ℕ → Message
 with_body c = answer codes_of.content (193 ∷ []) [] (c ∷ [])
 
 -- a tick sends a 2.05 to a peer that observes nothing
-abbrev stray_notice : Row
-stray_notice = row_of step.Tick [] false ((peer 1, spelling (with_body 97)) ∷ []) []
+abbrev stray_notification : Row
+stray_notification = row_of step.Tick [] false ((peer 1, spelling (with_body 97)) ∷ []) []
 
 -- An end theorem: nothing here cites it.
-pub stray_notice_falls : Headline (stray_notice ∷ []) → ⊥
+pub stray_notification_falls : Headline (stray_notification ∷ []) → ⊥
 unfolding messages_on_literals observers events
-stray_notice_falls h =
-    let it : IsNotice (record { row = stray_notice; before = [] }) (peer 1) (with_body 97) =
+stray_notification_falls h =
+    let it : IsNotification (record { row = stray_notification; before = [] }) (peer 1)
+    (with_body 97) =
     h.sends.addressed
-    (sent_first stray_notice (peer 1) (spelling (with_body 97)) (with_body 97) [] refl refl)
+    (sent_first stray_notification (peer 1) (spelling (with_body 97)) (with_body 97) [] refl refl)
     refl in
     let no : None ≡ Some it.observer = it.named in
     absurd cc

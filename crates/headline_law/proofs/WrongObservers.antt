@@ -54,7 +54,7 @@ use Rattle.headline_law.specs.ObserversStand.{
   MakesObserver,
   EndsObserving,
   asks_anew,
-  rejects_notice,
+  rejects_notification,
   never_acknowledges,
   ObserversStand,
 }
@@ -240,9 +240,9 @@ drops_falls h =
   where
     by : EndsObserving (watched ∷ []) drops observes → ⊥
     by (asks_anew it) = absurd (let no : step.Tick ≡ step.Admit = it.asks.heard in cc)
-    by (rejects_notice it) = absurd (let no : step.Tick ≡ step.Admit = it.heard in cc)
+    by (rejects_notification it) = absurd (let no : step.Tick ≡ step.Admit = it.heard in cc)
     by (never_acknowledges it) =
-        let none : ◌≡◌ {A = Option Flight} None (Some it.notice) = it.flies in absurd cc
+        let none : ◌≡◌ {A = Option Flight} None (Some it.notification) = it.flies in absurd cc
 
 -- a tick drops an observer whose notification was sent once
 abbrev notified : Row
@@ -264,10 +264,10 @@ drops_early_falls h =
 
     by : EndsObserving (notified ∷ watched ∷ []) drops observes → ⊥
     by (asks_anew it) = absurd (let no : step.Tick ≡ step.Admit = it.asks.heard in cc)
-    by (rejects_notice it) = absurd (let no : step.Tick ≡ step.Admit = it.heard in cc)
+    by (rejects_notification it) = absurd (let no : step.Tick ≡ step.Admit = it.heard in cc)
     by (never_acknowledges it) =
-        let none : ◌≡◌ {A = ℕ} 0 (length it.notice.again) = ap agains it.flies in
-        let sent : 4 ≤ length it.notice.again = it.sent in
+        let none : ◌≡◌ {A = ℕ} 0 (length it.notification.again) = ap agains it.flies in
+        let sent : 4 ≤ length it.notification.again = it.sent in
         absurd (omega (arith, none, sent))
 
 -- CON 0.01 m=0010 t=c2 [6 01][11 rd-lookup][11 ep]: it asks to observe no more, under another token
@@ -317,10 +317,10 @@ cancels_another_falls h =
         of_request it.request
         (same_message cancelling it.request
         (let read : reading (spelling cancelling) ≡ Ok it.request = it.asks.read in read)) it.token
-    by (rejects_notice it) =
-        let none : ◌≡◌ {A = Option Flight} None (Some it.notice) = it.flies in absurd cc
+    by (rejects_notification it) =
+        let none : ◌≡◌ {A = Option Flight} None (Some it.notification) = it.flies in absurd cc
     by (never_acknowledges it) =
-        let none : ◌≡◌ {A = Option Flight} None (Some it.notice) = it.flies in absurd cc
+        let none : ◌≡◌ {A = Option Flight} None (Some it.notification) = it.flies in absurd cc
 
 -- CON 0.01 m=0010 t=c1 [6 01][11 rd-lookup][11 ep]: it asks to observe no more
 abbrev deregistering : Message
@@ -355,10 +355,10 @@ starved_cancels_falls h =
   where
     by : EndsObserving (watched ∷ []) starved_cancels observes → ⊥
     by (asks_anew it) = absurd (false≢true (sym it.ample))
-    by (rejects_notice it) =
-        let none : ◌≡◌ {A = Option Flight} None (Some it.notice) = it.flies in absurd cc
+    by (rejects_notification it) =
+        let none : ◌≡◌ {A = Option Flight} None (Some it.notification) = it.flies in absurd cc
     by (never_acknowledges it) =
-        let none : ◌≡◌ {A = Option Flight} None (Some it.notice) = it.flies in absurd cc
+        let none : ◌≡◌ {A = Option Flight} None (Some it.notification) = it.flies in absurd cc
 
 -- ---- observers that do not end
 
@@ -405,7 +405,7 @@ stays_rejected_falls h =
       read = refl;
       resets = refl;
       peer = refl;
-      notice = record { mid = 7; formed = formed; again = [] };
+      notification = record { mid = 7; formed = formed; again = [] };
       flies = refl;
       mid = refl;
     })) (0, (omega arith, refl)) (0, (omega arith, refl))

@@ -1,5 +1,5 @@
-pub mod TickNotices
-pub mod FreshNotices
+pub mod TickNotifications
+pub mod FreshNotifications
 pub mod TickFolds
 pub mod KnownFlights
 pub mod CarriedListings

@@ -94,29 +94,29 @@ pub record AsksAnew (r : Row) (o : Observer) : Type 0 where
   pub token : o.token ≡ request.token
 
 -- An observer whose peer rejects the notification that is in flight to it (RFC 7641 section 3.6).
-pub record RejectsNotice (before : List Row) (r : Row) (o : Observer) : Type 0 where
+pub record RejectsNotification (before : List Row) (r : Row) (o : Observer) : Type 0 where
   pub heard : r.step.kind ≡ step.Admit
   pub message : Message
   pub read : reading r.step.datagram ≡ Ok message
   pub resets : role_of message.kind message.code ≡ role.Reset
   pub peer : o.peer ≡ r.step.peer
-  pub notice : Flight
-  pub flies : flight o (events before) ≡ Some notice
-  pub mid : message.mid ≡ notice.mid
+  pub notification : Flight
+  pub flies : flight o (events before) ≡ Some notification
+  pub mid : message.mid ≡ notification.mid
 
 -- An observer whose notification in flight was retransmitted as often as may be, and whose last
 -- timeout has ended (RFC 7252 section 4.2, RFC 7641 section 4.5).
 pub record NeverAcknowledges (before : List Row) (r : Row) (o : Observer) : Type 0 where
   pub ticks : r.step.kind ≡ step.Tick
-  pub notice : Flight
-  pub flies : flight o (events before) ≡ Some notice
-  pub sent : max_again ≤ length notice.again
-  pub waited : deadline notice.formed notice.again ≤ r.moment.0
+  pub notification : Flight
+  pub flies : flight o (events before) ≡ Some notification
+  pub sent : max_again ≤ length notification.again
+  pub waited : deadline notification.formed notification.again ≤ r.moment.0
 
 -- The three reasons for which an observer ends.
 pub data EndsObserving (before : List Row) (r : Row) (o : Observer) : Type 0 where
   asks_anew : AsksAnew r o → EndsObserving before r o
-  rejects_notice : RejectsNotice before r o → EndsObserving before r o
+  rejects_notification : RejectsNotification before r o → EndsObserving before r o
   never_acknowledges : NeverAcknowledges before r o → EndsObserving before r o
 
 -- ---- notifications in flight
@@ -137,11 +137,11 @@ pub record WaitedOnce (before : List Row) (r : Row) (peer : Peer) (mid : ℕ) : 
   pub observer : Observer
   pub stands : IsAmong (observers (events before)) observer
   pub peer_is : peer ≡ observer.peer
-  pub notice : Flight
-  pub flies : flight observer (events before) ≡ Some notice
-  pub mid_is : mid ≡ notice.mid
-  pub sent : length notice.again < max_again
-  pub waited : deadline notice.formed notice.again ≤ r.moment.0
+  pub notification : Flight
+  pub flies : flight observer (events before) ≡ Some notification
+  pub mid_is : mid ≡ notification.mid
+  pub sent : length notification.again < max_again
+  pub waited : deadline notification.formed notification.again ≤ r.moment.0
 
 -- ---- the sentence
 
@@ -191,7 +191,7 @@ pub record ObserversStand (rows : List Row) : Type 0 where
       → IsAmong (observers (events (r ∷ before))) o ⊎ EndsObserving before r o
   pub leaves : (before : List Row) (r : Row) (o : Observer)
       → Within rows before r
-      → RejectsNotice before r o ⊎ NeverAcknowledges before r o
+      → RejectsNotification before r o ⊎ NeverAcknowledges before r o
       → IsAmong (observers (events before)) o
       → IsAmong (observers (events (r ∷ before))) o
       → ⊥

@@ -1,4 +1,4 @@
--- What a message that a server sends says was done, by its type and its code.
+-- What a message that a server sends reports as done, by its type and its code.
 use Rattle.std.specs.Prelude.{ℕ, ◌==◌, nat_le, if◌then◌else◌}
 use Rattle.message_model.specs.declared.messages.Kind4.{Kind4}
 use Rattle.message_model.specs.declared.messages.Kind4.TheVariants as kind
@@ -6,7 +6,7 @@ use Rattle.message_model.specs.Codes.{bad_request, changed, content, created, de
 use Rattle.hosting.specs.declared.deeds.Deed.{Deed}
 use Rattle.hosting.specs.declared.deeds.Deed.TheVariants as deed
 
--- content that has to be acknowledged is a notification (RFC 7641 section 4.5)
+-- confirmable content is a notification (RFC 7641 section 4.5)
 abbrev pub found_by : Kind4 → Deed
 found_by kind.Con = deed.Notified
 found_by kind.Non = deed.Found

@@ -1,4 +1,4 @@
--- What a link answers a request that it keeps from the directory.
+-- The response of a link to a request that it withholds from the directory.
 use Rattle.std.specs.Prelude.{◌≡◌, ◌≤◌, ℕ, ◌*◌, ◌+◌, true, List, [], ◌∷◌, ◌++◌, Option, Ok}
 use Rattle.std.specs.Prelude.{codes, is_some, unwrap_or, ◌⊎◌, ⊤}
 use Rattle.message_model.specs.declared.messages.Kind4.TheVariants.{Con, Ack}
@@ -27,7 +27,7 @@ abbrev pub code_of : Refused → ℕ
 code_of (refused.TooMany seconds) = too_many
 code_of refused.Criteria = bad_request
 
--- in how many seconds it may ask again (RFC 8516 section 3)
+-- after how many seconds the client may send the request again (RFC 8516 section 3)
 abbrev pub options_of : Refused → List Opt
 options_of (refused.TooMany seconds) = (max_age, seconds ∷ []) ∷ []
 options_of refused.Criteria = []
@@ -36,8 +36,8 @@ abbrev pub payload_of : Refused → List ℕ
 payload_of (refused.TooMany seconds) = []
 payload_of refused.Criteria = codes "query"
 
--- the acknowledgement of a request, of its Message ID, with a response, of its token (RFC 7252
--- sections 4.2 and 5.3), that has no payload yet
+-- the acknowledgement of a request with its Message ID, and a response with its token (RFC 7252
+-- sections 4.2 and 5.3), without a payload yet
 abbrev pub begun : Message → Refused → Message
 begun m why = record {
   kind = Ack;
@@ -51,33 +51,33 @@ begun m why = record {
 abbrev pub response_to : Message → Refused → Message
 response_to m why = with_payload (begun m why) (payload_of why)
 
--- how many query options a lookup may have, where there is a limit
+-- the most query options of a lookup, if there is a limit
 abbrev pub most_of : Option ℕ → ℕ
 most_of limit = unwrap_or limit 0
 
--- why a message is kept from the directory: it is a request that a share counts, or a lookup
+-- why a message is withheld from the directory: it is a request that a share counts, or a lookup
 abbrev pub IsWhy : Message → ℕ → Refused → Type 0
 IsWhy m most (refused.TooMany seconds) =
     (is_some (class_of m) ≡ true) × ((1 ≤ seconds) × (seconds ≤ 247))
 IsWhy m most refused.Criteria = passes_criteria most m ≡ true
 
--- a datagram is a request that is confirmable, and is kept from the directory for this reason
+-- a datagram is a confirmable request, and is withheld from the directory for this reason
 pub record IsRefused (octets : List ℕ) (most : ℕ) (m : Message) (reason : Refused) : Type 0 where
   pub read : reading octets ≡ Ok m
   pub kind : m.kind ≡ Con
   pub why : IsWhy m most reason
 
--- nothing is sent, or the response to a request that is kept from the directory
+-- a link sends nothing, or the response to a request that is withheld from the directory
 abbrev pub AnswersAtMost : Datagram → ℕ → List Datagram → List Datagram → Type 0
 AnswersAtMost datagram most before now =
     (now ≡ before) ⊎ ((m : Message) × (why : Refused) × IsRefused datagram.1 most m why
     × (now ≡ before ++ (datagram.0, spelling (response_to m why)) ∷ []))
 
--- the same of whichever datagram came
+-- the same, for any datagram received
 abbrev pub AnswersOne : ℕ → List Datagram → List Datagram → Type 0
 AnswersOne most before now = (datagram : Datagram) × AnswersAtMost datagram most before now
 
--- a datagram that is handed over is the one that came, whole
+-- a datagram that is handed over is the one received, whole
 abbrev pub TellsSame : Came → List ℕ → Option (List Datagram) → Option (List Datagram) → Type 0
 TellsSame (came.Datagram peer n) into before now =
     WhereTold (TakesFirst (came.Datagram peer n) into) before now

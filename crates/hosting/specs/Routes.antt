@@ -1,4 +1,4 @@
--- By which of the addresses of a server a datagram goes to a peer.
+-- From which of the addresses of a server a datagram goes to a peer.
 use Rattle.std.specs.Prelude.{Bool, true, false}
 use Rattle.rd_base.specs.declared.peers.Host.{Host}
 use Rattle.rd_base.specs.declared.peers.Host.TheVariants as host

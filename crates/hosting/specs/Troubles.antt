@@ -1,17 +1,17 @@
--- Which failures of a receive may pass, and how often they may come one after the other.
+-- Which failures of a receive may pass, and how many of them in a row.
 use Rattle.std.specs.Prelude.{ℕ, ◌≡◌, ◌<◌, Some, pos, ◌⊎◌}
 use Rattle.std.specs.IoError.{error_kind, raw_os_error}
 use Rattle.std.specs.declared.io.Error.{Error}
 use Rattle.std.specs.declared.io.ErrorKind.TheVariants.{OutOfMemory}
 
--- how many receives in a row may fail, each of them 50 ms before the next: a second
+-- how many receives in a row may fail, each 50 ms before the next: for a second in all
 abbrev pub most_misses : ℕ
 most_misses = 20
 
--- the system lacked memory, or buffers (ENOBUFS of Linux)
+-- the system has run out of memory, or of buffers (ENOBUFS of Linux)
 abbrev pub IsWant : Error → Type 0
 IsWant error = (error_kind error ≡ OutOfMemory) ⊎ (raw_os_error error ≡ Some (pos 105))
 
--- after so many receives that failed in a row one may fail for this reason
+-- after this number of failed receives in a row, one may fail for this reason
 abbrev pub MayPass : ℕ → Error → Type 0
 MayPass misses error = IsWant error × (misses < most_misses)

@@ -1,5 +1,5 @@
--- The words of `rd_host`: the addresses at which it listens, how many workers each has, how many
--- turns each of them, above which number the run begins, and what its guard keeps from it.
+-- The arguments of `rd_host`: the addresses, the number of workers of each address, the number of
+-- receives of each worker, the number above which the run begins, and the options of the guard.
 use Rattle.std.specs.Prelude.{◌≡◌, ◌≤◌, ℕ, ◌+◌, ◌/◌, List, [], ◌∷◌}
 use Rattle.std.specs.Prelude.{◌++◌, length, codes}
 use Rattle.std.specs.Prelude.{Option, Some, None, Result, Ok, Err, option_and_then, option_map}
@@ -26,26 +26,26 @@ use Rattle.hosting.specs.declared.wanted.HostFault.TheVariants as fault
 abbrev pub max_ends : ℕ
 max_ends = 16
 
--- the most turns of a worker
+-- the most receives of a worker
 abbrev pub max_turns : ℕ
 max_turns = 1_000_000_000_000
 
--- the greatest number above which a run may be told to begin
+-- the greatest number above which a run can be made to begin
 abbrev pub max_begin : ℕ
 max_begin = 100_000_000_000_000
 
--- the greatest share of a source, in writes, and what it is where it is not said
+-- the greatest share of a source, in writes, and the default
 abbrev pub max_share : ℕ
 max_share = 4096
 
 abbrev pub default_share : ℕ
 default_share = 1024
 
--- the greatest share of a source, in lookups; there is none where it is not said
+-- the greatest share of a source, in lookups; by default there is none
 abbrev pub max_lookups : ℕ
 max_lookups = 65_535
 
--- the greatest limit of query options of a lookup, and what it is where it is not said
+-- the greatest limit of query options of a lookup, and the default
 abbrev pub max_criteria : ℕ
 max_criteria = 768
 
@@ -62,7 +62,7 @@ from_one n = if nat_le 1 n then Some n else None
 abbrev pub count_of : ℕ → List ℕ → Option ℕ
 count_of limit text = option_and_then from_one (number_of limit text)
 
--- the option of the guard that a word names
+-- the option of the guard with this name
 abbrev pub guard_name_of : List ℕ → Option OptionName
 guard_name_of word =
     if bytes_eq word (codes "--allow") then Some option_name.Allow
@@ -71,7 +71,7 @@ guard_name_of word =
     else (if bytes_eq word (codes "--criteria") then Some option_name.Criteria
     else (if bytes_eq word (codes "--lookups") then Some option_name.Lookups else None))))
 
--- the option that a word names
+-- the option with this name
 abbrev pub name_of : List ℕ → Option OptionName
 name_of word =
     if bytes_eq word (codes "--listen") then Some option_name.Listen
@@ -81,7 +81,7 @@ name_of word =
     else guard_name_of word)))
 
 -- An option with its value: an address with a port from 1 on, a network, or a number from 1 to its
--- limit; of the guard, from 0.
+-- limit. Numbers of the guard may be 0.
 abbrev pub option_of : OptionName → List ℕ → Option HostOption
 option_of option_name.Listen value = option_map (λ p. host_option.Listen p) (address_of value)
 option_of option_name.Workers value =
@@ -100,7 +100,7 @@ option_of option_name.Lookups value =
     option_map (λ n. host_option.Lookups n) (number_of max_lookups value)
 option_of option_name.Quiet value = None
 
--- what stands before the first `=`, and what stands after it
+-- the parts of a text before and after its first `=`
 abbrev pub cut : List ℕ → Option (List ℕ × List ℕ)
 cut text = option_map (λ at. (take at text, drop (at + 1) text))
     (position (λ octet. octet == 61) text)
@@ -109,7 +109,7 @@ abbrev pub named : Option OptionName → List ℕ → Option HostOption
 named None value = None
 named (Some name) value = option_of name value
 
--- an option in one word: one with no value, or its name and its value joined
+-- the option of a single argument: one without a value, or a name joined to its value
 abbrev pub of_parts : Option (List ℕ × List ℕ) → Option HostOption
 of_parts None = None
 of_parts (Some parts) = named (name_of parts.0) parts.1
@@ -118,12 +118,13 @@ abbrev pub joined : List ℕ → Option HostOption
 joined word =
     if bytes_eq word (codes "--quiet") then Some host_option.Quiet else of_parts (cut word)
 
--- an option before others, where each is one
+-- an option before others, if each is an option
 abbrev pub before : Option HostOption → Option (List HostOption) → Option (List HostOption)
 before None options = None
 before (Some option) options = option_map (λ behind. option ∷ behind) options
 
--- The options that words give, in order: each is a name with the word after it, or both joined.
+-- The options that arguments give, in order. The value of each is the argument after its name, or
+-- is joined to the name.
 unfoldable pub options_of : List (List ℕ) → Option (List HostOption)
 options_of [] = Some []
 options_of (word ∷ []) = before (if is_some (name_of word) then None else joined word) (Some [])
@@ -131,7 +132,7 @@ options_of (word ∷ value ∷ words) =
     if is_some (name_of word) then before (named (name_of word) value) (options_of words)
     else before (joined word) (options_of (value ∷ words))
 
--- what words begin with, and what is left of them
+-- the option at the start of the arguments, and the arguments after it
 abbrev pub Begins : List (List ℕ) → Option (HostOption × List (List ℕ)) → Type 0
 Begins words None = options_of words ≡ None
 Begins words (Some next) = options_of words ≡ before (Some next.0) (options_of next.1)
@@ -153,12 +154,12 @@ nothing_asked = record {
   quiet = false;
 }
 
--- a number that is said once at most
+-- a number that is given at most once
 abbrev pub once : Option ℕ → ℕ → Option ℕ
 once None n = Some n
 once (Some earlier) n = None
 
--- an option more: any number of addresses and networks, each number once
+-- adds an option: any number of addresses and networks, and each number once
 abbrev pub asked_with : HostAsked → HostOption → Option HostAsked
 asked_with asked (host_option.Listen address) =
     Some (record asked { listen = asked.listen ++ address ∷ [] })
@@ -181,26 +182,26 @@ asked_with asked (host_option.Lookups n) =
 asked_with asked host_option.Quiet =
     if asked.quiet then None else Some (record asked { quiet = true })
 
--- all options, in order
+-- adds all options, in order
 unfoldable pub asked_from : Option HostAsked → List HostOption → Option HostAsked
 asked_from None options = None
 asked_from (Some asked) [] = Some asked
 asked_from (Some asked) (option ∷ options) = asked_from (asked_with asked option) options
 
--- the same, where words give options
+-- the same, if the arguments give options
 abbrev pub asked_by : HostAsked → List (List ℕ) → Option HostAsked
 asked_by asked words = option_and_then (asked_from (Some asked)) (options_of words)
 
--- the most workers that each of so many addresses may have, and how many it has where that is not
--- said: four, or as many as it may
+-- the most workers that each address may have, given the number of addresses, and the default
+-- number: four, or as many as it may have
 abbrev pub most_each : ℕ → ℕ
 most_each addresses = max_ends / addresses
 
 abbrev pub default_each : ℕ → ℕ
 default_each addresses = min 4 (most_each addresses)
 
--- the plan of so many workers for each address, where there is an address, and are not too many
--- ends
+-- the plan with this number of workers for each address, if there is an address and there are not
+-- too many ends
 abbrev pub plan_with : HostAsked → ℕ → Option HostPlan
 plan_with asked workers =
     if nat_le 1 (length asked.listen)
@@ -218,7 +219,7 @@ plan_with asked workers =
       quiet = asked.quiet;
     }) else None
 
--- where it listens if that is not said: at the port of RFC 7252 section 12.6 of loopback
+-- where the program listens by default: at the port of RFC 7252 section 12.6 of loopback
 abbrev pub default_listen : List Peer
 default_listen =
     record { host = host.V6 (0 ∷ 0 ∷ 0 ∷ 0 ∷ 0 ∷ 0 ∷ 0 ∷ 1 ∷ []); port = 5683 }
@@ -231,12 +232,12 @@ settled asked =
 abbrev pub plan_of : HostAsked → Option HostPlan
 plan_of asked = plan_with asked (unwrap_or asked.workers (default_each (length asked.listen)))
 
--- what words ask to be served, where they are those of the program
+-- the plan that the arguments make, if the program accepts them
 abbrev pub plan_said : List (List ℕ) → Option HostPlan
 plan_said words =
     option_and_then (λ asked. plan_of (settled asked)) (asked_by nothing_asked words)
 
--- a question about the program is one word that stands alone
+-- a question about the program, which is a single argument
 abbrev pub question_in : List ℕ → Option Wanted
 question_in word =
     if bytes_eq word (codes "--help") || bytes_eq word (codes "-h") then Some wanted.Help
@@ -252,11 +253,11 @@ abbrev pub unless_asked : Option Wanted → Option HostPlan → Option Wanted
 unless_asked (Some question) plan = Some question
 unless_asked None plan = option_map (λ p. wanted.Serve p) plan
 
--- what words want, where they are those of the program
+-- what the arguments want, if the program accepts them
 abbrev pub wanted_of : List (List ℕ) → Option Wanted
 wanted_of words = unless_asked (question_of words) (plan_said words)
 
--- what the words were read as, where memory did not run out
+-- the result of reading the arguments, unless memory ran out
 abbrev pub IsRead : {A : Type 0} → Option A → Result A HostFault → Type 0
 IsRead said (Ok read) = said ≡ Some read
 IsRead said (Err fault.Usage) = said ≡ None
@@ -287,7 +288,7 @@ pub record IsAsked (asked : HostAsked) : Type 0 where
   pub criteria : IfSome asked.criteria (λ n. n ≤ max_criteria)
   pub lookups : IfSome asked.lookups (λ n. n ≤ max_lookups)
 
--- the numbers of a plan
+-- the numbers of a plan are within their limits
 pub record IsPlan (plan : HostPlan) : Type 0 where
   pub some_addresses : 1 ≤ length plan.listen
   pub some_workers : 1 ≤ plan.workers

@@ -1,7 +1,7 @@
-//! What is said about the program.
+//! The texts of `--help` and `--version`.
 use crate::wanted::Wanted;
 
-/// What is said where help is asked for.
+/// The text of `--help`.
 const HELP: &str = "\
 Serves a CoRE Resource Directory over UDP at addresses of this machine, without DTLS
 
@@ -31,11 +31,11 @@ Options:
 /// The name of the program and its version.
 pub(crate) const NAME_AND_VERSION: &str = "rd_host 0.1.0";
 
-/// What is said where the version is asked for.
+/// The text of `--version`.
 const VERSION: &str = "rd_host 0.1.0\n";
 
 impl Wanted {
-    /// What is to be said about the program; nothing where it is to serve.
+    /// Returns the text of `--help` or `--version`, or an empty text if the program is to serve.
     pub fn text(&self) -> &'static str {
         match self {
             Wanted::Help => HELP,

@@ -1,4 +1,4 @@
-//! Addresses to listen at, as text.
+//! Reading addresses to listen at from text.
 ghost use Rattle.std.specs.Prelude.{◌≡◌};
 ghost use Rattle.hosting.specs.Addresses as spec;
 ghost use Rattle.hosting.specs.Networks.{host_of};
@@ -7,7 +7,7 @@ use crate::networks::host_read;
 use rd_base::{Host, Peer};
 use trace_text::{number_read, offset_of};
 
-/// The port from 1 on that a text prints behind a colon.
+/// Returns the port that a text prints after a colon, from 1 on.
 fn port_read(text: &[u8]) -> Option<u16>
     ensures { result ≡ spec.port_of text.now }
 {
@@ -22,7 +22,7 @@ fn port_read(text: &[u8]) -> Option<u16>
     Some(port as u16)
 }
 
-/// The IPv4 address that a text names.
+/// Returns the IPv4 address that a text names.
 fn v4_read(text: &[u8]) -> Option<Host>
     ensures { result ≡ spec.only_v4 (host_of text.now) }
 {
@@ -32,7 +32,7 @@ fn v4_read(text: &[u8]) -> Option<Host>
     }
 }
 
-/// The IPv6 address that a text names.
+/// Returns the IPv6 address that a text names.
 fn v6_read(text: &[u8]) -> Option<Host>
     ensures { result ≡ spec.only_v6 (host_of text.now) }
 {
@@ -42,7 +42,7 @@ fn v6_read(text: &[u8]) -> Option<Host>
     }
 }
 
-/// The IPv4 address and the port that a text names.
+/// Returns the IPv4 address and the port that a text names.
 fn v4_address(text: &[u8]) -> Option<Peer>
     ensures { result ≡ spec.v4_address text.now }
 {
@@ -52,7 +52,7 @@ fn v4_address(text: &[u8]) -> Option<Peer>
     Some(Peer { host, port })
 }
 
-/// The IPv6 address and the port that a text names behind its first bracket.
+/// Returns the IPv6 address and the port that a text names after its opening bracket.
 fn v6_address(text: &[u8]) -> Option<Peer>
     ensures { result ≡ spec.v6_address text.now }
 {
@@ -62,8 +62,9 @@ fn v6_address(text: &[u8]) -> Option<Peer>
     Some(Peer { host, port })
 }
 
-/// The address and the port that a text names, as 192.0.2.1:5683 or [2001:db8::1]:5683, in any
-/// spelling of the address (RFC 4291 section 2.2).
+/// Returns the address and the port that a text names, as 192.0.2.1:5683 or [2001:db8::1]:5683.
+///
+/// The address may have any spelling (RFC 4291 section 2.2).
 pub(crate) fn address_read(text: &[u8]) -> Option<Peer>
     ensures { result ≡ spec.address_of text.now }
 {

@@ -1,4 +1,4 @@
-//! What a request asks of a directory that all senders share.
+//! Which requests a share counts, and which lookups have too many query options.
 ghost use Rattle.std.specs.Prelude.{◌≡◌, ◌==◌, nat_lt};
 ghost use Rattle.std.specs.List.{list_all};
 ghost use Rattle.coap_message.specs.OptionsLeft.{options_left};
@@ -9,21 +9,21 @@ use coap_message::{OptionsIter, Role, View, options_of, role_of};
 use message_model::codes::{GET, POST};
 use message_model::options::{BLOCK1, BLOCK2, OBSERVE, URI_PATH, URI_QUERY};
 
-/// What a share counts a request as.
+/// The class under which a share counts a request.
 #[derive(Clone, Copy, Debug, PartialEq, Eq, Hash)]
 pub enum Class {
-    /// A write of any other kind.
+    /// Any other write.
     Write,
     /// The first block of an upload (RFC 7959 section 2.5), or a simple registration (RFC 9176
     /// section 5.1).
     Begin,
     /// A request for an observation (RFC 7641 section 2).
     Observation,
-    /// A lookup (RFC 9176 section 6), but no later block of one.
+    /// A lookup (RFC 9176 section 6), except for its later blocks.
     Lookup,
 }
 
-/// Whether a segment of a path is among options.
+/// Returns whether one of these options is this path segment.
 fn has_segment(options: OptionsIter<'_>, segment: &[u8]) -> bool
     ensures { result ≡ spec.has_segment segment.now (options_left options.entry) }
 {
@@ -36,14 +36,14 @@ fn has_segment(options: OptionsIter<'_>, segment: &[u8]) -> bool
     false
 }
 
-/// Whether the last octet of a Block option says number 0, and that more follow.
+/// Returns whether the last octet of a Block option has number 0 and the flag for more blocks.
 fn begins(octet: u8) -> bool
     ensures { result ≡ spec.begins octet }
 {
     8 <= octet && octet < 16
 }
 
-/// Whether the value of a Block option says number 0, and that more follow.
+/// Returns whether a Block option has number 0 and the flag for more blocks.
 fn is_first_of_more(value: &[u8]) -> bool
     ensures { result ≡ spec.is_first_of_more value.now }
 {
@@ -55,7 +55,7 @@ fn is_first_of_more(value: &[u8]) -> bool
     }
 }
 
-/// Whether the first block of an upload is among options.
+/// Returns whether these options belong to the first block of an upload.
 fn begins_upload(options: OptionsIter<'_>) -> bool
     ensures { result ≡ spec.begins_upload (options_left options.entry) }
 {
@@ -68,14 +68,14 @@ fn begins_upload(options: OptionsIter<'_>) -> bool
     false
 }
 
-/// Whether all octets are zeros.
+/// Returns whether all octets are zeros.
 fn is_zero(value: &[u8]) -> bool
     ensures { result ≡ list_all (λ octet. octet == 0) value.now }
 {
     value.iter().all(|octet| *octet == 0)
 }
 
-/// Whether options ask for an observation.
+/// Returns whether these options request an observation.
 fn observes(options: OptionsIter<'_>) -> bool
     ensures { result ≡ spec.observes (options_left options.entry) }
 {
@@ -88,7 +88,7 @@ fn observes(options: OptionsIter<'_>) -> bool
     false
 }
 
-/// Whether the value of a Block option says a number above 0.
+/// Returns whether a Block option has a number above 0.
 fn is_later(value: &[u8]) -> bool
     ensures { result ≡ spec.is_later value.now }
 {
@@ -100,7 +100,7 @@ fn is_later(value: &[u8]) -> bool
     }
 }
 
-/// Whether options ask for a later block of an answer.
+/// Returns whether these options request a later block of a response.
 fn goes_on(options: OptionsIter<'_>) -> bool
     ensures { result ≡ spec.goes_on (options_left options.entry) }
 {
@@ -113,7 +113,7 @@ fn goes_on(options: OptionsIter<'_>) -> bool
     false
 }
 
-/// Whether there are more query options than so many.
+/// Returns whether there are more than `most` query options.
 fn has_more_queries(options: OptionsIter<'_>, most: usize) -> bool
     ensures { result ≡ nat_lt most (spec.query_count (options_left options.entry)) }
 {
@@ -130,7 +130,7 @@ fn has_more_queries(options: OptionsIter<'_>, most: usize) -> bool
     false
 }
 
-/// What a share counts a write as.
+/// Returns the class of a write.
 fn write_class(view: &View<'_>) -> Class
     ensures { result ≡ spec.write_class view.now.code (message_in view.now).options }
 {
@@ -143,7 +143,7 @@ fn write_class(view: &View<'_>) -> Class
     Class::Write
 }
 
-/// What a share counts a GET as, if it counts it.
+/// Returns the class of a GET, or `None` if no share counts it.
 fn get_class(view: &View<'_>) -> Option<Class>
     ensures { result ≡ spec.get_class (message_in view.now).options }
 {
@@ -159,7 +159,7 @@ fn get_class(view: &View<'_>) -> Option<Class>
     None
 }
 
-/// What a share counts a message as, where it is a request that a share counts.
+/// Returns the class of a message, or `None` if it is no request that a share counts.
 pub(crate) fn class_of(view: &View<'_>) -> Option<Class>
     ensures { result ≡ spec.class_of (message_in view.now) }
 {
@@ -172,7 +172,7 @@ pub(crate) fn class_of(view: &View<'_>) -> Option<Class>
     get_class(view)
 }
 
-/// Whether a message is a lookup with more query options than so many.
+/// Returns whether a message is a lookup with more than `most` query options.
 pub(crate) fn passes_criteria(most: usize, view: &View<'_>) -> bool
     ensures { result ≡ spec.passes_criteria most (message_in view.now) }
 {

@@ -1,4 +1,4 @@
-//! A link that counts what passes, and says once a minute what it counted.
+//! A link that counts its datagrams, and reports the counts at most once a minute.
 ghost use Rattle.std.specs.Prelude.{◌≡◌};
 
 use crate::counts::{Counts, Event};
@@ -9,24 +9,25 @@ use std::alloc::Global;
 use std::io::Write;
 use udp_link::{Came, Clock, Link, Went};
 
-/// After how many datagrams in a row the time is read, where no receive is in vain before.
+/// The number of datagrams in a row after which the time is read. A receive that returns no
+/// datagram has it read at once.
 const MOST_IN_A_ROW: u32 = 256;
 
-/// What counts the datagrams of one link, and says on `out` what all links counted.
+/// Counts the datagrams of one link, and writes the counts of all links to `out`.
 #[derive(Drop)]
 pub struct Teller<'a, C, W> {
     counts: &'a Counts,
     alloc: Global,
     clock: C,
     out: W,
-    /// The peer of the last datagram, where it was not answered yet.
+    /// The peer of the last datagram, if that has not been answered yet.
     asking: Option<Peer>,
-    /// How many datagrams came since the time was read.
+    /// The number of datagrams received since the time was last read.
     in_a_row: u32,
 }
 
 impl<'a, C, W> Teller<'a, C, W> {
-    /// Counts by `counts`, reads `clock`, and says on `out`.
+    /// Creates a teller that counts in `counts`, reads `clock` and writes to `out`.
     pub fn of(counts: &'a Counts, alloc: Global, clock: C, out: W) -> Teller<'a, C, W> {
         Teller {
             counts,
@@ -38,14 +39,14 @@ impl<'a, C, W> Teller<'a, C, W> {
         }
     }
 
-    /// Counts the datagram before, if nothing answered it.
+    /// Counts the datagram before as ignored, if nothing answered it.
     fn settle(&mut self) {
         if self.asking.take().is_some() {
             self.counts.add(Event::Ignored);
         }
     }
 
-    /// Counts a datagram that is sent. It answers the last one that came, if it goes to its peer.
+    /// Counts a datagram that is sent. It answers the last one received if both have the same peer.
     fn note_sent(&mut self, peer: Peer, piece: &[u8]) {
         if self.asking == Some(peer) {
             self.asking = None;
@@ -58,7 +59,7 @@ impl<'a, C, W> Teller<'a, C, W> {
 }
 
 impl<C: Clock, W: Write> Teller<'_, C, W> {
-    /// Says what was counted, where a line is due. It goes on where that cannot be written.
+    /// Writes the counts if a line is due. Continues if they cannot be written.
     fn tell(&mut self) {
         self.in_a_row = 0;
         if self.counts.is_due(self.clock.now()) {
@@ -68,7 +69,7 @@ impl<C: Clock, W: Write> Teller<'_, C, W> {
         }
     }
 
-    /// Counts what a receive gave.
+    /// Counts the result of a receive.
     fn note(&mut self, came: Came) {
         self.settle();
         match came {
@@ -89,8 +90,8 @@ impl<C: Clock, W: Write> Teller<'_, C, W> {
     }
 }
 
-/// A link over another one that counts what passes. What it gives and sends, and which of its calls
-/// fail, is as that link does.
+/// A link over another one, which counts the datagrams of that link. It receives, sends and fails
+/// as that link does.
 #[derive(Drop)]
 pub struct CountedLink<'a, L, C, W> {
     link: L,
@@ -98,7 +99,7 @@ pub struct CountedLink<'a, L, C, W> {
 }
 
 impl<'a, L, C, W> CountedLink<'a, L, C, W> {
-    /// A link over `link` whose datagrams `teller` counts, if there is one.
+    /// Creates a link over `link`. `teller`, if there is one, counts its datagrams.
     pub fn over(link: L, teller: Option<Teller<'a, C, W>>) -> CountedLink<'a, L, C, W>
         ensures { result.link ≡ link }
     {

@@ -1,4 +1,4 @@
-//! What a server counts of the datagrams that pass its links, and the line that says it.
+//! The counts of the datagrams that pass the links of a server, and the line that reports them.
 use crate::deeds::Deed;
 use crate::refusals::TOO_MANY;
 use coap_message::View;
@@ -12,10 +12,10 @@ use std::alloc::Global;
 use std::fmt::Write;
 use std::sync::atomic::{AtomicU64, Ordering};
 
-/// How long no line is said after one, in milliseconds.
+/// The least time between two lines, in milliseconds.
 const PAUSE: u64 = 60_000;
 
-/// The names of what is counted beside refusals, in the order of the line.
+/// The names of all counts except refusals, in the order of the line.
 const NAMES: [&str; 9] = [
     "heard",
     "answered",
@@ -28,7 +28,7 @@ const NAMES: [&str; 9] = [
     "notified",
 ];
 
-/// The refusals that are counted apart: code and payload (docs/REFUSALS.md, RFC 8516).
+/// The refusals that have a count of their own: code and payload (docs/REFUSALS.md, RFC 8516).
 const REFUSALS: [(u8, &str); 24] = [
     (BAD_REQUEST, "block"),
     (BAD_REQUEST, "limited"),
@@ -56,21 +56,21 @@ const REFUSALS: [(u8, &str); 24] = [
     (PROXYING_NOT_SUPPORTED, "proxy"),
 ];
 
-/// What is counted beside refusals.
+/// An event that is counted and is no sent message.
 #[derive(Clone, Copy, Debug, PartialEq, Eq)]
 pub(crate) enum Event {
-    /// A datagram came.
+    /// A datagram was received.
     Heard,
-    /// It was answered before the next one came.
+    /// That datagram was answered before the next one was received.
     Answered,
-    /// It was not: it was dropped, or nothing was to be answered.
+    /// That datagram was not answered: it was dropped, or needed no answer.
     Ignored,
-    /// The guard handed it to nobody, and answered nothing.
+    /// The guard handed the datagram to no link above it, and did not answer it.
     Dropped,
 }
 
 impl Event {
-    /// Its place in the line.
+    /// Returns the index of this event in the line.
     fn place(self) -> usize {
         match self {
             Event::Heard => 0,
@@ -81,7 +81,7 @@ impl Event {
     }
 }
 
-/// The place of a deed in the line, where it has one of its own.
+/// Returns the index of a deed in the line, if it has a count of its own.
 fn place_of(deed: Deed) -> Option<usize> {
     match deed {
         Deed::Registered => Some(4),
@@ -93,7 +93,7 @@ fn place_of(deed: Deed) -> Option<usize> {
     }
 }
 
-/// The place of a refusal among those that are counted apart; behind them where it is none.
+/// Returns the index of a refusal in `REFUSALS`, or the length of that table for any other refusal.
 fn place_among(code: u8, payload: &[u8]) -> usize {
     for (place, (each, word)) in REFUSALS.iter().enumerate() {
         if *each == code && word.as_bytes() == payload {
@@ -103,7 +103,7 @@ fn place_among(code: u8, payload: &[u8]) -> usize {
     REFUSALS.len()
 }
 
-/// So many numbers that count, each from 0 on.
+/// Returns `number` counters, each at 0.
 fn zeros(alloc: Global, number: usize) -> Result<Vec<AtomicU64>, Starved> {
     let mut zeros = Vec::new(alloc);
     for _ in 0..number {
@@ -112,14 +112,14 @@ fn zeros(alloc: Global, number: usize) -> Result<Vec<AtomicU64>, Starved> {
     Ok(zeros)
 }
 
-/// Counts one more.
+/// Adds one to the counter at `place`.
 fn count(numbers: &[AtomicU64], place: usize) {
     if let Some(number) = numbers.get(place) {
         number.fetch_add(1, Ordering::SeqCst);
     }
 }
 
-/// Takes what was counted at a place since it was taken last.
+/// Returns the counter at `place` and sets it to 0.
 fn taken(numbers: &[AtomicU64], place: usize) -> u64 {
     match numbers.get(place) {
         Some(number) => number.swap(0, Ordering::SeqCst),
@@ -127,8 +127,8 @@ fn taken(numbers: &[AtomicU64], place: usize) -> u64 {
     }
 }
 
-/// Writes how often a refusal was sent: its code as it is printed (RFC 7252 section 3), its word
-/// where it has one, and the number.
+/// Appends to `line` how often a refusal was sent: its code as printed (RFC 7252 section 3), its
+/// diagnostic payload if it has one, and the number.
 fn write_refusal(line: &mut String, code: u8, word: &str, number: u64) -> Result<(), Starved> {
     let (class, detail) = (code / 32, code % 32);
     write!(line, " {class}.{detail:02}")?;
@@ -139,21 +139,21 @@ fn write_refusal(line: &mut String, code: u8, word: &str, number: u64) -> Result
     Ok(())
 }
 
-/// What the links of a server count. No link waits for another one.
+/// The counters that all links of a server share. No link waits for another one.
 #[derive(Drop)]
 pub struct Counts {
     events: Vec<AtomicU64>,
     refusals: Vec<AtomicU64>,
-    /// The moment from which on a line may be said.
+    /// The earliest moment of the next line.
     next: AtomicU64,
 }
 
 impl Counts {
-    /// Nothing was counted.
+    /// Creates counters at 0.
     ///
     /// # Errors
     ///
-    /// Out of memory.
+    /// `Starved` if memory runs out.
     pub fn new(alloc: Global) -> Result<Counts, Starved> {
         Ok(Counts {
             events: zeros(alloc, NAMES.len())?,
@@ -167,7 +167,7 @@ impl Counts {
         count(self.events.as_slice(), event.place());
     }
 
-    /// Counts what a message that is sent says was done.
+    /// Counts what a sent message reports as done.
     pub(crate) fn add_deed(&self, deed: Deed, view: &View<'_>) {
         if let Some(place) = place_of(deed) {
             count(self.events.as_slice(), place);
@@ -180,14 +180,14 @@ impl Counts {
         }
     }
 
-    /// Whether something was counted since the last line.
+    /// Returns whether anything was counted since the last line.
     fn has_changed(&self) -> bool {
         self.events
             .iter()
             .any(|number| number.load(Ordering::SeqCst) > 0)
     }
 
-    /// Whether a line is to be said now, by this caller alone.
+    /// Returns whether this caller, and no other, is to write a line now.
     pub(crate) fn is_due(&self, now: Moment) -> bool {
         let next = self.next.load(Ordering::SeqCst);
         let then = now.0.saturating_add(PAUSE);
@@ -199,7 +199,7 @@ impl Counts {
                 .is_ok()
     }
 
-    /// The line that says what was counted since the last one.
+    /// Returns the line that reports what was counted since the last one.
     pub(crate) fn line(&self, alloc: Global) -> Result<String, Starved> {
         let mut line = String::from_str(alloc, "rd_host:")?;
         for (place, name) in NAMES.iter().enumerate() {

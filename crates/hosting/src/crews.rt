@@ -1,4 +1,4 @@
-//! What the links of one server share, so that they begin and end together.
+//! The state that the links of one server share, so that they start and end together.
 ghost use Rattle.std.specs.Prelude.{◌≡◌};
 
 use rd_base::Peer;
@@ -6,17 +6,17 @@ use std::io;
 use std::sync::OnceLock;
 use std::sync::atomic::{AtomicU64, Ordering};
 
-/// Why the links of a server end.
+/// The reason why the links of a server end.
 #[derive(Clone, Copy, Debug)]
 pub enum Trouble {
-    /// Receives at this address fail, for this reason of the system.
+    /// Receives at this address fail with this error of the system.
     Receives(Peer, io::Error),
-    /// Within two seconds no more than so many of the links began: the system started no threads
-    /// for the others.
+    /// Only this number of links started within two seconds: the system started no threads for the
+    /// others.
     Threads(u64),
 }
 
-/// The links of one server: how many of them began, and why they end.
+/// The links of one server: how many of them have started, and why they end.
 #[derive(Drop)]
 pub struct Crew {
     number: u64,
@@ -25,7 +25,7 @@ pub struct Crew {
 }
 
 impl Crew {
-    /// So many links, none of which began.
+    /// Creates the state of `number` links, none of which has started.
     pub fn of(number: u64) -> Crew
         ensures { result.number ≡ number }
     {
@@ -36,32 +36,32 @@ impl Crew {
         }
     }
 
-    /// Gives the trouble for which the links end; nothing where they have none.
+    /// Returns the trouble that ends the links, if there is one.
     pub fn trouble(&self) -> Option<Trouble> {
         self.trouble.get().copied()
     }
 
-    /// Whether the links end.
+    /// Returns whether the links are to end.
     pub(crate) fn is_over(&self) -> bool {
         self.trouble.get().is_some()
     }
 
-    /// How many of the links began.
+    /// Returns how many of the links have started.
     pub(crate) fn begun(&self) -> u64 {
         self.begun.load(Ordering::SeqCst)
     }
 
-    /// Whether all links began.
+    /// Returns whether all links have started.
     pub(crate) fn is_complete(&self) -> bool {
         self.number <= self.begun()
     }
 
-    /// Counts a link that begins.
+    /// Counts a link that starts.
     pub(crate) fn count_one(&self) {
         self.begun.fetch_add(1, Ordering::SeqCst);
     }
 
-    /// Ends the links for a trouble. They keep the one that came first.
+    /// Ends the links because of `trouble`. Only the first trouble is stored.
     pub(crate) fn end(&self, trouble: Trouble) {
         let _ = self.trouble.try_set(trouble);
     }

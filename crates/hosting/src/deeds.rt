@@ -1,22 +1,22 @@
-//! What a message that a server sends says was done.
+//! What a message that a server sends reports as done.
 ghost use Rattle.std.specs.Prelude.{◌≡◌};
 ghost use Rattle.hosting.specs.Deeds as spec;
 
 use coap_message::{Kind4, View};
 use message_model::codes::{BAD_REQUEST, CHANGED, CONTENT, CREATED, DELETED, VALID};
 
-/// What a message says was done.
+/// What a message reports as done.
 #[derive(Clone, Copy, Debug, PartialEq, Eq)]
 pub(crate) enum Deed {
     /// A registration was made (2.01).
     Registered,
-    /// A registration was changed, or refreshed (2.04).
+    /// A registration was changed or refreshed (2.04).
     Updated,
     /// A registration was removed (2.02).
     Removed,
     /// A lookup or a read was answered (2.05, 2.03).
     Found,
-    /// An observer is told what changed: it has to acknowledge that (RFC 7641 section 4.5).
+    /// An observer was sent a confirmable notification (RFC 7641 section 4.5).
     Notified,
     /// A request was refused (4.00 and above).
     Refused,
@@ -24,7 +24,7 @@ pub(crate) enum Deed {
     Other,
 }
 
-/// What a message with content says was done.
+/// Returns what a message with content reports as done.
 fn found_by(kind: Kind4) -> Deed
     ensures { result ≡ spec.found_by kind }
 {
@@ -35,7 +35,7 @@ fn found_by(kind: Kind4) -> Deed
     }
 }
 
-/// What a message of this type and code says was done.
+/// Returns what a message of this type and code reports as done.
 fn deed_by(kind: Kind4, code: u8) -> Deed
     ensures { result ≡ spec.deed_by kind code }
 {
@@ -50,7 +50,7 @@ fn deed_by(kind: Kind4, code: u8) -> Deed
     }
 }
 
-/// What a message says was done.
+/// Returns what a message reports as done.
 pub(crate) fn deed_of(view: &View<'_>) -> Deed
     ensures { result ≡ spec.deed_by view.now.kind view.now.code }
 {

@@ -1,4 +1,4 @@
-//! Why the program ends, in a sentence each: what it is about, a colon, and the reason.
+//! The reasons why the program ends, in one line each: the subject, a colon, and the reason.
 ghost use Rattle.std.specs.Prelude.{◌≤◌};
 
 use crate::crews::Trouble;
@@ -7,7 +7,7 @@ use std::alloc::{AllocError, Global};
 use std::io;
 use std::io::ErrorKind;
 
-/// The number of Linux for a family of addresses that the machine does not have.
+/// The error number of Linux for an address family that the host does not have.
 const EAFNOSUPPORT: i32 = 97;
 
 /// The loopback address of IPv6 (RFC 4291 section 2.5.3).
@@ -16,22 +16,22 @@ const LOOPBACK: [u16; 8] = [0, 0, 0, 0, 0, 0, 0, 1];
 /// The first port that needs no privilege.
 const FIRST_FREE_PORT: u16 = 1024;
 
-/// Why the program ends before each worker has made its receives.
+/// The reason why the program ends before each worker has made its receives.
 #[derive(Debug, Drop)]
 pub enum Failure {
-    /// The words are not those of the program; what is wrong about them.
+    /// `rd_host` does not accept the arguments, for this reason.
     Words(String),
-    /// A word is not UTF-8.
+    /// An argument is not UTF-8.
     Unread,
-    /// No socket could be made at this address, for this reason of the system.
+    /// No socket could be made at this address, because of this error of the system.
     Socket(Peer, io::Error),
-    /// No address is left, since the machine has no IPv6.
+    /// No address is left, because the host has no IPv6.
     NoAddress,
-    /// All links of the server ended, for this trouble where one is known.
+    /// All links of the server ended, because of this trouble if it is known.
     Link(Option<Trouble>),
     /// The output could not be written.
     Write,
-    /// Out of memory.
+    /// Memory ran out.
     Memory,
     /// The system gave no random numbers.
     Keys,
@@ -51,7 +51,7 @@ impl From<AllocError> for Failure {
     }
 }
 
-/// What is said of a permission that lacks.
+/// Returns the reason printed if a permission is missing.
 fn denied(port: u16) -> &'static str {
     if port < FIRST_FREE_PORT {
         return "permission denied (ports below 1024 need CAP_NET_BIND_SERVICE)";
@@ -59,7 +59,7 @@ fn denied(port: u16) -> &'static str {
     "permission denied (by a filter of this machine, as SocketBindAllow of its unit)"
 }
 
-/// The sentence for a socket that was refused at this port, where this program has one.
+/// Returns the reason printed for a socket that was refused at this port, if this program has one.
 fn refusal(port: u16, fault: &io::Error) -> Option<&'static str> {
     if fault.raw_os_error() == Some(EAFNOSUPPORT) {
         return Some("this machine has no addresses of this family");
@@ -72,7 +72,7 @@ fn refusal(port: u16, fault: &io::Error) -> Option<&'static str> {
     }
 }
 
-/// The line for a socket that was refused.
+/// Returns the line for a socket that was refused.
 fn socket_line(alloc: Global, address: &Peer, fault: &io::Error) -> Result<String, Starved> {
     let text = peer_text(alloc, address)?;
     let text = text.as_str();
@@ -82,14 +82,14 @@ fn socket_line(alloc: Global, address: &Peer, fault: &io::Error) -> Result<Strin
     })
 }
 
-/// The line for an address that is left out.
+/// Returns the line for an address that is left out.
 fn left_out_line(alloc: Global, address: &Peer) -> Result<String, Starved> {
     let text = peer_text(alloc, address)?;
     let text = text.as_str();
     Ok(format!(in alloc; "{text}: left out, since this machine has no IPv6\n")?)
 }
 
-/// The line for a trouble of the links.
+/// Returns the line for a trouble of the links.
 fn trouble_line(alloc: Global, trouble: &Trouble) -> Result<String, Starved> {
     Ok(match trouble {
         Trouble::Receives(address, fault) => {
@@ -103,8 +103,9 @@ fn trouble_line(alloc: Global, trouble: &Trouble) -> Result<String, Starved> {
     })
 }
 
-/// Whether a socket at an IPv6 address was refused since the machine has no IPv6: it has no such
-/// sockets, or no loopback among its addresses.
+/// Returns whether a socket at an IPv6 address was refused because the host has no IPv6.
+///
+/// The host then has no such sockets, or no loopback among its addresses.
 fn lacks_v6(host: Host, fault: &io::Error) -> bool {
     match host {
         Host::V4(_) => false,
@@ -116,7 +117,7 @@ fn lacks_v6(host: Host, fault: &io::Error) -> bool {
 }
 
 impl Failure {
-    /// Tells whether a socket was refused since the machine has no IPv6.
+    /// Returns whether a socket was refused because the host has no IPv6.
     pub fn is_for_want_of_v6(&self) -> bool {
         match self {
             Failure::Socket(address, fault) => lacks_v6(address.host, fault),
@@ -124,7 +125,7 @@ impl Failure {
         }
     }
 
-    /// Gives the exit status.
+    /// Returns the exit status.
     pub fn status(&self) -> u8
         ensures { 1 ≤ result }
     {
@@ -137,11 +138,11 @@ impl Failure {
         }
     }
 
-    /// Gives the line that is said of an address that is left out.
+    /// Returns the line for an address that is left out.
     ///
     /// # Errors
     ///
-    /// Out of memory.
+    /// `Starved` if memory runs out.
     pub fn left_out(&self, alloc: Global) -> Result<String, Starved> {
         match self {
             Failure::Socket(address, _) => left_out_line(alloc, address),
@@ -149,7 +150,7 @@ impl Failure {
         }
     }
 
-    /// Gives the line that is said where there is no memory for the whole one.
+    /// Returns the line to print if memory for the whole line runs out.
     pub fn short_line(&self) -> &'static str {
         match self {
             Failure::Words(_) => "words: not those of rd_host (--help tells them)\n",
@@ -164,12 +165,11 @@ impl Failure {
         }
     }
 
-    /// Gives the whole line that is said on standard error: what it is about, a colon, and the
-    /// reason.
+    /// Returns the line for standard error: the subject, a colon, and the reason.
     ///
     /// # Errors
     ///
-    /// Out of memory.
+    /// `Starved` if memory runs out.
     pub fn line(&self, alloc: Global) -> Result<String, Starved> {
         match self {
             Failure::Words(wrong) => Ok(format!(in alloc; "{wrong}\n")?),

@@ -1,4 +1,4 @@
-//! A link that keeps some datagrams from the directory.
+//! A link that withholds some datagrams from the directory.
 ghost use Rattle.std.specs.Prelude.{◌≡◌, ◌≤◌, None, IsTrue, length};
 ghost use Rattle.udp_link.specs.Links.{CountsReceived, IsWithinLimit};
 ghost use Rattle.udp_link.specs.declared.links.TheConstants.{MAX_DATAGRAM};
@@ -13,25 +13,27 @@ use rd_base::Peer;
 use std::sync::Wait;
 use udp_link::{Came, Clock, Link, Went};
 
-/// A link over another one, which hands over what its guard lets pass, and answers some of what it
-/// does not. It tells no datagrams.
+/// A link over another one, which hands over what its guard admits. It answers some of the requests
+/// that the guard withholds. It exposes no datagrams to contracts.
 #[derive(Drop)]
 pub struct GuardedLink<'a, R, L, C> {
     rt: &'a R,
     guard: &'a Guard,
-    /// Where it counts what it drops, if anywhere.
+    /// The counters for dropped datagrams, if they are counted.
     counts: Option<&'a Counts>,
     link: L,
     clock: C,
-    /// Whether the guard lets all pass.
+    /// Whether the guard admits every datagram.
     open: bool,
     recv_faults: u64,
     send_faults: u64,
 }
 
 impl<'a, R, L, C> GuardedLink<'a, R, L, C> {
-    /// A link over `link` with a guard, which reads `clock`, of which no call failed yet. What it
-    /// drops is counted by `counts`, if there are any.
+    /// Creates a link over `link` with a guard that reads `clock`. None of its calls has failed
+    /// yet.
+    ///
+    /// `counts`, if there are any, count what it drops.
     pub fn over(
         rt: &'a R,
         guard: &'a Guard,
@@ -56,7 +58,7 @@ impl<'a, R, L, C> GuardedLink<'a, R, L, C> {
 }
 
 impl<R, L, C> GuardedLink<'_, R, L, C> {
-    /// Counts a datagram that is dropped.
+    /// Counts a dropped datagram.
     fn count_drop(&self) {
         if let Some(counts) = self.counts {
             counts.add(Event::Dropped);
@@ -65,7 +67,7 @@ impl<R, L, C> GuardedLink<'_, R, L, C> {
 }
 
 impl<R: Wait, L: Link, C: Clock> GuardedLink<'_, R, L, C> {
-    /// Whether a datagram passes. One that does not may be answered.
+    /// Returns whether a datagram passes. May answer one that does not.
     fn passes(&mut self, peer: Peer, octets: &[u8]) -> bool
         ensures same { IsTrue result → self.new.link ≡ self.old.link }
         ensures answers { WhereTold
@@ -104,8 +106,8 @@ impl<R: Wait, L: Link, C: Clock> Link for GuardedLink<'_, R, L, C> {
 
     ghost send_faults = { λ l. l.send_faults };
 
-    /// Receives what the guard lets pass, as the link over which it stands gives it. Where that
-    /// gave another datagram, there is nothing.
+    /// Receives a datagram that the guard admits, as the link below gives it. Returns `Nothing` if
+    /// that link gave any other datagram.
     fn recv(&mut self, into: &mut [u8]) -> Came
         requires { MAX_DATAGRAM ≤ length into.old }
         ensures within { IsWithinLimit result }

@@ -1,5 +1,5 @@
-//! What keeps a datagram from the directory: where it comes from, how much its source sent, and how
-//! much it asks.
+//! The guard before the directory. It decides by the source of a datagram, by the number of
+//! requests of that source, and by the number of query options.
 ghost use Rattle.std.specs.Prelude.{ℕ, IfSome};
 ghost use Rattle.coap_message.specs.Views.{message_in};
 ghost use Rattle.hosting.specs.Refusals.{IsWhy, most_of};
@@ -34,7 +34,7 @@ struct Shares {
 }
 
 impl Shares {
-    /// Whether a request of a class passes.
+    /// Returns whether a request of this class passes, and counts it.
     fn admits(&mut self, class: Class, source: u64, told: &Told) -> bool {
         let share = match class {
             Class::Write => &mut self.writes,
@@ -49,23 +49,23 @@ impl Shares {
     }
 }
 
-/// What keeps datagrams from the directory. The links of a server share it.
+/// Withholds datagrams from the directory. The links of a server share it.
 #[derive(Drop)]
 pub struct Guard {
-    /// Whose datagrams are heard; all where there is none.
+    /// The networks whose datagrams are admitted, or all if this is empty.
     allow: List<Network>,
-    /// Who has no share.
+    /// The networks whose senders have no share.
     trust: List<Network>,
-    /// How many query options a lookup may have, where there is a limit.
+    /// The most query options of a lookup, if there is a limit.
     criteria: Option<u16>,
-    /// Whether what lasts has shares.
+    /// Whether writes, beginnings and observations have shares.
     has_shares: bool,
     /// Whether lookups have a share.
     has_lookups: bool,
     shares: Mutex<Shares>,
 }
 
-/// A share of so many requests; none where that is 0.
+/// Returns a share of `bound` requests, or `None` if `bound` is 0.
 fn share_of<R: RandomSource>(rt: &R, alloc: Global, bound: u16) -> Result<Option<Share>, Starved> {
     if bound == 0 {
         return Ok(None);
@@ -79,7 +79,7 @@ fn share_of<R: RandomSource>(rt: &R, alloc: Global, bound: u16) -> Result<Option
     Ok(Some(Share::new(alloc, bound, keys, other_keys)?))
 }
 
-/// The shares of a plan. Where writes have none, what lasts has none.
+/// Returns the shares of a plan. If writes have none, observations and beginnings have none either.
 fn shares_of<R: RandomSource>(rt: &R, alloc: Global, plan: &HostPlan) -> Result<Shares, Starved> {
     let (beginnings, observations) = if plan.share == 0 {
         (0, 0)
@@ -94,7 +94,7 @@ fn shares_of<R: RandomSource>(rt: &R, alloc: Global, plan: &HostPlan) -> Result<
     })
 }
 
-/// A limit, where there is one: 0 is none.
+/// Returns a limit, or `None` for 0.
 fn limit_of(most: u16) -> Option<u16> {
     if most == 0 {
         return None;
@@ -102,7 +102,7 @@ fn limit_of(most: u16) -> Option<u16> {
     Some(most)
 }
 
-/// The token of a request, in eight octets.
+/// Returns the token of a request, padded to eight octets.
 fn token_of(view: &View<'_>) -> [u8; 8] {
     let mut token = [0; 8];
     for (place, octet) in token.iter_mut().zip(view.token.octets) {
@@ -111,7 +111,7 @@ fn token_of(view: &View<'_>) -> [u8; 8] {
     token
 }
 
-/// What a request is told by in a window.
+/// Returns by what a request in this window is recognized.
 fn told_of(window: u64, peer: Peer, view: &View<'_>) -> Told {
     Told {
         window,
@@ -123,13 +123,15 @@ fn told_of(window: u64, peer: Peer, view: &View<'_>) -> Told {
 }
 
 impl Guard {
-    /// The guard of a plan: it hears datagrams of the networks of `allow` alone, of all where there
-    /// is none. It has a share for each source that is not in `trust`. It lets lookups pass that
-    /// have no more than so many query options.
+    /// Creates the guard of a plan.
+    ///
+    /// It admits datagrams of the networks in `allow` only, or all if there is none. Each source
+    /// that is not in `trust` has its shares. A lookup passes if it has no more query options than
+    /// the plan's limit.
     ///
     /// # Errors
     ///
-    /// Out of memory, or the system gives no random numbers.
+    /// `Starved` if memory runs out, or the system gives no random numbers.
     pub fn of<R: RandomSource>(rt: &R, alloc: Global, plan: &HostPlan) -> Result<Guard, Starved> {
         Ok(Guard {
             allow: plan.allow.clone()?,
@@ -141,12 +143,12 @@ impl Guard {
         })
     }
 
-    /// Whether it lets all datagrams pass.
+    /// Returns whether the guard admits every datagram.
     pub(crate) fn is_open(&self) -> bool {
         self.allow.is_empty() && self.criteria.is_none() && !self.has_shares && !self.has_lookups
     }
 
-    /// Whether requests of a class have a share.
+    /// Returns whether requests of this class have a share.
     fn has_share(&self, class: Class) -> bool {
         match class {
             Class::Write | Class::Begin | Class::Observation => self.has_shares,
@@ -154,12 +156,12 @@ impl Guard {
         }
     }
 
-    /// Whether datagrams of an address are heard.
+    /// Returns whether datagrams of this address are admitted.
     pub(crate) fn hears(&self, host: Host) -> bool {
         self.allow.is_empty() || is_in_any(host, self.allow.as_slice())
     }
 
-    /// Why a request is past the share of its source, where it is.
+    /// Returns why a request is beyond the share of its source, or `None` if it is within it.
     fn past_share<R: Wait, C: Clock>(
         &self,
         rt: &R,
@@ -185,7 +187,7 @@ impl Guard {
         Some(Refused::TooMany(seconds_left(now)))
     }
 
-    /// Why a message is kept from the directory, where it is.
+    /// Returns why a message is withheld from the directory, or `None` if it passes.
     pub(crate) fn refusal<R: Wait, C: Clock>(
         &self,
         rt: &R,

@@ -1,5 +1,5 @@
-//! A clock that counts from the start of the program, and that no step of the machine's clock
-//! moves.
+//! A clock that counts from the start of the program. Setting the system's clock does not change
+//! it.
 ghost use Rattle.std.specs.Prelude.{◌≡◌, ◌≤◌, ◌/◌, ◌^◌, None, IfOk, min};
 ghost use Rattle.std.specs.Duration.{as_nanos};
 ghost use Rattle.rand_chacha.specs.ChaCha.{next_word, of_seed};
@@ -21,12 +21,12 @@ use udp_link::{Clock, LAST_MOMENT};
 pub struct Origin {
     /// The moment of the start, by the wall clock.
     moment: Moment,
-    /// The start by the monotonic clock, which nobody sets.
+    /// The start by the monotonic clock, which cannot be set.
     instant: Instant,
     ghost early: { IsHandedIn moment },
 }
 
-/// The milliseconds of a time, or 10^15 where they are more.
+/// Returns a time in milliseconds, at most 10^15.
 fn millis(time: Duration) -> u64
     ensures { result ≡ min (as_nanos time / 1_000_000) (10 ^ 15) }
 {
@@ -34,12 +34,14 @@ fn millis(time: Duration) -> u64
 }
 
 impl Origin {
-    /// Reads both clocks. A wall clock before 1970 is taken for one at its beginning, one that is
-    /// more than 10^15 milliseconds behind it for one at that moment.
+    /// Reads both clocks.
+    ///
+    /// A wall clock before 1970 counts as 1970. One later than 10^15 milliseconds after 1970 counts
+    /// as that moment.
     ///
     /// # Errors
     ///
-    /// The monotonic clock cannot be read.
+    /// An error of the system if the monotonic clock cannot be read.
     pub fn read<R: time::Clock>(system: &R) -> io::Result<Origin> {
         let wall = system.since_1970().unwrap_or(Duration::ZERO);
         Ok(Origin {
@@ -48,15 +50,15 @@ impl Origin {
         })
     }
 
-    /// Gives the number above which a run begins that starts then: the milliseconds since 1970, at
-    /// most 10^14.
+    /// Returns the number above which a run that starts then begins: the milliseconds since 1970,
+    /// at most 10^14.
     pub fn begin(&self) -> u64
         ensures { result ≡ min self.now.moment.0 (10 ^ 14) }
     {
         self.moment.0.min(MAX_BEGIN)
     }
 
-    /// The moment at a reading of the monotonic clock.
+    /// Returns the moment at a reading of the monotonic clock.
     fn moment_at(&self, now: Instant) -> Moment
         ensures { result ≡ spec.moment_at self.now.moment self.now.instant now }
     {
@@ -65,14 +67,16 @@ impl Origin {
     }
 }
 
-/// A clock whose moments never fall. A moment is that of the wall clock at the start of the program
-/// and the time that passed since by the monotonic clock; its words come from a generator with a
-/// seed. It tells no lists.
+/// A clock whose moments never fall.
+///
+/// A moment is that of the wall clock at the start of the program, plus the time since then by the
+/// monotonic clock. The words come from a generator with a seed. The clock exposes no lists to
+/// contracts.
 #[derive(Drop)]
 pub struct HostClock<'a, R> {
     system: &'a R,
     origin: &'a Origin,
-    /// The moment that was given last, at first that of the start.
+    /// The last moment returned; at first that of the start.
     last: Moment,
     generator: ChaCha20Rng,
     ghost early: { IsHandedIn last },
@@ -80,7 +84,7 @@ pub struct HostClock<'a, R> {
 }
 
 impl<'a, R> HostClock<'a, R> {
-    /// A clock that counts from `origin` by `system`, and whose words are those of ChaCha with 20
+    /// Creates a clock that counts from `origin` by `system`. Its words are those of ChaCha with 20
     /// rounds for `seed`.
     pub fn of(system: &'a R, origin: &'a Origin, seed: [u8; 32]) -> HostClock<'a, R>
         ensures first { result.last ≡ origin.now.moment }
@@ -96,12 +100,12 @@ impl<'a, R> HostClock<'a, R> {
 }
 
 impl<'a, R: RandomSource> HostClock<'a, R> {
-    /// A clock that counts from `origin` by `system`, and whose words nobody can guess: the seed
-    /// comes from the system's random source.
+    /// Creates a clock that counts from `origin` by `system`, and whose words cannot be guessed.
+    /// The seed comes from the system's random source.
     ///
     /// # Errors
     ///
-    /// That source gives nothing.
+    /// An error of the system if that source gives nothing.
     pub fn seeded(system: &'a R, origin: &'a Origin) -> io::Result<HostClock<'a, R>>
         ensures first { IfOk result (λ clock. clock.last ≡ origin.now.moment) }
     {
@@ -116,8 +120,8 @@ impl<R: time::Clock> Clock for HostClock<'_, R> {
 
     ghost words = { λ _. None };
 
-    /// The moment now, in milliseconds since 1970. Where the monotonic clock cannot be read, the
-    /// moment that was given last.
+    /// Returns the current moment, in milliseconds since 1970. If the monotonic clock cannot be
+    /// read, returns the same moment as before.
     fn now(&mut self) -> Moment
         ensures early { IsHandedIn result }
         ensures never_falls { self.old.last.0 ≤ result.0 }
@@ -131,7 +135,7 @@ impl<R: time::Clock> Clock for HostClock<'_, R> {
         self.last
     }
 
-    /// The next word of the generator.
+    /// Returns the next word of the generator.
     fn word(&mut self) -> u32
         ensures value { (result, self.new.generator) ≡ next_word 10 self.old.generator }
         ensures times_stay { self.new.last ≡ self.old.last }

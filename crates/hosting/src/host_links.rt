@@ -24,9 +24,10 @@ struct Way {
     link: UdpLink,
 }
 
-/// A link of a server that listens at several addresses: it receives at one of them, and sends by
-/// the one at which the peer was heard last, by whichever link of that server. All links of a
-/// server end together. It tells no datagrams.
+/// A link of a server that listens at several addresses.
+///
+/// It receives at one of them. It sends from the one at which any link of that server last received
+/// from the peer. All links of a server end together. The link exposes no datagrams to contracts.
 #[derive(Drop)]
 pub struct HostLink<'a, R> {
     rt: &'a R,
@@ -34,14 +35,14 @@ pub struct HostLink<'a, R> {
     watch: Watch<'a>,
     ways: Vec<Way>,
     own: usize,
-    /// The peer of the datagram that the last receive gave.
+    /// The peer of the datagram that the last receive returned.
     heard: Option<Peer>,
     recv_faults: u64,
     send_faults: u64,
     ghost own_is_one: { own < length ways.items },
 }
 
-/// Whether two addresses are of one family.
+/// Returns whether two addresses are of one family.
 fn are_alike(a: Host, b: Host) -> bool
     ensures { result ≡ spec.are_alike a b }
 {
@@ -52,7 +53,7 @@ fn are_alike(a: Host, b: Host) -> bool
     }
 }
 
-/// The place of the first address of the peer's family.
+/// Returns the index of the first address of the peer's family.
 fn first_alike(ways: &[Way], peer: Peer) -> Option<usize>
     ensures value { result
         ≡ position (λ way. spec.are_alike way.address.host peer.host) ways.now }
@@ -62,7 +63,7 @@ fn first_alike(ways: &[Way], peer: Peer) -> Option<usize>
         .position(|way| are_alike(way.address.host, peer.host))
 }
 
-/// The place of the first address of the peer's family, or else of the first address.
+/// Returns the index of the first address of the peer's family, or 0 if there is none.
 fn place_alike(ways: &[Way], peer: Peer) -> usize
     requires { 1 ≤ length ways.now }
     ensures within { result < length ways.now }
@@ -73,7 +74,7 @@ fn place_alike(ways: &[Way], peer: Peer) -> usize
 }
 
 impl Way {
-    /// Sends by this address, an IPv4 address as an IPv6 socket takes it where this is one.
+    /// Sends from this address. An IPv6 socket gets an IPv4 peer as a mapped address.
     fn send(&mut self, peer: Peer, piece: &[u8]) -> Went {
         let host = match self.address.host {
             Host::V4(_) => peer.host,
@@ -84,7 +85,7 @@ impl Way {
     }
 }
 
-/// A link over each listener.
+/// Returns a link over each listener.
 fn ways_over(alloc: Global, listeners: &[Listener]) -> Result<Vec<Way>, Starved>
     ensures { IfOk result (λ ways. length ways.items ≡ length listeners.now) }
 {
@@ -99,8 +100,12 @@ fn ways_over(alloc: Global, listeners: &[Listener]) -> Result<Vec<Way>, Starved>
 }
 
 impl<'a, R> HostLink<'a, R> {
-    /// A link of `crew` that receives at the address of `listeners[own]`, of which no call failed
-    /// yet. `Starved`: out of memory.
+    /// Creates a link of `crew` that receives at the address of `listeners[own]`. None of its calls
+    /// has failed yet.
+    ///
+    /// # Errors
+    ///
+    /// `Starved` if memory runs out.
     pub fn over(
         rt: &'a R,
         alloc: Global,
@@ -128,8 +133,8 @@ impl<'a, R> HostLink<'a, R> {
 }
 
 impl<R: Wait> HostLink<'_, R> {
-    /// Notes that this link heard a peer, where there are more addresses than one. Where memory
-    /// lacks it is not remembered.
+    /// Records that this link received from a peer, if there are several addresses. Records nothing
+    /// if memory runs out.
     fn hear(&mut self, peer: Peer)
         ensures received { self.new.recv_faults ≡ self.old.recv_faults }
         ensures sent { self.new.send_faults ≡ self.old.send_faults }
@@ -140,9 +145,10 @@ impl<R: Wait> HostLink<'_, R> {
         }
     }
 
-    /// The place of the address by which a peer is sent to: that of this link where its last
-    /// receive heard the peer, else the one at which the peer was heard last, or the first of its
-    /// family.
+    /// Returns the index of the address from which a peer is sent to.
+    ///
+    /// It is that of this link if its last receive was from the peer. Otherwise it is the one that
+    /// last received from the peer, or else the first of the peer's family.
     fn place_to(&self, peer: Peer) -> usize
         ensures within { result < length self.now.ways.items }
         ensures own { self.now.heard ≡ Some peer → result ≡ self.now.own }
@@ -159,8 +165,8 @@ impl<R: Wait> HostLink<'_, R> {
 }
 
 impl<R: Clock> HostLink<'_, R> {
-    /// Whether the link goes on after a receive that failed. Where it does not, the links of the
-    /// server end.
+    /// Returns whether the link continues after a failed receive. If not, the links of the server
+    /// end.
     fn goes_on(&mut self) -> bool
         ensures received { self.new.recv_faults ≡ self.old.recv_faults }
         ensures sent { self.new.send_faults ≡ self.old.send_faults }

@@ -1,5 +1,5 @@
-//! What a program that serves on a network of its operator needs beside the server: its words, and
-//! links over several sockets, by which each peer is answered from the address that it asked.
+//! What a program needs besides the server to serve on its operator's network: its arguments, and
+//! links over several sockets. Each peer is answered from the address to which it sent its request.
 #![tactic(auto)]
 
 mod about;

@@ -14,7 +14,7 @@ pub struct Listener {
     pub(crate) socket: Arc<UdpSocket>,
 }
 
-/// A socket at an address.
+/// Returns a socket at an address.
 fn socket_at<R: Net>(rt: &R, address: Peer) -> io::Result<UdpSocket> {
     match address.host {
         Host::V4(octets) => UdpSocket::bind(rt, (Ipv4Addr::from(octets), address.port)),
@@ -23,14 +23,23 @@ fn socket_at<R: Net>(rt: &R, address: Peer) -> io::Result<UdpSocket> {
 }
 
 impl Listener {
-    /// A socket that listens at `address`. An error: the system refuses it, as where the port is
-    /// taken or the address is not one of this machine; or memory ran out.
+    /// Creates a socket that listens at `address`.
+    ///
+    /// # Errors
+    ///
+    /// An error of the system if it refuses the socket. It does, for example, if the port is taken
+    /// or the host does not have the address. Also an error if memory runs out.
     pub fn bind<R: Net>(rt: &R, alloc: Global, address: Peer) -> io::Result<Listener> {
         let socket = Arc::new(alloc, socket_at(rt, address)?)?;
         Ok(Listener { address, socket })
     }
 
-    /// The address at which it listens, with the port that the system chose where none was named.
+    /// Returns the address at which the socket listens, with the port that the system chose if none
+    /// was named.
+    ///
+    /// # Errors
+    ///
+    /// An error of the system.
     pub fn local_addr(&self) -> io::Result<SocketAddr> {
         self.socket.local_addr()
     }

@@ -6,7 +6,7 @@ ghost use Rattle.hosting.specs.Mapped.{IsPlainOf};
 use rd_base::Host;
 use std::net::{Ipv4Addr, Ipv6Addr};
 
-/// The IPv4 address that an address maps, or else the address itself.
+/// Returns the IPv4 address that an address maps, or else the address itself.
 pub(crate) fn plain(host: Host) -> Host
     ensures { IsPlainOf host result }
 {
@@ -19,7 +19,7 @@ pub(crate) fn plain(host: Host) -> Host
     }
 }
 
-/// An address as an IPv6 socket takes it.
+/// Returns an address as an IPv6 socket accepts it.
 pub(crate) fn mapped(host: Host) -> Host
     ensures { result ≡ spec.mapped host }
 {

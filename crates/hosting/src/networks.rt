@@ -1,4 +1,4 @@
-//! Networks: a prefix of an address, and how many bits of it count.
+//! Networks: an address, and how many of its first bits count.
 ghost use Rattle.std.specs.Prelude.{◌≡◌, ◌≤◌, ◌<◌, ◌^◌};
 ghost use Rattle.hosting.specs.Networks as spec;
 
@@ -7,7 +7,7 @@ use rd_base::Host;
 use std::net::{Ipv4Addr, Ipv6Addr};
 use trace_text::{number_read, offset_of};
 
-/// Whether two numbers of so many bits agree in the first of them.
+/// Returns whether two numbers of `width` bits agree in the first `bits` of them.
 fn agree(width: u8, bits: u8, a: u64, b: u64) -> bool
     requires { width ≤ 64 }
     ensures { result ≡ spec.agree width bits a b }
@@ -19,7 +19,7 @@ fn agree(width: u8, bits: u8, a: u64, b: u64) -> bool
     a >> left == b >> left
 }
 
-/// The number that the octets of an IPv4 address give.
+/// Returns the number that the octets of an IPv4 address form.
 fn v4_number(octets: [u8; 4]) -> u64
     ensures { result ≡ spec.v4_number octets }
 {
@@ -27,7 +27,7 @@ fn v4_number(octets: [u8; 4]) -> u64
     high + (u64::from(octets[2]) * (1 << 8) + u64::from(octets[3]))
 }
 
-/// The number that the first four groups of an IPv6 address give.
+/// Returns the number that the first four groups of an IPv6 address form.
 fn first_half(groups: [u16; 8]) -> u64
     ensures { result ≡ spec.half 0 groups }
 {
@@ -35,7 +35,7 @@ fn first_half(groups: [u16; 8]) -> u64
     high + (u64::from(groups[2]) * (1 << 16) + u64::from(groups[3]))
 }
 
-/// The number that the last four groups of an IPv6 address give.
+/// Returns the number that the last four groups of an IPv6 address form.
 fn last_half(groups: [u16; 8]) -> u64
     ensures { result ≡ spec.half 4 groups }
 {
@@ -43,7 +43,7 @@ fn last_half(groups: [u16; 8]) -> u64
     high + (u64::from(groups[6]) * (1 << 16) + u64::from(groups[7]))
 }
 
-/// Whether two IPv6 addresses agree in so many of their first bits.
+/// Returns whether two IPv6 addresses agree in their first `bits` bits.
 fn agree_v6(bits: u8, a: [u16; 8], b: [u16; 8]) -> bool
     ensures { result ≡ spec.holds (Host.V6 a) bits (Host.V6 b) }
 {
@@ -54,7 +54,7 @@ fn agree_v6(bits: u8, a: [u16; 8], b: [u16; 8]) -> bool
 }
 
 impl Network {
-    /// Whether an address is in the network.
+    /// Returns whether an address is in the network.
     pub(crate) fn holds(&self, host: Host) -> bool
         ensures { result ≡ spec.is_in host self.now }
     {
@@ -66,7 +66,7 @@ impl Network {
     }
 }
 
-/// The address that a text names, in any spelling.
+/// Returns the address that a text names, in any spelling (RFC 4291 section 2.2).
 pub(crate) fn host_read(text: &[u8]) -> Option<Host>
     ensures { result ≡ spec.host_of text.now }
 {
@@ -79,8 +79,9 @@ pub(crate) fn host_read(text: &[u8]) -> Option<Host>
     None
 }
 
-/// The network that a text names: an address, a slash and how many bits of it count; or an address
-/// alone, which is the network of it alone.
+/// Returns the network that a text names: an address, a slash, and the number of bits that count.
+///
+/// An address alone names the network that has only this address.
 pub(crate) fn network_read(text: &[u8]) -> Option<Network>
     ensures { result ≡ spec.network_of text.now }
 {
@@ -99,7 +100,7 @@ pub(crate) fn network_read(text: &[u8]) -> Option<Network>
     })
 }
 
-/// Whether an address is in one of these networks.
+/// Returns whether an address is in one of these networks.
 pub(crate) fn is_in_any(host: Host, networks: &[Network]) -> bool
     ensures { result ≡ spec.is_in_any host networks.now }
 {

@@ -1,4 +1,5 @@
-//! The options of a command line: each is a name with the word after it, or both joined by `=`.
+//! The options of the command line. The value of an option is the argument after its name, or is
+//! joined to the name by `=`.
 ghost use Rattle.std.specs.Prelude.{◌≡◌, ◌≤◌, ◌∷◌, IfSome, length, map};
 ghost use Rattle.std.specs.Prelude.{option_map};
 ghost use Rattle.std.specs.String.{string_bytes};
@@ -14,43 +15,43 @@ use trace_text::{number_read, offset_of};
 /// The most ends of a server, over all its addresses.
 pub(crate) const MAX_ENDS: u64 = 16;
 
-/// The most turns of a worker.
+/// The most receives of a worker (`--turns`).
 pub(crate) const MAX_TURNS: u64 = 1_000_000_000_000;
 
-/// The greatest number above which a run may be told to begin.
+/// The greatest number for `--begin`, above which a run begins.
 pub(crate) const MAX_BEGIN: u64 = 100_000_000_000_000;
 
-/// The greatest share, in writes: as many as the directory remembers of all.
+/// The greatest share, in writes: as many exchanges as the directory remembers in all.
 pub(crate) const MAX_SHARE: u64 = 4096;
 
-/// The greatest share in lookups.
+/// The greatest share, in lookups.
 pub(crate) const MAX_LOOKUPS: u64 = 65_535;
 
-/// The greatest limit of query options: as many as fit a datagram.
+/// The greatest limit of query options: as many as fit into a datagram.
 pub(crate) const MAX_CRITERIA: u64 = 768;
 
-/// What an option is named.
+/// The name of an option.
 #[derive(Clone, Copy, Debug, PartialEq, Eq)]
 pub(crate) enum OptionName {
     /// `--listen`: an address.
     Listen,
-    /// `--workers`: how many workers each address has.
+    /// `--workers`: the number of workers of each address.
     Workers,
-    /// `--turns`: how many turns each worker has.
+    /// `--turns`: the number of receives of each worker.
     Turns,
-    /// `--begin`: above which number the run begins.
+    /// `--begin`: the number above which the run begins.
     Begin,
-    /// `--allow`: a network whose datagrams are heard.
+    /// `--allow`: a network whose datagrams are admitted.
     Allow,
-    /// `--trust`: a network that has no share.
+    /// `--trust`: a network whose senders have no share.
     Trust,
-    /// `--share`: how many writes each source may send in a window.
+    /// `--share`: the number of writes that each source may send in a window.
     Share,
-    /// `--criteria`: how many query options a lookup may have.
+    /// `--criteria`: the most query options of a lookup.
     Criteria,
-    /// `--lookups`: how many lookups each source may send in a window.
+    /// `--lookups`: the number of lookups that each source may send in a window.
     Lookups,
-    /// `--quiet`: that it says no line while it serves.
+    /// `--quiet`: prints no lines while it serves.
     Quiet,
 }
 
@@ -59,27 +60,27 @@ pub(crate) enum OptionName {
 pub(crate) enum HostOption {
     /// An address to listen at.
     Listen(Peer),
-    /// How many workers each address has.
+    /// The number of workers of each address.
     Workers(u8),
-    /// How many turns each worker has.
+    /// The number of receives of each worker.
     Turns(u64),
-    /// Above which number the run begins.
+    /// The number above which the run begins.
     Begin(u64),
-    /// A network whose datagrams are heard.
+    /// A network whose datagrams are admitted.
     Allow(Network),
-    /// A network that has no share.
+    /// A network whose senders have no share.
     Trust(Network),
-    /// How many writes each source may send in a window.
+    /// The number of writes that each source may send in a window.
     Share(u16),
-    /// How many query options a lookup may have.
+    /// The most query options of a lookup.
     Criteria(u16),
-    /// How many lookups each source may send in a window.
+    /// The number of lookups that each source may send in a window.
     Lookups(u16),
-    /// It says no line while it serves.
+    /// Prints no lines while the program serves.
     Quiet,
 }
 
-/// The option of the guard that a word names.
+/// Returns the option of the guard with this name.
 fn guard_name_of(word: &[u8]) -> Option<OptionName>
     ensures { result ≡ spec.guard_name_of word.now }
 {
@@ -101,7 +102,7 @@ fn guard_name_of(word: &[u8]) -> Option<OptionName>
     None
 }
 
-/// The option that a word names.
+/// Returns the option with this name.
 pub(crate) fn name_of(word: &[u8]) -> Option<OptionName>
     ensures { result ≡ spec.name_of word.now }
 {
@@ -120,7 +121,7 @@ pub(crate) fn name_of(word: &[u8]) -> Option<OptionName>
     guard_name_of(word)
 }
 
-/// The number from 1 to a limit that a text prints in decimal, without a leading zero.
+/// Returns the number from 1 to `limit` that a text prints in decimal, without a leading zero.
 fn count_of(limit: u64, text: &[u8]) -> Option<u64>
     ensures value { result ≡ spec.count_of limit text.now }
     ensures within { IfSome result (IsCount limit) }
@@ -132,7 +133,7 @@ fn count_of(limit: u64, text: &[u8]) -> Option<u64>
     Some(n)
 }
 
-/// An address to listen at.
+/// Returns the option of an address to listen at.
 fn address_of(value: &[u8]) -> Option<HostOption>
     ensures value { result ≡ spec.option_of OptionName.Listen value.now }
     ensures within { IfSome result IsOption }
@@ -141,7 +142,7 @@ fn address_of(value: &[u8]) -> Option<HostOption>
     Some(HostOption::Listen(address))
 }
 
-/// An option with its value, where it takes such a value.
+/// Returns an option with its value, or `None` if the option does not accept the value.
 fn option_of(name: OptionName, value: &[u8]) -> Option<HostOption>
     ensures value { result ≡ spec.option_of name value.now }
     ensures within { IfSome result IsOption }
@@ -162,7 +163,7 @@ fn option_of(name: OptionName, value: &[u8]) -> Option<HostOption>
     }
 }
 
-/// What stands before the first `=`, and what stands after it.
+/// Returns the parts of a text before and after its first `=`.
 fn cut(text: &[u8]) -> Option<(&[u8], &[u8])>
     ensures { option_map (λ p. (p.0.now, p.1.now)) result ≡ spec.cut text.now }
 {
@@ -172,7 +173,7 @@ fn cut(text: &[u8]) -> Option<(&[u8], &[u8])>
     }
 }
 
-/// An option in one word, which has no value, or in which its name and its value are joined.
+/// Returns the option of a single argument: `--quiet`, or a name joined to its value.
 fn joined(word: &[u8]) -> Option<HostOption>
     ensures value { result ≡ spec.joined word.now }
     ensures within { IfSome result IsOption }
@@ -184,7 +185,7 @@ fn joined(word: &[u8]) -> Option<HostOption>
     option_of(name_of(name)?, value)
 }
 
-/// The option that words begin with, and the words behind it.
+/// Returns the option at the start of the arguments, and the arguments after it.
 pub(crate) fn first_option<'a>(
     word: &[u8],
     rest: &'a [String],

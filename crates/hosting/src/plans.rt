@@ -1,4 +1,4 @@
-//! The words of the command line of `rd_host`, and what they ask to be served.
+//! The arguments of `rd_host`, and the plan that they make.
 ghost use Rattle.std.specs.Prelude.{◌≡◌, ◌≤◌, ◌*◌, IfOk, IfSome, length, map};
 ghost use Rattle.std.specs.String.{string_bytes};
 ghost use Rattle.hosting.specs.Words as spec;
@@ -10,54 +10,57 @@ use crate::wanted::{HostFault, Wanted};
 use rd_base::{Host, List, Peer};
 use std::alloc::Global;
 
-/// The share of a source where it is not said, in writes.
+/// The share of a source if no option gives one, in writes.
 const DEFAULT_SHARE: u16 = 1024;
 
-/// How many query options a lookup may have where that is not said.
+/// The most query options of a lookup if no option gives a limit.
 const DEFAULT_CRITERIA: u16 = 16;
 
 /// The port of CoAP (RFC 7252 section 12.6).
 const PORT: u16 = 5683;
 
-/// Where it listens if that is not said.
+/// The IPv6 address to listen at if no option gives one.
 const LOOPBACK_V6: Peer = Peer {
     host: Host::V6([0, 0, 0, 0, 0, 0, 0, 1]),
     port: PORT,
 };
 
-/// The same, in the other family.
+/// The IPv4 address to listen at if no option gives one.
 const LOOPBACK_V4: Peer = Peer {
     host: Host::V4([127, 0, 0, 1]),
     port: PORT,
 };
 
-/// What the words of `rd_host` ask to be served.
+/// The plan that the arguments of `rd_host` make.
 #[derive(Debug, Drop)]
 pub struct HostPlan {
-    /// The addresses to listen at, in the order in which they are said; one at least.
+    /// The addresses to listen at, in the order given; at least one.
     pub listen: List<Peer>,
-    /// How many workers each address has: one at least, and 16 at most of all addresses.
+    /// The number of workers of each address: at least one, and at most 16 for all addresses
+    /// together.
     pub workers: u8,
-    /// How many receives each worker makes, from 1 to 10^12: so many where nothing is said.
+    /// The number of receives of each worker, from 1 to 10^12. The default is 10^12.
     pub turns: u64,
-    /// Above which number the run begins, from 1 to 10^14, where it is said.
+    /// The number above which the run begins, from 1 to 10^14, if it is given.
     pub begin: Option<u64>,
-    /// The networks whose datagrams are heard; where there is none, all are.
+    /// The networks whose datagrams are admitted, or all if this is empty.
     pub allow: List<Network>,
-    /// The networks that have no share.
+    /// The networks whose senders have no share.
     pub trust: List<Network>,
-    /// How many writes each source may send in a window, at most 4,096; 0 for any number.
+    /// The number of writes that each source may send in a window, at most 4,096; 0 means any
+    /// number.
     pub share: u16,
-    /// How many query options a lookup may have, at most 768; 0 for any number.
+    /// The most query options of a lookup, at most 768; 0 means any number.
     pub criteria: u16,
-    /// How many lookups each source may send in a window; 0 for any number.
+    /// The number of lookups that each source may send in a window; 0 means any number.
     pub lookups: u16,
-    /// That it says no line while it serves.
+    /// Whether the program prints no lines while it serves.
     pub quiet: bool,
 }
 
 impl HostPlan {
-    /// How many ends a server of it has: each address as many as it has workers.
+    /// Returns how many ends a server of this plan has: for each address, as many as it has
+    /// workers.
     #[tactic(auto, using(crate::proofs::EndLaws::few_ends, crate::proofs::EndLaws::some_ends))]
     pub fn ends(&self) -> usize
         requires { IsPlan self.now }
@@ -69,33 +72,33 @@ impl HostPlan {
     }
 }
 
-/// What words ask for, as far as they were read.
+/// What the arguments read so far ask for.
 #[derive(Debug, Drop)]
 pub(crate) struct HostAsked {
-    /// The addresses that are said.
+    /// The addresses given.
     pub(crate) listen: List<Peer>,
-    /// How many workers each address has, where it is said.
+    /// The number of workers of each address, if given.
     pub(crate) workers: Option<u8>,
-    /// How many turns each worker has, where it is said.
+    /// The number of receives of each worker, if given.
     pub(crate) turns: Option<u64>,
-    /// Above which number the run begins, where it is said.
+    /// The number above which the run begins, if given.
     pub(crate) begin: Option<u64>,
-    /// The networks whose datagrams are heard.
+    /// The networks whose datagrams are admitted.
     pub(crate) allow: List<Network>,
-    /// The networks that have no share.
+    /// The networks whose senders have no share.
     pub(crate) trust: List<Network>,
-    /// How many writes each source may send, where it is said.
+    /// The number of writes that each source may send in a window, if given.
     pub(crate) share: Option<u16>,
-    /// How many query options a lookup may have, where it is said.
+    /// The most query options of a lookup, if given.
     pub(crate) criteria: Option<u16>,
-    /// How many lookups each source may send, where it is said.
+    /// The number of lookups that each source may send in a window, if given.
     pub(crate) lookups: Option<u16>,
-    /// That it says no line while it serves.
+    /// Whether the program prints no lines while it serves.
     pub(crate) quiet: bool,
 }
 
 impl HostAsked {
-    /// Nothing is asked for.
+    /// Returns what no arguments ask for.
     pub(crate) fn nothing(alloc: Global) -> HostAsked
         ensures { result ≡ spec.nothing_asked }
     {
@@ -113,7 +116,7 @@ impl HostAsked {
         }
     }
 
-    /// With an address more.
+    /// Adds an address.
     fn with_address(self, address: Peer) -> Result<HostAsked, HostFault>
         requires { IsAsked self }
         ensures read { IsRead (spec.asked_with self (HostOption.Listen address)) result }
@@ -126,7 +129,7 @@ impl HostAsked {
         Ok(asked)
     }
 
-    /// With the number of workers, where it was not said.
+    /// Sets the number of workers, unless it was given before.
     fn with_workers(self, workers: u8) -> Result<HostAsked, HostFault>
         requires asked { IsAsked self }
         requires option { IsOption (HostOption.Workers workers) }
@@ -142,7 +145,7 @@ impl HostAsked {
         })
     }
 
-    /// With the number of turns, where it was not said.
+    /// Sets the number of receives, unless it was given before.
     fn with_turns(self, turns: u64) -> Result<HostAsked, HostFault>
         requires asked { IsAsked self }
         requires option { IsOption (HostOption.Turns turns) }
@@ -158,7 +161,7 @@ impl HostAsked {
         })
     }
 
-    /// With the number above which the run begins, where it was not said.
+    /// Sets the number above which the run begins, unless it was given before.
     fn with_begin(self, begin: u64) -> Result<HostAsked, HostFault>
         requires asked { IsAsked self }
         requires option { IsOption (HostOption.Begin begin) }
@@ -174,7 +177,7 @@ impl HostAsked {
         })
     }
 
-    /// With a network more whose datagrams are heard.
+    /// Adds a network whose datagrams are admitted.
     fn with_allowed(self, network: Network) -> Result<HostAsked, HostFault>
         requires { IsAsked self }
         ensures read { IsRead (spec.asked_with self (HostOption.Allow network)) result }
@@ -187,7 +190,7 @@ impl HostAsked {
         Ok(asked)
     }
 
-    /// With a network more that has no share.
+    /// Adds a network whose senders have no share.
     fn with_trusted(self, network: Network) -> Result<HostAsked, HostFault>
         requires { IsAsked self }
         ensures read { IsRead (spec.asked_with self (HostOption.Trust network)) result }
@@ -200,7 +203,7 @@ impl HostAsked {
         Ok(asked)
     }
 
-    /// With the share of a source, where it was not said.
+    /// Sets the share of a source, unless it was given before.
     fn with_share(self, share: u16) -> Result<HostAsked, HostFault>
         requires asked { IsAsked self }
         requires option { IsOption (HostOption.Share share) }
@@ -216,7 +219,7 @@ impl HostAsked {
         })
     }
 
-    /// With how many query options a lookup may have, where it was not said.
+    /// Sets the most query options of a lookup, unless they were given before.
     fn with_criteria(self, criteria: u16) -> Result<HostAsked, HostFault>
         requires asked { IsAsked self }
         requires option { IsOption (HostOption.Criteria criteria) }
@@ -232,7 +235,7 @@ impl HostAsked {
         })
     }
 
-    /// With how many lookups each source may send, where it was not said.
+    /// Sets the share of a source in lookups, unless it was given before.
     fn with_lookups(self, lookups: u16) -> Result<HostAsked, HostFault>
         requires asked { IsAsked self }
         requires option { IsOption (HostOption.Lookups lookups) }
@@ -248,7 +251,7 @@ impl HostAsked {
         })
     }
 
-    /// With no lines while it serves, where that was not said.
+    /// Turns off the lines that are printed while it serves, unless they were turned off before.
     fn with_quiet(self) -> Result<HostAsked, HostFault>
         requires { IsAsked self }
         ensures read { IsRead (spec.asked_with self HostOption.Quiet) result }
@@ -263,7 +266,7 @@ impl HostAsked {
         })
     }
 
-    /// With an option more.
+    /// Adds an option.
     pub(crate) fn with(self, option: HostOption) -> Result<HostAsked, HostFault>
         requires asked { IsAsked self }
         requires option { IsOption option }
@@ -284,7 +287,7 @@ impl HostAsked {
         }
     }
 
-    /// With the addresses of loopback, where none is said.
+    /// Adds the loopback addresses if no address was given.
     fn settled(self) -> Result<HostAsked, HostFault>
         requires { IsAsked self }
         ensures read { IsRead (Some (spec.settled self)) result }
@@ -300,8 +303,8 @@ impl HostAsked {
         Ok(asked)
     }
 
-    /// The plan, with what is said by default; none where there is no address, or are too many
-    /// ends.
+    /// Returns the plan, with the defaults. Returns `None` if there is no address, or there are too
+    /// many ends.
     fn plan(self) -> Option<HostPlan>
         requires { IsAsked self }
         ensures value { result ≡ spec.plan_of self }
@@ -331,7 +334,7 @@ impl HostAsked {
     }
 }
 
-/// What words ask for.
+/// Returns what the arguments ask for.
 fn words_ask(alloc: Global, words: &[String]) -> Result<HostAsked, HostFault>
     ensures read { IsRead (spec.asked_by spec.nothing_asked (map string_bytes words.now)) result }
     ensures within { IfOk result IsAsked }
@@ -351,8 +354,8 @@ fn words_ask(alloc: Global, words: &[String]) -> Result<HostAsked, HostFault>
     Ok(asked)
 }
 
-/// The question about the program that words ask: one of `--help`, `-h`, `--version` and `-V`,
-/// alone.
+/// Returns the question that a single argument asks about the program: `--help`, `-h`, `--version`
+/// or `-V`.
 fn question_of(words: &[String]) -> Option<Wanted>
     ensures { result ≡ spec.question_of (map string_bytes words.now) }
 {
@@ -370,14 +373,20 @@ fn question_of(words: &[String]) -> Option<Wanted>
     None
 }
 
-/// What the words of `rd_host` want: `--listen` with an address and its port, any number of times;
-/// `--workers` with a number from 1 on, by which there are 16 ends at most, `--turns` with one from
-/// 1 to 10^12, `--begin` with one from 1 to 10^14, `--share` with one up to 4,096, `--criteria` with
-/// one up to 768, `--lookups` with one up to 65,535, and `--quiet` with nothing, these once at most;
-/// `--allow` and `--trust` with a network; in any order, as two words or joined by `=`; or a
-/// question about the program alone.
+/// Reads the arguments of `rd_host`, which are options or a question about the program alone.
 ///
-/// `Usage`: they are others. `Starved`: out of memory.
+/// The options may come in any order, each as two arguments or joined by `=`:
+///
+/// - `--listen` with an address and its port, `--allow` and `--trust` with a network: any number of
+///   times;
+/// - at most once each: `--workers` with a number from 1, by which there are at most 16 ends;
+///   `--turns` with one from 1 to 10^12; `--begin` with one from 1 to 10^14; `--share` with one up
+///   to 4,096; `--criteria` with one up to 768; `--lookups` with one up to 65,535; and `--quiet`,
+///   without a value.
+///
+/// # Errors
+///
+/// `Usage` if `rd_host` does not accept these arguments; `Starved` if memory runs out.
 pub fn host_words(alloc: Global, words: &[String]) -> Result<Wanted, HostFault>
     ensures read { IsRead (spec.wanted_of (map string_bytes words.now)) result }
     ensures within { IfOk result IsWanted }

@@ -4,8 +4,8 @@ ghost use Rattle.hosting.specs.Widths as spec;
 
 use rd_base::Host;
 
-/// A network (RFC 4632 section 3.1, RFC 4291 section 2.3): the addresses that agree with one in so
-/// many of the first bits.
+/// A network (RFC 4632 section 3.1, RFC 4291 section 2.3): the addresses whose first `bits` bits
+/// are those of `host`.
 #[derive(Clone, Copy, Debug, PartialEq, Eq)]
 pub struct Network {
     /// The address.
@@ -14,7 +14,7 @@ pub struct Network {
     pub bits: u8,
 }
 
-/// How many bits an address has.
+/// Returns how many bits an address has.
 pub(crate) fn width_of(host: Host) -> u8
     ensures { result ≡ spec.width_of host }
 {

@@ -1,4 +1,4 @@
-//! What a link answers a request that it keeps from the directory.
+//! The response of a link to a request that it withholds from the directory.
 ghost use Rattle.std.specs.Prelude.{◌≡◌, ◌⊎◌, ◌++◌, ◌∷◌, [], IfSome};
 ghost use Rattle.message_model.specs.Spelling.{spelling};
 ghost use Rattle.coap_message.specs.Views.{message_in};
@@ -16,16 +16,16 @@ pub(crate) const TOO_MANY: u8 = (4 << 5) | 29;
 /// Max-Age (RFC 7252 section 5.10.5).
 const MAX_AGE: u32 = 14;
 
-/// Why a request is kept from the directory.
+/// The reason why a request is withheld from the directory.
 #[derive(Clone, Copy, Debug, PartialEq, Eq)]
 pub(crate) enum Refused {
-    /// It is past the share of its source, whose window lasts for so many seconds more.
+    /// The request is beyond the share of its source. The window ends after this number of seconds.
     TooMany(u8),
-    /// It is a lookup with too many query options.
+    /// The request is a lookup with too many query options.
     Criteria,
 }
 
-/// What is said beside the code.
+/// Returns the diagnostic payload.
 fn payload_of(why: Refused) -> &'static [u8]
     ensures { result.now ≡ spec.payload_of why }
 {
@@ -35,7 +35,7 @@ fn payload_of(why: Refused) -> &'static [u8]
     }
 }
 
-/// The acknowledgement of a request with its response, without a payload.
+/// Returns the acknowledgement of a request with its response, without a payload.
 fn begun(view: &View<'_>, why: Refused) -> Option<Writer>
     ensures { IfSome result (λ writer. writer ≡ spec.begun (message_in view.now) why) }
 {
@@ -51,7 +51,7 @@ fn begun(view: &View<'_>, why: Refused) -> Option<Writer>
     }
 }
 
-/// Answers a request that is kept from the directory; nothing one that is not confirmable.
+/// Answers a request that is withheld from the directory, if it is confirmable.
 pub(crate) fn answer<L: Link>(link: &mut L, peer: Peer, view: &View<'_>, why: Refused)
     ensures { WhereTold (λ before now. (now ≡ before) ⊎ ((view.now.kind ≡ Kind4.Con)
         × (now ≡ before ++ (peer, spelling (spec.response_to (message_in view.now) why)) ∷ [])))

@@ -1,4 +1,4 @@
-//! By which address of a server each peer was heard.
+//! The address of a server at which each peer was last received from.
 ghost use Rattle.std.specs.Prelude.{◌≡◌, [], IfOk, OnOk, OnErr};
 ghost use Rattle.std.specs.Map.{lookup};
 ghost use Rattle.lru.specs.LruCache.{lru_cache, put_entries};
@@ -12,15 +12,19 @@ use std::num::NonZeroUsize;
 /// How many peers are remembered: twice as many as there can be registrations.
 const MOST_PEERS: usize = 8192;
 
-/// The address by which each peer was heard last, of the 8,192 peers that were heard or sent to
-/// last.
+/// For each peer, the address at which a datagram of it was last received. Holds the 8,192 peers
+/// most recently received from or sent to.
 #[derive(Drop)]
 pub struct Routes {
     heard: LruCache<Peer, usize, RandomState>,
 }
 
 impl Routes {
-    /// No peers. `Starved`: out of memory.
+    /// Creates a table without peers.
+    ///
+    /// # Errors
+    ///
+    /// `Starved` if memory runs out.
     pub fn new(alloc: Global, keys: RandomState) -> Result<Routes, Starved>
         ensures { IfOk result (λ routes. routes.heard ≡ lru_cache [] 8192) }
     {
@@ -31,7 +35,11 @@ impl Routes {
         Ok(Routes { heard })
     }
 
-    /// A peer was heard by an address. `Starved`: out of memory, and it is not remembered.
+    /// Records that the address `place` received from a peer.
+    ///
+    /// # Errors
+    ///
+    /// `Starved` if memory runs out; nothing is recorded then.
     pub(crate) fn hear(&mut self, peer: Peer, place: usize) -> Result<(), Starved>
         ensures heard { OnOk result (self.new.heard ≡ lru_cache
             (put_entries ⟦<Peer as PartialEq>⟧.eq self.old.heard peer place)
@@ -42,7 +50,7 @@ impl Routes {
         Ok(())
     }
 
-    /// The address by which a peer was heard last, where that is remembered.
+    /// Returns the address that last received from a peer, if that is remembered.
     pub(crate) fn place_of(&mut self, peer: Peer) -> Option<usize>
         ensures { result ≡ lookup (⟦<Peer as PartialEq>⟧.eq peer) self.old.heard.entries }
     {

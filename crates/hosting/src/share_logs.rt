@@ -1,11 +1,12 @@
-//! The requests that a share heard, in their order. Contracts alone see them.
+//! The requests that a share received, in order. Only contracts see them.
 ghost use Rattle.std.specs.Prelude.{◌≡◌, ◌∷◌, []};
 
 use std::marker::Model;
 use std::snapshot::Snapshot;
 
-/// The requests that a share heard so far: the window and the source of each. Contracts see them as
-/// a list, the last first. All but the last have no octets.
+/// The requests that a share has received: the window and the source of each.
+///
+/// Contracts see them as a list, the latest first. All requests except the latest take no octets.
 #[derive(Drop)]
 pub(crate) struct ShareLog {
     last: Option<(u64, u64, Snapshot<ShareLog>)>,
@@ -24,14 +25,14 @@ impl Model for ShareLog {
 }
 
 impl ShareLog {
-    /// No request came.
+    /// Creates a log without requests.
     pub(crate) fn new() -> ShareLog
         ensures { result ≡ [] }
     {
         ShareLog { last: None }
     }
 
-    /// One more came.
+    /// Adds a request.
     pub(crate) fn add(&mut self, window: u64, source: u64)
         ensures { self.new ≡ (window, source) ∷ self.old }
     {

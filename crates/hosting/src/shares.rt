@@ -1,4 +1,4 @@
-//! The share of each sender in what all share.
+//! The share of each sender in what all senders share.
 ghost use Rattle.std.specs.Prelude.{◌≡◌, ◌≢◌, ◌≤◌, ◌<◌, ◌∷◌, [], is_some, nat_eq};
 ghost use Rattle.std.specs.Prelude.{IfOk, OnErr, OnOk};
 ghost use Rattle.std.specs.Map.{lookup};
@@ -16,14 +16,16 @@ use std::num::NonZeroUsize;
 /// How many senders a share remembers.
 const MOST_SENDERS: usize = 8192;
 
-/// How many requests a share remembers, by which it tells a retransmission.
+/// How many requests a share remembers, to recognize retransmissions.
 const MOST_TOLD: usize = 8192;
 
-/// How long a window is, in seconds: EXCHANGE_LIFETIME (RFC 7252 section 4.8.2).
+/// The length of a window, in seconds: EXCHANGE_LIFETIME (RFC 7252 section 4.8.2).
 const WINDOW: u64 = 247;
 
-/// The source of a datagram by its number: the first 64 bits of an IPv6 address; of an IPv4 address
-/// those of the IPv6 network that belongs to it (RFC 3056 section 2).
+/// Returns the source of a datagram as a number: the first 64 bits of an IPv6 address.
+///
+/// For an IPv4 address, these are the bits of the IPv6 network that belongs to it (RFC 3056 section
+/// 2).
 pub(crate) fn source_of(host: Host) -> u64
     ensures { result ≡ spec.source_of host }
 {
@@ -40,14 +42,14 @@ pub(crate) fn source_of(host: Host) -> u64
     }
 }
 
-/// The window of a moment.
+/// Returns the window of a moment.
 pub(crate) fn window_at(now: Moment) -> u64
     ensures { result ≡ spec.window_at now.0 }
 {
     now.0 / (1000 * WINDOW)
 }
 
-/// How many seconds are left of the window of a moment: from 1 to 247.
+/// Returns how many seconds are left of the window of a moment, from 1 to 247.
 pub(crate) fn seconds_left(now: Moment) -> u8
     ensures value { result ≡ spec.seconds_left now.0 }
     ensures some { 1 ≤ result }
@@ -55,13 +57,13 @@ pub(crate) fn seconds_left(now: Moment) -> u8
     (WINDOW - now.0 / 1000 % WINDOW) as u8
 }
 
-/// What a request is told by: a retransmission has the same (RFC 7252 section 4.2).
+/// What identifies a request: a retransmission has the same values (RFC 7252 section 4.2).
 #[derive(Clone, Copy, Debug, PartialEq, Eq, Hash)]
 pub(crate) struct Told {
     pub(crate) window: u64,
     pub(crate) peer: Peer,
     pub(crate) mid: u16,
-    /// The octets of the token, and how many they are.
+    /// The octets of the token, padded with zeros, and their number.
     pub(crate) token: [u8; 8],
     pub(crate) token_length: u8,
 }
@@ -73,7 +75,7 @@ pub(crate) struct Tally {
     number: u16,
 }
 
-/// What a tally counts of a window.
+/// Returns how many requests a tally counts in a window.
 fn counted_in(window: u64, tally: Option<Tally>) -> u16
     ensures { result ≡ spec.counted_in window tally }
 {
@@ -83,20 +85,24 @@ fn counted_in(window: u64, tally: Option<Tally>) -> u16
     }
 }
 
-/// What a share says of a request.
+/// The answer of a share to a request.
 #[derive(Clone, Copy, Debug, PartialEq, Eq)]
 pub(crate) enum Heard {
-    /// It passes, and counts.
+    /// The request passes and is counted.
     Counted,
-    /// It passes, and does not count, since memory ran out.
+    /// The request passes and is not counted, since memory ran out.
     Uncounted,
-    /// It is a retransmission of one that passed, and passes.
+    /// The request is a retransmission of one that passed, and passes.
     Again,
-    /// It is past the share.
+    /// The request is beyond the share.
     Past,
 }
 
-/// Remembers the tally of a source. `Starved`: out of memory.
+/// Stores the tally of a source.
+///
+/// # Errors
+///
+/// `Starved` if memory runs out.
 fn put_tally(
     tallies: &mut LruCache<u64, Tally, RandomState>,
     source: u64,
@@ -121,7 +127,11 @@ pub(crate) struct Share {
 }
 
 impl Share {
-    /// A share of so many requests, of which none came. `Starved`: out of memory.
+    /// Creates a share of `bound` requests that has received none.
+    ///
+    /// # Errors
+    ///
+    /// `Starved` if memory runs out.
     pub(crate) fn new(
         alloc: Global,
         bound: u16,
@@ -145,7 +155,7 @@ impl Share {
         })
     }
 
-    /// Hears a request of a source, and tells whether it passes.
+    /// Records a request of a source, and returns whether it passes.
     pub(crate) fn hear(&mut self, source: u64, told: &Told) -> Heard
         ensures below { asked_in told.now.window source self.old.came < self.old.bound
             → result ≢ Heard.Past }

@@ -1,11 +1,11 @@
-//! What is said of a server at its start.
+//! The line that a server prints at its start.
 use crate::about::NAME_AND_VERSION;
 use crate::plans::HostPlan;
 use rd_base::{Starved, peer_text};
 use std::alloc::Global;
 use std::fmt::Write;
 
-/// The addresses of a plan, with commas between them.
+/// Returns the addresses of a plan, separated by commas.
 fn listen_text(alloc: Global, plan: &HostPlan) -> Result<String, Starved> {
     let mut text = String::new(alloc);
     for (k, address) in plan.listen.as_slice().iter().enumerate() {
@@ -18,13 +18,14 @@ fn listen_text(alloc: Global, plan: &HostPlan) -> Result<String, Starved> {
 }
 
 impl HostPlan {
-    /// Gives the line that is said at the start: the name, the version, the addresses, how many
-    /// workers each of them has, the share of a source and the limit of query options, and above
-    /// which number the run begins.
+    /// Returns the line that is printed at the start.
+    ///
+    /// It has the name, the version, the addresses, the number of workers of each address, the
+    /// share of a source, the limit of query options, and the number above which the run begins.
     ///
     /// # Errors
     ///
-    /// Out of memory.
+    /// `Starved` if memory runs out.
     pub fn start_line(&self, alloc: Global, begin: u64) -> Result<String, Starved> {
         let listen = listen_text(alloc, self)?;
         let HostPlan {

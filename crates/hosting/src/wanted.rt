@@ -1,22 +1,22 @@
-//! What words of the command line want, and why they were not read.
+//! What the arguments want, and why arguments are rejected.
 use crate::plans::HostPlan;
 use rd_base::Starved;
 
-/// What the words of `rd_host` want.
+/// What the arguments of `rd_host` want.
 #[derive(Debug, Drop)]
 pub enum Wanted {
-    /// To be told how it is called.
+    /// The text of `--help`.
     Help,
-    /// To be told its version.
+    /// The text of `--version`.
     Version,
-    /// That it serves so.
+    /// A server of this plan.
     Serve(HostPlan),
 }
 
-/// Why words were not read.
+/// The reason why arguments could not be read.
 #[derive(Clone, Copy, Debug, PartialEq, Eq)]
 pub enum HostFault {
-    /// They are not those of the program.
+    /// `rd_host` does not accept them.
     Usage,
     /// Memory ran out.
     Starved,

@@ -9,41 +9,41 @@ use std::io::ErrorKind;
 use std::time::{Clock, Duration, Instant};
 use std::{io, thread};
 
-/// The number of Linux for want of buffers, which has no kind of its own.
+/// The error number of Linux for a lack of buffers, which has no kind of its own.
 const ENOBUFS: i32 = 105;
 
-/// How many receives in a row may fail for want of memory or buffers.
+/// How many receives in a row may fail because memory or buffers ran out.
 const MOST_MISSES: u64 = 20;
 
 /// How long a link waits after such a receive, in milliseconds.
 const PAUSE: u64 = 50;
 
-/// How long a link waits for the others to begin, in milliseconds.
+/// How long a link waits for the others to start, in milliseconds.
 const PATIENCE: u64 = 2000;
 
-/// How much of the time between two receives counts of that, in milliseconds: a program that was
-/// stopped meanwhile has waited no longer.
+/// The most of the time between two receives that counts towards `PATIENCE`, in milliseconds. So a
+/// program that was stopped in between has waited no longer.
 const MOST_STEP: u64 = 100;
 
-/// How far the links of a server have begun, as one of them knows.
+/// How far the links of a server have started, as far as one of them knows.
 #[derive(Clone, Copy, PartialEq, Eq)]
 enum Roll {
-    /// It did not begin itself.
+    /// This link itself has not started.
     Unbegun,
-    /// It waits for the others: when it looked last, and how long it has waited.
+    /// This link waits for the others: when it last examined them, and how long it has waited.
     Waiting(Option<Instant>, Duration),
-    /// All have begun.
+    /// All links have started.
     Complete,
 }
 
-/// Whether an error is for want of memory or buffers, which may pass.
+/// Returns whether an error means that memory or buffers ran out, which may pass.
 fn is_want(error: &io::Error) -> bool
     ensures { IsTrue result ↔ IsWant error.now }
 {
     error.kind() == ErrorKind::OutOfMemory || error.raw_os_error() == Some(ENOBUFS)
 }
 
-/// The time between two readings of the clock, as far as it counts.
+/// Returns the part of the time between two readings of the clock that counts.
 fn step_between(before: Option<Instant>, now: Option<Instant>) -> Duration
     ensures { as_nanos result ≤ 100_000_000 }
 {
@@ -61,12 +61,12 @@ fn step_between(before: Option<Instant>, now: Option<Instant>) -> Duration
 pub(crate) struct Watch<'a> {
     crew: &'a Crew,
     roll: Roll,
-    /// How many receives in a row failed for want of memory or buffers.
+    /// How many receives in a row failed because memory or buffers ran out.
     misses: u64,
 }
 
 impl<'a> Watch<'a> {
-    /// The watch of a link that did not begin.
+    /// Creates the watch of a link that has not started.
     pub(crate) fn of(crew: &'a Crew) -> Watch<'a>
         ensures { result.misses ≡ 0 }
     {
@@ -77,14 +77,14 @@ impl<'a> Watch<'a> {
         }
     }
 
-    /// Notes that a receive did not fail.
+    /// Records that a receive did not fail.
     pub(crate) fn settle(&mut self)
         ensures { self.new.misses ≡ 0 }
     {
         self.misses = 0;
     }
 
-    /// Looks whether all links have begun, and ends them where that takes more than two seconds.
+    /// Examines whether all links have started, and ends them if that takes two seconds.
     fn call_roll<R: Clock>(&mut self, rt: &R)
         ensures { self.new.misses ≡ self.old.misses }
     {
@@ -106,8 +106,8 @@ impl<'a> Watch<'a> {
         }
     }
 
-    /// Counts this link at its first receive, watches at the next ones that the others begin, too,
-    /// and tells whether the links end.
+    /// Returns whether the links are to end. Counts this link at its first receive, and checks at
+    /// later ones that the others start, too.
     pub(crate) fn is_over<R: Clock>(&mut self, rt: &R) -> bool
         ensures { self.new.misses ≡ self.old.misses }
     {
@@ -117,8 +117,10 @@ impl<'a> Watch<'a> {
         self.crew.is_over()
     }
 
-    /// Waits a little after a receive that failed, where that may pass. Where it may not, or has
-    /// not passed for a second, the links of the server end.
+    /// Waits a little after a failed receive, if the error may pass, and returns whether it may.
+    ///
+    /// If the error may not pass, or this is the 21st such receive in a row, the links of the
+    /// server end.
     pub(crate) fn waits<R: Clock>(&mut self, rt: &R, address: Peer, fault: &io::Error) -> bool
         ensures may { IsTrue result ↔ MayPass self.old.misses fault.now }
         ensures counted { IsTrue result → self.new.misses ≡ self.old.misses + 1 }

@@ -1,4 +1,4 @@
-//! What is wrong about words that are not those of the program.
+//! Why `rd_host` rejects arguments.
 ghost use Rattle.std.specs.Prelude.{IfOk};
 ghost use Rattle.hosting.specs.Words.{IsWanted};
 
@@ -12,7 +12,7 @@ use crate::wanted::{HostFault, Wanted};
 use rd_base::Starved;
 use std::alloc::Global;
 
-/// The name of an option.
+/// Returns the name of an option.
 fn name_text(name: OptionName) -> &'static str {
     match name {
         OptionName::Listen => "--listen",
@@ -28,7 +28,7 @@ fn name_text(name: OptionName) -> &'static str {
     }
 }
 
-/// The name under which an option was given.
+/// Returns the name under which an option was given.
 fn option_name(option: &HostOption) -> OptionName {
     match option {
         HostOption::Listen(_) => OptionName::Listen,
@@ -44,7 +44,7 @@ fn option_name(option: &HostOption) -> OptionName {
     }
 }
 
-/// What is wrong about an address.
+/// Returns what is wrong with an address.
 fn wrong_address(alloc: Global, name: &str, value: &str) -> Result<String, Starved> {
     if value.as_bytes().contains(&b'%') {
         return Ok(format!(in alloc;
@@ -56,7 +56,7 @@ fn wrong_address(alloc: Global, name: &str, value: &str) -> Result<String, Starv
     )?)
 }
 
-/// What is wrong about a number.
+/// Returns what is wrong with a number.
 fn wrong_number(
     alloc: Global,
     name: &str,
@@ -67,14 +67,14 @@ fn wrong_number(
     Ok(format!(in alloc; "{name}: \"{value}\" is no number from {least} to {most}")?)
 }
 
-/// What is wrong about a network.
+/// Returns what is wrong with a network.
 fn wrong_network(alloc: Global, name: &str, value: &str) -> Result<String, Starved> {
     Ok(format!(in alloc;
         "{name}: \"{value}\" is no network; give one as 192.0.2.0/24 or 2001:db8::/32"
     )?)
 }
 
-/// What is wrong about the value of an option.
+/// Returns what is wrong with the value of an option.
 fn wrong_value(alloc: Global, name: OptionName, value: &str) -> Result<String, Starved> {
     let text = name_text(name);
     match name {
@@ -90,7 +90,7 @@ fn wrong_value(alloc: Global, name: OptionName, value: &str) -> Result<String, S
     }
 }
 
-/// What is wrong about a word that is no name of an option.
+/// Returns what is wrong with an argument that is no option name.
 fn wrong_other(alloc: Global, word: &str) -> Result<String, Starved> {
     if let Some((name, value)) = word.split_once('=') {
         if let Some(name) = name_of(name.as_bytes()) {
@@ -103,7 +103,7 @@ fn wrong_other(alloc: Global, word: &str) -> Result<String, Starved> {
     Ok(format!(in alloc; "{word}: no option of rd_host (--help tells them)")?)
 }
 
-/// What is wrong about a word, with those behind it.
+/// Returns what is wrong with an argument, given those after it.
 fn wrong_word(alloc: Global, word: &str, rest: &[String]) -> Result<String, Starved> {
     let Some(name) = name_of(word.as_bytes()) else {
         return wrong_other(alloc, word);
@@ -114,7 +114,7 @@ fn wrong_word(alloc: Global, word: &str, rest: &[String]) -> Result<String, Star
     }
 }
 
-/// What is wrong about options of which each is one of the program.
+/// Returns what is wrong with options that are each accepted alone.
 fn wrong_plan(alloc: Global, asked: &HostAsked) -> Result<String, Starved> {
     let addresses = asked.listen.len().max(1);
     let workers = asked.workers.unwrap_or(1);
@@ -123,8 +123,7 @@ fn wrong_plan(alloc: Global, asked: &HostAsked) -> Result<String, Starved> {
     )?)
 }
 
-/// What is wrong about words that are not those of the program: about the first that is wrong, or
-/// about all together.
+/// Returns what is wrong with rejected arguments: with the first bad one, or with all together.
 fn wrong_words(alloc: Global, words: &[String]) -> Result<String, Starved> {
     let mut asked = HostAsked::nothing(alloc);
     let mut left = words;
@@ -145,12 +144,11 @@ fn wrong_words(alloc: Global, words: &[String]) -> Result<String, Starved> {
     wrong_plan(alloc, &asked)
 }
 
-/// Reads what the words of `rd_host` want, as [`host_words`] does.
+/// Reads the arguments of `rd_host`, as [`host_words`] does.
 ///
 /// # Errors
 ///
-/// `Words`: they are not those of the program, and what is wrong about them. `Memory`: out of
-/// memory.
+/// `Words` with what is wrong, if `rd_host` does not accept them; `Memory` if memory runs out.
 pub fn read_words(alloc: Global, words: &[String]) -> Result<Wanted, Failure>
     ensures { IfOk result IsWanted }
 {

@@ -1,5 +1,28 @@
 -- What a line asks for.
-use Rattle.std.proofs.Common.{◌≡◌, ℕ, Bool, false, true, List, [], ◌∷◌, ◌++◌, Option, Some, None, Result, Ok, Err, refl, sym, ap, subst, ◌∙◌, append_assoc, append-nil}
+use Rattle.std.proofs.Common.{
+  ◌≡◌,
+  ℕ,
+  Bool,
+  false,
+  true,
+  List,
+  [],
+  ◌∷◌,
+  ◌++◌,
+  Option,
+  Some,
+  None,
+  Result,
+  Ok,
+  Err,
+  refl,
+  sym,
+  ap,
+  subst,
+  ◌∙◌,
+  append_assoc,
+  append-nil,
+}
 use Rattle.std.specs.Prelude.{◌==◌, ◌&&◌, ◌+◌, position, take, drop}
 use Rattle.std.specs.Str.{is_utf8, IsUtf8}
 use Rattle.std.proofs.lemmas.Bool.{false_from_ne_true}
@@ -242,14 +265,14 @@ texts_all options path same texts = ap are_texts (sym same) ∙ texts
 
 -- ---- locations
 
-pub located_fault : (f : LineFault) (ask : Ask)
+pub at_fault : (f : LineFault) (ask : Ask)
     → IsPath (Err f) ask.options
     → IsJudged {A = Location} (Err f) (located ask)
 unfolding located
-located_fault (unread.Bad bad.Ask) ask is = rw is refl
-located_fault (unread.Bad bad.Many) ask is = absurd is
-located_fault (unread.Bad bad.Form) ask is = absurd is
-located_fault (unread.Bad bad.Zone) ask is = absurd is
-located_fault (unread.Bad bad.Family) ask is = absurd is
-located_fault (unread.Bad bad.Base) ask is = absurd is
-located_fault unread.Starved ask is = tt
+at_fault (unread.Bad bad.Ask) ask is = rw is refl
+at_fault (unread.Bad bad.Many) ask is = absurd is
+at_fault (unread.Bad bad.Form) ask is = absurd is
+at_fault (unread.Bad bad.Zone) ask is = absurd is
+at_fault (unread.Bad bad.Family) ask is = absurd is
+at_fault (unread.Bad bad.Base) ask is = absurd is
+at_fault unread.Starved ask is = tt

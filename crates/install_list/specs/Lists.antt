@@ -1,6 +1,44 @@
 -- A list of devices as an installer writes it: what each line asks for, and the first line that is
 -- bad.
-use Rattle.std.specs.Prelude.{◌≡◌, ℕ, ◌+◌, ◌*◌, ◌-◌, ◌/◌, ◌==◌, ◌&&◌, ◌||◌, Bool, true, false, not, nat_lt, List, [], ◌∷◌, ◌++◌, length, map, flat_map, codes, take, drop, position, slice_index, Option, Some, None, is_some, unwrap_or, Result, Ok, Err, ⊤, bytes_eq, if◌then◌else◌}
+use Rattle.std.specs.Prelude.{
+  ◌≡◌,
+  ℕ,
+  ◌+◌,
+  ◌*◌,
+  ◌-◌,
+  ◌/◌,
+  ◌==◌,
+  ◌&&◌,
+  ◌||◌,
+  Bool,
+  true,
+  false,
+  not,
+  nat_lt,
+  List,
+  [],
+  ◌∷◌,
+  ◌++◌,
+  length,
+  map,
+  flat_map,
+  codes,
+  take,
+  drop,
+  position,
+  slice_index,
+  Option,
+  Some,
+  None,
+  is_some,
+  unwrap_or,
+  Result,
+  Ok,
+  Err,
+  ⊤,
+  bytes_eq,
+  if◌then◌else◌,
+}
 use Rattle.std.specs.List.{list_any, list_all, filter, prefix_len, suffix_len}
 use Rattle.std.specs.Str.{is_utf8}
 use Rattle.std.specs.Char.{is_ascii_whitespace}
@@ -260,7 +298,8 @@ removing_named from line = with next.Removes (named from line)
 abbrev pub keeping_entry : Option Host → List ℕ → Result (Ask × Then) LineBad
 keeping_entry from line = kept (registering from line)
 
--- the ask of a line that removes: that of its location, or that which registers what it names, whose
+-- the ask of a line that removes: that of its location, or that which registers what it names,
+-- whose
 -- answer says where it stands
 abbrev pub removing_entry : Option Host → List ℕ → Result (Ask × Then) LineBad
 removing_entry from line =

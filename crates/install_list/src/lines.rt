@@ -372,7 +372,7 @@ fn has_query(ask: &Ask) -> bool
 }
 
 /// Returns the location that an ask has in its path.
-#[tactic(auto, using(crate::proofs::LineLaws::located_fault), unfolding(crate::specs::Lists::located))]
+#[tactic(auto, using(crate::proofs::LineLaws::at_fault), unfolding(crate::specs::Lists::located))]
 fn located(alloc: Global, ask: &Ask) -> Result<Location, LineFault>
     ensures { IsJudged result (lists.located ask.now) }
 {

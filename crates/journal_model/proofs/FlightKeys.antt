@@ -33,7 +33,7 @@ use Rattle.event_model.specs.Events.{Event, noted, last_event, has_event, events
 use Rattle.event_model.specs.Observers.{name_of}
 use Rattle.event_model.specs.Flights.{
   is_forming_for,
-  notice_mid,
+  notification_mid,
   is_landing_of,
   is_again_of,
   Flight,
@@ -70,7 +70,7 @@ key_before o e before k quiet found =
         (option_and_then (λ x.
         option_and_then (flight_after o.peer x
         (cond b [] (e ∷ events_since (is_forming_for (name_of o)) before)))
-        (notice_mid x.note)) (cond b (Some e) last))
+        (notification_mid x.note)) (cond b (Some e) last))
         ≡ Some k
 
     landed : (x : Event) (mid : ℕ) (b c : Bool)
@@ -104,10 +104,10 @@ key_before o e before k quiet found =
     formed : (last : Option Event)
         → Behind false last
         → option_map key_of (option_and_then
-        (λ x. option_and_then (flight_after o.peer x later) (notice_mid x.note)) last)
+        (λ x. option_and_then (flight_after o.peer x later) (notification_mid x.note)) last)
         ≡ Some k
     formed None h = h
-    formed (Some x) h = with_mid x (notice_mid x.note) h
+    formed (Some x) h = with_mid x (notification_mid x.note) h
 
 -- the note acknowledges a notification
 abbrev pub is_landing : Note → Bool
@@ -158,11 +158,11 @@ key_same o e before quiet lands = rw quiet (formed (last_event (is_forming_for (
 
     formed : (last : Option Event)
         → option_map key_of (option_and_then
-        (λ x. option_and_then (flight_after o.peer x (e ∷ later)) (notice_mid x.note)) last)
+        (λ x. option_and_then (flight_after o.peer x (e ∷ later)) (notification_mid x.note)) last)
         ≡ option_map key_of (option_and_then
-        (λ x. option_and_then (flight_after o.peer x later) (notice_mid x.note)) last)
+        (λ x. option_and_then (flight_after o.peer x later) (notification_mid x.note)) last)
     formed None = refl
-    formed (Some x) = with_mid x (notice_mid x.note)
+    formed (Some x) = with_mid x (notification_mid x.note)
 
 -- a note that builds a notification for the observer, or a body in an answer
 pub key_formed : (o : Observer) (place moment word : ℕ) (body : List ℕ) (mid : ℕ)
@@ -204,23 +204,23 @@ key_same_all o place moment word (n ∷ notes) before quiet lands =
     ∙ key_same o (event_at place moment word n) before both.0 none.0
 
 -- the note builds a notification
-abbrev pub is_notice : Note → Bool
-is_notice (note.Formed peer token body mid) = is_some mid
-is_notice _ = false
+abbrev pub is_notification : Note → Bool
+is_notification (note.Formed peer token body mid) = is_some mid
+is_notification _ = false
 
 -- where the last that was built for the observer is no notification, none is in flight
 pub key_none : (o : Observer) (past : List Event) (e : Event)
     → last_event (is_forming_for (name_of o)) past ≡ Some e
-    → is_notice e.note ≡ false
+    → is_notification e.note ≡ false
     → flight_key o past ≡ None
 unfolding flight
 key_none o past e last other = rw last (by e.note other)
   where
     by : (n : Note)
-        → is_notice n ≡ false
+        → is_notification n ≡ false
         → option_map key_of (option_and_then
         (flight_after o.peer e (events_since (is_forming_for (name_of o)) past))
-        (notice_mid n))
+        (notification_mid n))
         ≡ None
     by (note.Formed peer token body None) h = refl
     by (note.Formed peer token body (Some mid)) h = absurd (false≢true (sym h))

@@ -14,7 +14,7 @@
 -- Observers: what each knows (ObserverKnowledge, AddedObservers, TickKnowledge, ObserversKnow), who
 -- is due after a row by the marks of a desk (DueRows),
 --   and the octets of messages that wait (SentOctets); in flights: what the first part of a tick
--- leaves (WaitedPeers, NoticesAgain).
+-- leaves (WaitedPeers, NotificationsAgain).
 -- Datagrams: what rows send can be read and fits (FittingReplies, OwnSends, TickedSends,
 -- NotedSends, SentRows, DatagramRows).
 -- Journals of a desk (desks): TouchedExchanges (what a row notes of exchanges), AdmissionsInOrder

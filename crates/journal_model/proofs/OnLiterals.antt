@@ -22,8 +22,8 @@ use Rattle.journal_model.specs.EmptyMessages.{acknowledged, reset}
 use Rattle.journal_model.specs.Responses.{response_effects}
 use Rattle.journal_model.specs.Ticks.{
   octets_sent,
-  notices_again,
-  notices,
+  notifications_again,
+  notifications,
   requests_again,
   tick_effects,
 }
@@ -37,6 +37,7 @@ unfolding messages_on_literals events_on_literals events entries now latest row_
     answering refusal_of_request is_look_request body_reply look look_effects keep_effects
     later_block observed unobserved lookup_effects read_effects write_effects body_read registration
     replacement block_uploaded registering replacing commit_effects acknowledged reset
-    response_effects notices_again notices requests_again tick_effects served effects row_moment row
+    response_effects notifications_again notifications requests_again tick_effects served effects
+    row_moment row
     is_look_datagram job_of mids_drawn run rows_of octets_sent
 machine_on_literals = tt

@@ -89,14 +89,14 @@ use Rattle.journal_model.specs.Ticks.{
   ticking,
   sent_again,
   each_of,
-  notice_again,
+  notification_again,
   flight_again,
-  notices_again,
+  notifications_again,
   Ticking,
-  noticed_unless,
-  noticed_if,
-  notice_next,
-  notices,
+  notified_unless,
+  notified_if,
+  notification_next,
+  notifications,
   request_again,
   fetch_again,
   requests_again,
@@ -308,15 +308,15 @@ sent_again-notes kind None n fits = and_from (kind n) true fits refl
 sent_again-notes kind (Some d) n fits = and_from (kind n) true fits refl
 
 -- notifications are retransmitted
-pub notices_again-notes : (rows : List Row) (moment : ℕ)
-    → are of_again (notices_again rows moment).notes ≡ true
-unfolding notices_again
-notices_again-notes rows moment =
+pub notifications_again-notes : (rows : List Row) (moment : ℕ)
+    → are of_again (notifications_again rows moment).notes ≡ true
+unfolding notifications_again
+notifications_again-notes rows moment =
     each_of-notes of_again (λ o. flight_again rows moment o (flight o (events rows)))
     (λ o. flying o (flight o (events rows))) (observers (events rows))
   where
     again : (b c : Bool) (o : Observer) (f : Flight)
-        → are of_again (notice_again (due_by b c) rows o f).notes ≡ true
+        → are of_again (notification_again (due_by b c) rows o f).notes ≡ true
     again false c o f = refl
     again true true o f = refl
     again true false o f = sent_again-notes of_again _ _ refl
@@ -327,20 +327,20 @@ notices_again-notes rows moment =
     flying o (Some f) = again _ _ o f
 
 -- due observers get notifications
-pub notices-notes : (t : Ticking) (done : Effects)
+pub notifications-notes : (t : Ticking) (done : Effects)
     → are of_tick done.notes ≡ true
-    → are of_tick (notices t done).notes ≡ true
-unfolding notices
-notices-notes t done quiet = folded (observers (events_with t done)) done quiet
+    → are of_tick (notifications t done).notes ≡ true
+unfolding notifications
+notifications-notes t done quiet = folded (observers (events_with t done)) done quiet
   where
     unless : (b : Bool) (so_far : Effects) (o : Observer) (a : Answer)
-        → are of_tick (noticed_unless b t so_far o a).notes ≡ true
+        → are of_tick (notified_unless b t so_far o a).notes ≡ true
     unless true so_far o a = refl
     unless false so_far o a =
         tick_one (is_long (first_block o) a.body) (note.Kept o.peer o.key a.body a.tag) refl
 
     looked : (b : Bool) (so_far : Effects) (o : Observer)
-        → are of_tick (noticed_if b t so_far o).notes ≡ true
+        → are of_tick (notified_if b t so_far o).notes ≡ true
     looked false so_far o = refl
     looked true so_far o =
         unless (is_unchanged (last_body_formed (name_of o) (events_with t so_far))
@@ -348,11 +348,11 @@ notices-notes t done quiet = folded (observers (events_with t done)) done quiet
 
     folded : (standing : List Observer) (so_far : Effects)
         → are of_tick so_far.notes ≡ true
-        → are of_tick (fold (notice_next t) so_far standing).notes ≡ true
+        → are of_tick (fold (notification_next t) so_far standing).notes ≡ true
     folded [] so_far h = h
     folded (o ∷ standing) so_far h =
-        folded standing (notice_next t so_far o)
-        (are-append of_tick so_far.notes (noticed_if (is_looked_at t so_far o) t so_far o).notes h
+        folded standing (notification_next t so_far o)
+        (are-append of_tick so_far.notes (notified_if (is_looked_at t so_far o) t so_far o).notes h
         (looked (is_looked_at t so_far o) so_far o))
 
 -- requests of fetches are retransmitted
@@ -380,12 +380,13 @@ pub tick_effects-notes : (starved : Bool) (rows : List Row) (moment : ℕ) (s : 
     → are of_tick (tick_effects starved rows moment s).notes ≡ true
 unfolding tick_effects
 tick_effects-notes true rows moment s =
-    are-append of_tick (notices_again rows moment).notes (requests_again rows moment).notes
-    (again_tick (notices_again rows moment).notes (notices_again-notes rows moment))
+    are-append of_tick (notifications_again rows moment).notes (requests_again rows moment).notes
+    (again_tick (notifications_again rows moment).notes (notifications_again-notes rows moment))
     (resent_tick (requests_again rows moment).notes (requests_again-notes rows moment))
 tick_effects-notes false rows moment s =
-    are-append of_tick (notices (ticking rows moment s) (notices_again rows moment)).notes
+    are-append of_tick (notifications (ticking rows moment s)
+    (notifications_again rows moment)).notes
     (requests_again rows moment).notes
-    (notices-notes (ticking rows moment s) (notices_again rows moment)
-    (again_tick (notices_again rows moment).notes (notices_again-notes rows moment)))
+    (notifications-notes (ticking rows moment s) (notifications_again rows moment)
+    (again_tick (notifications_again rows moment).notes (notifications_again-notes rows moment)))
     (resent_tick (requests_again rows moment).notes (requests_again-notes rows moment))

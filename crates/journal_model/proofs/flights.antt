@@ -1,2 +1,2 @@
 pub mod WaitedPeers
-pub mod NoticesAgain
+pub mod NotificationsAgain

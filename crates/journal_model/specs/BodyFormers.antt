@@ -40,13 +40,14 @@ former_of_kept name rows =
     option_and_then (λ p. former_of_body p.row.step.kind p) (last_kept name rows)
 
 -- Returns whether a note builds the notification with a peer and a Message ID.
-abbrev pub forms_notice : Peer → ℕ → Note → Bool
-forms_notice peer mid (note.Formed p token body (Some m)) = is_same_peer p peer && m == mid
-forms_notice peer mid _ = false
+abbrev pub forms_notification : Peer → ℕ → Note → Bool
+forms_notification peer mid (note.Formed p token body (Some m)) = is_same_peer p peer && m == mid
+forms_notification peer mid _ = false
 
 -- Returns the row that built the notification with a peer and a Message ID.
-abbrev pub former_of_notice : Peer → ℕ → List Row → Option Placed
-former_of_notice peer mid rows = last_row (λ r. list_any (forms_notice peer mid) r.notes) rows
+abbrev pub former_of_notification : Peer → ℕ → List Row → Option Placed
+former_of_notification peer mid rows = last_row
+    (λ r. list_any (forms_notification peer mid) r.notes) rows
 
 -- Returns whether a note reads the kept answer of a name.
 abbrev pub reads_answer : RequestName → Note → Bool
@@ -82,7 +83,7 @@ former_of_further (Ok m) here = former_of_kept (here.row.step.peer, key_in m) he
 abbrev pub former_at : StepKind → Peer → ℕ → Placed → Option Placed
 former_at (step.Keep body tag) peer mid here = look_of here.row.step.worker here.before
 former_at step.Tick peer mid here =
-    if sends_again peer mid here then former_of_notice peer mid here.before else Some here
+    if sends_again peer mid here then former_of_notification peer mid here.before else Some here
 former_at _ peer mid here =
     if reads_further_block (reading here.row.step.datagram) here
     then former_of_further (reading here.row.step.datagram) here else Some here

@@ -76,7 +76,7 @@ pub record IsAnswer (here : Placed) (peer : Peer) (m : Message) : Type 0 where
   pub answers : AnswersRequest here.row.step m ⊎ AnswersRepeat here.before here.row.step m
 
 -- A response that is a 2.05 to an observer, with its peer and its token.
-pub record IsNotice (here : Placed) (peer : Peer) (m : Message) : Type 0 where
+pub record IsNotification (here : Placed) (peer : Peer) (m : Message) : Type 0 where
   pub content : is_content m ≡ true
   pub observer : Observer
   pub named : observer_named (peer, m.token) here.before ≡ Some observer
@@ -88,7 +88,7 @@ IsAddressed step.Admit here peer m = IsAnswer here peer m
 IsAddressed step.Look here peer m = IsAnswer here peer m
 IsAddressed (step.Commit place) here peer m = IsAnswer here peer m
 IsAddressed (step.Keep body tag) here peer m = IsAnswer here peer m
-IsAddressed step.Tick here peer m = IsNotice here peer m
+IsAddressed step.Tick here peer m = IsNotification here peer m
 IsAddressed (step.Begin first) here peer m = ⊥
 
 -- A message that is a 2.05 and carries the first block of a body. This is the block that its own

@@ -66,8 +66,8 @@ use Rattle.journal_model.specs.Effects.{Effects, Reply, nothing, joined, noting,
 use Rattle.journal_model.specs.Bodies.{body_reply, is_long}
 
 -- The most notifications that one tick builds.
-abbrev pub max_notices : ℕ
-max_notices = 64
+abbrev pub max_notifications : ℕ
+max_notifications = 64
 
 -- Returns whether octets begin a confirmable message with this Message ID: version 1, type 0 (RFC
 -- 7252 section 3).
@@ -115,23 +115,23 @@ due_by true true = giving_up
 due_by true false = retransmission
 
 -- Retransmits a notification whose timeout has ended. After the last time its observer is removed.
-abbrev pub notice_again : Due → List Row → Observer → Flight → Effects
-notice_again not_yet rows o f = nothing
-notice_again giving_up rows o f = noting (note.Unwatched o.peer o.token ∷ [])
-notice_again retransmission rows o f =
+abbrev pub notification_again : Due → List Row → Observer → Flight → Effects
+notification_again not_yet rows o f = nothing
+notification_again giving_up rows o f = noting (note.Unwatched o.peer o.token ∷ [])
+notification_again retransmission rows o f =
     repeating rows f.formed.place o.peer f.mid (note.Again o.peer f.mid)
 
 -- Retransmits the notification in flight to an observer, if that is due at a moment.
 abbrev pub flight_again : List Row → ℕ → Observer → Option Flight → Effects
 flight_again rows moment o None = nothing
 flight_again rows moment o (Some f) =
-    notice_again
+    notification_again
     (due_by (nat_le (deadline f.formed f.again) moment) (nat_le max_again (length f.again))) rows o
     f
 
 -- Does the first part of a tick: retransmits the notifications in flight whose timeout has ended.
-unfoldable pub notices_again : List Row → ℕ → Effects
-notices_again rows moment =
+unfoldable pub notifications_again : List Row → ℕ → Effects
+notifications_again rows moment =
     each_of (λ o. flight_again rows moment o (flight o (events rows))) (observers (events rows))
 
 -- What the notifications of a tick are made from: the rows before it, its moment and step, and the
@@ -176,8 +176,8 @@ block_shown o body = if is_long (first_block o) body then first_block o else Non
 
 -- Returns the notification of an observer: a confirmable 2.05 with the listing, its tag and the
 -- next Observe value (RFC 7641 section 4.2).
-abbrev pub notice_of : Observer → ℕ → Reply → Message
-notice_of o mid reply = record {
+abbrev pub notification_of : Observer → ℕ → Reply → Message
+notification_of o mid reply = record {
   kind = Con;
   code = reply.code;
   mid = mid;
@@ -187,12 +187,13 @@ notice_of o mid reply = record {
 }
 
 -- Sends a notification of a new listing, which is kept if it is longer than the block size.
-abbrev pub noticed : Ticking → Effects → Observer → Answer → ℕ → Effects
-noticed t done o answer mid = record {
+abbrev pub notified : Ticking → Effects → Observer → Answer → ℕ → Effects
+notified t done o answer mid = record {
   sent = (
     o.peer,
     spelling
-        (notice_of o mid (body_reply (Some answer.tag) (Some (observe_value (events_with t done)))
+        (notification_of o mid (body_reply (Some answer.tag)
+        (Some (observe_value (events_with t done)))
         (block_shown o answer.body) answer.body)),
   )
       ∷ [];
@@ -208,10 +209,10 @@ is_unchanged None body = false
 is_unchanged (Some last) body = bytes_eq last body
 
 -- Sends an observer the listing if that is new, and otherwise notes that it is unchanged.
-abbrev pub noticed_unless : Bool → Ticking → Effects → Observer → Answer → Effects
-noticed_unless true t done o answer = noting (note.Unchanged o.peer o.token ∷ [])
-noticed_unless false t done o answer =
-    noticed t done o answer (mid_of t.step.worker (t.step.drawn + done.drew))
+abbrev pub notified_unless : Bool → Ticking → Effects → Observer → Answer → Effects
+notified_unless true t done o answer = noting (note.Unchanged o.peer o.token ∷ [])
+notified_unless false t done o answer =
+    notified t done o answer (mid_of t.step.worker (t.step.drawn + done.drew))
 
 -- Returns the listing of an observer at the moment of the tick.
 abbrev pub listing_for : Ticking → Observer → Answer
@@ -221,10 +222,10 @@ listing_for t o = record {
 }
 
 -- Sends an observer its listing, if the tick considers the observer. Otherwise it gets nothing.
-abbrev pub noticed_if : Bool → Ticking → Effects → Observer → Effects
-noticed_if false t done o = nothing
-noticed_if true t done o =
-    noticed_unless
+abbrev pub notified_if : Bool → Ticking → Effects → Observer → Effects
+notified_if false t done o = nothing
+notified_if true t done o =
+    notified_unless
     (is_unchanged (last_body_formed (name_of o) (events_with t done)) (listing_for t o).body) t
     done o (listing_for t o)
 
@@ -232,18 +233,18 @@ noticed_if true t done o =
 -- to its peer, and the tick has not built as many as it may.
 abbrev pub is_looked_at : Ticking → Effects → Observer → Bool
 is_looked_at t done o =
-    not (nat_le max_notices done.drew)
+    not (nat_le max_notifications done.drew)
     && is_due o (events_with t done) t.transitions
     && not (is_waited_for o.peer (events_with t done))
 
 -- Does one observer after others, with what the tick did for those.
-abbrev pub notice_next : Ticking → Effects → Observer → Effects
-notice_next t done o = joined done (noticed_if (is_looked_at t done o) t done o)
+abbrev pub notification_next : Ticking → Effects → Observer → Effects
+notification_next t done o = joined done (notified_if (is_looked_at t done o) t done o)
 
 -- Does the second part of a tick, after the first: sends due observers a notification, one after
 -- the other.
-unfoldable pub notices : Ticking → Effects → Effects
-notices t done = fold (notice_next t) done (observers (events_with t done))
+unfoldable pub notifications : Ticking → Effects → Effects
+notifications t done = fold (notification_next t) done (observers (events_with t done))
 
 -- Retransmits a request of a fetch whose timeout has ended. After the last time, and if a separate
 -- response did not arrive, the fetch ends.
@@ -272,7 +273,8 @@ requests_again rows moment =
 -- Does a tick: one part strictly after the other. If memory ran out, the new notifications are left
 -- out.
 unfoldable pub tick_effects : Bool → List Row → ℕ → Step → Effects
-tick_effects true rows moment s = joined (notices_again rows moment) (requests_again rows moment)
+tick_effects true rows moment s = joined (notifications_again rows moment)
+    (requests_again rows moment)
 tick_effects false rows moment s =
-    joined (notices (ticking rows moment s) (notices_again rows moment))
+    joined (notifications (ticking rows moment s) (notifications_again rows moment))
     (requests_again rows moment)

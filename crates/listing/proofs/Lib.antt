@@ -1,5 +1,5 @@
 -- Proofs of the code that lists one registration. PatternLaws, PartCuts, PartSizes, SoughtLaws,
--- SieveLaws: criteria and links. EndpointLaws: criteria and endpoints. PieceLaws: lines of
+-- LinkFilterLaws: criteria and links. EndpointLaws: criteria and endpoints. PieceLaws: lines of
 -- endpoints, piece by piece. StepLaws, PartLaws: the lines of a registration. AlikeLaws,
 -- SamePartLaws: when those of two are the same. OwnLaws: the directory's own links.
 pub mod PatternLaws
@@ -13,4 +13,4 @@ pub mod PartCuts
 pub mod PartSizes
 pub mod AlikeLaws
 pub mod SoughtLaws
-pub mod SieveLaws
+pub mod LinkFilterLaws

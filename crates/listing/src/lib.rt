@@ -5,6 +5,7 @@
 mod alike_links;
 mod appended_lines;
 mod criteria;
+mod link_filters;
 mod locations;
 mod octets;
 mod own_links;
@@ -12,7 +13,6 @@ mod parts;
 mod patterns;
 mod pieces;
 mod same_parts;
-mod sieves;
 mod sought;
 
 pub use criteria::{endpoint_listed, endpoint_matches, link_matches, matches};

@@ -4,30 +4,31 @@ ghost use Rattle.std.specs.Option.{option_copied};
 ghost use Rattle.record_model.specs.ListingLines.{part};
 ghost use Rattle.listing.specs.AppendedLines.{appended, shown_lines};
 ghost use Rattle.listing.specs.ListedLinks.{lines_by, listed_endpoint, listed_lines};
-ghost use Rattle.listing.specs.Sieves.{IsJudged, sifts};
+ghost use Rattle.listing.specs.LinkFilters.{IsJudged, sifts};
 
 use crate::appended_lines::{append_all_links, append_endpoint, append_link};
 use crate::criteria::{endpoint_listed, judge};
-use crate::sieves::Sieve;
+use crate::link_filters::LinkFilter;
 use rd_base::{Bytes, Items, Kind, Links, Query, Record, Starved};
 use std::alloc::Global;
 
-/// Appends the lines of the links that the sieve lists, link by link, after the first `skip` and at
+/// Appends the lines of the links that the link_filter lists, link by link, after the first `skip`
+/// and at
 /// most `most`, and answers how many it skipped and wrote. Out of memory, the octets are as before.
 fn append_each(
-    sieve: &Sieve<'_>,
+    link_filter: &LinkFilter<'_>,
     links: Links<'_>,
     skip: u64,
     most: u64,
     into: &mut Bytes,
 ) -> Result<(u64, u64), Starved>
-    requires { IsJudged sieve.now }
+    requires { IsJudged link_filter.now }
     ensures text { OnOk result (into.new ≡ appended into.old
-        (shown_lines skip most (lines_by (sifts sieve.now) links.entry))) }
+        (shown_lines skip most (lines_by (sifts link_filter.now) links.entry))) }
     ensures skipped { IfOk result (λ counts. counts.0 ≡ min skip
-        (length (lines_by (sifts sieve.now) links.entry))) }
+        (length (lines_by (sifts link_filter.now) links.entry))) }
     ensures written { IfOk result (λ counts. counts.1 ≡ length
-        (shown_lines skip most (lines_by (sifts sieve.now) links.entry))) }
+        (shown_lines skip most (lines_by (sifts link_filter.now) links.entry))) }
     ensures starved { OnErr result (into.new ≡ into.old) }
 {
     let before = into.len();
@@ -35,7 +36,7 @@ fn append_each(
     let mut to_write = most;
     let mut left = links;
     'links: while let Some(link) = left.next() {
-        if !sieve.lists(&link) {
+        if !link_filter.lists(&link) {
             continue;
         }
         if to_skip > 0 {
@@ -64,29 +65,30 @@ fn is_whole(links: &Items, skip: u64, most: u64) -> bool
     links.len() as u64 <= most
 }
 
-/// Appends the lines of the links that the sieve lists, after the first `skip` and at most `most`,
+/// Appends the lines of the links that the link_filter lists, after the first `skip` and at most
+/// `most`,
 /// and answers how many it skipped and wrote. Out of memory, the octets are as before.
 fn append_sifted(
-    sieve: &Sieve<'_>,
+    link_filter: &LinkFilter<'_>,
     items: &Items,
     skip: u64,
     most: u64,
     into: &mut Bytes,
 ) -> Result<(u64, u64), Starved>
-    requires { IsJudged sieve.now }
+    requires { IsJudged link_filter.now }
     ensures text { OnOk result (into.new ≡ appended into.old
-        (shown_lines skip most (lines_by (sifts sieve.now) items.now))) }
+        (shown_lines skip most (lines_by (sifts link_filter.now) items.now))) }
     ensures skipped { IfOk result (λ counts. counts.0 ≡ min skip
-        (length (lines_by (sifts sieve.now) items.now))) }
+        (length (lines_by (sifts link_filter.now) items.now))) }
     ensures written { IfOk result (λ counts. counts.1 ≡ length
-        (shown_lines skip most (lines_by (sifts sieve.now) items.now))) }
+        (shown_lines skip most (lines_by (sifts link_filter.now) items.now))) }
     ensures starved { OnErr result (into.new ≡ into.old) }
 {
     if !is_whole(items, skip, most) {
-        return append_each(sieve, items.links(), skip, most, into);
+        return append_each(link_filter, items.links(), skip, most, into);
     }
-    if !sieve.lists_all() {
-        return append_each(sieve, items.links(), skip, most, into);
+    if !link_filter.lists_all() {
+        return append_each(link_filter, items.links(), skip, most, into);
     }
     append_all_links(items, into)?;
     Ok((0, items.len() as u64))
@@ -111,8 +113,8 @@ pub fn append_links(
     ensures starved { OnErr result (into.new ≡ into.old) }
 {
     let judged = judge(query, owner);
-    let sieve = Sieve::of(query, owner, &judged);
-    append_sifted(&sieve, items, skip, most, into)
+    let link_filter = LinkFilter::of(query, owner, &judged);
+    append_sifted(&link_filter, items, skip, most, into)
 }
 
 /// Appends the line of the endpoint where it is listed, by the same rules.

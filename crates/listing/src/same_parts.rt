@@ -7,16 +7,16 @@ ghost use Rattle.record_model.specs.ListingLines.{part_or_none, same_lines};
 ghost use Rattle.listing.specs.AlikeLinks.{Agree};
 ghost use Rattle.listing.specs.Views.{FirstListed, left};
 ghost use Rattle.listing.specs.ListedLinks.{lines_by, listed_endpoint, listed_lines};
-ghost use Rattle.listing.specs.Sieves.{IsJudged, sifts};
+ghost use Rattle.listing.specs.LinkFilters.{IsJudged, sifts};
 
 use crate::alike_links::{
     after_alike, are_all_alike, are_listed_together, same_all_lines, same_line,
 };
 use crate::criteria::{endpoint_listed, judge};
+use crate::link_filters::{LinkFilter, both_list_all};
 use crate::locations::location_of;
 use crate::octets::{Octets, octets_of, same_octets};
 use crate::pieces::endpoint_pieces;
-use crate::sieves::{Sieve, both_list_all};
 use rd_base::{Items, Kind, Link, Links, Query, Record};
 
 /// The line of an endpoint, octet by octet.
@@ -44,25 +44,26 @@ fn same_endpoint(old: &Record, new: &Record) -> bool
 }
 
 /// The first of the links that is listed, and those after it.
-fn first_listed<'a>(sieve: &Sieve<'_>, links: Links<'a>) -> Option<(Link<'a>, Links<'a>)>
-    requires { IsJudged sieve.now }
-    ensures { FirstListed (sifts sieve.now) links.entry result }
+fn first_listed<'a>(link_filter: &LinkFilter<'_>, links: Links<'a>) -> Option<(Link<'a>, Links<'a>)>
+    requires { IsJudged link_filter.now }
+    ensures { FirstListed (sifts link_filter.now) links.entry result }
 {
     let mut left = links;
     'links: while let Some(link) = left.next() {
-        if sieve.lists(&link) {
+        if link_filter.lists(&link) {
             return Some((link, left));
         }
     }
     None
 }
 
-/// Whether the links that pass through their sieves have the same lines in the same order, which
+/// Whether the links that pass through their link_filters have the same lines in the same order,
+/// which
 /// are compared link by link.
 fn same_link_by_link(
     together: bool,
-    old: &Sieve<'_>,
-    new: &Sieve<'_>,
+    old: &LinkFilter<'_>,
+    new: &LinkFilter<'_>,
     old_items: &Items,
     new_items: &Items,
 ) -> bool
@@ -95,12 +96,13 @@ fn same_link_by_link(
     }
 }
 
-/// Whether the links that pass through their sieves have the same lines in the same order. Where
+/// Whether the links that pass through their link_filters have the same lines in the same order.
+/// Where
 /// all pass, or all are alike, their lines are compared as one text.
 fn same_sifted(
     together: bool,
-    old: &Sieve<'_>,
-    new: &Sieve<'_>,
+    old: &LinkFilter<'_>,
+    new: &LinkFilter<'_>,
     old_items: &Items,
     new_items: &Items,
 ) -> bool
@@ -128,8 +130,8 @@ fn same_links(query: &Query, old: &Record, new: &Record) -> bool
     let old_judged = judge(query, Some(old));
     let new_judged = judge(query, Some(new));
     let together = are_listed_together(query, &old_judged, &new_judged);
-    let old_sieve = Sieve::of(query, Some(old), &old_judged);
-    let new_sieve = Sieve::of(query, Some(new), &new_judged);
+    let old_sieve = LinkFilter::of(query, Some(old), &old_judged);
+    let new_sieve = LinkFilter::of(query, Some(new), &new_judged);
     same_sifted(together, &old_sieve, &new_sieve, &old.items, &new.items)
 }
 
@@ -168,8 +170,8 @@ fn gives_none(query: &Query, record_of: &Record) -> bool
     match query.kind {
         Kind::Resource => {
             let judged = judge(query, Some(record_of));
-            let sieve = Sieve::of(query, Some(record_of), &judged);
-            first_listed(&sieve, record_of.items.links()).is_none()
+            let link_filter = LinkFilter::of(query, Some(record_of), &judged);
+            first_listed(&link_filter, record_of.items.links()).is_none()
         }
         Kind::Endpoint => !endpoint_listed(query, record_of),
         Kind::Discovery => true,

@@ -1,4 +1,4 @@
--- Which observers are found by a name or by a notice: by the table, and by the events that it
+-- Which observers are found by a name or by a notification: by the table, and by the events that it
 -- stands for.
 use Rattle.std.proofs.Common.{
   ◌≡◌,
@@ -45,11 +45,18 @@ use Rattle.event_model.specs.declared.notes.Observer.{Observer}
 use Rattle.event_model.specs.Same.{RequestName, is_same_peer, is_same_request}
 use Rattle.event_model.specs.Events.{Event}
 use Rattle.event_model.specs.Observers.{observers, is_observer}
-use Rattle.event_model.specs.Flights.{Sent, OctetsSent, Flight, flight, notice_sent, waiting_notice}
+use Rattle.event_model.specs.Flights.{
+  Sent,
+  OctetsSent,
+  Flight,
+  flight,
+  notification_sent,
+  waiting_notification,
+}
 use Rattle.event_model.specs.Due.{Transition, Watching as Shown, watching, observers_standing}
 use Rattle.event_model.proofs.SameLaws.{is_same_peer-Decides, is_same_request-Decides}
 use Rattle.journal_model.specs.EmptyMessages.{is_flight_of, waited_for}
-use Rattle.observers.specs.Standing.{Standing, is_named, is_sent_as, has_notice, changed_at}
+use Rattle.observers.specs.Standing.{Standing, is_named, is_sent_as, has_notification, changed_at}
 use Rattle.observers.specs.ObserverEvents.{
   observer_of,
   shown,
@@ -233,20 +240,21 @@ number_turned m n = by (m == n) (n == m) refl refl
 
 -- by the table, among those of the events
 flight_as : (octets : OctetsSent) (peer : Peer) (mid : ℕ) (f : Option Flight)
-    → is_flight_of mid f ≡ is_sent_as mid (option_map (notice_sent octets peer) f)
+    → is_flight_of mid f ≡ is_sent_as mid (option_map (notification_sent octets peer) f)
 flight_as octets peer mid None = refl
 flight_as octets peer mid (Some f) = number_turned f.mid mid
 
 waited_in : (queries : ℕ → Query) (octets : OctetsSent) (past : List Event) (seen : List Transition)
     (ws : List Standing) (peer : Peer) (mid : ℕ)
     → ObserversStandFor queries octets past seen ws
-    → waited_for peer mid past ≡ map (observer_of queries) (filter (has_notice peer mid) ws)
-unfolding observers_standing waiting_notice
+    → waited_for peer mid past ≡ map (observer_of queries) (filter (has_notification peer mid) ws)
+unfolding observers_standing waiting_notification
 waited_in queries octets past seen ws peer mid h = each (observers past) ws h.standing
   where
     one : (o : Observer) (x : Standing)
         → watching octets past seen o ≡ shown queries x
-        → (is_same_peer o.peer peer && is_flight_of mid (flight o past)) ≡ has_notice peer mid x
+        → (is_same_peer o.peer peer && is_flight_of mid (flight o past))
+        ≡ has_notification peer mid x
     one o x here =
         let named = ap (λ (y : Shown). y.observer.peer) here in
         let waits = ap (λ (y : Shown). y.waits) here in
@@ -274,35 +282,36 @@ waited_in queries octets past seen ws peer mid h = each (observers past) ws h.st
     each : (os : List Observer) (xs : List Standing)
         → map (watching octets past seen) os ≡ map (shown queries) xs
         → filter (λ o. is_same_peer o.peer peer && is_flight_of mid (flight o past)) os
-        ≡ map (observer_of queries) (filter (has_notice peer mid) xs)
+        ≡ map (observer_of queries) (filter (has_notification peer mid) xs)
     each [] [] e = refl
     each [] (x ∷ xs) e = absurd cc
     each (o ∷ os) [] e = absurd cc
     each (o ∷ os) (x ∷ xs) e =
         let here : watching octets past seen o ≡ shown queries x = cc in
         let rest : map (watching octets past seen) os ≡ map (shown queries) xs = cc in
-        step (is_same_peer o.peer peer && is_flight_of mid (flight o past)) (has_notice peer mid x)
+        step (is_same_peer o.peer peer && is_flight_of mid (flight o past))
+        (has_notification peer mid x)
         o x
         (filter (λ y. is_same_peer y.peer peer && is_flight_of mid (flight y past)) os)
-        (map (observer_of queries) (filter (has_notice peer mid) xs)) (one o x here)
+        (map (observer_of queries) (filter (has_notification peer mid) xs)) (one o x here)
         (ap (λ (y : Shown). y.observer) here) (each os xs rest)
-        ∙ mapped (has_notice peer mid x) x (filter (has_notice peer mid) xs)
+        ∙ mapped (has_notification peer mid x) x (filter (has_notification peer mid) xs)
 
 -- at most one
 only_one : (peer : Peer) (mid : ℕ) (ws : List Standing)
     → EachAwaitsOne ws
-    → filter (has_notice peer mid) ws ≡ in_list (find (has_notice peer mid) ws)
+    → filter (has_notification peer mid) ws ≡ in_list (find (has_notification peer mid) ws)
 only_one peer mid [] h = refl
-only_one peer mid (w ∷ ws) h = by (has_notice peer mid w) refl (only_one peer mid ws h.1)
+only_one peer mid (w ∷ ws) h = by (has_notification peer mid w) refl (only_one peer mid ws h.1)
   where
     flies : (f : Option Sent) → is_sent_as mid f ≡ true → is_some f ≡ true
     flies None e = absurd (false≢true e)
     flies (Some s) e = refl
 
     other : (x : Standing) (b : Bool)
-        → has_notice peer mid w ≡ true
+        → has_notification peer mid w ≡ true
         → AwaitsOne w x
-        → has_notice peer mid x ≡ b
+        → has_notification peer mid x ≡ b
         → b ≡ false
     other x false e a g = refl
     other x true e a g =
@@ -314,15 +323,15 @@ only_one peer mid (w ∷ ws) h = by (has_notice peer mid w) refl (only_one peer 
         (flies x.flight its.1))
 
     by : (b : Bool)
-        → has_notice peer mid w ≡ b
-        → filter (has_notice peer mid) ws ≡ in_list (find (has_notice peer mid) ws)
-        → cond b (w ∷ filter (has_notice peer mid) ws) (filter (has_notice peer mid) ws)
-        ≡ in_list (cond b (Some w) (find (has_notice peer mid) ws))
+        → has_notification peer mid w ≡ b
+        → filter (has_notification peer mid) ws ≡ in_list (find (has_notification peer mid) ws)
+        → cond b (w ∷ filter (has_notification peer mid) ws) (filter (has_notification peer mid) ws)
+        ≡ in_list (cond b (Some w) (find (has_notification peer mid) ws))
     by true e more =
         ap (λ (xs : List Standing). w ∷ xs)
-        (filter_none (has_notice peer mid) ws
-        (each_weaker (AwaitsOne w) (λ x. has_notice peer mid x ≡ false)
-        (λ x a. other x (has_notice peer mid x) e a refl) ws h.0))
+        (filter_none (has_notification peer mid) ws
+        (each_weaker (AwaitsOne w) (λ x. has_notification peer mid x ≡ false)
+        (λ x a. other x (has_notification peer mid x) e a refl) ws h.0))
     by false e more = more
 
 -- The observers that a message with this Message ID waits for, by the events, are the one that the
@@ -330,7 +339,8 @@ only_one peer mid (w ∷ ws) h = by (has_notice peer mid w) refl (only_one peer 
 pub waited_for-StandsFor : (queries : ℕ → Query) (octets : OctetsSent) (past : List Event)
     (seen : List Transition) (ws : List Standing) (peer : Peer) (mid : ℕ)
     → ObserversStandFor queries octets past seen ws
-    → waited_for peer mid past ≡ map (observer_of queries) (in_list (find (has_notice peer mid) ws))
+    → waited_for peer mid past ≡ map (observer_of queries)
+    (in_list (find (has_notification peer mid) ws))
 waited_for-StandsFor queries octets past seen ws peer mid h =
     waited_in queries octets past seen ws peer mid h
     ∙ ap (map (observer_of queries)) (only_one peer mid ws h.awaited)

@@ -71,7 +71,7 @@ use Rattle.journal_model.specs.Ticks.{octets_sent}
 use Rattle.journal_model.specs.UnfinishedRow.{making}
 use Rattle.watch_table.specs.WatchedQueries.{Table, one_more, without}
 use Rattle.watch_table.specs.ObserverCounts.{WatchesStandFor}
-use Rattle.observers.specs.Standing.{Standing, is_named, has_notice}
+use Rattle.observers.specs.Standing.{Standing, is_named, has_notification}
 use Rattle.observers.specs.ObserverEvents.{observer_of, ObserversStandFor}
 use Rattle.observers.proofs.StandLaws.{observers-StandsFor, dropped-StandsFor}
 use Rattle.observation.specs.declared.joining.Joining.{Joining}
@@ -129,10 +129,10 @@ is_observer-StandsFor rows w peer token h =
 -- a message with this Message ID is waited for exactly where the table finds one
 pub is_waited-StandsFor : (rows : List Row) (w : Watching) (peer : Peer) (mid : ℕ)
     → WatchingStandsFor rows w
-    → is_some (find (has_notice peer mid) w.observers)
+    → is_some (find (has_notification peer mid) w.observers)
     ≡ nat_lt 0 (length (waited_for peer mid (events rows)))
 is_waited-StandsFor rows w peer mid h =
-    by (find (has_notice peer mid) w.observers)
+    by (find (has_notification peer mid) w.observers)
     ∙ sym (ap (λ os. nat_lt 0 (length os))
     (waited_for-StandsFor h.queries (octets_sent rows) (events rows) (transitions rows)
     w.observers peer mid h.observers))
@@ -144,10 +144,10 @@ is_waited-StandsFor rows w peer mid h =
 
 pub any_waited-StandsFor : (rows : List Row) (w : Watching) (peer : Peer) (mid : ℕ)
     → WatchingStandsFor rows w
-    → list_any (has_notice peer mid) w.observers
+    → list_any (has_notification peer mid) w.observers
     ≡ nat_lt 0 (length (waited_for peer mid (events rows)))
 any_waited-StandsFor rows w peer mid h =
-    any_found (has_notice peer mid) w.observers ∙ is_waited-StandsFor rows w peer mid h
+    any_found (has_notification peer mid) w.observers ∙ is_waited-StandsFor rows w peer mid h
 
 -- ---- room
 

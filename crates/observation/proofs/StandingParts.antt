@@ -1,5 +1,5 @@
 -- What the watched queries and their observers stand for, by its parts, after notes about
--- observers: one is gone, one is added, or their notices change.
+-- observers: one is gone, one is added, or their notifications change.
 use Rattle.std.proofs.Common.{
   ◌≡◌,
   ℕ,
@@ -52,7 +52,7 @@ use Rattle.observers.specs.ObserverEvents.{observer_of, shown, ObserversStandFor
 use Rattle.observers.proofs.StandLaws.{observers-StandsFor}
 use Rattle.observation.specs.Watching.{Watching, IsInSlot, IsUnmarked, IsConfirmable, AreWatchedBy}
 use Rattle.observation.proofs.WatchedLaws.{
-  without_notice,
+  without_notification,
   same_observers,
   same_in_slots,
   in_slots_same,
@@ -75,17 +75,17 @@ watched-StandsOver octets past seen history moment w h = record {
       (observers-StandsFor h.queries octets past seen w.observers h.observers) h.watches;
 }
 
--- ---- notices
+-- ---- notifications
 
 -- the same observers stand, each in its slot
-pub noticed_stands : (octets : OctetsSent) (past later : List Event) (seen : List Transition)
+pub notified_stands : (octets : OctetsSent) (past later : List Event) (seen : List Transition)
     (history : List Entry) (moment : ℕ) (w : Watching) (ws : List Standing)
-    → map without_notice ws ≡ map without_notice w.observers
+    → map without_notification ws ≡ map without_notification w.observers
     → AllByRecursion IsConfirmable ws
     → (h : StandsOver octets past seen history moment w)
     → ObserversStandFor h.queries octets later seen ws
     → StandsOver octets later seen history moment (record { watches = w.watches; observers = ws })
-noticed_stands octets past later seen history moment w ws same confirmable h now = record {
+notified_stands octets past later seen history moment w ws same confirmable h now = record {
   queries = h.queries;
   in_slots =
       in_slots_same w.watches h.queries ws

@@ -40,7 +40,7 @@ use Rattle.rd_base.proofs.lemmas.Each.{each_weaker}
 use Rattle.history_model.specs.Listing.{listing}
 use Rattle.event_model.specs.declared.notes.Observer.{Observer}
 use Rattle.event_model.specs.Observers.{name_of, observers, last_body_formed}
-use Rattle.event_model.specs.Flights.{flight, is_waited_for, waiting_notice}
+use Rattle.event_model.specs.Flights.{flight, is_waited_for, waiting_notification}
 use Rattle.event_model.specs.Due.{Watching as Shown, is_due, watching, observers_standing}
 use Rattle.journal_model.specs.declared.rows.Row.{Row}
 use Rattle.journal_model.specs.Journal.{events, entries, now, transitions}
@@ -65,7 +65,7 @@ use Rattle.observers.proofs.StandLaws.{
   same_at as shown_at,
 }
 use Rattle.observers.proofs.MarkLaws.{awaited-StandsFor}
-use Rattle.observation.specs.Notices.{first_observer, next_noticed}
+use Rattle.observation.specs.Notifications.{first_observer, next_notified}
 use Rattle.observation.specs.Watching.{
   Watching,
   IsInSlot,
@@ -256,8 +256,8 @@ kept_body-AreWatched slot body t ws h = record {
 -- The next observer that is due and free is the next by the events.
 pub next-StandsFor : (rows : List Row) (w : Watching) (from : ℕ)
     → WatchingStandsFor rows w
-    → next_ready from w.observers ≡ next_noticed from (events rows) (transitions rows)
-unfolding next_ready next_noticed observers_standing
+    → next_ready from w.observers ≡ next_notified from (events rows) (transitions rows)
+unfolding next_ready next_notified observers_standing
 next-StandsFor rows w from h =
     sym (dropped from (observers (events rows)) w.observers h.observers.standing)
   where
@@ -320,7 +320,7 @@ pub record IsKeptAs (rows : List Row) (o : Observer) (x : Standing) : Type 0 whe
   pub szx : o.szx ≡ x.szx
   pub due : is_due o (events rows) (transitions rows) ≡ x.due
   pub last : last_body_formed (name_of o) (events rows) ≡ Some x.last
-  pub waits : waiting_notice (octets_sent rows) (events rows) o ≡ x.flight
+  pub waits : waiting_notification (octets_sent rows) (events rows) o ≡ x.flight
 
 -- For the tick: each observer is kept at the index that it has by the events.
 pub kept-StandsFor : (rows : List Row) (w : Watching) (i : ℕ) (o : Observer) (x : Standing)
@@ -350,4 +350,4 @@ length-StandsFor rows w h =
     length_shown h.queries (octets_sent rows) (events rows) (transitions rows) w.observers
     h.observers
 
--- ---- notices that are sent again
+-- ---- notifications that are sent again

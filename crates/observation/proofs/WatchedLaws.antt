@@ -124,59 +124,59 @@ changed-AreWatched change keeps t ws h = record {
 -- ---- observers change, but for who they are
 
 -- an observer for which nothing was formed
-abbrev pub without_notice : Standing → Standing
-without_notice w = record w { due = false; last = []; flight = None }
+abbrev pub without_notification : Standing → Standing
+without_notification w = record w { due = false; last = []; flight = None }
 
 pub same_observers : (queries : ℕ → Query) (ws : List Standing)
-    → map (observer_of queries) ws ≡ map (observer_of queries) (map without_notice ws)
+    → map (observer_of queries) ws ≡ map (observer_of queries) (map without_notification ws)
 same_observers queries [] = refl
 same_observers queries (w ∷ ws) =
     ap (λ (os : List Observer). observer_of queries w ∷ os) (same_observers queries ws)
 
 pub same_in_slots : (t : Table) (queries : ℕ → Query) (ws : List Standing)
     → AllByRecursion (IsInSlot t queries) ws
-    → AllByRecursion (IsInSlot t queries) (map without_notice ws)
+    → AllByRecursion (IsInSlot t queries) (map without_notification ws)
 same_in_slots t queries [] h = tt
 same_in_slots t queries (w ∷ ws) h = (h.0, same_in_slots t queries ws h.1)
 
 pub in_slots_same : (t : Table) (queries : ℕ → Query) (ws : List Standing)
-    → AllByRecursion (IsInSlot t queries) (map without_notice ws)
+    → AllByRecursion (IsInSlot t queries) (map without_notification ws)
     → AllByRecursion (IsInSlot t queries) ws
 in_slots_same t queries [] h = tt
 in_slots_same t queries (w ∷ ws) h = (h.0, in_slots_same t queries ws h.1)
 
 names_same : (w : Standing) (ws others : List Standing)
-    → map without_notice others ≡ map without_notice ws
+    → map without_notification others ≡ map without_notification ws
     → AllByRecursion (IsOtherName w) ws
     → AllByRecursion (IsOtherName w) others
 names_same w [] [] e h = tt
 names_same w [] (x ∷ others) e h = absurd cc
 names_same w (y ∷ ws) [] e h = absurd cc
 names_same w (y ∷ ws) (x ∷ others) e h =
-    let here : without_notice x ≡ without_notice y = cc in
-    let rest : map without_notice others ≡ map without_notice ws = cc in (
+    let here : without_notification x ≡ without_notification y = cc in
+    let rest : map without_notification others ≡ map without_notification ws = cc in (
       subst (λ (z : Standing). is_named w.peer w.token z ≡ false) (sym here) h.0,
       names_same w ws
           others rest h.1,
     )
 
 apart_same : (ws others : List Standing)
-    → map without_notice others ≡ map without_notice ws
+    → map without_notification others ≡ map without_notification ws
     → HaveOtherNames ws
     → HaveOtherNames others
 apart_same [] [] e h = tt
 apart_same [] (x ∷ others) e h = absurd cc
 apart_same (y ∷ ws) [] e h = absurd cc
 apart_same (y ∷ ws) (x ∷ others) e h =
-    let here : without_notice x ≡ without_notice y = cc in
-    let rest : map without_notice others ≡ map without_notice ws = cc in (
+    let here : without_notification x ≡ without_notification y = cc in
+    let rest : map without_notification others ≡ map without_notification ws = cc in (
       subst (λ (z : Standing). AllByRecursion (λ v. is_named z.peer z.token v ≡ false) others)
           (sym here) (names_same y ws others rest h.0),
       apart_same ws others rest h.1,
     )
 
 pub same-AreWatched : (t : Table) (ws others : List Standing)
-    → map without_notice others ≡ map without_notice ws
+    → map without_notification others ≡ map without_notification ws
     → AreWatched t ws
     → AreWatched t others
 same-AreWatched t ws others same h = record {
@@ -194,9 +194,9 @@ same-AreWatched t ws others same h = record {
 }
 
 handed-same : (t : Table) (ws : List Standing)
-    → map without_notice (map (handed t) ws) ≡ map without_notice ws
+    → map without_notification (map (handed t) ws) ≡ map without_notification ws
 handed-same t [] = refl
-handed-same t (w ∷ ws) = ap (λ (xs : List Standing). without_notice w ∷ xs) (handed-same t ws)
+handed-same t (w ∷ ws) = ap (λ (xs : List Standing). without_notification w ∷ xs) (handed-same t ws)
 
 -- after marks were set, and after they were handed on
 pub touched-AreWatched : (old new : Option Record) (t : Table) (ws : List Standing)
@@ -215,21 +215,22 @@ handed-AreWatched t ws h =
 
 -- after what waits for the one with an index changed, or for the first that passes a test
 pub changed_at-AreWatched : (change : Standing → Standing)
-    → ((w : Standing) → without_notice (change w) ≡ without_notice w)
+    → ((w : Standing) → without_notification (change w) ≡ without_notification w)
     → (i : ℕ) (t : Table) (ws : List Standing)
     → AreWatched t ws
     → AreWatched t (changed_at change i ws)
 changed_at-AreWatched change same i t ws h =
-    same-AreWatched t ws (changed_at change i ws) (map-changed_at without_notice change same i ws) h
+    same-AreWatched t ws (changed_at change i ws)
+    (map-changed_at without_notification change same i ws) h
 
 pub changed_first-AreWatched : (test : Standing → Bool) (change : Standing → Standing)
-    → ((w : Standing) → without_notice (change w) ≡ without_notice w)
+    → ((w : Standing) → without_notification (change w) ≡ without_notification w)
     → (t : Table) (ws : List Standing)
     → AreWatched t ws
     → AreWatched t (changed_first test change ws)
 changed_first-AreWatched test change same t ws h =
     same-AreWatched t ws (changed_first test change ws)
-    (map-changed_first without_notice test change same ws) h
+    (map-changed_first without_notification test change same ws) h
 
 -- ---- one observer fewer
 

@@ -81,9 +81,9 @@ use Rattle.watch_table.specs.WatchedQueries.{one_more, one_fewer, without, IsSlo
 use Rattle.observers.specs.Standing.{
   Standing,
   is_named,
-  has_notice,
+  has_notification,
   is_awaited,
-  noticed,
+  notified,
   seen,
   landed,
   kept_of,
@@ -102,7 +102,7 @@ use Rattle.observers.proofs.StandLaws.{
   again-StandsFor,
   added-StandsFor,
 }
-use Rattle.observation.specs.Notices.{forming, sending_again}
+use Rattle.observation.specs.Notifications.{forming, sending_again}
 use Rattle.observation.specs.Watching.{Watching, IsConfirmable, WatchingStandsFor}
 use Rattle.observation.proofs.FoundObservers.{
   Cut,
@@ -117,9 +117,9 @@ use Rattle.observation.proofs.FoundObservers.{
   waited_for-StandsFor,
   is_observer-found,
 }
-use Rattle.observation.proofs.WatchedLaws.{without_notice, with_query, with_own, with_same}
+use Rattle.observation.proofs.WatchedLaws.{without_notification, with_query, with_own, with_same}
 use Rattle.observation.proofs.StandingParts.{
-  noticed_stands,
+  notified_stands,
   gone_stands,
   other_queries,
   added_stands,
@@ -186,32 +186,34 @@ joined_noting done notes more =
 
 -- ---- acknowledgements
 
--- An acknowledgement ends the flight of the notice that it is of.
+-- An acknowledgement ends the flight of the notification that it is of.
 pub WatchingStandsFor-acked : (rows : List Row) (s : Step) (starved : Bool) (done : Effects)
     (peer : Peer) (mid : ℕ) (w : Watching)
     → WatchingStandsFor (making rows s starved done) w
     → WatchingStandsFor (making rows s starved (joined done (noting (map (λ o. note.Landed peer mid)
     (waited_for peer mid (events (making rows s starved done)))))))
-    (record
-    { watches = w.watches; observers = changed_first (has_notice peer mid) landed w.observers })
+    (record {
+      watches = w.watches;
+      observers = changed_first (has_notification peer mid) landed w.observers;
+    })
 WatchingStandsFor-acked rows s starved done peer mid w h =
     subst (λ (os : List Observer).
     WatchingStandsFor
     (making rows s starved (joined done (noting (map (λ o. note.Landed peer mid) os))))
     (record {
       watches = w.watches;
-      observers = changed_first (has_notice peer mid) landed
+      observers = changed_first (has_notification peer mid) landed
           w.observers;
     }))
     (sym (waited_for-StandsFor h.queries (octets_sent (making rows s starved done))
     (events (making rows s starved done)) (transitions (making rows s starved done))
     w.observers peer mid h.observers))
-    (by (find (has_notice peer mid) w.observers) refl)
+    (by (find (has_notification peer mid) w.observers) refl)
   where
     now_landed : List Standing
-    now_landed = changed_first (has_notice peer mid) landed w.observers
+    now_landed = changed_first (has_notification peer mid) landed w.observers
 
-    by : (o : Option Standing) → find (has_notice peer mid) w.observers ≡ o
+    by : (o : Option Standing) → find (has_notification peer mid) w.observers ≡ o
         → WatchingStandsFor (making rows s starved
         (joined done (noting (map (λ (x : Observer). note.Landed peer mid)
         (map (observer_of h.queries) (in_list o))))))
@@ -220,7 +222,7 @@ WatchingStandsFor-acked rows s starved done peer mid w h =
         subst (λ ws.
         WatchingStandsFor (making rows s starved (joined done (noting [])))
         (record { watches = w.watches; observers = ws }))
-        (sym (changed_first-unfound (has_notice peer mid) landed w.observers none))
+        (sym (changed_first-unfound (has_notification peer mid) landed w.observers none))
         (none_noted rows s starved done w h)
     by (Some x) found =
         let more = noting (note.Landed peer mid ∷ []) in
@@ -229,11 +231,12 @@ WatchingStandsFor-acked rows s starved done peer mid w h =
         let past = events (making rows s starved done) in
         stands_after rows s starved done more
         (record { watches = w.watches; observers = now_landed })
-        (noticed_stands (octets_sent later) past
+        (notified_stands (octets_sent later) past
         (event_at (length rows) (row_moment rows s) s.word (note.Landed peer mid) ∷ past)
         (transitions later) (entries later) (now later) w now_landed
-        (map-changed_first without_notice (has_notice peer mid) landed (λ y. refl) w.observers)
-        (each_changed_first IsConfirmable (has_notice peer mid) landed
+        (map-changed_first without_notification (has_notification peer mid) landed (λ y. refl)
+        w.observers)
+        (each_changed_first IsConfirmable (has_notification peer mid) landed
         (λ y fits s flies. absurd (let no : None ≡ Some s = flies in cc)) w.observers
         h.confirmable) before
         (landed-StandsFor before.queries (octets_sent later) past (transitions later)
@@ -282,7 +285,7 @@ gone_one rows s starved done peer token w left x cut gone h =
     before : StandsOver (octets_sent later) past (transitions later) (entries later) (now later) w
     before = stands_before rows s starved done more w refl h
 
--- A Reset removes the observer whose notice it is of.
+-- A Reset removes the observer whose notification it is of.
 pub WatchingStandsFor-reset : (rows : List Row) (s : Step) (starved : Bool) (done : Effects)
     (peer : Peer) (mid : ℕ) (w : Watching)
     → WatchingStandsFor (making rows s starved done) w
@@ -290,27 +293,27 @@ pub WatchingStandsFor-reset : (rows : List Row) (s : Step) (starved : Bool) (don
     (making rows s starved (joined done (noting (map (λ o. note.Unwatched o.peer o.token)
     (waited_for peer mid (events (making rows s starved done)))))))
     (record {
-      watches = without (option_map (λ x. x.slot) (find (has_notice peer mid) w.observers))
+      watches = without (option_map (λ x. x.slot) (find (has_notification peer mid) w.observers))
           w.watches;
-      observers = without_first (has_notice peer mid) w.observers;
+      observers = without_first (has_notification peer mid) w.observers;
     })
 WatchingStandsFor-reset rows s starved done peer mid w h =
     subst (λ (os : List Observer).
     WatchingStandsFor (making rows s starved (joined done
     (noting (map (λ (o : Observer). note.Unwatched o.peer o.token) os))))
-    (w' (find (has_notice peer mid) w.observers)))
+    (w' (find (has_notification peer mid) w.observers)))
     (sym (waited_for-StandsFor h.queries (octets_sent (making rows s starved done))
     (events (making rows s starved done)) (transitions (making rows s starved done))
     w.observers peer mid h.observers))
-    (by (find (has_notice peer mid) w.observers) refl)
+    (by (find (has_notification peer mid) w.observers) refl)
   where
     w' : Option Standing → Watching
     w' found = record {
       watches = without (option_map (λ (x : Standing). x.slot) found) w.watches;
-      observers = without_first (has_notice peer mid) w.observers;
+      observers = without_first (has_notification peer mid) w.observers;
     }
 
-    by : (o : Option Standing) → find (has_notice peer mid) w.observers ≡ o
+    by : (o : Option Standing) → find (has_notification peer mid) w.observers ≡ o
         → WatchingStandsFor (making rows s starved
         (joined done (noting (map (λ (y : Observer). note.Unwatched y.peer y.token)
         (map (observer_of h.queries) (in_list o)))))) (w' o)
@@ -318,12 +321,12 @@ WatchingStandsFor-reset rows s starved done peer mid w h =
         subst (λ ws.
         WatchingStandsFor (making rows s starved (joined done (noting [])))
         (record { watches = w.watches; observers = ws }))
-        (sym (without_first-unfound (has_notice peer mid) w.observers none))
+        (sym (without_first-unfound (has_notification peer mid) w.observers none))
         (none_noted rows s starved done w h)
     by (Some x) found =
         gone_one rows s starved done x.peer x.token w
-        (without_first (has_notice peer mid) w.observers) x
-        (cut_first (has_notice peer mid) w.observers x found)
+        (without_first (has_notification peer mid) w.observers) x
+        (cut_first (has_notification peer mid) w.observers x found)
         (λ queries octets past seen e is stands.
         reset-StandsFor queries octets past seen e peer mid w.observers x found is stands) h
 
@@ -373,7 +376,7 @@ WatchingStandsFor-left rows s starved done peer token w h =
         (λ queries octets past seen e is stands.
         dropped-StandsFor queries octets past seen e peer token w.observers is stands) h
 
--- An observer is taken out whose notice is given up.
+-- An observer is taken out whose notification is given up.
 pub WatchingStandsFor-timed_out : (rows : List Row) (s : Step) (starved : Bool) (done : Effects)
     (i : ℕ) (x : Standing) (w : Watching)
     → slice_get w.observers i ≡ Some x
@@ -448,12 +451,12 @@ WatchingStandsFor-added rows s starved done query x w new quiet calm for h =
 
 -- ---- what waits for one, and whether it is due
 
--- one more note about the notice of an observer
-noticed_one : (rows : List Row) (s : Step) (starved : Bool) (done more : Effects) (n : Note)
+-- one more note about the notification of an observer
+notified_one : (rows : List Row) (s : Step) (starved : Bool) (done more : Effects) (n : Note)
     (ws : List Standing) (w : Watching)
     → more.notes ≡ n ∷ []
     → entries_in (n ∷ []) ≡ []
-    → map without_notice ws ≡ map without_notice w.observers
+    → map without_notification ws ≡ map without_notification w.observers
     → AllByRecursion IsConfirmable ws
     → ((queries : ℕ → Query)
     → ObserversStandFor queries (octets_sent (making rows s starved (joined done more)))
@@ -465,14 +468,14 @@ noticed_one : (rows : List Row) (s : Step) (starved : Bool) (done more : Effects
     → WatchingStandsFor (making rows s starved done) w
     → WatchingStandsFor (making rows s starved (joined done more))
     (record { watches = w.watches; observers = ws })
-noticed_one rows s starved done more n ws w one none same confirmable step h =
+notified_one rows s starved done more n ws w one none same confirmable step h =
     stands_after rows s starved done more (record { watches = w.watches; observers = ws })
     (subst (λ notes.
     StandsOver (octets_sent later)
     (noted (length rows) (row_moment rows s) s.word notes past) (transitions later)
     (entries later) (now later) (record { watches = w.watches; observers = ws }))
     (sym one)
-    (noticed_stands (octets_sent later) past
+    (notified_stands (octets_sent later) past
     (event_at (length rows) (row_moment rows s) s.word n ∷ past) (transitions later)
     (entries later) (now later) w ws same confirmable before
     (step before.queries before.observers)))
@@ -495,9 +498,9 @@ pub WatchingStandsFor-unchanged : (rows : List Row) (s : Step) (starved : Bool) 
     (making rows s starved (joined done (noting (note.Unchanged x.peer x.token ∷ []))))
     (record { watches = w.watches; observers = changed_at seen i w.observers })
 WatchingStandsFor-unchanged rows s starved done i x w there h =
-    noticed_one rows s starved done (noting (note.Unchanged x.peer x.token ∷ []))
+    notified_one rows s starved done (noting (note.Unchanged x.peer x.token ∷ []))
     (note.Unchanged x.peer x.token) (changed_at seen i w.observers) w refl refl
-    (map-changed_at without_notice seen (λ y. refl) i w.observers)
+    (map-changed_at without_notification seen (λ y. refl) i w.observers)
     (each_changed_at IsConfirmable seen (λ y fits. fits) i w.observers h.confirmable)
     (λ queries stands.
     unchanged-StandsFor queries (octets_sent later) (events (making rows s starved done))
@@ -545,7 +548,7 @@ last_sent rows s starved done more peer mid octets is none fits =
         ∙ (ap₂ (λ (a b : Option (Peer × List ℕ)). option_or a b) (unfound done.sent none)
         (ap (find test) is ∙ ap (λ b. cond b (Some (peer, octets)) None) own))
 
--- A notice was formed for an observer, to whose peer none is in flight.
+-- A notification was formed for an observer, to whose peer none is in flight.
 pub WatchingStandsFor-formed : (rows : List Row) (s : Step) (starved : Bool) (done : Effects)
     (i : ℕ) (x : Standing) (body : List ℕ) (sent : Sent) (w : Watching)
     → slice_get w.observers i ≡ Some x
@@ -558,13 +561,13 @@ pub WatchingStandsFor-formed : (rows : List Row) (s : Step) (starved : Bool) (do
     → Resends first [] sent.resend)
     → WatchingStandsFor (making rows s starved done) w
     → WatchingStandsFor (making rows s starved (joined done (forming x body sent)))
-    (record { watches = w.watches; observers = changed_at (noticed sent body) i w.observers })
+    (record { watches = w.watches; observers = changed_at (notified sent body) i w.observers })
 WatchingStandsFor-formed rows s starved done i x body sent w there free unsent fits resends h =
-    noticed_one rows s starved done (forming x body sent)
+    notified_one rows s starved done (forming x body sent)
     (note.Formed x.peer x.token body (Some sent.mid))
-    (changed_at (noticed sent body) i w.observers) w refl refl
-    (map-changed_at without_notice (noticed sent body) (λ y. refl) i w.observers)
-    (each_changed_at IsConfirmable (noticed sent body) (λ y before t flies. let same :
+    (changed_at (notified sent body) i w.observers) w refl refl
+    (map-changed_at without_notification (notified sent body) (λ y. refl) i w.observers)
+    (each_changed_at IsConfirmable (notified sent body) (λ y before t flies. let same :
     sent ≡ t =
     cc in subst (λ (z : Sent). is_confirmable_with z.mid z.octets ≡ true) same fits) i
     w.observers h.confirmable)
@@ -584,7 +587,7 @@ WatchingStandsFor-formed rows s starved done i x body sent w there free unsent f
         event_at (length rows) (row_moment rows s) s.word
         (note.Formed x.peer x.token body (Some sent.mid))
 
--- The notice in flight to an observer was sent again.
+-- The notification in flight to an observer was sent again.
 pub WatchingStandsFor-again : (rows : List Row) (s : Step) (starved : Bool) (done : Effects)
     (moment i : ℕ) (x : Standing) (sent : Sent) (w : Watching)
     → slice_get w.observers i ≡ Some x
@@ -595,9 +598,9 @@ pub WatchingStandsFor-again : (rows : List Row) (s : Step) (starved : Bool) (don
     → WatchingStandsFor (making rows s starved (joined done (sending_again x sent)))
     (record { watches = w.watches; observers = changed_at (timed moment) i w.observers })
 WatchingStandsFor-again rows s starved done moment i x sent w there flies sends at h =
-    noticed_one rows s starved done (sending_again x sent) (note.Again x.peer sent.mid)
+    notified_one rows s starved done (sending_again x sent) (note.Again x.peer sent.mid)
     (changed_at (timed moment) i w.observers) w refl refl
-    (map-changed_at without_notice (timed moment) (λ y. refl) i w.observers)
+    (map-changed_at without_notification (timed moment) (λ y. refl) i w.observers)
     (each_changed_at IsConfirmable (timed moment) (λ y fits t kept. still y.flight t fits kept) i
     w.observers h.confirmable)
     (λ queries stands.

@@ -36,7 +36,7 @@ use Rattle.event_model.specs.declared.notes.Note.{Note}
 use Rattle.event_model.specs.declared.notes.Observer.{Observer}
 use Rattle.event_model.specs.Events.{Event, noted}
 use Rattle.event_model.specs.Observers.{observers}
-use Rattle.event_model.specs.Flights.{OctetsSent, notice_sent, waiting_notice}
+use Rattle.event_model.specs.Flights.{OctetsSent, notification_sent, waiting_notification}
 use Rattle.event_model.specs.Due.{
   Transition,
   Watching as Shown,
@@ -45,7 +45,7 @@ use Rattle.event_model.specs.Due.{
   observers_standing,
 }
 use Rattle.event_model.proofs.AsideTables.{about_observers, observers_standing-noted}
-use Rattle.event_model.proofs.FlightLaws.{waiting_notice-octets}
+use Rattle.event_model.proofs.FlightLaws.{waiting_notification-octets}
 use Rattle.journal_model.specs.Ticks.{is_confirmable_with}
 use Rattle.watch_table.specs.WatchedQueries.{
   Watched,
@@ -121,7 +121,7 @@ pub octets_kept : (octets others : OctetsSent) (past : List Event) (seen : List 
     (history : List Entry) (moment : ℕ) (w : Watching)
     → KeepsConfirmable octets others
     → StandsOver octets past seen history moment w → StandsOver others past seen history moment w
-unfolding observers_standing waiting_notice
+unfolding observers_standing waiting_notification
 octets_kept octets others past seen history moment w keeps h =
     shown_same octets others past past seen seen history moment w
     (each (observers past) w.observers h.confirmable h.observers.standing) h
@@ -133,9 +133,9 @@ octets_kept octets others past seen history moment w keeps h =
     one o x c here =
         let waits = ap (λ (y : Shown). y.waits) here in
         ap (λ waits. record (watching octets past seen o) { waits = waits })
-        (waiting_notice-octets others octets o past
-        (λ f flies. keeps f.formed.place o.peer f.mid (c (notice_sent octets o.peer f)
-        (sym waits ∙ ap (option_map (notice_sent octets o.peer)) flies))))
+        (waiting_notification-octets others octets o past
+        (λ f flies. keeps f.formed.place o.peer f.mid (c (notification_sent octets o.peer f)
+        (sym waits ∙ ap (option_map (notification_sent octets o.peer)) flies))))
 
     each : (os : List Observer) (xs : List Standing)
         → AllByRecursion IsConfirmable xs

@@ -15,7 +15,7 @@ kind_of (change.Replace number links) = kind.Replacement
 kind_of (change.Remove number) = kind.Removal
 kind_of (change.Begin first) = kind.Beginning
 
--- the registration is there before and after, with the same base and the same attributes
+-- the registration exists before and after, with the same base and the same attributes
 abbrev pub StaysAsShown : Option Record → Option Record → Type 0
 StaysAsShown None new = ⊥
 StaysAsShown (Some old) None = ⊥

@@ -1,10 +1,10 @@
--- The version of the directory that a journal has come to.
+-- The version of the directory at the end of a journal.
 use Rattle.std.specs.Prelude.{◌≤◌, List}
 use Rattle.history_model.specs.Versions.{Version, VersionStandsFor}
 use Rattle.journal_model.specs.declared.rows.Row.{Row}
 use Rattle.journal_model.specs.Journal.{entries, now}
 
--- a version stands for the entries of a journal, and may be asked at its moment
+-- a version stands for the entries of a journal, and may be queried at its moment
 pub record DirectoryStandsFor (rows : List Row) (v : Version) : Type 0 where
   pub history : VersionStandsFor 0 (entries rows) v
   pub at : v.at ≤ now rows

@@ -1,4 +1,4 @@
--- An entry that a row makes, and the registration that it is about, before it and after it.
+-- An entry that a row makes, and its registration before and after it.
 use Rattle.std.specs.Prelude.{◌≡◌, List, [], ◌∷◌, ◌++◌, Option, None}
 use Rattle.rd_base.specs.declared.records.Record.{Record}
 use Rattle.history_model.specs.declared.entries.Entry.{Entry}
@@ -10,8 +10,8 @@ use Rattle.journal_model.specs.declared.rows.Row.{Row}
 use Rattle.journal_model.specs.Journal.{entries}
 use Rattle.journal_model.specs.Rows.{row_moment}
 
--- an entry that the row of a step makes: nothing refuses it, it is made at the moment of the row,
--- and the registration that it is about is live then in these states
+-- An entry that the row of a step makes. Nothing refuses it, and it is made at the moment of the
+-- row. These are the states of its registration then, before and after it.
 pub record IsEntered (rows : List Row) (s : Step) (entry : Entry) (old new : Option Record) : Type 0
   where
     pub accepted : change_refusal 0 (entries rows) entry ≡ None

@@ -1,5 +1,5 @@
--- Who joins the observers of a lookup, and what becomes of the watched queries and their observers
--- then (RFC 7641 section 4.1).
+-- What adding an observer of a lookup does to the watched queries and their observers (RFC 7641
+-- section 4.1).
 use Rattle.std.specs.Prelude.{
   ◌≡◌,
   ℕ,
@@ -40,7 +40,7 @@ use Rattle.observers.specs.Standing.{Standing, is_named}
 use Rattle.observation.specs.declared.joining.Joining.{Joining}
 use Rattle.observation.specs.Watching.{Watching}
 
--- the observer as the notes speak of it, by the query that it asks for
+-- the observer as the notes have it, with the query that it requests
 abbrev pub observer_joining : Query → Joining → Observer
 observer_joining query j = record {
   peer = j.peer;
@@ -50,8 +50,8 @@ observer_joining query j = record {
   szx = j.szx;
 }
 
--- as the table keeps it, with the slot of its query: it is not due, a body was formed for it, and
--- no notice is in flight
+-- the observer as the table stores it, with the slot of its query: it is not due, a body was built
+-- for it, and no notification is in flight
 abbrev pub standing_joining : ℕ → Joining → Standing
 standing_joining slot j = record {
   peer = j.peer;
@@ -64,7 +64,7 @@ standing_joining slot j = record {
   flight = None;
 }
 
--- without the observer of a peer and a token
+-- without the observer of this peer and token
 abbrev pub without_observer : Peer → List ℕ → Watching → Watching
 without_observer peer token w = record {
   watches = without (option_map (λ x. x.slot) (find (is_named peer token) w.observers)) w.watches;
@@ -78,21 +78,22 @@ pub record IsAdded (query : Query) (j : Joining) (before after : Watching) : Typ
   pub watches : after.watches ≡ one_more slot query before.watches
   pub observers : after.observers ≡ before.observers ++ standing_joining slot j ∷ []
 
--- what comes of it: an observer of the same peer and token goes, and then this one is added or has
--- no room; where memory ran out, nothing changes
+-- The observer of the same peer and token is removed. Then this one is added, or there is no room
+-- for it. If memory ran out, nothing changes.
 abbrev pub Joins : Query → Joining → Watching → Result Bool Starved → Watching → Type 0
 Joins query j before (Ok true) after =
     IsAdded query j (without_observer j.peer j.token before) after
 Joins query j before (Ok false) after = after ≡ without_observer j.peer j.token before
 Joins query j before (Err starved) after = after ≡ before
 
--- one more observer of a query has room beside so many others, of whom these are the observers
+-- there is room for one more observer of a query, given the number of other observers and the
+-- observers themselves
 abbrev pub has_room : Query → ℕ → List Observer → Bool
 has_room query others standing =
     nat_lt others max_observers
     && (is_watched query standing || nat_lt (number_watched standing) max_watched)
 
--- what is noted of it
+-- what is noted of a request to observe
 abbrev pub joining_notes : Bool → Observer → List ℕ → List Observer → List Note
 joining_notes true o body standing = removal (name_of o) standing ++ addition o body
 joining_notes false o body standing = removal (name_of o) standing

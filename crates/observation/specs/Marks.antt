@@ -1,13 +1,13 @@
--- Marks of watched queries: which of them changes of the registrations set, and the observers that
--- are due by them (RFC 7641 section 4.2).
+-- Marks of watched queries: which of them changes of the registrations set, and which observers
+-- they make due (RFC 7641 section 4.2).
 use Rattle.std.specs.Prelude.{◌≡◌, Bool, true, ◌||◌, List, map, fold, Some, None, if◌then◌else◌}
 use Rattle.rd_base.specs.declared.queries.Query.{Query}
 use Rattle.rd_base.specs.declared.records.Record.{Record}
 use Rattle.watch_table.specs.WatchedQueries.{Watched, Table, is_marked_at, all_touched}
 use Rattle.observers.specs.Standing.{Standing}
 
--- a watched query after changes of the registrations that gave other lines to the queries that pass
--- a test: where it passes, it is marked, and its body is dropped
+-- A watched query after changes of the registrations. The test says which queries got other lines:
+-- if it passes, the query is marked and its body is dropped.
 abbrev pub touched_where : (Query → Bool) → Watched → Watched
 touched_where test w = if test w.query then record w { marked = true; body = None } else w
 
@@ -15,14 +15,14 @@ touched_where test w = if test w.query then record w { marked = true; body = Non
 abbrev pub all_touched_where : (Query → Bool) → Table → Table
 all_touched_where test t = map (λ e. (e.0, touched_where test e.1)) t
 
--- each of the watched queries after records lapsed, one after the other
+-- each of the watched queries after records lapsed, one after another
 abbrev pub all_lapsed : List Record → Table → Table
 all_lapsed records t = fold (λ before r. all_touched (Some r) None before) t records
 
--- an observer that the mark of its query was handed on to
+-- an observer, made due if its query is marked
 abbrev pub handed : Table → Standing → Standing
 handed t w = record w { due = w.due || is_marked_at w.slot t }
 
--- the mark of its query, where it is set, was handed on to the observer
+-- the observer is due if its query is marked
 abbrev pub IsHanded : Table → Standing → Type 0
 IsHanded t w = is_marked_at w.slot t ≡ true → w.due ≡ true

@@ -24,23 +24,22 @@ pub record Watching : Type 0 where
 abbrev pub IsInSlot : watched.Table → (ℕ → Query) → Standing → Type 0
 IsInSlot t queries w = query_at w.slot t ≡ Some (queries w.slot)
 
--- by the queries in their slots, each query is watched as often as it is observed
+-- each query is watched as often as it is observed, given the queries in their slots
 pub record AreWatchedBy (queries : ℕ → Query) (t : watched.Table)
     (ws : List Standing) : Type 0 where
   pub in_slots : AllByRecursion (IsInSlot t queries) ws
   pub watches : WatchesStandFor (map (observer_of queries) ws) t
 
--- two observers have not the same peer and token
+-- two observers differ in peer or token
 abbrev pub IsOtherName : Standing → Standing → Type 0
 IsOtherName w other = is_named w.peer w.token other ≡ false
 
--- no two have (RFC 7641 section 4.1)
+-- all observers differ in peer or token (RFC 7641 section 4.1)
 abbrev pub HaveOtherNames : List Standing → Type 0
 HaveOtherNames [] = Unit {0}
 HaveOtherNames (w ∷ ws) = AllByRecursion (IsOtherName w) ws × HaveOtherNames ws
 
--- each query is watched as often as it is observed, and no two observers have the same peer and
--- token
+-- each query is watched as often as it is observed, and all observers differ in peer or token
 pub record AreWatched (t : watched.Table) (ws : List Standing) : Type 0 where
   pub queries : ℕ → Query
   pub by : AreWatchedBy queries t ws
@@ -55,13 +54,14 @@ HasListing rows e =
 abbrev pub IsUnmarked : ℕ × Watched → Type 0
 IsUnmarked e = e.1.marked ≡ false
 
--- a notice in flight is a confirmable message with its Message ID
+-- a notification in flight is a confirmable message with its Message ID
 abbrev pub IsConfirmable : Standing → Type 0
 IsConfirmable w = (s : Sent) → w.flight ≡ Some s → is_confirmable_with s.mid s.octets ≡ true
 
--- they stand for a journal: the observers of its events, each due as its transitions say and with
--- the notice that waits for it, and each query is watched as often as it is observed. No mark is
--- left, and each body that is set is the listing now
+-- The watched queries and observers stand for a journal. They are the observers of its events, each
+-- due as its transitions say, and with the notification that is in flight to it. Each query is
+-- watched as often as it is observed. No mark is left, and each body that is set is the current
+-- listing.
 pub record WatchingStandsFor (rows : List Row) (w : Watching) : Type 0 where
   pub queries : ℕ → Query
   pub in_slots : AllByRecursion (IsInSlot w.watches queries) w.observers

@@ -6,13 +6,13 @@ ghost use Rattle.observation.specs.ChangeKinds.{StaysAsShown};
 
 use rd_base::Record;
 
-/// The kind of the change that an entry makes.
+/// The kind of change that an entry makes.
 #[derive(Clone, Copy, Drop)]
 pub enum ChangeKind {
     /// A registration, which brings links (RFC 9176 section 5).
     Registration,
-    /// An update, which resolves the links against the base, and changes none of them where that
-    /// stays (RFC 9176 section 5.3.1).
+    /// An update, which resolves the links against the base (RFC 9176 section 5.3.1). It changes
+    /// none of them if the base stays.
     Update,
     /// Other links for a registration (RFC 9176 section 5.3).
     Replacement,
@@ -22,15 +22,17 @@ pub enum ChangeKind {
     Beginning,
 }
 
-/// Whether both states of a registration have the same base and the same attributes.
+/// Returns whether both states of a registration have the same base and the same attributes.
 fn is_described_alike(old: &Record, new: &Record) -> bool
     ensures { IsTrue result → (old.now.base ≡ new.now.base) × (old.now.attrs ≡ new.now.attrs) }
 {
     old.base == new.base && old.attrs == new.attrs
 }
 
-/// Whether a change is an update that leaves the base and the attributes of its registration, and
-/// so its links: all that a lookup shows of it. It looks at no link.
+/// Returns whether a change is an update that leaves the base and the attributes of its
+/// registration.
+///
+/// Such an update leaves the links, too, and so all that a lookup shows. Examines no link.
 pub(crate) fn stays_as_shown(kind: ChangeKind, old: Option<&Record>, new: Option<&Record>) -> bool
     ensures update { IsTrue result → kind ≡ kind_of_change.Update }
     ensures stays { IsTrue result

@@ -1,5 +1,5 @@
-//! Who joins the observers of a lookup, and who goes: the watched queries and the observers change
-//! together (RFC 7641 sections 3.6 and 4.1).
+//! Adding and removing observers of a lookup. The watched queries and the observers change together
+//! (RFC 7641 sections 3.6 and 4.1).
 ghost use Rattle.std.specs.Prelude.{◌≡◌, ◌<◌, ℕ, ◌++◌, ◌∷◌, [], List, Some, None, false, IfOk};
 ghost use Rattle.std.specs.Prelude.{find, length, nat_le, is_some, option_map, slice_get, remove};
 ghost use Rattle.std.specs.List.{list_any};
@@ -9,7 +9,7 @@ ghost use Rattle.event_model.specs.declared.notes.Observer.{Observer as Observed
 ghost use Rattle.event_model.specs.Observers.{max_observers};
 ghost use Rattle.watch_table.specs.WatchedQueries.{one_fewer, without};
 ghost use Rattle.watch_table.specs.ObserverCounts.{WatchesStandFor};
-ghost use Rattle.observers.specs.Standing.{Standing, is_named, has_notice};
+ghost use Rattle.observers.specs.Standing.{Standing, is_named, has_notification};
 ghost use Rattle.observation.specs.Joining.{Joins, has_room, standing_joining};
 
 use event_model::limits::MAX_OBSERVERS;
@@ -20,23 +20,24 @@ use std::alloc::Global;
 use std::sync::Arc;
 use watch_table::{WatchFault, WatchTable};
 
-/// Who asks to observe a lookup: all that is kept of it but the slot of its query.
+/// A client that requests an observation of a lookup: all that is stored of it except the slot of
+/// its query.
 #[derive(Drop)]
 pub struct Joining {
-    /// Where its notices go.
+    /// The peer that its notifications are sent to.
     pub peer: Peer,
-    /// The token of its request, which each notice has.
+    /// The token of its request, which each notification has.
     pub token: Token,
     /// The key of its request.
     pub key: Key,
-    /// The exponent of the block size that it asks for (RFC 7959 section 2.2).
+    /// The exponent of the block size that it requests (RFC 7959 section 2.2).
     pub szx: u8,
-    /// The body that its request is answered with.
+    /// The body of the response to its request.
     pub body: Arc<Bytes>,
 }
 
 impl Joining {
-    /// The observer, with the slot of its query.
+    /// Returns the observer, with the slot of its query.
     fn at(self, slot: u32) -> Observer
         ensures { result ≡ standing_joining slot self }
     {
@@ -53,14 +54,14 @@ impl Joining {
     }
 }
 
-/// Whether it is the observer of this peer and token.
+/// Returns whether an observer has this peer and token.
 fn is_of(observer: &Observer, peer: &Peer, token: &Token) -> bool
     ensures { result ≡ is_named peer.now token.now observer.now }
 {
     *token == observer.token && *peer == observer.peer
 }
 
-/// The slot of the query of the observer of a peer and a token, where there is one.
+/// Returns the slot of the query of the observer with this peer and token, if there is one.
 fn slot_named(observers: &Observers, peer: &Peer, token: &Token) -> Option<u32>
     ensures { result
         ≡ option_map (λ x. x.slot) (find (is_named peer.now token.now) observers.now) }
@@ -75,8 +76,10 @@ fn slot_named(observers: &Observers, peer: &Peer, token: &Token) -> Option<u32>
     None
 }
 
-/// Whether as many observers stand as there are at most, beside that of a peer and a token, whose
-/// query has this slot where there is one.
+/// Returns whether there is no room for another observer.
+///
+/// `before` is the slot of the observer that the new one replaces, if there is one. That observer
+/// does not count.
 fn is_full_beside(observers: &Observers, before: Option<u32>) -> bool
     ensures { (peer : Endpoint) (token : List ℕ)
         → before ≡ option_map (λ x. x.slot) (find (is_named peer token) observers.now)
@@ -89,8 +92,8 @@ fn is_full_beside(observers: &Observers, before: Option<u32>) -> bool
     }
 }
 
-/// Takes out the observer of a peer and a token, and its query has one observer fewer; whether
-/// there is one.
+/// Removes the observer with this peer and token, and counts one observer fewer of its query.
+/// Returns whether there was one.
 pub(crate) fn leave(
     watches: &mut WatchTable,
     observers: &mut Observers,
@@ -112,19 +115,20 @@ pub(crate) fn leave(
     }
 }
 
-/// Takes out the observer of a peer whose notice in flight has a Message ID, and its query has one
-/// observer fewer; whether there is one.
+/// Removes the observer of this peer whose notification in flight has this Message ID. Counts one
+/// observer fewer of its query. Returns whether there was one.
 pub(crate) fn reset(
     watches: &mut WatchTable,
     observers: &mut Observers,
     peer: &Peer,
     mid: u16,
 ) -> bool
-    ensures found { result ≡ is_some (find (has_notice peer.now mid) observers.old) }
+    ensures found { result ≡ is_some (find (has_notification peer.now mid) observers.old) }
     ensures watches { watches.new
-        ≡ without (option_map (λ x. x.slot) (find (has_notice peer.now mid) observers.old))
+        ≡ without (option_map (λ x. x.slot) (find (has_notification peer.now mid) observers.old))
         watches.old }
-    ensures observers { observers.new ≡ without_first (has_notice peer.now mid) observers.old }
+    ensures observers { observers.new
+        ≡ without_first (has_notification peer.now mid) observers.old }
 {
     match observers.reset(peer, mid) {
         Some(gone) => {
@@ -135,7 +139,7 @@ pub(crate) fn reset(
     }
 }
 
-/// Takes out the observer with an index, and its query has one observer fewer.
+/// Removes the observer at `index`, and counts one observer fewer of its query.
 pub(crate) fn take_out(watches: &mut WatchTable, observers: &mut Observers, index: usize)
     requires { index < length observers.old }
     ensures watches { (x : Standing)
@@ -147,7 +151,7 @@ pub(crate) fn take_out(watches: &mut WatchTable, observers: &mut Observers, inde
     watches.unwatch(gone.place);
 }
 
-/// The slot of the query of the observer with an index.
+/// Returns the slot of the query of the observer at `index`.
 pub(crate) fn slot_at(observers: &Observers, index: usize) -> u32
     requires { index < length observers.now }
     ensures { (x : Standing) → slice_get observers.now index ≡ Some x → result ≡ x.slot }
@@ -158,7 +162,7 @@ pub(crate) fn slot_at(observers: &Observers, index: usize) -> u32
     }
 }
 
-/// Adds an observer in place of that of its peer and token. There is room for it.
+/// Adds an observer, and removes the one with the same peer and token. There must be room for it.
 fn replace(observers: &mut Observers, observer: Observer)
     requires room { length (without_first (is_named observer.peer observer.token) observers.old)
         < max_observers }
@@ -176,8 +180,12 @@ fn replace(observers: &mut Observers, observer: Observer)
     }
 }
 
-/// An observer of a query joins in place of that of its peer and token, where there is room;
-/// whether it was added. `Starved`: out of memory, and nothing changed.
+/// Adds an observer of a query in place of the one with the same peer and token, if there is room.
+/// Returns whether it was added.
+///
+/// # Errors
+///
+/// `Starved` if memory runs out; nothing has changed.
 pub(crate) fn join(
     watches: &mut WatchTable,
     observers: &mut Observers,

@@ -1,4 +1,4 @@
-//! Marks of watched queries, and the observers that are due by them (RFC 7641 section 4.2).
+//! Marks of watched queries, and the observers that these marks make due (RFC 7641 section 4.2).
 ghost use Rattle.std.specs.Prelude.{◌≡◌, ◌≤◌, ℕ, List, Some, MatchOption, IfSome, true, false};
 ghost use Rattle.std.specs.Prelude.{map, slice_get};
 ghost use Rattle.history_model.specs.declared.entries.Entry.{Entry};
@@ -15,8 +15,8 @@ use observers::Observers;
 use rd_base::Moment;
 use watch_table::WatchTable;
 
-/// The slot of the query of the observer with an index, where that is marked and the observer is
-/// not due.
+/// Returns the slot of the query of the observer at `index`, if the query is marked and the
+/// observer is not due.
 fn slot_to_mark(watches: &WatchTable, observers: &Observers, index: usize) -> Option<u32>
     ensures marked { IfSome result (λ slot. is_marked_at slot watches.now ≡ true) }
     ensures own { (w : Standing)
@@ -35,7 +35,7 @@ fn slot_to_mark(watches: &WatchTable, observers: &Observers, index: usize) -> Op
     None
 }
 
-/// Makes the observers due whose queries are marked.
+/// Makes the observers of marked queries due.
 fn mark_observers(watches: &WatchTable, observers: &mut Observers)
     ensures { observers.new ≡ map (handed watches.now) observers.old }
 {
@@ -46,7 +46,7 @@ fn mark_observers(watches: &WatchTable, observers: &mut Observers)
     }
 }
 
-/// Hands the marks on: the observers whose queries are marked are due. No mark is left.
+/// Makes the observers of marked queries due, and clears all marks.
 pub(crate) fn hand_on(watches: &mut WatchTable, observers: &mut Observers)
     ensures due { observers.new ≡ map (handed watches.old) observers.old }
     ensures cleared { watches.new ≡ all_unmarked watches.old }
@@ -58,9 +58,10 @@ pub(crate) fn hand_on(watches: &mut WatchTable, observers: &mut Observers)
     watches.clear();
 }
 
-/// Marks the queries to which registrations give lines that lapse after the first of these moments
-/// and not after the second, and drops their bodies. Whether a registration lapses then. The first
-/// moment is not before the last sweep.
+/// Marks the queries whose listings lose lines as registrations lapse, and drops their bodies.
+///
+/// A registration counts if it lapses after the first moment and not after the second. Returns
+/// whether there is one. The first moment must not be before the last sweep.
 pub(crate) fn touch_lapsing(
     watches: &mut WatchTable,
     version: &Directory,

@@ -24,14 +24,14 @@ ghost use Rattle.journal_model.specs.Rows.{row_moment};
 ghost use Rattle.journal_model.specs.Ticks.{is_confirmable_with};
 ghost use Rattle.journal_model.specs.UnfinishedRow.{making};
 ghost use Rattle.exchange_core.specs.Retransmissions.{Resends};
-ghost use Rattle.observers.specs.ObserverEvents.{notice_due};
-ghost use Rattle.observers.specs.Standing.{Standing, is_awaited, next_ready, noticed, due_of};
+ghost use Rattle.observers.specs.ObserverEvents.{notification_due};
+ghost use Rattle.observers.specs.Standing.{Standing, is_awaited, next_ready, notified, due_of};
 ghost use Rattle.observers.specs.Standing.{timed, changed_at};
 ghost use Rattle.observation.specs.ChangeKinds.{kind_of};
 ghost use Rattle.observation.specs.Directories.{DirectoryStandsFor};
 ghost use Rattle.observation.specs.Entering.{IsEntered};
 ghost use Rattle.observation.specs.Joining.{observer_joining, joining_notes};
-ghost use Rattle.observation.specs.Notices.{forming, sending_again, next_noticed};
+ghost use Rattle.observation.specs.Notifications.{forming, sending_again, next_notified};
 ghost use Rattle.observation.specs.Watching.{WatchingStandsFor};
 
 use crate::change_kinds::{ChangeKind, stays_as_shown};
@@ -46,8 +46,9 @@ use std::marker::Model;
 use std::sync::Arc;
 use watch_table::WatchTable;
 
-/// The queries that are observed, and who observes them (RFC 7641 section 4.1): each query is
-/// watched as often as it is observed.
+/// The queries that are observed, and their observers (RFC 7641 section 4.1).
+///
+/// Each query is watched as often as it is observed.
 #[derive(Drop)]
 pub struct Watching {
     /// The watched queries, each in its slot.
@@ -67,8 +68,11 @@ impl Model for Watching {
 }
 
 impl Watching {
-    /// No observers, with room for as many as there are at most. `Starved` where memory ran out,
-    /// and then nothing is kept.
+    /// Creates a table without observers, with room for the most observers.
+    ///
+    /// # Errors
+    ///
+    /// `Starved` if memory runs out.
     pub fn make(alloc: Global) -> Result<Watching, Starved>
         ensures { IfOk result (WatchingStandsFor []) }
     {
@@ -77,9 +81,11 @@ impl Watching {
         Ok(Watching { watches, observers })
     }
 
-    /// Time passes from one moment to another: the observers are due to whose queries registrations
-    /// of this version give lines that lapse meanwhile. The first moment is not before the last
-    /// sweep of the version. Takes no memory.
+    /// Records that time passes from one moment to another.
+    ///
+    /// An observer becomes due if its query loses lines of registrations of this version that lapse
+    /// meanwhile. The first moment must not be before the last sweep of the version. Does not
+    /// allocate.
     pub fn pass(&mut self, version: &Directory, from: Moment, to: Moment)
         requires { version.now.swept ≤ from.0 }
         ensures { (rows : List Row) (s : Step) (starved : Bool)
@@ -96,9 +102,11 @@ impl Watching {
         }
     }
 
-    /// An entry was made: the observers are due to whose queries the registration that it is about
-    /// gives other lines after it than before. An update that leaves the base and the attributes is
-    /// seen by none, and is compared with no query. Takes no memory.
+    /// Records an entry. `old` and `new` are the states of its registration before and after it.
+    ///
+    /// An observer becomes due if the registration contributes other lines to its query than
+    /// before. An update that leaves the base and the attributes makes no observer due, and no
+    /// query is compared. Does not allocate.
     pub fn enter(&mut self, kind: ChangeKind, old: Option<&Record>, new: Option<&Record>)
         ensures { (rows : List Row) (s : Step) (starved : Bool) (done : Effects) (entry : Entry)
             → IsDeskJournal rows
@@ -117,8 +125,8 @@ impl Watching {
         hand_on(&mut self.watches, &mut self.observers);
     }
 
-    /// The observer of a peer and a token is taken out, where there is one; whether there is. Takes
-    /// no memory.
+    /// Removes the observer with this peer and token. Returns whether there was one. Does not
+    /// allocate.
     pub fn leave(&mut self, peer: &Peer, token: &Token) -> bool
         ensures found { (rows : List Row)
             → WatchingStandsFor rows self.old
@@ -132,9 +140,14 @@ impl Watching {
         joining::leave(&mut self.watches, &mut self.observers, peer, token)
     }
 
-    /// An observer of a query joins in place of that of its peer and token: it is added, with the
-    /// body that it is answered with, where there is room; whether there is. `Starved`: out of
-    /// memory, and nothing changed.
+    /// Adds an observer of a query, with the body of its response. Returns whether there is room
+    /// for it.
+    ///
+    /// It takes the place of the observer with the same peer and token, if there is one.
+    ///
+    /// # Errors
+    ///
+    /// `Starved` if memory runs out; nothing has changed.
     pub fn join(&mut self, alloc: Global, query: &Query, joining: Joining) -> Result<bool, Starved>
         ensures room { (rows : List Row)
             → WatchingStandsFor rows self.old
@@ -159,8 +172,8 @@ impl Watching {
         )
     }
 
-    /// An acknowledgement of a peer with a Message ID came: it ends the flight of the notice that
-    /// it is of; whether there is one (RFC 7641 section 4.5).
+    /// Records that a peer acknowledged the notification with this Message ID (RFC 7641 section
+    /// 4.5). Returns whether that notification was in flight.
     pub fn acked(&mut self, peer: &Peer, mid: u16) -> bool
         ensures found { (rows : List Row)
             → WatchingStandsFor rows self.old
@@ -174,8 +187,8 @@ impl Watching {
         self.observers.acked(peer, mid)
     }
 
-    /// A Reset of a peer with a Message ID came: it takes out the observer whose notice it is of;
-    /// whether there is one (RFC 7641 section 3.6).
+    /// Records a Reset of a peer with this Message ID, and removes the observer of that
+    /// notification (RFC 7641 section 3.6). Returns whether there was one.
     pub fn reset(&mut self, peer: &Peer, mid: u16) -> bool
         ensures found { (rows : List Row)
             → WatchingStandsFor rows self.old
@@ -189,26 +202,28 @@ impl Watching {
         joining::reset(&mut self.watches, &mut self.observers, peer, mid)
     }
 
-    /// How many observers there are.
+    /// Returns the number of observers.
     pub fn len(&self) -> usize
         ensures { result ≡ length self.now.observers }
     {
         self.observers.len()
     }
 
-    /// The observer with an index; none from their number on.
+    /// Returns the observer at `index`, or `None` if `index` is not below the number of observers.
     pub fn at(&self, index: usize) -> Option<&Observer>
         ensures { option_map (λ x. x.now) result ≡ slice_get self.now.observers index }
     {
         self.observers.at(index)
     }
 
-    /// The first index from a number on of an observer that is due and to whose peer no notice is
-    /// in flight (RFC 7252 section 4.7, NSTART).
+    /// Returns the first index from `from` on of an observer that can be sent a notification (RFC
+    /// 7252 section 4.7, NSTART).
+    ///
+    /// Such an observer is due, and no notification to its peer is in flight.
     pub fn next_due(&self, from: usize) -> Option<usize>
         ensures next { (rows : List Row)
             → WatchingStandsFor rows self.now
-            → result ≡ next_noticed from (events rows) (transitions rows) }
+            → result ≡ next_notified from (events rows) (transitions rows) }
         ensures ready { result ≡ next_ready from self.now.observers }
         ensures within { IfSome result (λ i. (from ≤ i) × (i < length self.now.observers)) }
         ensures free { (x : Standing)
@@ -218,7 +233,7 @@ impl Watching {
         self.observers.next_due(from)
     }
 
-    /// The query of the observer with an index.
+    /// Returns the query of the observer at `index`.
     pub fn query(&self, index: usize) -> &Query
         requires { index < length self.now.observers }
         ensures { (rows : List Row) (o : Observed)
@@ -229,8 +244,8 @@ impl Watching {
         self.watches.query(joining::slot_at(&self.observers, index))
     }
 
-    /// The body of the query of the observer with an index, where one is kept: it is the listing
-    /// now.
+    /// Returns the body for the query of the observer at `index`, if one is stored. It is the
+    /// current listing.
     pub fn body(&self, index: usize) -> Option<&Arc<Bytes>>
         requires { index < length self.now.observers }
         ensures { (rows : List Row) (o : Observed)
@@ -242,8 +257,8 @@ impl Watching {
         self.watches.body(joining::slot_at(&self.observers, index))
     }
 
-    /// Keeps a body for the query of the observer with an index, so that it is formed once for all
-    /// who observe it. It is the listing now. Takes no memory.
+    /// Stores a body for the query of the observer at `index`, so that it is built once for all
+    /// observers of that query. The body must be the current listing. Does not allocate.
     pub fn keep_body(&mut self, index: usize, body: Arc<Bytes>)
         requires { index < length self.old.observers }
         ensures stands { (rows : List Row) (o : Observed)
@@ -257,8 +272,10 @@ impl Watching {
         self.watches.set_body(slot, body);
     }
 
-    /// A notice with a body was formed for the observer with an index, to whose peer none is in
-    /// flight: it is due no longer. Takes no memory.
+    /// Records that a notification with this body was built for the observer at `index`, which is
+    /// no longer due.
+    ///
+    /// No notification to its peer may be in flight. Does not allocate.
     pub fn formed(&mut self, index: usize, flight: Sent, body: Arc<Bytes>)
         requires within { index < length self.old.observers }
         requires free { (x : Standing)
@@ -280,13 +297,13 @@ impl Watching {
             (joined done (forming x (arc_value body) flight))) self.new }
         ensures len { length self.new.observers ≡ length self.old.observers }
         ensures formed { self.new.observers
-            ≡ changed_at (noticed flight (arc_value body)) index self.old.observers }
+            ≡ changed_at (notified flight (arc_value body)) index self.old.observers }
     {
         self.observers.formed(index, flight, body);
     }
 
-    /// The listing of the observer with an index was found unchanged: it is due no longer. Takes no
-    /// memory.
+    /// Records that the listing of the observer at `index` is unchanged, so that it is no longer
+    /// due. Does not allocate.
     pub fn unchanged(&mut self, index: usize)
         requires { index < length self.old.observers }
         ensures stands { (rows : List Row) (s : Step) (starved : Bool) (done : Effects)
@@ -300,14 +317,15 @@ impl Watching {
         self.observers.unchanged(index);
     }
 
-    /// What is due now of the notice in flight to the observer with an index; `Wait` where none is
-    /// in flight. A retransmission counts as made now.
+    /// Returns what is to be done now about the notification in flight to the observer at `index`.
+    ///
+    /// Returns `Wait` if none is in flight. A retransmission counts as made now.
     pub fn timeout(&mut self, now: Moment, index: usize) -> Again
         requires { index < length self.old.observers }
         ensures due { (rows : List Row) (o : Observed)
             → WatchingStandsFor rows self.old
             → slice_get (observers (events rows)) index ≡ Some o
-            → result ≡ notice_due now.0 (flight o (events rows)) }
+            → result ≡ notification_due now.0 (flight o (events rows)) }
         ensures stands { (rows : List Row) (s : Step) (starved : Bool) (done : Effects)
             (x : Standing) (sent : Message)
             → result ≡ Again.Send
@@ -327,7 +345,7 @@ impl Watching {
         self.observers.timeout(now, index)
     }
 
-    /// The observer with an index is taken out, whose notice is given up (RFC 7641 section 4.5).
+    /// Removes the observer at `index`, whose notification is given up (RFC 7641 section 4.5).
     pub fn timed_out(&mut self, index: usize)
         requires { index < length self.old.observers }
         ensures stands { (rows : List Row) (s : Step) (starved : Bool) (done : Effects)

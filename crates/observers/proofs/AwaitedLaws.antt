@@ -49,7 +49,7 @@ use Rattle.observers.specs.Standing.{
   is_awaited,
   is_ready,
   marked,
-  noticed,
+  notified,
   seen,
   timed,
   kept_of,
@@ -208,14 +208,14 @@ quiet_at (x ∷ ws) (suc i) w there free =
     rest true h = absurd (false≢true (sym h))
     rest false h = h
 
-awaited_noticed : (s : Sent) (body : List ℕ) (peer : Peer) (ws : List Standing) (i : ℕ)
+awaited_notified : (s : Sent) (body : List ℕ) (peer : Peer) (ws : List Standing) (i : ℕ)
     (w : Standing)
     → slice_get ws i ≡ Some w
     → is_some w.flight ≡ false
-    → is_awaited peer (changed_at (noticed s body) i ws)
+    → is_awaited peer (changed_at (notified s body) i ws)
     ≡ (is_awaited peer ws || is_same_peer w.peer peer)
-awaited_noticed s body peer [] i w there quiet = absurd cc
-awaited_noticed s body peer (x ∷ ws) zero w there quiet =
+awaited_notified s body peer [] i w there quiet = absurd cc
+awaited_notified s body peer (x ∷ ws) zero w there quiet =
     let same : x ≡ w = cc in
     let here : (is_same_peer x.peer peer && is_some x.flight) ≡ false =
     ap (λ y. is_same_peer y.peer peer && is_some y.flight) same
@@ -229,9 +229,9 @@ awaited_noticed s body peer (x ∷ ws) zero w there quiet =
     turned true false = refl
     turned false true = refl
     turned false false = refl
-awaited_noticed s body peer (x ∷ ws) (suc i) w there quiet =
+awaited_notified s body peer (x ∷ ws) (suc i) w there quiet =
     ap (λ b. (is_same_peer x.peer peer && is_some x.flight) || b)
-    (awaited_noticed s body peer ws i w there quiet)
+    (awaited_notified s body peer ws i w there quiet)
     ∙ moved (is_same_peer x.peer peer && is_some x.flight) (is_awaited peer ws)
     (is_same_peer w.peer peer)
   where
@@ -239,18 +239,18 @@ awaited_noticed s body peer (x ∷ ws) (suc i) w there quiet =
     moved true b c = refl
     moved false b c = refl
 
-flights_noticed : (s : Sent) (body : List ℕ) (ws : List Standing) (i : ℕ) (w : Standing)
+flights_notified : (s : Sent) (body : List ℕ) (ws : List Standing) (i : ℕ) (w : Standing)
     → slice_get ws i ≡ Some w
     → is_some w.flight ≡ false
-    → flights_of (changed_at (noticed s body) i ws) ≡ suc (flights_of ws)
-flights_noticed s body [] i w there quiet = absurd cc
-flights_noticed s body (x ∷ ws) zero w there quiet =
+    → flights_of (changed_at (notified s body) i ws) ≡ suc (flights_of ws)
+flights_notified s body [] i w there quiet = absurd cc
+flights_notified s body (x ∷ ws) zero w there quiet =
     let same : x ≡ w = cc in
     let here : is_some x.flight ≡ false = ap (λ (y : Standing). is_some y.flight) same
     ∙ quiet in
     ap (λ b. suc (if b then suc (flights_of ws) else flights_of ws)) (sym here)
-flights_noticed s body (x ∷ ws) (suc i) w there quiet =
-    ap (λ n. if is_some x.flight then suc n else n) (flights_noticed s body ws i w there quiet)
+flights_notified s body (x ∷ ws) (suc i) w there quiet =
+    ap (λ n. if is_some x.flight then suc n else n) (flights_notified s body ws i w there quiet)
     ∙ by (is_some x.flight)
   where
     by : (b : Bool)
@@ -275,16 +275,16 @@ length_pushed : (peers : List Peer) (p : Peer) → length (peers ++ p ∷ []) �
 length_pushed [] p = refl
 length_pushed (x ∷ peers) p = ap suc (length_pushed peers p)
 
-pub noticed-AreAwaited : (s : Sent) (body : List ℕ) (ws : List Standing) (peers : List Peer)
+pub notified-AreAwaited : (s : Sent) (body : List ℕ) (ws : List Standing) (peers : List Peer)
     (i : ℕ)
     (w : Standing)
     → slice_get ws i ≡ Some w
     → is_awaited w.peer ws ≡ false
     → AreAwaited ws peers
-    → AreAwaited (changed_at (noticed s body) i ws) (peers ++ w.peer ∷ [])
-noticed-AreAwaited s body ws peers i w there free h =
+    → AreAwaited (changed_at (notified s body) i ws) (peers ++ w.peer ∷ [])
+notified-AreAwaited s body ws peers i w there free h =
     let quiet = quiet_at ws i w there free in
-    let more = flights_noticed s body ws i w there quiet in
+    let more = flights_notified s body ws i w there quiet in
     let longer = length_pushed peers w.peer in
     let few = h.few in
     record {
@@ -292,7 +292,7 @@ noticed-AreAwaited s body ws peers i w there free h =
           λ peer.
           any_pushed peer w.peer peers
           ∙ (ap (λ b. b || is_same_peer w.peer peer) (h.tells peer)
-          ∙ sym (awaited_noticed s body peer ws i w there quiet));
+          ∙ sym (awaited_notified s body peer ws i w there quiet));
       few = omega (arith, more, longer, few);
     }
 
@@ -463,7 +463,7 @@ pub formed-AreAwaited : (s : Sent) (body : List ℕ) (ws now after : List Standi
     → i < length now
     → IsFreeAt i now
     → AreAwaited ws peers
-    → after ≡ changed_at (noticed s body) i ws
+    → after ≡ changed_at (notified s body) i ws
     → ((w : Standing) → slice_get ws i ≡ Some w → p ≡ w.peer)
     → more ≡ peers ++ p ∷ []
     → AreAwaited after more
@@ -474,7 +474,7 @@ formed-AreAwaited s body ws now after peers more i p same inside free h is at pu
     ap (is_awaited one.0.peer) same ∙ free one.0 one.1 in
     subst (AreAwaited after) (sym (pushed ∙ ap (λ q. peers ++ q ∷ []) (at one.0 here)))
     (subst (λ xs. AreAwaited xs (peers ++ one.0.peer ∷ [])) (sym is)
-    (noticed-AreAwaited s body ws peers i one.0 here alone h))
+    (notified-AreAwaited s body ws peers i one.0 here alone h))
 
 -- whether one is due and free, by the peers that are kept apart
 pub free-ready : (ws : List Standing) (peers : List Peer) (w : Standing) (peer : Peer) (b : Bool)

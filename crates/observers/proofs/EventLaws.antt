@@ -64,11 +64,11 @@ use Rattle.event_model.specs.Flights.{
   is_forming_for,
   is_landing_of,
   is_again_of,
-  notice_mid,
+  notification_mid,
   flight_after,
   flight,
-  notice_sent,
-  waiting_notice,
+  notification_sent,
+  waiting_notification,
 }
 use Rattle.event_model.specs.Due.{
   Transition,
@@ -137,7 +137,7 @@ pub standing-unwatched : (octets : OctetsSent) (seen : List Transition) (place m
     seen
     ≡ filter (λ x. not (is_same_request (peer, token) (name_of x.observer)))
     (observers_standing octets events seen)
-unfolding observers_standing observers last_body_formed last_said is_due waiting_notice flight
+unfolding observers_standing observers last_body_formed last_said is_due waiting_notification flight
     events_since
 standing-unwatched octets seen place moment word peer token events =
     ap (map (watching octets events seen)) (append-nil
@@ -167,7 +167,7 @@ watching-formed : (octets : OctetsSent) (seen : List Transition) (place moment w
     → watching octets (event_at place moment word (note.Formed peer token body mid) ∷ events) seen o
     ≡ formed_for octets (event_at place moment word (note.Formed peer token body mid)) (peer, token)
     body mid (watching octets events seen o)
-unfolding last_body_formed last_said is_due waiting_notice flight events_since
+unfolding last_body_formed last_said is_due waiting_notification flight events_since
 watching-formed octets seen place moment word peer token body mid events o low =
     by (is_same_request (peer, token) (name_of o)) refl
   where
@@ -175,7 +175,8 @@ watching-formed octets seen place moment word peer token body mid events o low =
     e = event_at place moment word (note.Formed peer token body mid)
 
     message : (m : Option ℕ)
-        → option_map (notice_sent octets o.peer) (option_and_then (flight_after o.peer e []) m)
+        → option_map (notification_sent octets o.peer)
+        (option_and_then (flight_after o.peer e []) m)
         ≡ option_map (message_formed octets e o.peer) m
     message None = refl
     message (Some n) = refl
@@ -187,7 +188,8 @@ watching-formed octets seen place moment word peer token body mid events o low =
         rw same (same_parts o
         (list_any (is_change_of o.query) (filter (λ t. nat_lt place t.place) seen)) false
         (Some body) (Some body)
-        (option_map (notice_sent octets o.peer) (option_and_then (flight_after o.peer e []) mid))
+        (option_map (notification_sent octets o.peer)
+        (option_and_then (flight_after o.peer e []) mid))
         (option_map (message_formed octets e o.peer) mid)
         (none_later place (is_change_of o.query) seen low) refl (message mid))
     by false same = rw same refl
@@ -223,7 +225,7 @@ watching-unchanged : (octets : OctetsSent) (seen : List Transition) (place momen
     → AllByRecursion (λ t. t.place ≤ place) seen
     → watching octets (event_at place moment word (note.Unchanged peer token) ∷ events) seen o
     ≡ seen_for (peer, token) (watching octets events seen o)
-unfolding last_body_formed last_said is_due waiting_notice flight events_since
+unfolding last_body_formed last_said is_due waiting_notification flight events_since
 watching-unchanged octets seen place moment word peer token events o low =
     by (is_same_request (peer, token) (name_of o)) refl
   where
@@ -233,7 +235,7 @@ watching-unchanged octets seen place moment word peer token events o low =
     by true same =
         rw same (ap (λ d.
         parts o d (last_body_formed (name_of o) events)
-        (waiting_notice octets events o))
+        (waiting_notification octets events o))
         (none_later place (is_change_of o.query) seen low))
     by false same = rw same refl
 
@@ -313,11 +315,11 @@ flight-more o e events other = rw other (by (last_event (is_forming_for (name_of
 
     by : (x : Option Event)
         → option_and_then (λ (formed : Event).
-        option_and_then (flight_after o.peer formed (e ∷ later)) (notice_mid formed.note)) x
+        option_and_then (flight_after o.peer formed (e ∷ later)) (notification_mid formed.note)) x
         ≡ option_and_then (flight_next o.peer e) (option_and_then (λ (formed : Event).
-        option_and_then (flight_after o.peer formed later) (notice_mid formed.note)) x)
+        option_and_then (flight_after o.peer formed later) (notification_mid formed.note)) x)
     by None = refl
-    by (Some formed) = of formed (notice_mid formed.note)
+    by (Some formed) = of formed (notification_mid formed.note)
 
 -- a message that was retransmitted at a moment
 abbrev pub sent_again : ℕ → Sent → Sent
@@ -348,10 +350,10 @@ watching-again : (octets : OctetsSent) (seen : List Transition) (place moment wo
     (peer : Peer) (mid : ℕ) (events : List Event) (o : Observer)
     → watching octets (event_at place moment word (note.Again peer mid) ∷ events) seen o
     ≡ again_for peer mid moment (watching octets events seen o)
-unfolding last_body_formed last_said is_due waiting_notice
+unfolding last_body_formed last_said is_due waiting_notification
 watching-again octets seen place moment word peer mid events o =
     ap (parts o (is_due o events seen) (last_body_formed (name_of o) events))
-    (ap (option_map (notice_sent octets o.peer)) (flight-more o e events refl)
+    (ap (option_map (notification_sent octets o.peer)) (flight-more o e events refl)
     ∙ by (flight o events))
   where
     e : Event
@@ -361,8 +363,9 @@ watching-again octets seen place moment word peer mid events o =
     again s = if is_same_peer peer o.peer && mid == s.mid then sent_again moment s else s
 
     of : (f : Flight) (b : Bool)
-        → notice_sent octets o.peer (cond b (record f { again = e ∷ f.again }) f)
-        ≡ cond b (sent_again moment (notice_sent octets o.peer f)) (notice_sent octets o.peer f)
+        → notification_sent octets o.peer (cond b (record f { again = e ∷ f.again }) f)
+        ≡ cond b (sent_again moment (notification_sent octets o.peer f))
+        (notification_sent octets o.peer f)
     of f true =
         let more : suc (length f.again) ≡ length f.again + 1 = omega arith in
         ap₂ (λ (n m : ℕ).
@@ -376,8 +379,8 @@ watching-again octets seen place moment word peer mid events o =
     of f false = refl
 
     by : (x : Option Flight)
-        → option_map (notice_sent octets o.peer) (option_and_then (flight_next o.peer e) x)
-        ≡ option_map again (option_map (notice_sent octets o.peer) x)
+        → option_map (notification_sent octets o.peer) (option_and_then (flight_next o.peer e) x)
+        ≡ option_map again (option_map (notification_sent octets o.peer) x)
     by None = refl
     by (Some f) = ap (λ s. Some s) (of f (is_same_peer peer o.peer && mid == f.mid))
 
@@ -400,26 +403,26 @@ watching-landed : (octets : OctetsSent) (seen : List Transition) (place moment w
     (peer : Peer) (mid : ℕ) (events : List Event) (o : Observer)
     → watching octets (event_at place moment word (note.Landed peer mid) ∷ events) seen o
     ≡ landed_for peer mid (watching octets events seen o)
-unfolding last_body_formed last_said is_due waiting_notice
+unfolding last_body_formed last_said is_due waiting_notification
 watching-landed octets seen place moment word peer mid events o =
     ap (parts o (is_due o events seen) (last_body_formed (name_of o) events))
-    (ap (option_map (notice_sent octets o.peer)) (flight-more o e events refl)
+    (ap (option_map (notification_sent octets o.peer)) (flight-more o e events refl)
     ∙ by (flight o events))
   where
     e : Event
     e = event_at place moment word (note.Landed peer mid)
 
     of : (f : Flight) (b : Bool)
-        → option_map (notice_sent octets o.peer) (cond b None (Some f))
-        ≡ cond b None (Some (notice_sent octets o.peer f))
+        → option_map (notification_sent octets o.peer) (cond b None (Some f))
+        ≡ cond b None (Some (notification_sent octets o.peer f))
     of f true = refl
     of f false = refl
 
     by : (x : Option Flight)
-        → option_map (notice_sent octets o.peer) (option_and_then (flight_next o.peer e) x)
+        → option_map (notification_sent octets o.peer) (option_and_then (flight_next o.peer e) x)
         ≡ option_and_then
         (λ (s : Sent). if is_same_peer peer o.peer && mid == s.mid then None else Some s)
-        (option_map (notice_sent octets o.peer) x)
+        (option_map (notification_sent octets o.peer) x)
     by None = refl
     by (Some f) = of f (is_same_peer peer o.peer && mid == f.mid)
 
@@ -449,7 +452,7 @@ watching-watched : (octets : OctetsSent) (seen : List Transition) (place moment 
     (o : Observer) (events : List Event) (x : Observer)
     → watching octets (event_at place moment word (note.Watched o) ∷ events) seen x
     ≡ watching octets events seen x
-unfolding last_body_formed last_said is_due waiting_notice flight events_since
+unfolding last_body_formed last_said is_due waiting_notification flight events_since
 watching-watched octets seen place moment word o events x = refl
 
 name_differs : (o : Observer) (xs : List Observer)

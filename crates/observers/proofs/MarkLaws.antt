@@ -37,8 +37,8 @@ use Rattle.event_model.specs.Flights.{
   OctetsSent,
   Flight,
   flight,
-  notice_sent,
-  waiting_notice,
+  notification_sent,
+  waiting_notification,
   is_waited_for,
 }
 use Rattle.event_model.specs.Due.{
@@ -187,7 +187,7 @@ pub awaited-StandsFor : (queries : ℕ → Query) (octets : OctetsSent) (events 
     (seen : List Transition) (ws : List Standing) (peer : Peer)
     → ObserversStandFor queries octets events seen ws
     → is_awaited peer ws ≡ is_waited_for peer events
-unfolding observers_standing is_waited_for waiting_notice
+unfolding observers_standing is_waited_for waiting_notification
 awaited-StandsFor queries octets events seen ws peer h =
     sym (in_table ws) ∙ (ap (list_any test) (sym h.standing) ∙ by_events (observers events))
   where
@@ -205,4 +205,4 @@ awaited-StandsFor queries octets events seen ws peer h =
     by_events [] = refl
     by_events (o ∷ xs) =
         ap₂ (λ a b. (is_same_peer o.peer peer && a) || b)
-        (is_some_map (notice_sent octets o.peer) (flight o events)) (by_events xs)
+        (is_some_map (notification_sent octets o.peer) (flight o events)) (by_events xs)

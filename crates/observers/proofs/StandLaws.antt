@@ -63,8 +63,8 @@ use Rattle.event_model.specs.Flights.{
   Flight,
   retransmission,
   flight,
-  notice_sent,
-  waiting_notice,
+  notification_sent,
+  waiting_notification,
 }
 use Rattle.event_model.specs.Due.{Transition, Watching, watching, observers_standing}
 use Rattle.event_model.proofs.NotedLaws.{event_at}
@@ -84,9 +84,9 @@ use Rattle.observers.specs.Standing.{
   Standing,
   is_named,
   is_sent_as,
-  has_notice,
+  has_notification,
   is_awaited,
-  noticed,
+  notified,
   seen,
   landed,
   due_of,
@@ -101,7 +101,7 @@ use Rattle.observers.specs.ObserverEvents.{
   EachAwaitsOne,
   ObserversStandFor,
   NoneLater,
-  notice_due,
+  notification_due,
 }
 use Rattle.observers.proofs.EventLaws.{
   parts,
@@ -438,14 +438,14 @@ dropped-StandsFor queries octets events transitions e peer token ws is h =
 pub reset-StandsFor : (queries : ℕ → Query) (octets : OctetsSent) (events : List Event)
     (transitions : List Transition) (e : Event) (peer : Peer) (mid : ℕ) (ws : List Standing)
     (w : Standing)
-    → find (has_notice peer mid) ws ≡ Some w
+    → find (has_notification peer mid) ws ≡ Some w
     → e.note ≡ note.Unwatched w.peer w.token
     → ObserversStandFor queries octets events transitions ws
     → ObserversStandFor queries octets (e ∷ events) transitions
-    (without_first (has_notice peer mid) ws)
+    (without_first (has_notification peer mid) ws)
 reset-StandsFor queries octets events transitions e peer mid ws w there is h =
     subst (ObserversStandFor queries octets (e ∷ events) transitions)
-    (found_gone (has_notice peer mid) (is_named w.peer w.token) ws w
+    (found_gone (has_notification peer mid) (is_named w.peer w.token) ws w
     (named_only w.peer w.token ws (names_apart queries octets events transitions ws h)) there
     (is_same_request-refl (w.peer, w.token)))
     (gone_StandsFor queries octets events transitions e w.peer w.token ws is h)
@@ -564,7 +564,7 @@ pub formed-StandsFor : (queries : ℕ → Query) (octets : OctetsSent) (events :
     → Resends e [] s.resend
     → NoneLater e.place transitions
     → ObserversStandFor queries octets events transitions ws
-    → ObserversStandFor queries octets (e ∷ events) transitions (changed_at (noticed s body) i ws)
+    → ObserversStandFor queries octets (e ∷ events) transitions (changed_at (notified s body) i ws)
 formed-StandsFor queries octets events transitions e ws i w s body there free is same fresh low h =
     subst (ObserversStandFor queries octets (e ∷ events) transitions) at
     record {
@@ -574,7 +574,7 @@ formed-StandsFor queries octets events transitions e ws i w s body there free is
           ∙ (standing-formed octets transitions e.place e.moment e.word w.peer w.token body
           (Some s.mid) events low
           ∙ changes queries (formed_for octets n (w.peer, w.token) body (Some s.mid))
-          (where_passes test (noticed s body)) (λ x. by x (test x) refl)
+          (where_passes test (notified s body)) (λ x. by x (test x) refl)
           (observers_standing octets events transitions) ws h.standing);
       awaited = awaits;
     }
@@ -588,9 +588,9 @@ formed-StandsFor queries octets events transitions e ws i w s body there free is
     apart : PairsByRecursion NamesApart ws
     apart = names_apart queries octets events transitions ws h
 
-    at : map (where_passes test (noticed s body)) ws ≡ changed_at (noticed s body) i ws
+    at : map (where_passes test (notified s body)) ws ≡ changed_at (notified s body) i ws
     at =
-        only_at test (noticed s body) ws i w (named_only w.peer w.token ws apart) there
+        only_at test (notified s body) ws i w (named_only w.peer w.token ws apart) there
         (is_same_request-refl (w.peer, w.token))
 
     fresh_here : Resends n [] s.resend
@@ -605,7 +605,7 @@ formed-StandsFor queries octets events transitions e ws i w s body there free is
         → test x ≡ b
         → cond b (parts (observer_of queries x) false (Some body)
         (Some (message_formed octets n x.peer s.mid))) (shown queries x)
-        ≡ shown queries (cond b (noticed s body x) x)
+        ≡ shown queries (cond b (notified s body x) x)
     by x true e' =
         ap (λ (m : Sent). parts (observer_of queries x) false (Some body) (Some m))
         (message_same octets n x.peer s
@@ -631,13 +631,13 @@ formed-StandsFor queries octets events transitions e ws i w s body there free is
         → Free x
         → Free y
         → NamesApart x y × AwaitsOne x y
-        → AwaitsOne (where_passes test (noticed s body) x) (where_passes test (noticed s body) y)
+        → AwaitsOne (where_passes test (notified s body) x) (where_passes test (notified s body) y)
     pair x y fx fy both = cases (test x) (test y) refl refl
       where
         cases : (a b : Bool)
             → test x ≡ a
             → test y ≡ b
-            → AwaitsOne (cond a (noticed s body x) x) (cond b (noticed s body y) y)
+            → AwaitsOne (cond a (notified s body x) x) (cond b (notified s body y) y)
         cases true true ea eb p f g =
             false≢true (sym both.0
             ∙ subst (λ (name : RequestName). is_same_request name (y.peer, y.token) ≡ true)
@@ -649,20 +649,20 @@ formed-StandsFor queries octets events transitions e ws i w s body there free is
             (sym ((is_same_peer-Decides y.peer x.peer).0 p) ∙ same_name y eb)) f
         cases false false ea eb p f g = both.1 p f g
 
-    awaits : EachAwaitsOne (map (where_passes test (noticed s body)) ws)
+    awaits : EachAwaitsOne (map (where_passes test (notified s body)) ws)
     awaits =
-        from_pairs (map (where_passes test (noticed s body)) ws)
+        from_pairs (map (where_passes test (notified s body)) ws)
         (pairs_map Free (λ x y. NamesApart x y × AwaitsOne x y) AwaitsOne
-        (where_passes test (noticed s body)) pair ws (frees ws free)
+        (where_passes test (notified s body)) pair ws (frees ws free)
         (pairs_both NamesApart AwaitsOne (λ x y. NamesApart x y × AwaitsOne x y) (λ x y a b. (a, b))
         ws apart (to_pairs ws h.awaited)))
 
 -- ---- acknowledgements and retransmissions
 
-noticed_as : (peer : Peer) (mid : ℕ) (w : Standing)
-    → has_notice peer mid w ≡ true
+notified_as : (peer : Peer) (mid : ℕ) (w : Standing)
+    → has_notification peer mid w ≡ true
     → (peer ≡ w.peer) × (is_some w.flight ≡ true)
-noticed_as peer mid w e =
+notified_as peer mid w e =
     let both = and_parts (is_same_peer peer w.peer) (is_sent_as mid w.flight) e in
     ((is_same_peer-Decides peer w.peer).0 both.0, by w.flight both.1)
   where
@@ -670,23 +670,23 @@ noticed_as peer mid w e =
     by None h = absurd (false≢true h)
     by (Some s) h = refl
 
-noticed_only : (peer : Peer) (mid : ℕ) (ws : List Standing)
+notified_only : (peer : Peer) (mid : ℕ) (ws : List Standing)
     → EachAwaitsOne ws
-    → OnlyOne (has_notice peer mid) ws
-noticed_only peer mid ws h =
-    pairs_weaker AwaitsOne (Only (has_notice peer mid))
-    (λ x y a e. by x y a e (has_notice peer mid y) refl) ws (to_pairs ws h)
+    → OnlyOne (has_notification peer mid) ws
+notified_only peer mid ws h =
+    pairs_weaker AwaitsOne (Only (has_notification peer mid))
+    (λ x y a e. by x y a e (has_notification peer mid y) refl) ws (to_pairs ws h)
   where
     by : (x y : Standing)
         → AwaitsOne x y
-        → has_notice peer mid x ≡ true
+        → has_notification peer mid x ≡ true
         → (b : Bool)
-        → has_notice peer mid y ≡ b
+        → has_notification peer mid y ≡ b
         → b ≡ false
     by x y a e false f = refl
     by x y a e true f =
-        let one = noticed_as peer mid x e in
-        let other = noticed_as peer mid y f in
+        let one = notified_as peer mid x e in
+        let other = notified_as peer mid y f in
         absurd (a ((is_same_peer-Decides y.peer x.peer).1 (sym other.0 ∙ one.0)) one.1 other.1)
 
 landed-StartsNone : StartsNone landed
@@ -697,10 +697,10 @@ pub landed-StandsFor : (queries : ℕ → Query) (octets : OctetsSent) (events :
     → e.note ≡ note.Landed peer mid
     → ObserversStandFor queries octets events transitions ws
     → ObserversStandFor queries octets (e ∷ events) transitions
-    (changed_first (has_notice peer mid) landed ws)
+    (changed_first (has_notification peer mid) landed ws)
 landed-StandsFor queries octets events transitions e peer mid ws is h =
     subst (ObserversStandFor queries octets (e ∷ events) transitions)
-    (only_first test landed ws (noticed_only peer mid ws h.awaited))
+    (only_first test landed ws (notified_only peer mid ws h.awaited))
     record {
       standing =
           ap (λ x. observers_standing octets (x ∷ events) transitions)
@@ -714,7 +714,7 @@ landed-StandsFor queries octets events transitions e peer mid ws is h =
     }
   where
     test : Standing → Bool
-    test = has_notice peer mid
+    test = has_notification peer mid
 
     -- an observer by its flight
     with_flight : Standing → Option Sent → Standing
@@ -756,7 +756,7 @@ pub again-StandsFor : (queries : ℕ → Query) (octets : OctetsSent) (events : 
     → ObserversStandFor queries octets (e ∷ events) transitions (changed_at (timed now) i ws)
 again-StandsFor queries octets events transitions e now ws i w s there flies sends is when h =
     subst (ObserversStandFor queries octets (e ∷ events) transitions)
-    (only_at test again_now ws i w (noticed_only w.peer s.mid ws h.awaited) there passes
+    (only_at test again_now ws i w (notified_only w.peer s.mid ws h.awaited) there passes
     ∙ timed_at ws i there)
     record {
       standing =
@@ -771,7 +771,7 @@ again-StandsFor queries octets events transitions e now ws i w s there flies sen
     }
   where
     test : Standing → Bool
-    test = has_notice w.peer s.mid
+    test = has_notification w.peer s.mid
 
     again_now : Standing → Standing
     again_now x = record x { flight = option_map (sent_again e.moment) x.flight }
@@ -912,7 +912,7 @@ same_at queries octets events transitions ws i o w h at there = by both
     by e = cc
 
 due_flight : (now : ℕ) (octets : OctetsSent) (peer : Peer) (f : Option Flight)
-    → due_of now (option_map (notice_sent octets peer) f) ≡ notice_due now f
+    → due_of now (option_map (notification_sent octets peer) f) ≡ notification_due now f
 due_flight now octets peer None = refl
 due_flight now octets peer (Some f) =
     kept_due-deadline now f.formed f.again (retransmission f.formed f.again)
@@ -924,8 +924,8 @@ pub due-StandsFor : (queries : ℕ → Query) (octets : OctetsSent) (events : Li
     → ObserversStandFor queries octets events transitions ws
     → slice_get (observers events) i ≡ Some o
     → slice_get ws i ≡ Some w
-    → due_of now w.flight ≡ notice_due now (flight o events)
-unfolding waiting_notice
+    → due_of now w.flight ≡ notification_due now (flight o events)
+unfolding waiting_notification
 due-StandsFor queries octets events transitions now ws i o w h at there =
     ap (λ (x : Watching). due_of now x.waits)
     (sym (same_at queries octets events transitions ws i o w h at there))

@@ -104,6 +104,6 @@ NoneLater place transitions = AllByRecursion (λ t. t.place ≤ place) transitio
 
 -- Returns what is due for a notification in flight, by the events that built and retransmitted it.
 -- Nothing is due if there is none.
-abbrev pub notice_due : ℕ → Option Flight → Again
-notice_due now None = again.Wait
-notice_due now (Some f) = due_at now f.formed f.again
+abbrev pub notification_due : ℕ → Option Flight → Again
+notification_due now None = again.Wait
+notification_due now (Some f) = due_at now f.formed f.again

@@ -51,8 +51,8 @@ is_sent_as mid (Some s) = mid == s.mid
 
 -- Returns whether a notification with this Message ID is in flight to this observer, and the
 -- observer is of this peer.
-abbrev pub has_notice : Peer → ℕ → Standing → Bool
-has_notice peer mid w = is_same_peer peer w.peer && is_sent_as mid w.flight
+abbrev pub has_notification : Peer → ℕ → Standing → Bool
+has_notification peer mid w = is_same_peer peer w.peer && is_sent_as mid w.flight
 
 -- Returns whether a notification is in flight to one of the observers of a peer.
 abbrev pub is_awaited : Peer → List Standing → Bool
@@ -78,8 +78,8 @@ abbrev pub marked : ℕ → Standing → Standing
 marked slot w = record w { due = w.due || w.slot == slot }
 
 -- Returns an observer after a notification with a body was built for it.
-abbrev pub noticed : Sent → List ℕ → Standing → Standing
-noticed sent body w = record w { due = false; last = body; flight = Some sent }
+abbrev pub notified : Sent → List ℕ → Standing → Standing
+notified sent body w = record w { due = false; last = body; flight = Some sent }
 
 -- Returns an observer after its listing was found unchanged.
 abbrev pub seen : Standing → Standing

@@ -1,7 +1,8 @@
 //! An observer of a lookup.
 ghost use Rattle.std.specs.Prelude.{◌≡◌};
 ghost use Rattle.std.specs.Arc.{arc_value};
-ghost use Rattle.observers.specs.Standing.{is_named, has_notice, marked, noticed, seen, landed};
+ghost use Rattle.observers.specs.Standing.{is_named, has_notification, marked, notified, seen};
+ghost use Rattle.observers.specs.Standing.{landed};
 ghost use Rattle.observers.specs.Standing.{due_of, timed};
 
 use exchange_core::{Again, Sent, Token};
@@ -77,8 +78,8 @@ impl Observer {
 
     /// Returns whether it is an observer of this peer, to which a notification with this Message ID
     /// is in flight.
-    pub(crate) fn has_notice(&self, peer: &Peer, mid: u16) -> bool
-        ensures { result ≡ has_notice peer.now mid self.now }
+    pub(crate) fn has_notification(&self, peer: &Peer, mid: u16) -> bool
+        ensures { result ≡ has_notification peer.now mid self.now }
     {
         match &self.flight {
             Some(sent) => *peer == self.peer && mid == sent.mid,
@@ -94,8 +95,8 @@ impl Observer {
     }
 
     /// Records that a notification with this body was built for it.
-    pub(crate) fn notice(&mut self, flight: Sent, body: Arc<Bytes>)
-        ensures { self.new ≡ noticed flight (arc_value body) self.old }
+    pub(crate) fn notification(&mut self, flight: Sent, body: Arc<Bytes>)
+        ensures { self.new ≡ notified flight (arc_value body) self.old }
     {
         self.due = false;
         self.last = body;

@@ -13,16 +13,18 @@ ghost use Rattle.event_model.specs.Flights.{OctetsSent, Sent as Message, flight,
 ghost use Rattle.event_model.specs.Due.{Transition};
 ghost use Rattle.exchange_core.specs.Retransmissions.{Resends};
 ghost use Rattle.rd_base.specs.Firsts.{changed_first, without_first};
-ghost use Rattle.observers.specs.Standing.{Standing, is_named, has_notice, is_awaited, next_ready};
-ghost use Rattle.observers.specs.Standing.{marked, noticed, seen, landed, due_of, timed};
+ghost use Rattle.observers.specs.Standing.{Standing, is_named, has_notification, is_awaited};
+ghost use Rattle.observers.specs.Standing.{next_ready};
+ghost use Rattle.observers.specs.Standing.{marked, notified, seen, landed, due_of, timed};
 ghost use Rattle.observers.specs.Standing.{changed_at};
 ghost use Rattle.observers.specs.ObserverEvents.{observer_of, ObserversStandFor, NoneLater};
-ghost use Rattle.observers.specs.ObserverEvents.{notice_due, IsExactMark, was_looked_at_before};
+ghost use Rattle.observers.specs.ObserverEvents.{notification_due, IsExactMark};
+ghost use Rattle.observers.specs.ObserverEvents.{was_looked_at_before};
 
 use crate::Observer;
 use crate::walks::{
-    await_peer, gather, index_of, index_of_notice, land_first, mark_all, next_in, notice_at,
-    peer_at, see_at, take, time_at,
+    await_peer, gather, index_of, index_of_notification, land_first, mark_all, next_in,
+    notification_at, peer_at, see_at, take, time_at,
 };
 use event_model::limits::MAX_OBSERVERS;
 use exchange_core::{Again, Sent, Token};
@@ -169,7 +171,7 @@ impl Observers {
         requires free { (w : Standing)
             → slice_get self.old index ≡ Some w
             → is_awaited w.peer self.old ≡ false }
-        ensures formed { self.new ≡ changed_at (noticed flight (arc_value body)) index self.old }
+        ensures formed { self.new ≡ changed_at (notified flight (arc_value body)) index self.old }
         ensures stands { (queries : ℕ → Query) (octets : OctetsSent) (events : List Event)
             (transitions : List Transition) (e : Event) (w : Standing)
             → slice_get self.old index ≡ Some w
@@ -181,7 +183,7 @@ impl Observers {
             → ObserversStandFor queries octets (e ∷ events) transitions self.new }
     {
         let peer = peer_at(self.items.as_slice(), index);
-        notice_at(&mut self.items, index, flight, body);
+        notification_at(&mut self.items, index, flight, body);
         await_peer(&mut self.awaited, peer);
     }
 
@@ -208,8 +210,8 @@ impl Observers {
     /// Records that a peer acknowledged the notification with this Message ID. Returns whether that
     /// notification was in flight.
     pub fn acked(&mut self, peer: &Peer, mid: u16) -> bool
-        ensures found { result ≡ list_any (has_notice peer.now mid) self.old }
-        ensures landed { self.new ≡ changed_first (has_notice peer.now mid) landed self.old }
+        ensures found { result ≡ list_any (has_notification peer.now mid) self.old }
+        ensures landed { self.new ≡ changed_first (has_notification peer.now mid) landed self.old }
         ensures stands { (queries : ℕ → Query) (octets : OctetsSent) (events : List Event)
             (transitions : List Transition) (e : Event)
             → e.note ≡ note.Landed peer.now mid
@@ -224,8 +226,8 @@ impl Observers {
     /// Handles a Reset of the notification with this Message ID from a peer (RFC 7641 section 4.2).
     /// Removes the observer to which it is in flight, and returns it, if there is one.
     pub fn reset(&mut self, peer: &Peer, mid: u16) -> Option<Observer>
-        ensures found { result ≡ find (has_notice peer.now mid) self.old }
-        ensures left { self.new ≡ without_first (has_notice peer.now mid) self.old }
+        ensures found { result ≡ find (has_notification peer.now mid) self.old }
+        ensures left { self.new ≡ without_first (has_notification peer.now mid) self.old }
         ensures stands { (queries : ℕ → Query) (octets : OctetsSent) (events : List Event)
             (transitions : List Transition) (e : Event) (w : Standing)
             → result ≡ Some w
@@ -233,7 +235,7 @@ impl Observers {
             → ObserversStandFor queries octets events transitions self.old
             → ObserversStandFor queries octets (e ∷ events) transitions self.new }
     {
-        let index = index_of_notice(self.items.as_slice(), peer, mid);
+        let index = index_of_notification(self.items.as_slice(), peer, mid);
         let taken = take(&mut self.items, index);
         gather(&mut self.awaited, self.items.as_slice());
         taken
@@ -255,7 +257,7 @@ impl Observers {
             (transitions : List Transition) (o : Observed)
             → ObserversStandFor queries octets events transitions self.old
             → slice_get (observers events) index ≡ Some o
-            → result ≡ notice_due now.0 (flight o events) }
+            → result ≡ notification_due now.0 (flight o events) }
         ensures stands { (queries : ℕ → Query) (octets : OctetsSent) (events : List Event)
             (transitions : List Transition) (e : Event) (w : Standing) (s : Message)
             → result ≡ Again.Send

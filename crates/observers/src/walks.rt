@@ -7,8 +7,9 @@ ghost use Rattle.event_model.specs.Same.{is_same_peer};
 ghost use Rattle.event_model.specs.Observers.{max_observers};
 ghost use Rattle.observers.specs.AwaitedPeers.{awaited_of, Tells};
 ghost use Rattle.rd_base.specs.Firsts.{changed_first, without_first};
-ghost use Rattle.observers.specs.Standing.{Standing, is_named, has_notice, is_awaited, is_ready};
-ghost use Rattle.observers.specs.Standing.{next_ready, marked, noticed, seen, landed, due_of};
+ghost use Rattle.observers.specs.Standing.{Standing, is_named, has_notification, is_awaited};
+ghost use Rattle.observers.specs.Standing.{is_ready};
+ghost use Rattle.observers.specs.Standing.{next_ready, marked, notified, seen, landed, due_of};
 ghost use Rattle.observers.specs.Standing.{timed, changed_at};
 
 use crate::Observer;
@@ -27,12 +28,12 @@ pub(crate) fn index_of(observers: &[Observer], peer: &Peer, token: &Token) -> Op
 
 /// Returns the index of the first observer of a peer to which a notification with a Message ID is
 /// in flight.
-pub(crate) fn index_of_notice(observers: &[Observer], peer: &Peer, mid: u16) -> Option<usize>
-    ensures { result ≡ position (has_notice peer.now mid) observers.now }
+pub(crate) fn index_of_notification(observers: &[Observer], peer: &Peer, mid: u16) -> Option<usize>
+    ensures { result ≡ position (has_notification peer.now mid) observers.now }
 {
     observers
         .iter()
-        .position(|observer| observer.has_notice(peer, mid))
+        .position(|observer| observer.has_notification(peer, mid))
 }
 
 /// Removes the observer with an index, if there is one, and returns it. If the index is that of the
@@ -133,14 +134,19 @@ pub(crate) fn peer_at(observers: &[Observer], index: usize) -> Peer
 }
 
 /// Records that a notification with a body was built for the observer with an index.
-pub(crate) fn notice_at(observers: &mut Vec<Observer>, index: usize, flight: Sent, body: Arc<Bytes>)
+pub(crate) fn notification_at(
+    observers: &mut Vec<Observer>,
+    index: usize,
+    flight: Sent,
+    body: Arc<Bytes>,
+)
     requires { index < length observers.old.items }
-    ensures noticed { observers.new.items
-        ≡ changed_at (noticed flight (arc_value body)) index observers.old.items }
+    ensures notified { observers.new.items
+        ≡ changed_at (notified flight (arc_value body)) index observers.old.items }
     ensures capacity { vec_capacity observers.new ≡ vec_capacity observers.old }
     ensures len { vec_len observers.new ≡ vec_len observers.old }
 {
-    observers[index].notice(flight, body);
+    observers[index].notification(flight, body);
 }
 
 /// Records that the listing of the observer with an index was found unchanged.
@@ -169,13 +175,13 @@ pub(crate) fn time_at(observers: &mut Vec<Observer>, index: usize, now: Moment) 
 /// Records that the notification with a Message ID in flight to a peer was acknowledged. Returns
 /// whether there was one.
 pub(crate) fn land_first(observers: &mut Vec<Observer>, peer: &Peer, mid: u16) -> bool
-    ensures found { result ≡ list_any (has_notice peer.now mid) observers.old.items }
+    ensures found { result ≡ list_any (has_notification peer.now mid) observers.old.items }
     ensures landed { observers.new.items
-        ≡ changed_first (has_notice peer.now mid) landed observers.old.items }
+        ≡ changed_first (has_notification peer.now mid) landed observers.old.items }
     ensures capacity { vec_capacity observers.new ≡ vec_capacity observers.old }
     ensures len { vec_len observers.new ≡ vec_len observers.old }
 {
-    match index_of_notice(observers.as_slice(), peer, mid) {
+    match index_of_notification(observers.as_slice(), peer, mid) {
         Some(index) => {
             observers[index].land();
             true

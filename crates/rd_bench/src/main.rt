@@ -12,6 +12,7 @@ mod datagrams;
 mod desks;
 mod exchanges;
 mod feeds;
+mod host_links;
 mod listings;
 mod looks;
 mod maps;
@@ -34,6 +35,7 @@ use registrations::Body;
 use std::net::Net;
 use std::sync::Wait;
 use std::thread::Threads;
+use std::time::Clock;
 
 /// The numbers of writes in the table of exchanges.
 const WRITES: [u64; 3] = [64, 1_024, 4_096];
@@ -116,11 +118,16 @@ fn streams(rt: &HostRuntime) -> Result<(), Trouble> {
 }
 
 /// Measures all calls, one after another. `ends` starts threads, waits and opens sockets.
-fn measured<R: Threads + Wait + Net + Sync>(rt: &HostRuntime, ends: &R) -> Result<(), Trouble> {
+fn measured<R: Threads + Wait + Net + Clock + Sync>(
+    rt: &HostRuntime,
+    ends: &R,
+) -> Result<(), Trouble> {
     tables(rt)?;
     registrations_and_listings(rt)?;
     turns::measured(rt, ends)?;
     datagrams::measured(rt, ends)?;
+    datagrams::measure_host_links(rt, ends)?;
+    host_links::measured(rt, ends)?;
     looks::measure_look(rt, ends)?;
     looks::measure_publishing(rt, ends)?;
     seats(rt, ends)?;

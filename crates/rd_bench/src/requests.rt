@@ -23,7 +23,7 @@ pub const PEER: Peer = Peer {
 const REGISTRATION: &[u8] = b"\x41\x02\x00\x01\xa1\xb2rd\x47ep=node\xff</light>;rt=\"light-lux\"";
 
 /// A lookup of that link (RFC 9176 section 6.2).
-const LOOKUP: &[u8] = b"\x41\x01\x00\x02\xb2\xb9rd-lookup\x03res\x4crt=light-lux";
+pub const LOOKUP: &[u8] = b"\x41\x01\x00\x02\xb2\xb9rd-lookup\x03res\x4crt=light-lux";
 
 /// A ping (RFC 7252 section 4.3).
 const PING: &[u8] = b"\x40\x00\x00\x03";

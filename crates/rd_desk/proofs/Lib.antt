@@ -19,7 +19,7 @@
 -- Ticks (ticking): how many observe and are fetched from (BoundLaws), how long the octets are that
 -- may be retransmitted (FittingLaws); notifications that are retransmitted (AgainLaws, observer
 --   after observer AgainWalk), requests of fetches that are (RequestWalk); who gets a new
--- notification (NoticeWalk); a plan, from its beginning to its end
+-- notification (NotificationWalk); a plan, from its beginning to its end
 --   (PlanLaws; what is as before meanwhile, PlanWay), past those to whose peers a notification is
 -- planned (SkipLaws) and with one observer more (PlanSteps; by what is planned for it, PlanCases),
 -- and how it is carried out (CarryLaws); that no notification is sent where nobody is due and free

@@ -3,7 +3,7 @@ pub mod FittingLaws
 pub mod AgainLaws
 pub mod AgainWalk
 pub mod RequestWalk
-pub mod NoticeWalk
+pub mod NotificationWalk
 pub mod IdleTicks
 pub mod WholeTick
 pub mod PlanLaws

@@ -2,13 +2,13 @@
 pub(crate) mod asked;
 pub(crate) mod commits;
 pub(crate) mod entries;
-pub(crate) mod jobs;
 pub(crate) mod links;
 pub(crate) mod locations;
 pub(crate) mod outcomes;
 pub(crate) mod refusals;
-pub(crate) mod replies;
 pub(crate) mod settling;
+pub(crate) mod short_replies;
 pub(crate) mod simple_registrations;
 pub(crate) mod staging;
 pub(crate) mod uploads;
+pub(crate) mod write_jobs;

@@ -9,9 +9,9 @@ use std::process::ExitCode;
 /// How the program ends.
 #[derive(Debug, Drop)]
 pub(crate) enum Ending {
-    /// It told of itself, or served to the end.
+    /// The program printed a text about itself, or served to the end.
     Done,
-    /// It ended before that.
+    /// The program failed before that.
     Failed(Failure),
 }
 
@@ -43,7 +43,8 @@ impl From<AllocError> for Ending {
 }
 
 impl Ending {
-    /// How the program ends after the server ended so, with the trouble of its links.
+    /// Returns how the program ends after the server ended with this status and its links with this
+    /// trouble.
     pub(crate) fn of(status: ServeStatus, crew: &Crew) -> Ending {
         match status {
             ServeStatus::Done => Ending::Done,
@@ -53,7 +54,7 @@ impl Ending {
         }
     }
 
-    /// Says on standard error why the program ends where it failed, and gives its exit status.
+    /// Prints on standard error why the program failed, if it did, and returns its exit status.
     pub(crate) fn exit(self, rt: &HostRuntime) -> ExitCode {
         let Ending::Failed(failure) = self else {
             return ExitCode::from(0);

@@ -1,5 +1,4 @@
-//! `rd_host`: a directory that serves clients over UDP at addresses of its machine, by many
-//! workers.
+//! `rd_host`: a directory that serves clients over UDP at addresses of its host, with many workers.
 #![tactic(auto)]
 
 ghost use Rattle.std.specs.Prelude.{◌≡◌, ◌≤◌, ◌<◌, ◌^◌, IfOk, length, vec_len};
@@ -25,10 +24,10 @@ use std::sync::{Mutex, Wait};
 use std::thread::Threads;
 use udp_link::{Clock, Link};
 
-/// What one worker has: its link, where it says what was counted and the clock by which it does, the
-/// clock by which its guard counts, and its own clock.
+/// The resources of one worker: its link, the output and the clock for its counts, the clock of its
+/// guard, and its own clock.
 #[derive(Drop)]
-struct Post<L, C, W> {
+struct Context<L, C, W> {
     link: L,
     out: W,
     telling: C,
@@ -36,13 +35,13 @@ struct Post<L, C, W> {
     clock: C,
 }
 
-/// What one worker has of this machine.
-type HostPost<'a> = Post<HostLink<'a, HostRuntime>, HostClock<'a, HostRuntime>, Stderr>;
+/// The resources of one worker on this host.
+type HostContext<'a> = Context<HostLink<'a, HostRuntime>, HostClock<'a, HostRuntime>, Stderr>;
 
-/// The ends of workers whose links a guard keeps, and whose datagrams are counted.
+/// The ends of workers whose links have a guard and are counted.
 type GuardedEnds<'a, R, L, C, W> = Vec<End<GuardedLink<'a, R, CountedLink<'a, L, C, W>, C>, C>>;
 
-/// What the words of the command line want.
+/// Returns what the arguments want.
 fn wanted(rt: &HostRuntime) -> Result<Wanted, Ending>
     ensures { IfOk result IsWanted }
 {
@@ -50,7 +49,8 @@ fn wanted(rt: &HostRuntime) -> Result<Wanted, Ending>
     Ok(read_words(rt.alloc(), words.as_slice())?)
 }
 
-/// A socket at an address; none where the machine has no IPv6, which it says on standard error.
+/// Returns a socket at an address. If the host has no IPv6, prints that on standard error and
+/// returns `None`.
 fn listener_at(rt: &HostRuntime, address: Peer) -> Result<Option<Listener>, Ending> {
     match Listener::bind(rt, rt.alloc(), address) {
         Ok(listener) => Ok(Some(listener)),
@@ -66,7 +66,7 @@ fn listener_at(rt: &HostRuntime, address: Peer) -> Result<Option<Listener>, Endi
     }
 }
 
-/// A socket at each address, but for those of IPv6 where the machine has none.
+/// Returns a socket at each address, except at those of IPv6 if the host has none.
 fn listeners_at(rt: &HostRuntime, plan: &HostPlan) -> Result<Vec<Listener>, Ending>
     ensures { IfOk result (λ listeners. 1 ≤ vec_len listeners) }
 {
@@ -84,24 +84,24 @@ fn listeners_at(rt: &HostRuntime, plan: &HostPlan) -> Result<Vec<Listener>, Endi
     Ok(listeners)
 }
 
-/// What the workers of a server share.
+/// The resources that the workers of a server share.
 #[derive(Drop)]
 struct Shared {
     /// A socket at each address.
     listeners: Vec<Listener>,
-    /// By which of them each peer was heard.
+    /// At which address each peer was last received from.
     routes: Mutex<Routes>,
-    /// How many of their links began, and why they end.
+    /// How many of the links have started, and why they end.
     crew: Crew,
-    /// What they keep from the directory.
+    /// Withholds datagrams from the directory.
     guard: Guard,
-    /// What they count, if they do.
+    /// The counters of the links, if they count.
     counts: Option<Counts>,
-    /// From when on their clocks count.
+    /// The start of the program, from which the clocks count.
     origin: Origin,
 }
 
-/// What the links of a server of a plan count, if they do.
+/// Returns the counters of a server of this plan, unless the plan is quiet.
 fn counts_of(rt: &HostRuntime, plan: &HostPlan) -> Result<Option<Counts>, Starved> {
     if plan.quiet {
         return Ok(None);
@@ -109,7 +109,7 @@ fn counts_of(rt: &HostRuntime, plan: &HostPlan) -> Result<Option<Counts>, Starve
     Ok(Some(Counts::new(rt.alloc())?))
 }
 
-/// What the workers of a server of a plan share.
+/// Returns the resources that the workers of a server of this plan share.
 fn shared_of(rt: &HostRuntime, plan: &HostPlan) -> Result<Shared, Ending>
     requires { IsPlan plan.now }
     ensures { IfOk result (λ shared. 1 ≤ vec_len shared.listeners) }
@@ -132,12 +132,12 @@ fn shared_of(rt: &HostRuntime, plan: &HostPlan) -> Result<Shared, Ending>
     })
 }
 
-/// What a worker has that receives at the address of the listener `own`.
+/// Returns the resources of a worker that receives at the address of the listener `own`.
 fn post_over<'a>(
     rt: &'a HostRuntime,
     shared: &'a Shared,
     own: usize,
-) -> Result<HostPost<'a>, Ending>
+) -> Result<HostContext<'a>, Ending>
     requires { own < vec_len shared.now.listeners }
 {
     let Shared {
@@ -151,7 +151,7 @@ fn post_over<'a>(
     let Ok(clock) = HostClock::seeded(rt, origin) else {
         return Err(Failure::Keys.into());
     };
-    Ok(Post {
+    Ok(Context {
         link,
         out: rt.stderr(),
         telling: HostClock::of(rt, origin, [0; 32]),
@@ -160,23 +160,23 @@ fn post_over<'a>(
     })
 }
 
-/// What so many workers have, of whom the addresses have equally many.
+/// Returns the resources of `number` workers, equally many at each address.
 fn posts_over<'a>(
     rt: &'a HostRuntime,
     shared: &'a Shared,
     number: usize,
-) -> Result<Vec<HostPost<'a>>, Ending>
+) -> Result<Vec<HostContext<'a>>, Ending>
     requires { 1 ≤ vec_len shared.now.listeners }
-    ensures { IfOk result (λ posts. vec_len posts ≡ number) }
+    ensures { IfOk result (λ contexts. vec_len contexts ≡ number) }
 {
-    let mut posts = Vec::with_capacity(rt.alloc(), number)?;
-    'posts: for k in 0..number {
-        posts.push_reserved(post_over(rt, shared, k % shared.listeners.len())?);
+    let mut contexts = Vec::with_capacity(rt.alloc(), number)?;
+    'contexts: for k in 0..number {
+        contexts.push_reserved(post_over(rt, shared, k % shared.listeners.len())?);
     }
-    Ok(posts)
+    Ok(contexts)
 }
 
-/// What counts the datagrams of a link, if they are counted.
+/// Returns the teller of a link, if its datagrams are counted.
 fn teller_of<'a, C: Drop, W: Drop>(
     counts: Option<&'a Counts>,
     alloc: Global,
@@ -187,25 +187,25 @@ fn teller_of<'a, C: Drop, W: Drop>(
     Some(Teller::of(counts, alloc, clock, out))
 }
 
-/// The ends of these workers, whose links the guard keeps and whose datagrams are counted.
+/// Returns the ends of these workers, with a guard and a counter over each link.
 fn guarded<'a, R, L: Drop, C: Drop, W: Drop>(
     rt: &'a R,
     alloc: Global,
     shared: &'a Shared,
-    posts: Vec<Post<L, C, W>>,
+    contexts: Vec<Context<L, C, W>>,
 ) -> Result<GuardedEnds<'a, R, L, C, W>, Starved>
-    ensures { IfOk result (λ ends. vec_len ends ≡ vec_len posts) }
+    ensures { IfOk result (λ ends. vec_len ends ≡ vec_len contexts) }
 {
     let counts = shared.counts.as_ref();
-    let mut ends = Vec::with_capacity(alloc, posts.len())?;
-    'posts: for post in posts {
-        let Post {
+    let mut ends = Vec::with_capacity(alloc, contexts.len())?;
+    'contexts: for context in contexts {
+        let Context {
             link,
             out,
             telling,
             reading,
             clock,
-        } = post;
+        } = context;
         let link = CountedLink::over(link, teller_of(counts, alloc, telling, out));
         let link = GuardedLink::over(rt, &shared.guard, counts, link, reading);
         ends.push_reserved(End::of(link, clock));
@@ -213,7 +213,7 @@ fn guarded<'a, R, L: Drop, C: Drop, W: Drop>(
     Ok(ends)
 }
 
-/// Says a text about the program.
+/// Prints a text about the program.
 fn tell(rt: &HostRuntime, text: &str) -> Ending {
     match rt.stdout().write_all(text.as_bytes()) {
         Ok(()) => Ending::Done,
@@ -221,7 +221,7 @@ fn tell(rt: &HostRuntime, text: &str) -> Ending {
     }
 }
 
-/// What is to be served; or how the program ends, where nothing is.
+/// Returns the plan to serve. If there is none, returns how the program ends.
 fn plan_of(rt: &HostRuntime) -> Result<HostPlan, Ending>
     ensures { IfOk result IsPlan }
 {
@@ -235,7 +235,7 @@ fn plan_of(rt: &HostRuntime) -> Result<HostPlan, Ending>
 ///
 /// # Errors
 ///
-/// Out of memory.
+/// `Starved` if memory runs out.
 fn begin_run<R: Wait, L, C: Clock>(
     handles: &R,
     hall: &Hall,
@@ -257,12 +257,13 @@ fn begin_run<R: Wait, L, C: Clock>(
     Ok(())
 }
 
-/// Makes a hall for the ends, begins its run above `first`, says its line on standard error where
-/// that can be written, and serves.
+/// Makes a hall for the ends, begins its run above `first`, and serves.
+///
+/// Prints the line of its start on standard error, and serves even if that cannot be written.
 ///
 /// # Errors
 ///
-/// Out of memory before the ends were served.
+/// `Starved` if memory runs out before the ends are served.
 fn serve_above<R: Threads + Wait + Sync + AllocGlobal, L: Link + Send, C: Clock + Send>(
     rt: &HostRuntime,
     handles: &R,
@@ -288,7 +289,7 @@ fn serve_above<R: Threads + Wait + Sync + AllocGlobal, L: Link + Send, C: Clock 
 ///
 /// # Errors
 ///
-/// Out of memory before the ends were served.
+/// `Starved` if memory runs out before the ends are served.
 fn serve_guarded<
     R: Threads + Wait + Sync + AllocGlobal,
     L: Link + Send + Drop,
@@ -298,14 +299,14 @@ fn serve_guarded<
     rt: &HostRuntime,
     handles: &R,
     shared: &Shared,
-    posts: Vec<Post<L, C, W>>,
+    contexts: Vec<Context<L, C, W>>,
     plan: &HostPlan,
     first: u64,
 ) -> Result<ServeStatus, Starved>
-    requires posts { (1 ≤ vec_len posts) × (vec_len posts ≤ 16) }
+    requires contexts { (1 ≤ vec_len contexts) × (vec_len contexts ≤ 16) }
     requires turns { plan.now.turns ≤ 10 ^ 12 }
 {
-    let mut ends = guarded(handles, rt.alloc(), shared, posts)?;
+    let mut ends = guarded(handles, rt.alloc(), shared, contexts)?;
     serve_above(rt, handles, &mut ends, plan, first)
 }
 
@@ -318,12 +319,12 @@ fn main(rt: HostRuntime) -> ExitCode {
         Ok(shared) => shared,
         Err(ending) => return ending.exit(&rt),
     };
-    let posts = match posts_over(&rt, &shared, plan.ends()) {
-        Ok(posts) => posts,
+    let contexts = match posts_over(&rt, &shared, plan.ends()) {
+        Ok(contexts) => contexts,
         Err(ending) => return ending.exit(&rt),
     };
     let first = plan.begin.unwrap_or(shared.origin.begin());
-    match serve_guarded(&rt, &rt, &shared, posts, &plan, first) {
+    match serve_guarded(&rt, &rt, &shared, contexts, &plan, first) {
         Ok(status) => Ending::of(status, &shared.crew).exit(&rt),
         Err(starved) => Ending::from(starved).exit(&rt),
     }

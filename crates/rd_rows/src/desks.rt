@@ -1,6 +1,6 @@
 //! Stored tables of a desk, which test what no datagram shows.
 
-mod station;
+mod fixture;
 mod tables;
 
 use rd_base::Starved;

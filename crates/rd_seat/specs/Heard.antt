@@ -5,7 +5,7 @@ use Rattle.rd_base.specs.declared.peers.Peer.{Peer}
 use Rattle.event_model.specs.KeptAnswers.{Answer}
 use Rattle.journal_model.specs.declared.rows.Row.{Row}
 use Rattle.journal_model.specs.declared.steps.Step.{Step}
-use Rattle.rd_desk.specs.declared.admissions.Admitted.TheVariants as admitted
+use Rattle.rd_desk.specs.declared.admitted.Admitted.TheVariants as admitted
 use Rattle.rd_desk.specs.declared.jobs.Job.{Job}
 use Rattle.rd_desk.specs.declared.jobs.Job.TheVariants as job
 use Rattle.rd_seat.specs.declared.hearing.SeatHeard.{SeatHeard}

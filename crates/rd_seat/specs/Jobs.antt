@@ -5,8 +5,8 @@ use Rattle.journal_model.specs.declared.steps.StepKind.TheVariants as step
 use Rattle.journal_model.specs.DeskJournal.{IsOpenFor}
 use Rattle.journal_model.specs.Seats.{job_left}
 use Rattle.rd_desk.specs.calls.WriteJobs.{Write}
-use Rattle.rd_desk.specs.declared.admissions.Admitted.{Admitted}
-use Rattle.rd_desk.specs.declared.admissions.Admitted.TheVariants as admitted
+use Rattle.rd_desk.specs.declared.admitted.Admitted.{Admitted}
+use Rattle.rd_desk.specs.declared.admitted.Admitted.TheVariants as admitted
 use Rattle.rd_seat.specs.Seats.{SeatSeen}
 use Rattle.rd_seat.specs.Steps.{commit_step}
 

@@ -5,7 +5,7 @@ use Rattle.event_model.specs.KeptAnswers.{Answer}
 use Rattle.history_model.specs.Live.{IsFront}
 use Rattle.journal_model.specs.declared.steps.Step.{Step}
 use Rattle.turn_lock.specs.Shown.{seen_of}
-use Rattle.rd_desk.specs.declared.admissions.Admitted.{Admitted}
+use Rattle.rd_desk.specs.declared.admitted.Admitted.{Admitted}
 use Rattle.rd_seat.specs.declared.shares.Share.{Share}
 use Rattle.rd_seat.specs.Insides.{IsAtRest, hall_of, seat_shown}
 use Rattle.rd_seat.specs.Jobs.{LeavesJob, OpensJob}

@@ -139,15 +139,15 @@ fn say_line<E: Sink>(err: &mut E, bad: LineBad) {
 pub fn report<E: Sink>(err: &mut E, status: Status) {
     match status {
         Status::Done => {}
-        Status::ReadFault => say(err, &[b"read failed\n"]),
-        Status::WriteFault => say(err, &[b"write failed\n"]),
+        Status::ReadFault => say(err, &[b"standard input: it cannot be read\n"]),
+        Status::WriteFault => say(err, &[b"standard output: it cannot be written\n"]),
         Status::Usage => say(
             err,
             &[b"usage: rd_capture [--port P] [--begin N] [--workers] [--replies | --pcap]\n"],
         ),
-        Status::NoCapture => say(err, &[b"no capture\n"]),
+        Status::NoCapture => say(err, &[b"standard input: it is no capture\n"]),
         Status::Line(bad) => say_line(err, bad),
-        Status::Memory => say(err, &[b"memory\n"]),
+        Status::Memory => say(err, &[b"memory: it ran out\n"]),
     }
 }
 

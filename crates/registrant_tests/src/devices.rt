@@ -3,9 +3,10 @@
 ghost use Rattle.std.specs.Prelude.{◌≤◌, ◌^◌, IfOk};
 ghost use Rattle.client_model.specs.Requests.{CanBeSent};
 
-use crate::station::Station;
+use crate::ends::{clock_of, directory, link_of};
+use crate::fixture::Fixture;
 use futures::executor::block_on;
-use rd_base::{Bytes, Host, Moment, Peer, Starved};
+use rd_base::{Bytes, Moment, Starved};
 use registrant::{
     Ask, AskBad, Location, Outcome, Registrant, Talk, Told, refresh_ask, register_ask, remove_ask,
 };
@@ -13,13 +14,7 @@ use std::alloc::{AllocGlobal, Global};
 use std::random::RandomSource;
 use std::sync::Wait;
 use std::test::Fail;
-use udp_link::{Arrivals, MemClock, MemLink, Moments, Words};
-
-/// The directory.
-const DIRECTORY: Peer = Peer {
-    host: Host::V4([192, 0, 2, 1]),
-    port: 5683,
-};
+use udp_link::{MemClock, MemLink};
 
 /// The token of each request.
 const TOKEN: [u8; 8] = [0, 0, 0, 0, 0, 0, 0, 1];
@@ -63,15 +58,7 @@ fn request_of(alloc: Global, wish: Wish<'_>, mid: u16) -> Result<Bytes, Starved>
     }
 }
 
-/// Returns a link that receives an answer with another token, and then this one.
-fn link_of(alloc: Global, answer: &[u8]) -> Result<MemLink, Starved> {
-    let mut coming = Arrivals::new(alloc);
-    coming.push(DIRECTORY, Bytes::copy_of(alloc, OTHER_TOKEN)?)?;
-    coming.push(DIRECTORY, Bytes::copy_of(alloc, answer)?)?;
-    Ok(MemLink::of(alloc, coming, Bytes::new(alloc), Bytes::new(alloc)))
-}
-
-/// Returns what becomes of a wish that gets this answer.
+/// Returns what becomes of a wish that gets this answer, after one with another token.
 fn told<R>(
     rt: &R,
     wish: Wish<'_>,
@@ -82,8 +69,8 @@ where
     R: Wait + RandomSource + AllocGlobal,
 {
     let alloc = rt.alloc();
-    let link = link_of(alloc, answer)?;
-    let clock = MemClock::of(Moments::of(Vec::new(alloc)), Words::of(Vec::new(alloc)));
+    let link = link_of(alloc, &[(1, OTHER_TOKEN), (1, answer)], &[])?;
+    let clock = clock_of(alloc, &[])?;
     let Ok(ask) = ask_of(alloc, wish) else {
         return Err(Starved);
     };
@@ -96,7 +83,7 @@ where
 /// Returns whether a link sent this datagram to the directory, and no other.
 fn has_sent(link: &MemLink, datagram: &[u8]) -> bool {
     match link.gone().as_slice() {
-        [(to, octets)] => *to == DIRECTORY && octets.as_slice() == datagram,
+        [(to, octets)] => *to == directory(1) && octets.as_slice() == datagram,
         _ => false,
     }
 }
@@ -105,7 +92,7 @@ fn has_sent(link: &MemLink, datagram: &[u8]) -> bool {
 /// verdict.
 fn comes_to<R>(
     rt: &R,
-    station: &mut Station,
+    fixture: &mut Fixture,
     now: Moment,
     mid: u16,
     wish: Wish<'_>,
@@ -115,10 +102,10 @@ where
     requires { now.0 ≤ 10 ^ 15 }
 {
     let request = request_of(rt.alloc(), wish, mid)?;
-    if !station.hears(now, request.as_slice()) {
+    if !fixture.hears(now, request.as_slice()) {
         return Err(Starved);
     }
-    let told = told(rt, wish, mid, station.answer())?;
+    let told = told(rt, wish, mid, fixture.answer())?;
     if !has_sent(&told.link, request.as_slice()) {
         return Ok(None);
     }
@@ -128,7 +115,7 @@ where
 /// Returns whether a refresh or a removal is done.
 fn is_done<R>(
     rt: &R,
-    station: &mut Station,
+    fixture: &mut Fixture,
     now: Moment,
     mid: u16,
     wish: Wish<'_>,
@@ -137,51 +124,51 @@ where
     R: Wait + RandomSource + AllocGlobal,
     requires { now.0 ≤ 10 ^ 15 }
 {
-    let outcome = comes_to(rt, station, now, mid, wish)?;
+    let outcome = comes_to(rt, fixture, now, mid, wish)?;
     Ok(matches!(outcome, Some(Outcome::Done)))
 }
 
 /// Registers, and returns the location of the registration. Any other answer is also `Starved`.
-fn registers<R>(rt: &R, station: &mut Station) -> Result<Location, Starved>
+fn registers<R>(rt: &R, fixture: &mut Fixture) -> Result<Location, Starved>
 where
     R: Wait + RandomSource + AllocGlobal,
 {
-    match comes_to(rt, station, Moment(0), 1, Wish::Register)? {
+    match comes_to(rt, fixture, Moment(0), 1, Wish::Register)? {
         Some(Outcome::Located(location)) => Ok(location),
         _ => Err(Starved),
     }
 }
 
 /// Returns whether its refresh is done, and it is listed for 60 seconds more.
-fn refreshes<R>(rt: &R, station: &mut Station, location: &Location) -> Result<bool, Starved>
+fn refreshes<R>(rt: &R, fixture: &mut Fixture, location: &Location) -> Result<bool, Starved>
 where
     R: Wait + RandomSource + AllocGlobal,
 {
-    if !is_done(rt, station, Moment(50_000), 2, Wish::Refresh(location))? {
+    if !is_done(rt, fixture, Moment(50_000), 2, Wish::Refresh(location))? {
         return Ok(false);
     }
-    Ok(station.lists(rt.alloc(), Moment(109_999), LINK))
+    Ok(fixture.lists(rt.alloc(), Moment(109_999), LINK))
 }
 
 /// Returns whether its removal is done, and it is neither listed nor refreshed afterwards.
-fn removes<R>(rt: &R, station: &mut Station, location: &Location) -> Result<bool, Starved>
+fn removes<R>(rt: &R, fixture: &mut Fixture, location: &Location) -> Result<bool, Starved>
 where
     R: Wait + RandomSource + AllocGlobal,
 {
-    if !is_done(rt, station, Moment(109_999), 3, Wish::Remove(location))? {
+    if !is_done(rt, fixture, Moment(109_999), 3, Wish::Remove(location))? {
         return Ok(false);
     }
-    if !station.lists(rt.alloc(), Moment(109_999), b"") {
+    if !fixture.lists(rt.alloc(), Moment(109_999), b"") {
         return Ok(false);
     }
-    Ok(!is_done(rt, station, Moment(109_999), 4, Wish::Refresh(location))?)
+    Ok(!is_done(rt, fixture, Moment(109_999), 4, Wish::Refresh(location))?)
 }
 
 #[test]
 fn a_device_at_a_directory(rt: HostRuntime) -> Result<(), Fail> {
-    let mut station = Station::new(rt.alloc())?;
-    let location = registers(&rt, &mut station)?;
-    assert!(rt; refreshes(&rt, &mut station, &location)?);
-    assert!(rt; removes(&rt, &mut station, &location)?);
+    let mut fixture = Fixture::new(rt.alloc())?;
+    let location = registers(&rt, &mut fixture)?;
+    assert!(rt; refreshes(&rt, &mut fixture, &location)?);
+    assert!(rt; removes(&rt, &mut fixture, &location)?);
     Ok(())
 }

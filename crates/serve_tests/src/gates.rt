@@ -1,12 +1,12 @@
 //! A server whose workers are stopped at a gate: one is answered while another holds the turn.
 use crate::requests::{CREATED, LOOKUP, NOTHING, REGISTRATION, clock_of, link_of, sink_of, went};
+use crate::seats::gates::await_one;
 use rd_seat::{Gate, Place};
 use rd_server::{End, ServeStatus, serve};
 use std::sync::Wait;
 use std::sync::atomic::{AtomicU64, Ordering};
 use std::test::Fail;
-use std::thread;
-use std::time::{Clock, Duration};
+use std::time::Clock;
 
 /// The maximum number of times that a worker checks a sign.
 const TURNS: u64 = 100_000;
@@ -24,24 +24,11 @@ struct UntilAnswered<'a, C: Clock> {
     is_seen: AtomicU64,
 }
 
-impl<'a, C: Clock> UntilAnswered<'a, C> {
-    /// Waits until a sign is 1. Returns whether it was in time.
-    fn await_one(&self, sign: &AtomicU64) -> bool {
-        for _ in 0..TURNS {
-            if sign.load(Ordering::SeqCst) == 1 {
-                return true;
-            }
-            thread::sleep(self.clock, Duration::from_micros(1));
-        }
-        false
-    }
-}
-
 impl<'a, C: Clock> Gate for UntilAnswered<'a, C> {
     fn pass<R: Wait>(&self, _rt: &R, place: Place) {
         match place {
             Place::BeforeLook => {
-                self.await_one(&self.is_held);
+                await_one(self.clock, &self.is_held, TURNS);
             }
             Place::BeforeTake => {
                 if self.is_held.load(Ordering::SeqCst) == 1 {
@@ -50,7 +37,7 @@ impl<'a, C: Clock> Gate for UntilAnswered<'a, C> {
             }
             Place::Holding => {
                 let is_first = self.is_held.swap(1, Ordering::SeqCst) == 0;
-                if is_first && self.await_one(&self.is_answered) {
+                if is_first && await_one(self.clock, &self.is_answered, TURNS) {
                     self.is_seen.store(1, Ordering::SeqCst);
                 }
             }

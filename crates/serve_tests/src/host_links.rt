@@ -10,13 +10,13 @@ use std::time::{Clock, Duration};
 use udp_link::{Came, Link, MAX_DATAGRAM, Went};
 
 /// The address 127.0.0.1 with a port that the system chooses.
-const LOOPBACK_V4: Peer = Peer {
+pub(crate) const LOOPBACK_V4: Peer = Peer {
     host: Host::V4([127, 0, 0, 1]),
     port: 0,
 };
 
 /// The address ::1 with a port that the system chooses.
-const LOOPBACK_V6: Peer = Peer {
+pub(crate) const LOOPBACK_V6: Peer = Peer {
     host: Host::V6([0, 0, 0, 0, 0, 0, 0, 1]),
     port: 0,
 };
@@ -28,7 +28,7 @@ const LOOPBACK_MAPPED: Peer = Peer {
 };
 
 /// Returns a client at an address, which waits ten seconds for a datagram.
-fn client_at(rt: &HostRuntime, address: &str) -> Result<UdpSocket, Fail> {
+pub(crate) fn client_at(rt: &HostRuntime, address: &str) -> Result<UdpSocket, Fail> {
     let client = UdpSocket::bind(rt, address)?;
     client.set_read_timeout(Some(Duration::from_secs(10)))?;
     Ok(client)

@@ -1,4 +1,5 @@
 //! What arguments of `rd_host` ask for.
+use crate::words::words_of;
 use hosting::{HostFault, HostPlan, Wanted, host_words};
 use rd_base::peer_text;
 use std::alloc::Global;
@@ -116,12 +117,9 @@ fn told(alloc: Global, plan: &HostPlan) -> Result<String, Fail> {
     Ok(text)
 }
 
-/// Returns what the arguments of a line ask for, which are separated by spaces.
+/// Returns what the arguments of a line ask for.
 fn answer(alloc: Global, line: &str) -> Result<String, Fail> {
-    let mut words = Vec::new(alloc);
-    for word in line.split(' ').filter(|word| !word.is_empty()) {
-        words.push(String::from_str(alloc, word)?)?;
-    }
+    let words = words_of(alloc, line)?;
     Ok(match host_words(alloc, words.as_slice()) {
         Ok(Wanted::Serve(plan)) => told(alloc, &plan)?,
         Ok(Wanted::Help) => String::from_str(alloc, "help")?,

@@ -1,28 +1,15 @@
 //! A server at two addresses, one of IPv4 and one of IPv6, in one process.
+use crate::host_links::{LOOPBACK_V4, LOOPBACK_V6, client_at};
 use crate::loopback::is_answered;
 use crate::requests::{CREATED, REGISTRATION, sink_of};
 use hosting::{Crew, HostClock, HostLink, Listener, Origin, Routes};
-use rd_base::{Host, Peer};
 use rd_seat::OpenGate;
 use rd_server::{End, ServeStatus, serve};
 use std::hash::RandomState;
 use std::net::UdpSocket;
 use std::sync::Mutex;
 use std::test::Fail;
-use std::time::Duration;
 use std::{io, thread};
-
-/// The address 127.0.0.1 with a port that the system chooses.
-const LOOPBACK_V4: Peer = Peer {
-    host: Host::V4([127, 0, 0, 1]),
-    port: 0,
-};
-
-/// The address ::1 with a port that the system chooses.
-const LOOPBACK_V6: Peer = Peer {
-    host: Host::V6([0, 0, 0, 0, 0, 0, 0, 1]),
-    port: 0,
-};
 
 /// An observed lookup of what is registered later (RFC 7641 section 2).
 const OBSERVATION: &[u8] = b"\x41\x01\x00\x03\xb3\x60\x59rd-lookup\x03res\x4crt=light-lux";
@@ -32,9 +19,8 @@ const OBSERVED: &[u8] = b"\x61\x45\x00\x03\xb3";
 
 /// Returns a client of a listener, which receives nothing from another address.
 fn client_of(rt: &HostRuntime, at: &str, listener: &Listener) -> Result<UdpSocket, Fail> {
-    let client = UdpSocket::bind(rt, at)?;
+    let client = client_at(rt, at)?;
     client.connect(listener.local_addr()?)?;
-    client.set_read_timeout(Some(Duration::from_secs(10)))?;
     Ok(client)
 }
 

@@ -1,4 +1,5 @@
-//! Tests of serving: over links in memory, whose ends fail as planned, and over UDP.
+//! Tests of seats, of serving and of replays: over links and connections in memory, whose ends fail
+//! as planned, over UDP and TCP, and at the limits of versions and memory.
 #![tactic(auto)]
 
 #[cfg(test)]
@@ -16,7 +17,17 @@ mod hosts;
 #[cfg(test)]
 mod loopback;
 #[cfg(test)]
+mod message_ids;
+#[cfg(test)]
+mod replays;
+#[cfg(test)]
 mod requests;
+#[cfg(test)]
+mod seats;
+#[cfg(test)]
+mod streams;
+#[cfg(test)]
+mod versions;
 #[cfg(test)]
 mod words;
 #[cfg(test)]

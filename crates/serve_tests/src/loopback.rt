@@ -1,11 +1,11 @@
 //! A server and a client over UDP, in one process.
+use crate::host_links::client_at;
 use crate::requests::{CREATED, LOOKUP, REGISTRATION, sink_of};
 use rd_seat::OpenGate;
 use rd_server::{End, ServeStatus, serve};
 use std::net::UdpSocket;
 use std::sync::Arc;
 use std::test::Fail;
-use std::time::Duration;
 use std::{io, thread};
 use udp_link::{UdpClock, UdpLink};
 
@@ -32,9 +32,8 @@ fn asks(client: &UdpSocket) -> io::Result<bool> {
 #[test]
 fn a_client_is_served_over_udp(rt: HostRuntime) -> Result<(), Fail> {
     let server = UdpSocket::bind(&rt, "127.0.0.1:0")?;
-    let client = UdpSocket::bind(&rt, "127.0.0.1:0")?;
+    let client = client_at(&rt, "127.0.0.1:0")?;
     client.connect(server.local_addr()?)?;
-    client.set_read_timeout(Some(Duration::from_secs(10)))?;
     let server = Arc::new(rt.alloc(), server)?;
     let second = UdpLink::of(Arc::try_clone(&server)?);
     let mut ends = [

@@ -9,6 +9,12 @@ pub(crate) const ENDPOINT: Peer = Peer {
     port: 5683,
 };
 
+/// The client that looks.
+pub(crate) const CLIENT: Peer = Peer {
+    host: Host::V4([192, 0, 2, 30]),
+    port: 40_000,
+};
+
 /// The registration of `node1` with two links (RFC 9176 section 5).
 pub(crate) const REGISTRATION: &[u8] =
     b"\x41\x02\x00\x01\xa1\xb2rd\x11\x28\x38ep=node1\x06lt=600\xff\
@@ -26,6 +32,15 @@ pub(crate) const NOTHING: &[u8] = b"\x61\x45\x00\x02\xb2\x48\0\0\0\0\0\0\0\0\x81
 /// Its answer after the registration.
 pub(crate) const LISTED: &[u8] = b"\x61\x45\x00\x02\xb2\x48\0\0\0\0\0\x01\0\0\x81\x28\xff\
       <coap://192.0.2.10/light>;rt=\"light-lux\";if=\"sensor\"";
+
+/// A CSM, and the discovery of what a directory serves, as octets of a connection (RFC 8323
+/// section 5.3, RFC 9176 section 4).
+pub(crate) const DISCOVERY: &[u8] =
+    b"\x00\xe1\xd1\x0f\x01\xb2\xbb.well-known\x04core\x4art=core.rd";
+
+/// The octets that are then written.
+pub(crate) const DISCOVERED: &[u8] =
+    b"\x00\xe1\xd1\x0e\x45\xb2\xc1\x28\xff</rd>;rt=\"core.rd\";ct=40";
 
 /// Returns a link that receives these datagrams from the endpoint, one after the other. The
 /// receives and sends with these numbers, from 0, fail.

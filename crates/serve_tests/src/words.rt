@@ -3,12 +3,18 @@ use rd_server::{ServePlan, WordsFault, serve_words};
 use std::alloc::Global;
 use std::test::Fail;
 
-/// Returns what the arguments of a line ask for, which are separated by spaces.
-fn asked(alloc: Global, line: &str) -> Result<Result<ServePlan, WordsFault>, Fail> {
+/// Returns the arguments of a line, which are separated by spaces.
+pub(crate) fn words_of(alloc: Global, line: &str) -> Result<Vec<String>, Fail> {
     let mut words = Vec::new(alloc);
     for word in line.split(' ').filter(|word| !word.is_empty()) {
         words.push(String::from_str(alloc, word)?)?;
     }
+    Ok(words)
+}
+
+/// Returns what the arguments of a line ask for.
+fn asked(alloc: Global, line: &str) -> Result<Result<ServePlan, WordsFault>, Fail> {
+    let words = words_of(alloc, line)?;
     Ok(serve_words(alloc, words.as_slice()))
 }
 

@@ -1,25 +1,14 @@
 //! One worker over a link in memory.
-ghost use Rattle.std.specs.Prelude.{◌≡◌, ◌≤◌, ◌^◌, IfOk};
+ghost use Rattle.std.specs.Prelude.{◌≤◌, ◌^◌};
 
 use crate::requests::{CREATED, LISTED, LOOKUP, REGISTRATION, clock_of, link_of, went};
+use crate::seats::calls::one_seat;
 use rd_base::Starved;
-use rd_seat::{Hall, OpenGate, Seat};
+use rd_seat::OpenGate;
 use rd_server::{ServeFault, Served, serve_worker};
-use std::alloc::Global;
 use std::sync::Wait;
 use std::test::Fail;
 use udp_link::MemLink;
-
-/// Makes a new hall of one worker, and its seat.
-fn one_seat<R: Wait>(alloc: Global, rt: &R) -> Result<(Hall, Seat), Starved>
-    ensures hall { IfOk result (λ made. made.1.hall ≡ made.0) }
-{
-    let (hall, mut seats) = Hall::make(alloc, rt, 1)?;
-    let Some(seat) = seats.take_first() else {
-        unreachable!()
-    };
-    Ok((hall, seat))
-}
 
 /// Serves `turns` receives over a link, by a seat of a hall of its own.
 fn served<R: Wait + AllocGlobal>(

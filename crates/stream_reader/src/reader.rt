@@ -119,6 +119,13 @@ impl StreamReader {
         frame_in(&self.octets[..self.length])
     }
 
+    /// Returns the message that the octets which are held show, if they show one. It may be bad.
+    pub fn shown(&self) -> Option<Frame<'_>>
+        ensures { option_map frame_shown result ≡ shown.shown_in self.now.pending }
+    {
+        frame_in(&self.octets[..self.length])
+    }
+
     /// Takes these octets, and judges what is then held.
     fn take(&mut self, octets: &[u8])
         requires { length self.old.pending + length octets.now ≤ 1152 }

@@ -4,6 +4,7 @@
 
 mod accepting;
 mod closing;
+mod entrances;
 mod heeding;
 mod listening;
 mod patience;
@@ -13,6 +14,8 @@ mod sources;
 mod stopwatch;
 
 pub use accepting::{TcpAccept, TcpConnection};
-pub use peers::peer_of_connection;
+pub use entrances::{Entrance, Knock, peers_are_apart};
+pub use listening::{TcpCaller, TcpCame, TcpListeners};
+pub use peers::{peer_of_connection, peer_of_lane};
 pub use sinks::TcpSink;
-pub use sources::TcpSource;
+pub use sources::{Awaited, TcpSource};

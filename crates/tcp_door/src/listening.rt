@@ -1,7 +1,9 @@
 //! A listener that accepts connections.
+use crate::sinks::TcpSink;
+use crate::sources::TcpSource;
 use std::alloc::Global;
 use std::io::ErrorKind;
-use std::net::{TcpListener, TcpStream};
+use std::net::{SocketAddr, TcpListener, TcpStream};
 use std::sync::Arc;
 use std::time::{Clock, Duration};
 use std::{io, thread};
@@ -140,5 +142,92 @@ impl<R: Clock> Listening<R> {
             }
         }
         None
+    }
+}
+
+/// A connection that was accepted, and the peer at its other end.
+#[derive(Drop)]
+pub struct TcpCaller {
+    ends: Shared,
+    /// The address and the port of the other end.
+    pub from: SocketAddr,
+}
+
+impl TcpCaller {
+    /// Returns the source and the sink of the connection.
+    pub fn into_ends<R: Clock + Copy>(self, clock: R) -> (TcpSource<R>, TcpSink) {
+        let (stream, other) = self.ends;
+        (TcpSource::of(clock, stream), TcpSink::of(other))
+    }
+}
+
+/// The result of asking listeners for a connection.
+#[derive(Drop)]
+pub enum TcpCame {
+    /// A connection.
+    One(TcpCaller),
+    /// There was none.
+    Nothing,
+    /// A listener failed, for this reason of the system.
+    Failed(io::Error),
+}
+
+/// Listeners that several workers share, and that do not wait.
+#[derive(Drop)]
+pub struct TcpListeners<R> {
+    clock: R,
+    alloc: Global,
+    listeners: Vec<Arc<TcpListener>>,
+    passed: u64,
+    waits: u64,
+}
+
+impl<R: Clock + Copy> TcpListeners<R> {
+    /// Returns these listeners, which from now on do not wait.
+    pub fn of(clock: R, alloc: Global, listeners: Vec<Arc<TcpListener>>) -> TcpListeners<R> {
+        for listener in listeners.as_slice() {
+            let _ = listener.set_nonblocking(true);
+        }
+        TcpListeners {
+            clock,
+            alloc,
+            listeners,
+            passed: 0,
+            waits: 0,
+        }
+    }
+
+    /// Returns how many connections failed by themselves and were skipped.
+    pub fn passed(&self) -> u64 {
+        self.passed
+    }
+
+    /// Returns how often the system had no descriptor, buffer or memory for a connection.
+    pub fn waits(&self) -> u64 {
+        self.waits
+    }
+
+    /// Asks each listener once for a connection.
+    pub fn poll(&mut self) -> TcpCame {
+        for listener in self.listeners.as_slice() {
+            match listener.accept() {
+                Ok((stream, from)) => match shared(self.alloc, stream) {
+                    Some(ends) => return TcpCame::One(TcpCaller { ends, from }),
+                    None => self.passed = self.passed.saturating_add(1),
+                },
+                Err(error) => match refusal_of(&error) {
+                    Refusal::NoneYet => {}
+                    Refusal::Wanting => self.waits = self.waits.saturating_add(1),
+                    Refusal::One => self.passed = self.passed.saturating_add(1),
+                    Refusal::Lasting => return TcpCame::Failed(error),
+                },
+            }
+        }
+        TcpCame::Nothing
+    }
+
+    /// Waits for 50 ms.
+    pub fn pause(&self) {
+        thread::sleep(&self.clock, Duration::from_millis(WAIT));
     }
 }

@@ -1,5 +1,6 @@
 //! Peers that stand for connections.
-ghost use Rattle.std.specs.Prelude.{◌≡◌, ◌+◌, ◌*◌, ◌/◌};
+ghost use Rattle.std.specs.Prelude.{◌≡◌, ◌+◌, ◌*◌, ◌/◌, ◌<◌, ◌^◌};
+ghost use Rattle.tcp_door.specs.Lanes.{IsPeerOf};
 ghost use Rattle.tcp_door.specs.Peers.{IsNoDevice, number_of};
 
 use rd_base::{Host, Peer};
@@ -29,4 +30,17 @@ pub fn peer_of_connection(number: u64) -> Peer
         host: Host::V6([DISCARDED, 0, 0, 0, rest as u16, second, third, last]),
         port: 0,
     }
+}
+
+/// Returns the peer that stands for the connection of a lane with this number.
+///
+/// # Requires
+///
+/// The lane is one of 16, from 0 on, and the number is below 2^60.
+pub fn peer_of_lane(lane: u8, number: u64) -> Peer
+    requires lane { lane < 16 }
+    requires number { number < 2 ^ 60 }
+    ensures { IsPeerOf lane number result }
+{
+    peer_of_connection(number * 16 + u64::from(lane))
 }

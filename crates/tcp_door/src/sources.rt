@@ -1,11 +1,12 @@
 //! The octets that are read from a connection.
 ghost use Rattle.std.specs.Prelude.{◌≡◌, ◌≤◌, ◌^◌, None, length, IfSome};
+ghost use Rattle.tcp_door.specs.Awaiting.{IsWithinPiece};
 
 use crate::closing::{close, is_pause, read_once, write_some};
 use crate::patience::Patience;
 use crate::stopwatch::Stopwatch;
 use rd_base::{Got, Source};
-use std::net::TcpStream;
+use std::net::{Shutdown, TcpStream};
 use std::sync::Arc;
 use std::time::Clock;
 
@@ -24,6 +25,19 @@ pub struct TcpSource<R: Clock + Copy> {
     stopwatch: Stopwatch<R>,
     turns: u64,
     faults: u64,
+    /// Whether the server ends, so that dropping it does not wait.
+    hurried: bool,
+}
+
+/// The result of one wait of a source.
+#[derive(Clone, Copy, Debug, PartialEq, Eq)]
+pub enum Awaited {
+    /// So many octets came; none at the end, and once the time that a message may take has passed.
+    Bytes(usize),
+    /// Nothing came meanwhile.
+    Nothing,
+    /// The read failed.
+    Failed,
 }
 
 impl<R: Clock + Copy> TcpSource<R> {
@@ -40,7 +54,21 @@ impl<R: Clock + Copy> TcpSource<R> {
             stopwatch: Stopwatch::new(clock),
             turns: TURNS,
             faults: 0,
+            hurried: false,
         }
+    }
+
+    /// Waits for octets for 50 ms at most. It does not count calls and faults, as `read` does.
+    pub fn wait(&mut self, into: &mut [u8]) -> Awaited
+        ensures within { IsWithinPiece result (length into.old) }
+        ensures left { ⟦<TcpSource<R> as Source>⟧.left self.new ≡ None }
+    {
+        wait_once(&self.stream, &mut self.patience, &mut self.stopwatch, into)
+    }
+
+    /// Tells the peer that the server ends, when the source is dropped, and does not wait for it.
+    pub fn hurry(&mut self) {
+        self.hurried = true;
     }
 }
 
@@ -50,6 +78,31 @@ fn heed<R: Clock + Copy>(patience: &mut Patience, stopwatch: &mut Stopwatch<R>, 
         return;
     }
     patience.pass(stopwatch.lap());
+}
+
+/// Waits for octets for 50 ms at most.
+fn wait_once<R: Clock + Copy>(
+    stream: &TcpStream,
+    patience: &mut Patience,
+    stopwatch: &mut Stopwatch<R>,
+    into: &mut [u8],
+) -> Awaited
+    ensures { IsWithinPiece result (length into.old) }
+{
+    if patience.is_over() {
+        return Awaited::Bytes(0);
+    }
+    match read_once(stream, into) {
+        Ok(count) => {
+            heed(patience, stopwatch, &into[..count]);
+            Awaited::Bytes(count)
+        }
+        Err(error) if is_pause(error.kind()) => {
+            patience.pass(stopwatch.lap());
+            Awaited::Nothing
+        }
+        Err(_) => Awaited::Failed,
+    }
 }
 
 /// Waits for octets, and returns how many arrived. Returns 0 at the end, and once the time that a
@@ -63,16 +116,10 @@ fn received<R: Clock + Copy>(
     ensures { IfSome result (λ n. n ≤ length into.old) }
 {
     'readings: for _ in 0..u64::MAX {
-        if patience.is_over() {
-            return Some(0);
-        }
-        match read_once(stream, into) {
-            Ok(count) => {
-                heed(patience, stopwatch, &into[..count]);
-                return Some(count);
-            }
-            Err(error) if is_pause(error.kind()) => patience.pass(stopwatch.lap()),
-            Err(_) => return None,
+        match wait_once(stream, patience, stopwatch, into) {
+            Awaited::Bytes(count) => return Some(count),
+            Awaited::Nothing => {}
+            Awaited::Failed => return None,
         }
     }
     None
@@ -100,16 +147,21 @@ impl<R: Clock + Copy> Source for TcpSource<R> {
 
 impl<R: Clock + Copy> Drop for TcpSource<R> {
     fn drop(mut self) {
-        if self.patience.is_over() {
+        if self.hurried || self.patience.is_over() {
             let _ = write_some(&self.stream, &[0, self.patience.farewell()]);
         }
-        close(&self.stream, &mut self.stopwatch);
+        if self.hurried {
+            let _ = self.stream.shutdown(Shutdown::Write);
+        } else {
+            close(&self.stream, &mut self.stopwatch);
+        }
         let TcpSource {
             stream: _,
             patience: _,
             stopwatch: _,
             turns: _,
             faults: _,
+            hurried: _,
         } = self;
     }
 }

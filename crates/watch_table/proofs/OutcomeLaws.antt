@@ -20,8 +20,8 @@ use Rattle.std.proofs.Common.{
 }
 use Rattle.rd_base.specs.declared.queries.Query.{Query}
 use Rattle.event_model.specs.declared.notes.Observer.{Observer}
-use Rattle.watch_table.specs.declared.faults.WatchFault.{WatchFault}
-use Rattle.watch_table.specs.declared.faults.WatchFault.TheVariants as fault
+use Rattle.watch_table.specs.declared.watch_fault.WatchFault.{WatchFault}
+use Rattle.watch_table.specs.declared.watch_fault.WatchFault.TheVariants as fault
 use Rattle.watch_table.specs.WatchedQueries.{Table, one_more, IsSlotFor}
 use Rattle.watch_table.specs.ObserverCounts.{WatchesStandFor, IsFullAmong}
 use Rattle.watch_table.specs.Outcomes.{Watches}

@@ -1,4 +1,4 @@
--- Prints of texts: numbers that tell, mostly, that no text of a registration begins with what a
+-- Prints of texts: numbers which mostly show that no text of a registration has the prefix that a
 -- criterion seeks.
 use Rattle.std.specs.Prelude.{
   ◌≡◌,
@@ -47,11 +47,11 @@ use Rattle.watch_table.specs.WatchedQueries.{Watched}
 
 -- ---- prints
 
--- the print of a text with one octet more
+-- the print of a text with one more octet
 unfoldable pub print_after : ℕ → ℕ → ℕ
 print_after print octet = (print * 37 % 2 ^ 32 + octet) % 2 ^ 32
 
--- the print of a text that goes on so, after this one
+-- the print of a text that continues the text of this print
 abbrev pub print_from : ℕ → List ℕ → ℕ
 print_from print [] = print
 print_from print (c ∷ cs) = print_from (print_after print c) cs
@@ -59,14 +59,14 @@ print_from print (c ∷ cs) = print_from (print_after print c) cs
 abbrev pub print_of : List ℕ → ℕ
 print_of text = print_from 0 text
 
--- what each value begins with that a pattern matches
+-- the prefix of each value that a pattern matches
 abbrev pub front_of : List ℕ → List ℕ
 front_of pattern = unwrap_or (before_wildcard pattern) pattern
 
 abbrev pub front_print : Criterion → ℕ
 front_print criterion = print_of (front_of criterion.pattern)
 
--- of how many criteria prints are kept
+-- the number of criteria whose prints are stored
 abbrev pub most_prints : ℕ
 most_prints = 4
 
@@ -76,14 +76,15 @@ prints_of criteria = map front_print (take most_prints criteria)
 
 -- ---- notes of prints
 
--- the number among 128 whose bit tells of a print, and which of its bits does
+-- the index, among 128 numbers, of the one that has the bit of a print, and which of its bits that
+-- is
 unfoldable pub word_of : ℕ → ℕ
 word_of print = print / 64 % 128
 
 unfoldable pub bit_of : ℕ → ℕ
 bit_of print = print % 64
 
--- a print is noted, as far as its bit tells
+-- a print is noted; may be true of a print that is not
 abbrev pub is_noted : List ℕ → ℕ → Bool
 is_noted notes print = bit_at (slice_index_or notes (word_of print) 0) (bit_of print) == 1
 
@@ -93,13 +94,13 @@ noted notes print =
     slice_set notes (word_of print)
     (bit_or (slice_index_or notes (word_of print) 0) (1 * 2 ^ bit_of print % 2 ^ 64))
 
--- the prints of what a text begins with, where this stands before it
+-- the prints of all prefixes of a text, which continues the text of this print
 abbrev pub fronts_noted : List ℕ → ℕ → List ℕ → List ℕ
 fronts_noted notes print [] = notes
 fronts_noted notes print (c ∷ cs) =
     fronts_noted (noted notes (print_after print c)) (print_after print c) cs
 
--- those of a text, from the empty one on
+-- the prints of all prefixes of a text, from the empty one on
 abbrev pub text_noted : List ℕ → List ℕ → List ℕ
 text_noted notes text = fronts_noted (noted notes 0) 0 text
 
@@ -109,7 +110,7 @@ texts_noted notes (text ∷ texts) = texts_noted (text_noted notes text) texts
 
 -- ---- the texts of a registration
 
--- what a pattern is matched against of a value of a name (RFC 6690 section 2)
+-- the texts that a pattern is matched against for a value of a name (RFC 6690 section 2)
 unfoldable pub value_texts : List ℕ → List ℕ → List (List ℕ)
 value_texts name value = if is_among list_names name then parts_of value else value ∷ []
 
@@ -123,11 +124,11 @@ abbrev pub text_if_any : Option (List ℕ) → List (List ℕ)
 text_if_any None = []
 text_if_any (Some text) = text ∷ []
 
--- of a link: its target, its anchor where it has one, and its attributes
+-- the texts of a link: its target, its anchor if it has one, and its attributes
 abbrev pub link_texts : Item → List (List ℕ)
 link_texts item = item.target ∷ (text_if_any item.anchor ++ pairs_texts item.pairs)
 
--- of an endpoint: its location, and its attributes
+-- the texts of an endpoint: its location, and its attributes
 abbrev pub endpoint_texts : Record → List (List ℕ)
 endpoint_texts r = location r.number ∷ pairs_texts (endpoint_pairs r)
 
@@ -144,16 +145,16 @@ texts_if_any (Some r) = record_texts r
 abbrev pub all_noted : List ℕ → List ℕ → Bool
 all_noted notes prints = list_all (is_noted notes) prints
 
--- what each first criterion seeks stands among the texts, as far as prints tell
+-- the prints of what each first criterion seeks are noted
 abbrev pub may_match : List ℕ → Query → Bool
 may_match notes query = all_noted notes (prints_of query.criteria)
 
--- the notes tell of queries that a change of a registration leaves their lines
+-- if the notes do not admit a query, a change of a registration leaves its lines
 abbrev pub TellOf : List ℕ → Option Record → Option Record → Type 0
 TellOf notes old new =
     (query : Query) → may_match notes query ≡ false → is_other_part query old new ≡ false
 
--- the same of what an entry watches, where there is one
+-- the same of the query of an entry, if there is one
 abbrev pub may_match_in : List ℕ → Option (ℕ × Watched) → Bool
 may_match_in notes None = false
 may_match_in notes (Some e) = may_match notes e.1.query

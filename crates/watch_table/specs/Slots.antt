@@ -1,4 +1,4 @@
--- What the functions over a map of watched queries say of one another.
+-- What the functions over a map of watched queries state of one another.
 use Rattle.std.specs.Prelude.{
   ◌≡◌,
   ℕ,
@@ -22,12 +22,12 @@ use Rattle.std.specs.List.{AllByRecursion}
 use Rattle.event_model.specs.Observers.{max_watched}
 use Rattle.watch_table.specs.WatchedQueries.{Watched, Table, watched_at}
 
--- one observer at most is left
+-- at most one observer is left
 abbrev pub has_last : Option Watched → Bool
 has_last None = false
 has_last (Some w) = nat_le w.observers 1
 
--- one observer more of each query can be counted
+-- one more observer of each query can be counted
 abbrev pub CanCount : Table → Type 0
 CanCount t = AllByRecursion (λ e. e.1.observers < 2 ^ 64 - 1) t
 
@@ -35,7 +35,7 @@ CanCount t = AllByRecursion (λ e. e.1.observers < 2 ^ 64 - 1) t
 abbrev pub IsFree : ℕ → Table → Type 0
 IsFree slot t = (watched_at slot t ≡ None) × (slot ≤ max_watched)
 
--- what is watched by the entry with an index, changed
+-- the entry at an index, with what it watches changed
 abbrev pub changed_at : (Watched → Watched) → ℕ → Table → Table
 changed_at change i [] = []
 changed_at change zero (e ∷ es) = (e.0, change e.1) ∷ es

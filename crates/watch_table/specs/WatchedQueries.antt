@@ -31,8 +31,8 @@ use Rattle.history_model.specs.ChangedParts.{is_other_part}
 use Rattle.event_model.specs.Same.{is_same_query}
 use Rattle.event_model.specs.Observers.{max_watched}
 
--- a watched query: how many watch it, whether its lines changed since the marks were taken off, and
--- the body that was last formed for it
+-- a watched query: the number of its observers, whether its lines changed since the marks were last
+-- cleared, and the body last built for it
 pub record Watched : Type 0 where
   pub query : Query
   pub observers : ℕ
@@ -60,11 +60,11 @@ is_marked (Some w) = w.marked
 abbrev pub is_marked_at : ℕ → Table → Bool
 is_marked_at slot t = is_marked (watched_at slot t)
 
--- the body that was last formed for the query of a slot, as it still is
+-- the body last built for the query of a slot, if it is still valid
 abbrev pub body_at : ℕ → Table → Option (List ℕ)
 body_at slot t = option_and_then (λ w. w.body) (watched_at slot t)
 
--- the slot where a query is watched
+-- the slot in which a query is watched
 abbrev pub slot_of : Query → Table → Option ℕ
 slot_of query t = option_map (λ e. e.0) (find (λ e. is_same_query e.1.query query) t)
 
@@ -72,16 +72,16 @@ slot_of query t = option_map (λ e. e.0) (find (λ e. is_same_query e.1.query qu
 abbrev pub watched_first : Query → Watched
 watched_first query = record { query = query; observers = 1; marked = false; body = None }
 
--- one observer more of a query, by what is watched in its slot
+-- one more observer of a query, given what is watched in its slot
 abbrev pub more_at : Option Watched → ℕ → Query → Table → Table
 more_at None slot query t = t ++ (slot, watched_first query) ∷ []
 more_at (Some w) slot query t = set_value (nat_eq slot) t (record w { observers = w.observers + 1 })
 
--- one observer more of a query in a slot
+-- one more observer of a query in a slot
 abbrev pub one_more : ℕ → Query → Table → Table
 one_more slot query t = more_at (watched_at slot t) slot query t
 
--- one observer fewer of what is watched in a slot: it goes with its last
+-- one observer fewer of what is watched in a slot; it is dropped with its last observer
 abbrev pub fewer_of : Watched → ℕ → Table → Table
 fewer_of w slot t =
     if nat_le w.observers 1
@@ -92,17 +92,16 @@ abbrev pub fewer_at : Option Watched → ℕ → Table → Table
 fewer_at None slot t = t
 fewer_at (Some w) slot t = fewer_of w slot t
 
--- one observer fewer in a slot: its query goes with its last
+-- one observer fewer in a slot; its query is dropped with its last observer
 unfoldable pub one_fewer : ℕ → Table → Table
 one_fewer slot t = fewer_at (watched_at slot t) slot t
 
--- one observer fewer in the slot that an observer had before, where it had one
+-- one observer fewer in the slot that an observer had before, if it had one
 abbrev pub without : Option ℕ → Table → Table
 without None t = t
 without (Some slot) t = one_fewer slot t
 
--- the slot of a query to be watched: its own, or else one of the first 257 where nothing is
--- watched
+-- the slot for a query: its own if it is watched, or else a free one of the first 257
 abbrev pub IsSlotOf : Option ℕ → ℕ → Table → Type 0
 IsSlotOf (Some own) slot t = slot ≡ own
 IsSlotOf None slot t = (watched_at slot t ≡ None) × (slot ≤ max_watched)
@@ -110,13 +109,13 @@ IsSlotOf None slot t = (watched_at slot t ≡ None) × (slot ≤ max_watched)
 abbrev pub IsSlotFor : Query → ℕ → Table → Type 0
 IsSlotFor query slot t = IsSlotOf (slot_of query t) slot t
 
--- so many other queries are watched that there is no room for one more
+-- there is no room for one more query, because too many other queries are watched
 pub record IsFullFor (query : Query) (t : Table) : Type 0 where
   pub other : slot_of query t ≡ None
   pub full : max_watched ≤ length t
 
--- a watched query after a change of a registration: where its lines changed it is marked, and its
--- body is dropped
+-- a watched query after a change of a registration: if its lines changed, it is marked and its body
+-- is dropped
 abbrev pub touched : Option Record → Option Record → Watched → Watched
 touched old new w =
     if is_other_part w.query old new then record w { marked = true; body = None } else w
@@ -125,18 +124,18 @@ touched old new w =
 abbrev pub all_touched : Option Record → Option Record → Table → Table
 all_touched old new t = map (λ e. (e.0, touched old new e.1)) t
 
--- each without its mark
+-- a watched query without its mark
 abbrev pub unmarked : Watched → Watched
 unmarked w = record w { marked = false }
 
 abbrev pub all_unmarked : Table → Table
 all_unmarked t = map (λ e. (e.0, unmarked e.1)) t
 
--- the body of what is watched in a slot, where something is
+-- sets the body of what is watched in a slot, if something is
 abbrev pub body_set : Option Watched → ℕ → List ℕ → Table → Table
 body_set None slot body t = t
 body_set (Some w) slot body t = set_value (nat_eq slot) t (record w { body = Some body })
 
--- the body of the query of a slot
+-- sets the body of the query of a slot
 abbrev pub with_body : ℕ → List ℕ → Table → Table
 with_body slot body t = body_set (watched_at slot t) slot body t

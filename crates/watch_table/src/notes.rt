@@ -1,4 +1,4 @@
-//! Notes of the texts against which criteria are matched of a registration (RFC 9176 section 6.2).
+//! Notes of the texts of a registration that criteria are matched against (RFC 9176 section 6.2).
 ghost use Rattle.std.specs.Prelude.{◌≡◌, ◌++◌, decimal, codes, flat_map};
 ghost use Rattle.std.specs.Option.{option_copied};
 ghost use Rattle.rd_base.specs.PairRefs.{text_seen};
@@ -10,7 +10,7 @@ use itoa::Buffer;
 use listing::{first_part, is_list_name};
 use rd_base::{Link, LinkPairs, Links, Pair, Record};
 
-/// Notes what a text begins with that goes on so after one of this print, and gives the print of
+/// Notes each prefix of a text that continues a text with the print `before`. Returns the print of
 /// the whole.
 fn note_fronts(notes: &mut [u64; WORDS], before: u32, text: &[u8]) -> u32
     ensures noted { notes.new ≡ prints.fronts_noted notes.old before text.now }
@@ -24,7 +24,7 @@ fn note_fronts(notes: &mut [u64; WORDS], before: u32, text: &[u8]) -> u32
     print
 }
 
-/// Notes what a text begins with.
+/// Notes each prefix of a text.
 fn note_text(notes: &mut [u64; WORDS], text: &str)
     ensures { notes.new ≡ prints.text_noted notes.old text.now }
 {
@@ -32,7 +32,7 @@ fn note_text(notes: &mut [u64; WORDS], text: &str)
     let _ = note_fronts(notes, 0, text.as_bytes());
 }
 
-/// Notes what a text in two pieces begins with.
+/// Notes each prefix of a text in two pieces.
 #[tactic(auto, using(crate::proofs::PrintLaws::fronts_after))]
 fn note_pieces(notes: &mut [u64; WORDS], text: &str, more: &str)
     ensures { notes.new ≡ prints.text_noted notes.old (text.now ++ more.now) }
@@ -42,7 +42,7 @@ fn note_pieces(notes: &mut [u64; WORDS], text: &str, more: &str)
     let _ = note_fronts(notes, print, more.as_bytes());
 }
 
-/// Notes what the location of a registration begins with.
+/// Notes each prefix of the location of a registration.
 #[tactic(auto, unfolding(record_model::specs::Matching::location))]
 fn note_location(notes: &mut [u64; WORDS], number: u64)
     ensures { notes.new ≡ prints.text_noted notes.old (model.location number) }
@@ -51,7 +51,7 @@ fn note_location(notes: &mut [u64; WORDS], number: u64)
     note_pieces(notes, "/rd/", digits.format(number));
 }
 
-/// Notes what the parts of a value begin with.
+/// Notes each prefix of each part of a value.
 fn note_parts(notes: &mut [u64; WORDS], value: &str)
     ensures { notes.new ≡ prints.texts_noted notes.old (model.parts_of value.now) }
 {
@@ -62,7 +62,7 @@ fn note_parts(notes: &mut [u64; WORDS], value: &str)
     }
 }
 
-/// Notes what a value of a name begins with, or its parts where the name's values are lists.
+/// Notes each prefix of a value of this name, or of its parts if the name's values are lists.
 #[tactic(auto, unfolding(crate::specs::Prints::value_texts))]
 fn note_value(notes: &mut [u64; WORDS], name: &str, value: &str)
     ensures { notes.new ≡ prints.texts_noted notes.old (prints.value_texts name.now value.now) }
@@ -94,7 +94,7 @@ fn note_link_pairs(notes: &mut [u64; WORDS], pairs: LinkPairs<'_>)
     }
 }
 
-/// Notes an anchor, where there is one.
+/// Notes an anchor, if there is one.
 fn note_anchor(notes: &mut [u64; WORDS], anchor: Option<&str>)
     ensures { notes.new
         ≡ prints.texts_noted notes.old (prints.text_if_any (text_seen anchor.entry)) }
@@ -126,7 +126,7 @@ fn note_links(notes: &mut [u64; WORDS], links: Links<'_>)
     }
 }
 
-/// Notes the sector of an endpoint, where it has one.
+/// Notes the sector of an endpoint, if it has one.
 fn note_sector(notes: &mut [u64; WORDS], record_of: &Record)
     ensures { notes.new ≡ prints.texts_noted notes.old
         (prints.pairs_texts (model.sector_pairs record_of.now.name.sector)) }
@@ -149,7 +149,7 @@ fn note_endpoint(notes: &mut [u64; WORDS], record_of: &Record)
     note_pairs(notes, record_of.attrs.as_slice());
 }
 
-/// Notes the texts of a registration, where there is one.
+/// Notes the texts of a registration, if there is one.
 #[tactic(auto, using(crate::proofs::PrintLaws::texts_after))]
 fn note_record(notes: &mut [u64; WORDS], record_of: Option<&Record>)
     ensures { notes.new ≡ prints.texts_noted notes.old
@@ -161,7 +161,7 @@ fn note_record(notes: &mut [u64; WORDS], record_of: Option<&Record>)
     }
 }
 
-/// Notes the texts of both states of a registration, where there are these.
+/// Notes the texts of both states of a registration, as far as they exist.
 pub(crate) fn note_change(notes: &mut [u64; WORDS], old: Option<&Record>, new: Option<&Record>)
     ensures { prints.TellOf notes.new (option_copied old.entry) (option_copied new.entry) }
 {

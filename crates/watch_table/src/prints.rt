@@ -1,5 +1,5 @@
-//! Prints of texts: numbers that tell, mostly, that no text of a registration begins with what a
-//! criterion seeks. So most queries that a change does not touch are told apart without matching.
+//! Prints of texts: numbers which mostly show that no text of a registration has the prefix that a
+//! criterion seeks. So most queries that a change does not touch are skipped without matching.
 ghost use Rattle.std.specs.Prelude.{◌≡◌, ◌<◌, map, length};
 ghost use Rattle.watch_table.specs.Prints as prints;
 
@@ -7,13 +7,13 @@ use arrayvec::ArrayVec;
 use listing::before_wildcard;
 use rd_base::Criterion;
 
-/// Of how many criteria of a query prints are kept.
+/// The number of criteria of a query whose prints are stored.
 pub(crate) const MOST_PRINTS: usize = 4;
 
-/// How many numbers there are whose bits tell which prints are noted.
+/// How many numbers hold the bits that record which prints are noted.
 pub(crate) const WORDS: usize = 128;
 
-/// The print of a text with one octet more.
+/// Returns the print of a text with one more octet.
 #[tactic(auto, unfolding(crate::specs::Prints::print_after))]
 pub(crate) fn print_after(print: u32, octet: u8) -> u32
     ensures { result ≡ prints.print_after print octet }
@@ -21,7 +21,7 @@ pub(crate) fn print_after(print: u32, octet: u8) -> u32
     print.wrapping_mul(37).wrapping_add(u32::from(octet))
 }
 
-/// The print of a text.
+/// Returns the print of a text.
 fn print_of(text: &[u8]) -> u32
     ensures { result ≡ prints.print_of text.now }
 {
@@ -32,7 +32,7 @@ fn print_of(text: &[u8]) -> u32
     print
 }
 
-/// What each value begins with that the pattern matches: what stands before a wildcard, and else
+/// Returns the prefix of each value that the pattern matches: the text before a wildcard, or else
 /// the pattern.
 fn front_of(pattern: &str) -> &str
     ensures { result.now ≡ prints.front_of pattern.now }
@@ -43,14 +43,14 @@ fn front_of(pattern: &str) -> &str
     }
 }
 
-/// The print of what the criterion seeks.
+/// Returns the print of the prefix that the criterion seeks.
 fn front_print(criterion: &Criterion) -> u32
     ensures { result ≡ prints.front_print criterion.now }
 {
     print_of(front_of(criterion.pattern.as_str()).as_bytes())
 }
 
-/// The prints of what the first criteria seek. Takes no memory.
+/// Returns the prints of the prefixes that the first criteria seek. Does not allocate.
 pub(crate) fn prints_of(criteria: &[Criterion]) -> ArrayVec<u32, MOST_PRINTS>
     ensures { result.items ≡ prints.prints_of criteria.now }
 {
@@ -64,7 +64,7 @@ pub(crate) fn prints_of(criteria: &[Criterion]) -> ArrayVec<u32, MOST_PRINTS>
     kept
 }
 
-/// The index of the number whose bit tells of a print.
+/// Returns the index of the number that has the bit of a print.
 #[tactic(auto, unfolding(crate::specs::Prints::word_of))]
 fn word_of(print: u32) -> usize
     ensures word { result ≡ prints.word_of print }
@@ -73,7 +73,7 @@ fn word_of(print: u32) -> usize
     (print / 64 % 128) as usize
 }
 
-/// Which bit of that number tells of it.
+/// Returns which bit of that number belongs to a print.
 #[tactic(auto, unfolding(crate::specs::Prints::bit_of))]
 fn bit_of(print: u32) -> u32
     ensures bit { result ≡ prints.bit_of print }
@@ -89,14 +89,14 @@ pub(crate) fn note(notes: &mut [u64; WORDS], print: u32)
     notes[word_of(print)] |= 1 << bit_of(print);
 }
 
-/// Whether a print is noted, as far as its bit tells.
+/// Returns whether a print is noted. May be true of a print that is not.
 fn is_noted(notes: &[u64; WORDS], print: u32) -> bool
     ensures { result ≡ prints.is_noted notes.now print }
 {
     (notes[word_of(print)] >> bit_of(print)) & 1 == 1
 }
 
-/// Whether the prints are all noted, as far as their bits tell.
+/// Returns whether these prints are all noted. May be true of prints that are not.
 pub(crate) fn are_noted(notes: &[u64; WORDS], kept: &[u32]) -> bool
     ensures { result ≡ prints.all_noted notes.now kept.now }
 {

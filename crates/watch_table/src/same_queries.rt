@@ -4,35 +4,35 @@ ghost use Rattle.event_model.specs.Same.{is_same_query as is_same};
 
 use rd_base::{Criterion, Query};
 
-/// Whether they are of one kind.
+/// Returns whether both queries are of one kind.
 fn is_same_kind(query: &Query, other: &Query) -> bool
     ensures { IsTrue result ↔ (query.now.kind ≡ other.now.kind) }
 {
     query.kind == other.kind
 }
 
-/// Whether they ask for the same page, or both for none.
+/// Returns whether both queries request the same page, or neither requests one.
 fn is_same_page(query: &Query, other: &Query) -> bool
     ensures { IsTrue result ↔ (query.now.page ≡ other.now.page) }
 {
     query.page == other.page
 }
 
-/// Whether their pages have the same number of lines, or both no such number.
+/// Returns whether both queries have the same `count`, or neither has one.
 fn is_same_count(query: &Query, other: &Query) -> bool
     ensures { IsTrue result ↔ (query.now.count ≡ other.now.count) }
 {
     query.count == other.count
 }
 
-/// Whether criteria are the same, in the same order.
+/// Returns whether the criteria are the same, in the same order.
 fn are_same_criteria(criteria: &[Criterion], others: &[Criterion]) -> bool
     ensures { IsTrue result ↔ (criteria.now ≡ others.now) }
 {
     criteria == others
 }
 
-/// Whether two queries are the same.
+/// Returns whether two queries are the same.
 pub(crate) fn is_same_query(query: &Query, other: &Query) -> bool
     ensures { result ≡ is_same query.now other.now }
 {

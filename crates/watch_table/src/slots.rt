@@ -1,5 +1,5 @@
-//! Watched queries by their slots: one observer more, one fewer, and a slot for a query that is
-//! not watched yet.
+//! Watched queries by their slots: adding an observer, removing one, and finding a free slot for a
+//! query that is not watched yet.
 ghost use Rattle.std.specs.Prelude.{◌≡◌, ◌≢◌, ℕ, ◌+◌, ◌≤◌, ◌<◌, ◌-◌, ◌^◌, nat_le, List, Some};
 ghost use Rattle.std.specs.Prelude.{None, false, IsSome, IsOk, ◌∷◌, [], ◌++◌, slice_get};
 ghost use Rattle.std.specs.List.{list_any};
@@ -21,9 +21,10 @@ use crate::watch::Watch;
 use event_model::limits::MAX_WATCHED;
 use indexmap::IndexMap;
 use rd_base::{Bytes, Query, Record};
+use std::alloc::Global;
 use std::sync::Arc;
 
-/// The slot where a query is watched.
+/// Returns the slot in which a query is watched.
 fn find_slot(watches: &IndexMap<u32, Watch>, query: &Query) -> Option<u32>
     ensures { result ≡ slot_of query.now watches.now.entries }
 {
@@ -37,21 +38,21 @@ fn find_slot(watches: &IndexMap<u32, Watch>, query: &Query) -> Option<u32>
     None
 }
 
-/// Whether no further observer of some query can be counted.
+/// Returns whether some query has as many observers as can be counted.
 fn is_counted_out(watches: &IndexMap<u32, Watch>) -> bool
     ensures { result ≡ list_any (λ w. nat_le (2 ^ 64 - 1) w.observers) (values watches.now) }
 {
     watches.values().any(|watch| watch.is_counted_out())
 }
 
-/// Whether a query is marked.
+/// Returns whether a query is marked.
 pub(crate) fn any_marked(watches: &IndexMap<u32, Watch>) -> bool
     ensures { result ≡ list_any (λ w. w.marked) (values watches.now) }
 {
     watches.values().any(|watch| watch.is_marked())
 }
 
-/// Whether one observer at most is left in a slot.
+/// Returns whether at most one observer is left in a slot.
 fn is_last(watches: &IndexMap<u32, Watch>, slot: u32) -> bool
     ensures { result ≡ has_last (watched_at slot watches.now.entries) }
 {
@@ -61,7 +62,7 @@ fn is_last(watches: &IndexMap<u32, Watch>, slot: u32) -> bool
     }
 }
 
-/// One observer fewer in a slot; its query is dropped with its last.
+/// Counts one observer fewer in a slot. Drops the query of the slot with its last observer.
 pub(crate) fn leave(watches: &mut IndexMap<u32, Watch>, slot: u32)
     ensures left { watches.new.entries ≡ one_fewer slot watches.old.entries }
     ensures len { index_map_len watches.new ≤ index_map_len watches.old }
@@ -76,7 +77,7 @@ pub(crate) fn leave(watches: &mut IndexMap<u32, Watch>, slot: u32)
     }
 }
 
-/// One observer fewer in the slot that an observer had before, where it had one.
+/// Counts one observer fewer in the slot that an observer had before, if it had one.
 fn leave_before(watches: &mut IndexMap<u32, Watch>, instead_of: Option<u32>)
     ensures left { watches.new.entries ≡ without instead_of watches.old.entries }
     ensures len { index_map_len watches.new ≤ index_map_len watches.old }
@@ -87,7 +88,7 @@ fn leave_before(watches: &mut IndexMap<u32, Watch>, instead_of: Option<u32>)
     }
 }
 
-/// One observer more in a slot where a query is watched.
+/// Counts one more observer in a slot in which a query is watched.
 fn join(watches: &mut IndexMap<u32, Watch>, slot: u32)
     requires counts { CanCount watches.old.entries }
     requires watched { IsSome (watched_at slot watches.old.entries) }
@@ -100,8 +101,9 @@ fn join(watches: &mut IndexMap<u32, Watch>, slot: u32)
     }
 }
 
-/// Whether what each first criterion of the query of the entry with an index seeks stands among
-/// texts whose prints are noted, as far as prints tell.
+/// Returns whether the query of the entry at `index` may match texts whose prints are noted.
+///
+/// It may if all prints of its first criteria are noted.
 fn may_match_at(watches: &IndexMap<u32, Watch>, index: usize, notes: &[u64; WORDS]) -> bool
     ensures { result ≡ may_match_in notes.now (slice_get watches.now.entries index) }
 {
@@ -111,8 +113,8 @@ fn may_match_at(watches: &IndexMap<u32, Watch>, index: usize, notes: &[u64; WORD
     }
 }
 
-/// Marks what the entry with an index watches where a change of a registration changed its lines,
-/// and then drops its body.
+/// Marks the query of the entry at `index` and drops its body, if a change of a registration
+/// changed its lines.
 fn touch_at(
     watches: &mut IndexMap<u32, Watch>,
     index: usize,
@@ -129,8 +131,7 @@ fn touch_at(
     }
 }
 
-/// The same, where notes tell of queries that the change leaves their lines: these are not
-/// compared.
+/// Does the same as `touch_at`, but skips a query if the notes show that its lines stay the same.
 pub(crate) fn touch_noted_at(
     watches: &mut IndexMap<u32, Watch>,
     index: usize,
@@ -149,7 +150,7 @@ pub(crate) fn touch_noted_at(
     }
 }
 
-/// Sets the body of the query in a slot, where one is watched.
+/// Sets the body of the query in a slot, if one is watched there.
 pub(crate) fn set_body(watches: &mut IndexMap<u32, Watch>, slot: u32, body: Arc<Bytes>)
     ensures set { watches.new.entries ≡ with_body slot (arc_value body) watches.old.entries }
     ensures len { index_map_len watches.new ≡ index_map_len watches.old }
@@ -159,7 +160,7 @@ pub(crate) fn set_body(watches: &mut IndexMap<u32, Watch>, slot: u32, body: Arc<
     }
 }
 
-/// Takes the mark off what the entry with an index watches.
+/// Clears the mark of the query of the entry at `index`.
 pub(crate) fn unmark_at(watches: &mut IndexMap<u32, Watch>, index: usize)
     ensures len { index_map_len watches.new ≡ index_map_len watches.old }
     ensures unmarked { watches.new.entries ≡ changed_at unmarked index watches.old.entries }
@@ -169,7 +170,7 @@ pub(crate) fn unmark_at(watches: &mut IndexMap<u32, Watch>, index: usize)
     }
 }
 
-/// A slot where nothing is watched.
+/// Returns a slot in which nothing is watched.
 fn free_slot(watches: &IndexMap<u32, Watch>) -> u32
     requires { index_map_len watches.now ≤ max_watched }
     ensures { IsFree result watches.now.entries }
@@ -182,28 +183,28 @@ fn free_slot(watches: &IndexMap<u32, Watch>) -> u32
     unreachable!()
 }
 
-/// A first observer of a query, in a slot where nothing is watched.
-fn begin(watches: &mut IndexMap<u32, Watch>, query: Query) -> u32
+/// Puts the first observer's watch of a query into a free slot, and returns the slot.
+fn begin(watches: &mut IndexMap<u32, Watch>, watch: Watch) -> u32
     requires few { index_map_len watches.old ≤ max_watched }
     requires room { 0 < spare watches.old }
     ensures slot { IsFree result watches.old.entries }
-    ensures begun { watches.new.entries
-        ≡ watches.old.entries ++ (result, watched_first query) ∷ [] }
+    ensures begun { watches.new.entries ≡ watches.old.entries ++ (result, watch) ∷ [] }
 {
     let slot = free_slot(watches);
-    match watches.insert(slot, Watch::first(query)) {
+    match watches.insert(slot, watch) {
         Ok(_) => slot,
         Err(_) => unreachable!(),
     }
 }
 
-/// One observer more of a query, where there is room; `given` is a copy of it.
+/// Counts one more observer of a query, if there is room. `first` is the query with its first
+/// observer.
 fn watch_given(
     watches: &mut IndexMap<u32, Watch>,
     query: &Query,
-    given: Query,
+    first: Watch,
 ) -> Result<u32, WatchFault>
-    requires copied { given ≡ query.now }
+    requires first { first ≡ watched_first query.now }
     requires counts { CanCount watches.old.entries }
     requires few { index_map_len watches.old ≤ max_watched }
     requires room { 0 < spare watches.old }
@@ -219,13 +220,14 @@ fn watch_given(
     if watches.len() == MAX_WATCHED {
         return Err(WatchFault::FullWatches);
     }
-    Ok(begin(watches, given))
+    Ok(begin(watches, first))
 }
 
-/// One observer more of a query, after one fewer in the slot that its observer had before. Memory
-/// is taken before anything changes.
+/// Counts one more observer of a query, and first one fewer in the slot that its observer had
+/// before. Allocates before anything changes.
 pub(crate) fn watch_instead(
     watches: &mut IndexMap<u32, Watch>,
+    alloc: Global,
     instead_of: Option<u32>,
     query: &Query,
 ) -> Result<u32, WatchFault>
@@ -234,11 +236,11 @@ pub(crate) fn watch_instead(
         result watches.new.entries }
     ensures few { index_map_len watches.new ≤ max_watched }
 {
-    let given = query.clone()?;
+    let first = Watch::first(alloc, query.clone()?)?;
     watches.reserve(1)?;
     if is_counted_out(watches) {
         return Err(WatchFault::Starved);
     }
     leave_before(watches, instead_of);
-    watch_given(watches, query, given)
+    watch_given(watches, query, first)
 }

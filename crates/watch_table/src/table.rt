@@ -23,8 +23,8 @@ use std::alloc::Global;
 use std::marker::Model;
 use std::sync::Arc;
 
-/// The queries that observers watch (RFC 7641 section 1.3), each in a slot of its own as long as
-/// it is watched.
+/// The queries that observers watch (RFC 7641 section 1.3). Each has a slot of its own while it is
+/// watched.
 #[derive(Drop)]
 pub struct WatchTable {
     /// The watched queries by their slots.
@@ -45,8 +45,11 @@ impl Model for WatchTable {
 }
 
 impl WatchTable {
-    /// No query is watched, with room for as many as are watched at most, 256. `Starved` where
-    /// memory ran out, and then nothing is kept.
+    /// Creates a table without queries, with room for 256, the most that are watched.
+    ///
+    /// # Errors
+    ///
+    /// `Starved` if memory runs out.
     pub fn make(alloc: Global) -> Result<WatchTable, Starved>
         ensures empty { IfOk result (λ t. t ≡ []) }
         ensures stands { IfOk result (λ t. WatchesStandFor [] t) }
@@ -55,9 +58,16 @@ impl WatchTable {
         Ok(WatchTable { watches })
     }
 
-    /// One observer more of a query, whose slot is answered. Where `instead_of` names a slot, that
-    /// slot first has one observer fewer, as by `unwatch`. `FullWatches`: 256 other queries are
-    /// watched after that, and it stays so. `Starved`: out of memory, and nothing changed.
+    /// Counts one more observer of a query, and returns the slot of the query.
+    ///
+    /// If `instead_of` names a slot, that slot first has one observer fewer, as by
+    /// [`WatchTable::unwatch`].
+    ///
+    /// # Errors
+    ///
+    /// - `FullWatches` if 256 other queries are still watched after that. The slot that
+    ///   `instead_of` names stays with one observer fewer.
+    /// - `Starved` if memory runs out; nothing has changed.
     pub fn watch(
         &mut self,
         alloc: Global,
@@ -90,11 +100,11 @@ impl WatchTable {
             → self.new ≡ without instead_of self.old }
         ensures starved { result ≡ Err WatchFault.Starved → self.new ≡ self.old }
     {
-        watch_instead(&mut self.watches, instead_of, query)
+        watch_instead(&mut self.watches, alloc, instead_of, query)
     }
 
-    /// One observer fewer of the query in a slot; it is dropped with its last. The slots of the
-    /// others stay.
+    /// Counts one observer fewer of the query in a slot. Drops the query with its last observer.
+    /// The slots of the other queries stay.
     pub fn unwatch(&mut self, slot: u32)
         ensures left { self.new ≡ one_fewer slot self.old }
         ensures stands { (front back : List Observer) (o : Observer)
@@ -105,8 +115,8 @@ impl WatchTable {
         leave(&mut self.watches, slot);
     }
 
-    /// Marks exactly the queries to which the old and the new state of a registration give other
-    /// lines, and drops their bodies. Takes no memory.
+    /// Marks exactly the queries to which the old and the new state of a registration contribute
+    /// different lines, and drops their bodies. Does not allocate.
     pub fn touched(&mut self, old: Option<&Record>, new: Option<&Record>)
         ensures touched { self.new
             ≡ all_touched (option_copied old.entry) (option_copied new.entry) self.old }
@@ -124,7 +134,7 @@ impl WatchTable {
         }
     }
 
-    /// The query that is watched in a slot.
+    /// Returns the query that is watched in a slot.
     pub fn query(&self, slot: u32) -> &Query
         requires { IsSome (watched_at slot self.now) }
         ensures { Some result.now ≡ query_at slot self.now }
@@ -135,7 +145,7 @@ impl WatchTable {
         }
     }
 
-    /// Whether the query in a slot is marked; false where none is watched.
+    /// Returns whether the query in a slot is marked; false if none is watched there.
     pub fn marked(&self, slot: u32) -> bool
         ensures { result ≡ is_marked_at slot self.now }
     {
@@ -145,14 +155,14 @@ impl WatchTable {
         }
     }
 
-    /// Whether a query is marked.
+    /// Returns whether a query is marked.
     pub fn any_marked(&self) -> bool
         ensures { result ≡ list_any (λ w. w.marked) (map (λ e. e.1) self.now) }
     {
         any_marked(&self.watches)
     }
 
-    /// Takes all marks off.
+    /// Clears all marks.
     pub fn clear(&mut self)
         ensures cleared { self.new ≡ all_unmarked self.old }
         ensures stands { (standing : List Observer)
@@ -164,8 +174,10 @@ impl WatchTable {
         }
     }
 
-    /// The body that was last set for the query in a slot: none where none was set after it gained
-    /// its first observer and after it was last touched.
+    /// Returns the body last set for the query in a slot.
+    ///
+    /// Returns `None` if none was set after the query gained its first observer and after it was
+    /// last touched.
     pub fn body(&self, slot: u32) -> Option<&Arc<Bytes>>
         ensures { option_map (λ body. arc_value body.now) result ≡ body_at slot self.now }
     {
@@ -175,7 +187,7 @@ impl WatchTable {
         }
     }
 
-    /// Sets the body that was formed for the query in a slot.
+    /// Stores the body that was built for the query in a slot.
     pub fn set_body(&mut self, slot: u32, body: Arc<Bytes>)
         ensures set { self.new ≡ with_body slot (arc_value body) self.old }
         ensures stands { (standing : List Observer)

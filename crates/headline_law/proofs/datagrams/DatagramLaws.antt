@@ -32,7 +32,7 @@ use Rattle.journal_model.specs.Journal.{entries}
 use Rattle.journal_model.specs.Machine.{IsJournal}
 use Rattle.journal_model.specs.DeskJournal.{IsDeskJournal}
 use Rattle.journal_model.specs.BodyFormers.{is_formed_in_rows}
-use Rattle.journal_model.specs.SentDatagrams.{is_response, IsAnswer, IsNotice, IsAddressed}
+use Rattle.journal_model.specs.SentDatagrams.{is_response, IsAnswer, IsNotification, IsAddressed}
 use Rattle.journal_model.specs.SentDatagrams.{SendsToWhoAsked, IsForRequest, AreForRequests}
 use Rattle.journal_model.specs.AdmittedWrites.{AdmittedAt}
 use Rattle.journal_model.specs.AskedListings.{
@@ -140,7 +140,7 @@ addressed rows all sent formed responds = by sent.here.row.step.kind refl
 
     notifies : sent.here.row.step.kind ≡ step.Tick
         → is_content sent.message ≡ true
-        → IsNotice sent.here sent.peer sent.message
+        → IsNotification sent.here sent.peer sent.message
     notifies tick content =
         let f : FormedAs sent.here sent.peer sent.message =
         formed tick

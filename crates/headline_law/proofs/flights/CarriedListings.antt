@@ -32,7 +32,7 @@ use Rattle.journal_model.proofs.entries.JournalLaws.{entries-IsPrefix-row}
 use Rattle.journal_model.specs.Sought.{listing_of}
 use Rattle.journal_model.proofs.sends.BodyAnswers.{wanted_by_observer, Bears, bears_carries}
 use Rattle.rd_base.proofs.lemmas.Among.{Among, all_among, among_all, find_only}
-use Rattle.journal_model.proofs.flights.NoticesAgain.{events_after_again, stood}
+use Rattle.journal_model.proofs.flights.NotificationsAgain.{events_after_again, stood}
 
 -- whatever listing a datagram of a row is read to have was built as the headline says
 abbrev pub Carried : Placed → Peer × List ℕ → Type 0

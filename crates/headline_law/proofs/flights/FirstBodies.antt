@@ -15,21 +15,21 @@ use Rattle.journal_model.proofs.observers.ObserverKnowledge.{is_observing}
 use Rattle.journal_model.proofs.observers.AddedObservers.{around}
 use Rattle.journal_model.proofs.observers.ObserversKnow.{ObserverNotes, quiet, adds}
 use Rattle.journal_model.proofs.notes.LookupNotes.{OfWatched}
-use Rattle.journal_model.proofs.FlightKeys.{is_notice}
+use Rattle.journal_model.proofs.FlightKeys.{is_notification}
 use Rattle.std.proofs.lemmas.Bool.{or_right}
 use Rattle.rd_base.proofs.lemmas.Each.{each_append, none_pass, each_failing}
 
 -- notes that do nothing for observers
 observing_none : (P : Observer → Type 0) (notes : List Note)
     → list_any is_observing notes ≡ false
-    → (list_any is_notice notes ≡ false) × AllByRecursion (OfWatched P) notes
+    → (list_any is_notification notes ≡ false) × AllByRecursion (OfWatched P) notes
 observing_none P notes none = (
-  none_pass is_observing is_notice forms_none notes none,
+  none_pass is_observing is_notification forms_none notes none,
   each_failing is_observing (OfWatched P)
       adds_none notes none,
 )
   where
-    forms_none : (x : Note) → is_observing x ≡ false → is_notice x ≡ false
+    forms_none : (x : Note) → is_observing x ≡ false → is_notification x ≡ false
     forms_none (note.Formed peer token body mid) h = absurd (false≢true (sym h))
     forms_none _ h = refl
 
@@ -40,7 +40,7 @@ observing_none P notes none = (
 -- what a row that is no tick builds for observers: no notification, and something for whomever it
 -- adds
 pub record FormsFirst (notes : List Note) : Type 0 where
-  pub none : list_any is_notice notes ≡ false
+  pub none : list_any is_notification notes ≡ false
   pub added : AllByRecursion (OfWatched (λ o. list_any (is_forming_for (name_of o)) notes ≡ true))
       notes
 
@@ -54,7 +54,7 @@ first_forms rows moment notes (quiet h) =
 first_forms rows moment notes (adds o front back body is before after listed silent) =
     subst FormsFirst (sym is) (record {
       none =
-          list_any-append is_notice front
+          list_any-append is_notification front
           (note.Watched o ∷ note.Formed o.peer o.token body None ∷ back)
           ∙ rw (first.0, last.0) refl;
       added =
@@ -72,8 +72,8 @@ first_forms rows moment notes (adds o front back body is before after listed sil
     P : Observer → Type 0
     P x = list_any (is_forming_for (name_of x)) (around front o body back) ≡ true
 
-    first : (list_any is_notice front ≡ false) × AllByRecursion (OfWatched P) front
+    first : (list_any is_notification front ≡ false) × AllByRecursion (OfWatched P) front
     first = observing_none P front before
 
-    last : (list_any is_notice back ≡ false) × AllByRecursion (OfWatched P) back
+    last : (list_any is_notification back ≡ false) × AllByRecursion (OfWatched P) back
     last = observing_none P back after

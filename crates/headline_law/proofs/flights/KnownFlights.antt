@@ -33,17 +33,17 @@ use Rattle.event_model.proofs.NotedLaws.{Found, last_event-here}
 use Rattle.journal_model.specs.declared.rows.Row.{Row}
 use Rattle.journal_model.specs.Journal.{events, entries, row_at}
 use Rattle.journal_model.specs.PlacedRows.{Placed, last_row}
-use Rattle.journal_model.specs.BodyFormers.{forms_notice, former_of_notice}
+use Rattle.journal_model.specs.BodyFormers.{forms_notification, former_of_notification}
 use Rattle.journal_model.proofs.sends.BodyAnswers.{wanted_by_observer, IsBodyOf}
 use Rattle.journal_model.proofs.EventRows.{found_in}
 use Rattle.journal_model.proofs.notes.LookupNotes.{OfWatched, observers_all}
-use Rattle.journal_model.proofs.FlightKeys.{flight_key, key_before_all, is_notice, key_none}
+use Rattle.journal_model.proofs.FlightKeys.{flight_key, key_before_all, is_notification, key_none}
 use Rattle.rd_base.proofs.lemmas.Among.{all_among}
 
 -- the row that built the notification to an observer under a Message ID, at a place
-pub record NoticeOf (rows : List Row) (o : Observer) (mid place : ℕ) : Type 0 where
+pub record NotificationOf (rows : List Row) (o : Observer) (mid place : ℕ) : Type 0 where
   pub placed : Placed
-  pub last : former_of_notice o.peer mid rows ≡ Some placed
+  pub last : former_of_notification o.peer mid rows ≡ Some placed
   pub below : place < length rows
   pub at_place : row_at place rows ≡ Some placed.row
   pub sent : AllByRecursion (λ (d : Peer × List ℕ). is_same_peer d.0 o.peer ≡ true
@@ -54,19 +54,20 @@ pub record NoticeOf (rows : List Row) (o : Observer) (mid place : ℕ) : Type 0 
 -- whatever notification is in flight to an observer
 abbrev pub FlightKnown : List Row → Observer → Type 0
 FlightKnown rows o =
-    (mid place : ℕ) → flight_key o (events rows) ≡ Some (mid, place) → NoticeOf rows o mid place
+    (mid place : ℕ) → flight_key o (events rows) ≡ Some (mid, place)
+    → NotificationOf rows o mid place
 
 -- and to all that stand
 abbrev pub FlightsKnown : List Row → Type 0
 FlightsKnown rows = AllByRecursion (FlightKnown rows) (observers (events rows))
 
 -- after a row that builds no notification to the peer with this Message ID
-pub notice_of_row : (rows : List Row) (r : Row) (o : Observer) (mid place : ℕ)
-    → list_any (forms_notice o.peer mid) r.notes ≡ false
-    → NoticeOf rows o mid place
-    → NoticeOf (r ∷ rows) o mid place
+pub notification_of_row : (rows : List Row) (r : Row) (o : Observer) (mid place : ℕ)
+    → list_any (forms_notification o.peer mid) r.notes ≡ false
+    → NotificationOf rows o mid place
+    → NotificationOf (r ∷ rows) o mid place
 unfolding last_row row_at
-notice_of_row rows r o mid place none it = record {
+notification_of_row rows r o mid place none it = record {
   placed = it.placed;
   last = rw none it.last;
   below = omega (arith, it.below);
@@ -76,19 +77,20 @@ notice_of_row rows r o mid place none it = record {
 }
 
 -- notes that build no notification build none to a peer
-no_notice_to : (peer : Peer) (mid : ℕ) (notes : List Note)
-    → list_any is_notice notes ≡ false
-    → list_any (forms_notice peer mid) notes ≡ false
-no_notice_to peer mid notes none = none_pass is_notice (forms_notice peer mid) by notes none
+no_notification_to : (peer : Peer) (mid : ℕ) (notes : List Note)
+    → list_any is_notification notes ≡ false
+    → list_any (forms_notification peer mid) notes ≡ false
+no_notification_to peer mid notes none = none_pass is_notification (forms_notification peer mid) by
+    notes none
   where
-    by : (x : Note) → is_notice x ≡ false → forms_notice peer mid x ≡ false
+    by : (x : Note) → is_notification x ≡ false → forms_notification peer mid x ≡ false
     by (note.Formed p token body None) h = refl
     by (note.Formed p token body (Some m)) h = absurd (false≢true (sym h))
     by _ h = refl
 
 -- where a row builds something for an observer, and no notification, none is in flight to it
 none_in_flight : (rows : List Row) (r : Row) (o : Observer)
-    → list_any is_notice r.notes ≡ false
+    → list_any is_notification r.notes ≡ false
     → list_any (is_forming_for (name_of o)) r.notes ≡ true
     → flight_key o (events (r ∷ rows)) ≡ None
 unfolding events
@@ -103,12 +105,12 @@ none_in_flight rows r o none forms =
     (events rows) found.event forms found.last in
     key_none o (noted (length rows) r.moment.0 r.step.word r.notes (events rows)) found.event
     found.last
-    (all_among (λ n. is_notice n ≡ false) found.event.note r.notes
-    (each_failing is_notice (λ n. is_notice n ≡ false) (λ n h. h) r.notes none) it.0)
+    (all_among (λ n. is_notification n ≡ false) found.event.note r.notes
+    (each_failing is_notification (λ n. is_notification n ≡ false) (λ n h. h) r.notes none) it.0)
 
 -- after a row that builds no notification, and whatever observer it adds is built for
 pub flights_row : (rows : List Row) (r : Row)
-    → list_any is_notice r.notes ≡ false
+    → list_any is_notification r.notes ≡ false
     → AllByRecursion (OfWatched (λ o. list_any (is_forming_for (name_of o)) r.notes ≡ true)) r.notes
     → FlightsKnown rows
     → FlightsKnown (r ∷ rows)
@@ -143,7 +145,7 @@ flights_row rows r none added all =
             → FlightKnown (r ∷ rows) o
         by true forms = vacuous o forms
         by false quiet = λ mid place found.
-            notice_of_row rows r o mid place (no_notice_to o.peer mid r.notes none)
+            notification_of_row rows r o mid place (no_notification_to o.peer mid r.notes none)
             (known mid place
             (key_before_all o (length rows) r.moment.0 r.step.word r.notes (events rows)
             (mid, place) quiet found))

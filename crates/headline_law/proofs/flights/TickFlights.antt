@@ -34,7 +34,7 @@ use Rattle.event_model.proofs.NotedLaws.{noted-append}
 use Rattle.journal_model.specs.declared.rows.Row.{Row}
 use Rattle.journal_model.specs.Journal.{events, entries, row_at}
 use Rattle.journal_model.specs.PlacedRows.{last_row}
-use Rattle.journal_model.specs.BodyFormers.{forms_notice}
+use Rattle.journal_model.specs.BodyFormers.{forms_notification}
 use Rattle.journal_model.proofs.sends.BodyAnswers.{
   wanted_by_observer,
   IsBodyOf,
@@ -44,19 +44,19 @@ use Rattle.journal_model.proofs.sends.BodyAnswers.{
 use Rattle.rd_base.proofs.lemmas.Among.{Among, all_among, among_all}
 use Rattle.journal_model.proofs.FlightKeys.{flight_key, is_landing, key_same_all}
 use Rattle.journal_model.proofs.flights.WaitedPeers.{changes_observers, observers_same}
-use Rattle.journal_model.proofs.flights.NoticesAgain.{events_after_again, stood}
-use Rattle.headline_law.proofs.flights.TickNotices.{
-  is_notice_to,
-  IsNoticeOf,
+use Rattle.journal_model.proofs.flights.NotificationsAgain.{events_after_again, stood}
+use Rattle.headline_law.proofs.flights.TickNotifications.{
+  is_notification_to,
+  IsNotificationOf,
   FlightSoFar,
   as_before,
-  noticed,
+  notified,
 }
 use Rattle.headline_law.proofs.flights.KnownFlights.{
-  NoticeOf,
+  NotificationOf,
   FlightKnown,
   FlightsKnown,
-  notice_of_row,
+  notification_of_row,
 }
 use Rattle.headline_law.proofs.rows.TickRows.{TickRow, requests_none, as_row}
 use Rattle.std.proofs.lemmas.Bool.{or_left}
@@ -66,11 +66,12 @@ use Rattle.journal_model.proofs.sends.PlainSteps.{IsPlain}
 
 -- where no notification goes to a peer, none goes to it with a Message ID
 none_with : (peer : Peer) (mid : ℕ) (notes : List Note)
-    → list_any (is_notice_to peer) notes ≡ false
-    → list_any (forms_notice peer mid) notes ≡ false
-none_with peer mid notes h = none_pass (is_notice_to peer) (forms_notice peer mid) by notes h
+    → list_any (is_notification_to peer) notes ≡ false
+    → list_any (forms_notification peer mid) notes ≡ false
+none_with peer mid notes h = none_pass (is_notification_to peer) (forms_notification peer mid) by
+    notes h
   where
-    by : (x : Note) → is_notice_to peer x ≡ false → forms_notice peer mid x ≡ false
+    by : (x : Note) → is_notification_to peer x ≡ false → forms_notification peer mid x ≡ false
     by (note.Formed p token body None) e = refl
     by (note.Formed p token body (Some m)) e = rw e refl
     by _ e = refl
@@ -115,11 +116,11 @@ key_of_row rows r t o =
 formed_here : (rows : List Row) (r : Row)
     → (t : TickRow rows r)
     → (o : Observer) (mid : ℕ)
-    → list_any (forms_notice o.peer mid) t.notified.notes ≡ true
+    → list_any (forms_notification o.peer mid) t.notified.notes ≡ true
     → AllByRecursion
-    (λ (d : Peer × List ℕ). is_same_peer d.0 o.peer ≡ true → IsNoticeOf rows r.moment.0 o d.1)
+    (λ (d : Peer × List ℕ). is_same_peer d.0 o.peer ≡ true → IsNotificationOf rows r.moment.0 o d.1)
     t.notified.sent
-    → NoticeOf (r ∷ rows) o mid (length rows)
+    → NotificationOf (r ∷ rows) o mid (length rows)
 unfolding last_row row_at
 formed_here rows r t o mid noted_so sent = record {
   placed = record { row = r; before = rows };
@@ -128,7 +129,7 @@ formed_here rows r t o mid noted_so sent = record {
   at_place = rw (eqb-refl (length rows)) refl;
   sent = subst (AllByRecursion To) (sym t.sent)
       (each_append To t.notified.sent t.requests.sent (each_weaker (λ (d : Peer × List ℕ).
-      is_same_peer d.0 o.peer ≡ true → IsNoticeOf rows r.moment.0 o d.1) To
+      is_same_peer d.0 o.peer ≡ true → IsNotificationOf rows r.moment.0 o d.1) To
       (λ d h same. as_row rows r o d.1 t.same_entries (h same)) t.notified.sent sent)
       (each_weaker (λ (d : Peer × List ℕ). IsPlain d.1) To (λ d plain same.
       none_of_any (wanted_by_observer o) (listing o.query (entries (r ∷ rows)) r.moment.0)
@@ -142,26 +143,26 @@ formed_here rows r t o mid noted_so sent = record {
         → IsBodyOf (wanted_by_observer o) (listing o.query (entries (r ∷ rows)) r.moment.0)
         (tag (entries (r ∷ rows)) r.moment.0) d.1
 
-    here : list_any (forms_notice o.peer mid) r.notes ≡ true
-    here = subst (λ ns. list_any (forms_notice o.peer mid) ns ≡ true) (sym t.notes)
-        (list_any-append (forms_notice o.peer mid) t.notified.notes t.requests.notes
-        ∙ or_left (list_any (forms_notice o.peer mid) t.notified.notes)
-        (list_any (forms_notice o.peer mid) t.requests.notes) noted_so)
+    here : list_any (forms_notification o.peer mid) r.notes ≡ true
+    here = subst (λ ns. list_any (forms_notification o.peer mid) ns ≡ true) (sym t.notes)
+        (list_any-append (forms_notification o.peer mid) t.notified.notes t.requests.notes
+        ∙ or_left (list_any (forms_notification o.peer mid) t.notified.notes)
+        (list_any (forms_notification o.peer mid) t.requests.notes) noted_so)
 
 -- one that an earlier row built
 formed_before : (rows : List Row) (r : Row)
     → (t : TickRow rows r)
     → (o : Observer) (mid place : ℕ)
-    → list_any (is_notice_to o.peer) t.notified.notes ≡ false
-    → NoticeOf rows o mid place
-    → NoticeOf (r ∷ rows) o mid place
+    → list_any (is_notification_to o.peer) t.notified.notes ≡ false
+    → NotificationOf rows o mid place
+    → NotificationOf (r ∷ rows) o mid place
 formed_before rows r t o mid place none it =
-    notice_of_row rows r o mid place
-    (subst (λ ns. list_any (forms_notice o.peer mid) ns ≡ false) (sym t.notes)
-    (list_any-append (forms_notice o.peer mid) t.notified.notes t.requests.notes
+    notification_of_row rows r o mid place
+    (subst (λ ns. list_any (forms_notification o.peer mid) ns ≡ false) (sym t.notes)
+    (list_any-append (forms_notification o.peer mid) t.notified.notes t.requests.notes
     ∙ rw (
       none_with o.peer mid t.notified.notes none,
-      requests_none (forms_notice o.peer mid)
+      requests_none (forms_notification o.peer mid)
           (λ p. refl) (λ p. refl) t.requests.notes t.resent,
     ) refl)) it
 
@@ -192,11 +193,13 @@ tick_flights rows r t =
         → (mid place : ℕ)
         → flight_key o (noted (length rows) r.moment.0 r.step.word t.notified.notes (events rows))
         ≡ Some (mid, place)
-        → FlightSoFar rows r.moment.0 r.step.word o t.notified → NoticeOf (r ∷ rows) o mid place
+        → FlightSoFar rows r.moment.0 r.step.word o t.notified
+        → NotificationOf (r ∷ rows) o mid place
     known o stands mid place found (as_before same none) =
         let was : flight_key o (events rows) ≡ Some (mid, place) = sym same ∙ found in
         formed_before rows r t o mid place (none (ap is_some was)) (before o stands mid place was)
-    known o stands mid place found (noticed n flies noted_so sent) =
+    known o stands mid place found (notified n flies noted_so sent) =
         let both = same_pair n (length rows) mid place (sym flies ∙ found) in
-        subst (λ k. NoticeOf (r ∷ rows) o k place) both.0
-        (subst (λ k. NoticeOf (r ∷ rows) o n k) both.1 (formed_here rows r t o n noted_so sent))
+        subst (λ k. NotificationOf (r ∷ rows) o k place) both.0
+        (subst (λ k. NotificationOf (r ∷ rows) o n k) both.1
+        (formed_here rows r t o n noted_so sent))

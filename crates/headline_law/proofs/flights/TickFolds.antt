@@ -44,26 +44,26 @@ use Rattle.journal_model.specs.Journal.{entries}
 use Rattle.journal_model.specs.Effects.{Effects, mid_of}
 use Rattle.journal_model.specs.Bodies.{is_long}
 use Rattle.journal_model.specs.Ticks.{
-  max_notices,
+  max_notifications,
   first_block,
   listing_for,
   is_unchanged,
   is_looked_at,
   events_with,
   ticking,
-  noticed_unless,
-  noticed_if,
-  notice_next,
-  notices_again,
-  notices,
+  notified_unless,
+  notified_if,
+  notification_next,
+  notifications_again,
+  notifications,
 }
 use Rattle.journal_model.specs.CarriedBlocks.{is_content}
 use Rattle.journal_model.proofs.notes.LookupNotes.{IsAsking}
-use Rattle.journal_model.proofs.sends.BodyAnswers.{tag-length, notice_bears}
+use Rattle.journal_model.proofs.sends.BodyAnswers.{tag-length, notification_bears}
 use Rattle.rd_base.proofs.lemmas.Among.{Among, all_among, among_all}
 use Rattle.journal_model.proofs.FlightKeys.{is_landing}
 use Rattle.journal_model.proofs.flights.WaitedPeers.{changes_observers, Waits, waited}
-use Rattle.journal_model.proofs.flights.NoticesAgain.{
+use Rattle.journal_model.proofs.flights.NotificationsAgain.{
   again_peer,
   AgainSent,
   AgainNoted,
@@ -74,20 +74,20 @@ use Rattle.journal_model.proofs.flights.NoticesAgain.{
   again_key,
   again_waits,
 }
-use Rattle.headline_law.proofs.flights.TickNotices.{
-  is_notice_to,
+use Rattle.headline_law.proofs.flights.TickNotifications.{
+  is_notification_to,
   as_before,
   TickSoFar,
   so_far_quiet,
   FreshSent,
 }
 use Rattle.message_model.specs.Reading.{reading}
-use Rattle.headline_law.proofs.flights.FreshNotices.{NewNotice, so_far_noticed}
+use Rattle.headline_law.proofs.flights.FreshNotifications.{NewNotification, so_far_notified}
 use Rattle.rd_base.proofs.lemmas.Each.{each_weaker}
 
 -- after its first part
 pub tick_begins : (rows : List Row) (moment word : ℕ)
-    → TickSoFar rows moment word (notices_again rows moment)
+    → TickSoFar rows moment word (notifications_again rows moment)
 tick_begins rows moment word = record {
   stand = refl;
   sends =
@@ -100,16 +100,16 @@ tick_begins rows moment word = record {
       subst (λ p. Waits p (events_after_again rows moment word))
       (sym (again_peer rows moment d a))
       (again_waits rows moment word a.observer a.flight_is a.again))
-      (notices_again rows moment).sent (again_sends rows moment);
+      (notifications_again rows moment).sent (again_sends rows moment);
   waits_on = λ peer w. w;
   origins =
       each_weaker (AgainSent rows moment)
       (λ (d : Peer × List ℕ). AgainSent rows moment d ⊎ FreshSent rows moment word d)
-      (λ d a. inl a) (notices_again rows moment).sent (again_sends rows moment);
+      (λ d a. inl a) (notifications_again rows moment).sent (again_sends rows moment);
   flights_so_far =
       λ o stands.
       as_before (again_key rows moment word o)
-      (λ some. again_none (is_notice_to o.peer) (λ p t. refl) (λ p m. refl) rows moment);
+      (λ some. again_none (is_notification_to o.peer) (λ p t. refl) (λ p m. refl) rows moment);
   agains = again_notes rows moment;
   keeps = λ test h. h;
 }
@@ -133,7 +133,7 @@ tick_step : (rows : List Row) (moment : ℕ) (s : Step) (x : Observer) (done : E
     → Among x (observers (events_after_again rows moment s.word))
     → IsAsking x
     → TickSoFar rows moment s.word done
-    → TickSoFar rows moment s.word (notice_next (ticking rows moment s) done x)
+    → TickSoFar rows moment s.word (notification_next (ticking rows moment s) done x)
 tick_step rows moment s x done stands asking it =
     looked (is_looked_at (ticking rows moment s) done x) refl
   where
@@ -142,7 +142,7 @@ tick_step rows moment s x done stands asking it =
         → ⊥
     not_waited e w =
         let both =
-        and_parts (not (nat_le max_notices done.drew)
+        and_parts (not (nat_le max_notifications done.drew)
         && is_due x (events_with (ticking rows moment s) done)
         (ticking rows moment s).transitions)
         (not (is_waited_for x.peer (events_with (ticking rows moment s) done))) e in
@@ -161,7 +161,8 @@ tick_step rows moment s x done stands asking it =
         (apart_only (observers (events_after_again rows moment s.word))
         (observers-apart (events_after_again rows moment s.word))) there) stands same
 
-    new : is_looked_at (ticking rows moment s) done x ≡ true → NewNotice rows moment s.word done
+    new : is_looked_at (ticking rows moment s) done x ≡ true
+        → NewNotification rows moment s.word done
     new e = record {
       observer = x;
       mid = mid_of s.worker (s.drawn + done.drew);
@@ -175,8 +176,8 @@ tick_step rows moment s x done stands asking it =
       stands = stands;
       only = only;
       free = not_waited e;
-      notice =
-          notice_bears (mid_of s.worker (s.drawn + done.drew)) (tag (entries rows) moment)
+      notification =
+          notification_bears (mid_of s.worker (s.drawn + done.drew)) (tag (entries rows) moment)
           (Some (observe_value (events_with (ticking rows moment s) done)))
           x (listing x.query (entries rows) moment) asking.token (tag-length (entries rows) moment)
           asking.szx;
@@ -196,7 +197,7 @@ tick_step rows moment s x done stands asking it =
           x.peer x.key _ _;
       notifies_none =
           λ peer.
-          kept_does (is_notice_to peer) (λ p k b c. refl)
+          kept_does (is_notification_to peer) (λ p k b c. refl)
           (is_long (first_block x) (listing x.query (entries rows) moment)) x.peer x.key _
           _;
     }
@@ -206,28 +207,28 @@ tick_step rows moment s x done stands asking it =
         → TickSoFar rows moment s.word (record {
           sent =
               done.sent
-              ++ (noticed_unless b (ticking rows moment s) done x
+              ++ (notified_unless b (ticking rows moment s) done x
               (listing_for (ticking rows moment s) x)).sent;
           notes =
               done.notes
-              ++ (noticed_unless b (ticking rows moment s) done x
+              ++ (notified_unless b (ticking rows moment s) done x
               (listing_for (ticking rows moment s) x)).notes;
           drew =
               done.drew
-              + (noticed_unless b (ticking rows moment s) done x
+              + (notified_unless b (ticking rows moment s) done x
               (listing_for (ticking rows moment s) x)).drew;
         })
     unless true e =
         so_far_quiet rows moment s.word done (note.Unchanged x.peer x.token ∷ []) (done.drew + 0)
         (λ o. refl) refl refl (λ peer. refl) (tt, tt) it
-    unless false e = so_far_noticed rows moment s.word done (new e) (done.drew + 1) it
+    unless false e = so_far_notified rows moment s.word done (new e) (done.drew + 1) it
 
     looked : (b : Bool)
         → is_looked_at (ticking rows moment s) done x ≡ b
         → TickSoFar rows moment s.word (record {
-          sent = done.sent ++ (noticed_if b (ticking rows moment s) done x).sent;
-          notes = done.notes ++ (noticed_if b (ticking rows moment s) done x).notes;
-          drew = done.drew + (noticed_if b (ticking rows moment s) done x).drew;
+          sent = done.sent ++ (notified_if b (ticking rows moment s) done x).sent;
+          notes = done.notes ++ (notified_if b (ticking rows moment s) done x).notes;
+          drew = done.drew + (notified_if b (ticking rows moment s) done x).drew;
         })
     looked true e =
         unless
@@ -242,20 +243,21 @@ tick_folds : (rows : List Row) (moment : ℕ) (s : Step) (left : List Observer) 
     → AllByRecursion (λ x. Among x (observers (events_after_again rows moment s.word)) × IsAsking x)
     left
     → TickSoFar rows moment s.word done
-    → TickSoFar rows moment s.word (fold (notice_next (ticking rows moment s)) done left)
+    → TickSoFar rows moment s.word (fold (notification_next (ticking rows moment s)) done left)
 tick_folds rows moment s [] done known it = it
 tick_folds rows moment s (x ∷ left) done known it =
-    tick_folds rows moment s left (notice_next (ticking rows moment s) done x) known.1
+    tick_folds rows moment s left (notification_next (ticking rows moment s) done x) known.1
     (tick_step rows moment s x done known.0.0 known.0.1 it)
 
 -- after its notifications
 pub tick_notifies : (rows : List Row) (moment : ℕ) (s : Step)
     → ((x : Observer) → Among x (observers (events_after_again rows moment s.word)) → IsAsking x)
-    → TickSoFar rows moment s.word (notices (ticking rows moment s) (notices_again rows moment))
-unfolding notices
+    → TickSoFar rows moment s.word (notifications (ticking rows moment s)
+    (notifications_again rows moment))
+unfolding notifications
 tick_notifies rows moment s asking =
     tick_folds rows moment s (observers (events_after_again rows moment s.word))
-    (notices_again rows moment)
+    (notifications_again rows moment)
     (among_all (λ x. Among x (observers (events_after_again rows moment s.word)) × IsAsking x)
     (observers (events_after_again rows moment s.word)) (λ x stands. (stands, asking x stands)))
     (tick_begins rows moment s.word)

@@ -21,19 +21,19 @@ use Rattle.journal_model.specs.Ticks.{
   is_looked_at,
   events_with,
   ticking,
-  noticed_unless,
-  noticed_if,
-  notice_next,
-  notices_again,
-  notices,
+  notified_unless,
+  notified_if,
+  notification_next,
+  notifications_again,
+  notifications,
   requests_again,
   tick_effects,
 }
 use Rattle.journal_model.proofs.NoteKinds.{of_again, of_resent, are}
-use Rattle.journal_model.proofs.StepNotes.{notices_again-notes, requests_again-notes}
+use Rattle.journal_model.proofs.StepNotes.{notifications_again-notes, requests_again-notes}
 use Rattle.journal_model.specs.Sought.{listing_of}
 use Rattle.journal_model.proofs.notes.LookupNotes.{IsAsking, NoteAsAsked, NotesAsAsked}
-use Rattle.journal_model.proofs.flights.NoticesAgain.{events_after_again}
+use Rattle.journal_model.proofs.flights.NotificationsAgain.{events_after_again}
 use Rattle.rd_base.proofs.lemmas.Each.{each_append}
 
 -- notes of a kind that keeps nothing and adds nobody
@@ -56,10 +56,10 @@ kind_as_asked kind kept watched rows moment (n ∷ notes) fits =
 
 -- what is retransmitted
 again_notes_as_asked : (rows : List Row) (moment : ℕ)
-    → NotesAsAsked rows moment (notices_again rows moment).notes
+    → NotesAsAsked rows moment (notifications_again rows moment).notes
 again_notes_as_asked rows moment =
     kind_as_asked of_again (λ p k b c. refl) (λ o. refl) rows moment
-    (notices_again rows moment).notes (notices_again-notes rows moment)
+    (notifications_again rows moment).notes (notifications_again-notes rows moment)
 
 -- and requests of fetches
 request_notes_as_asked : (rows : List Row) (moment : ℕ)
@@ -69,12 +69,14 @@ request_notes_as_asked rows moment =
     (requests_again rows moment).notes (requests_again-notes rows moment)
 
 -- the notifications of a tick
-notice_notes_as_asked : (rows : List Row) (moment : ℕ) (s : Step)
+notification_notes_as_asked : (rows : List Row) (moment : ℕ) (s : Step)
     → AllByRecursion IsAsking (observers (events_after_again rows moment s.word))
-    → NotesAsAsked rows moment (notices (ticking rows moment s) (notices_again rows moment)).notes
-unfolding notices
-notice_notes_as_asked rows moment s asking =
-    folded (observers (events_after_again rows moment s.word)) asking (notices_again rows moment)
+    → NotesAsAsked rows moment (notifications (ticking rows moment s)
+    (notifications_again rows moment)).notes
+unfolding notifications
+notification_notes_as_asked rows moment s asking =
+    folded (observers (events_after_again rows moment s.word)) asking
+    (notifications_again rows moment)
     (again_notes_as_asked rows moment)
   where
     kept_one : (o : Observer)
@@ -90,7 +92,7 @@ notice_notes_as_asked rows moment s asking =
 
     unless : (b : Bool) (so_far : Effects) (o : Observer)
         → IsAsking o
-        → NotesAsAsked rows moment (noticed_unless b (ticking rows moment s) so_far o
+        → NotesAsAsked rows moment (notified_unless b (ticking rows moment s) so_far o
         (listing_for (ticking rows moment s) o)).notes
     unless true so_far o asks = (tt, tt)
     unless false so_far o asks =
@@ -98,7 +100,7 @@ notice_notes_as_asked rows moment s asking =
 
     looked : (b : Bool) (so_far : Effects) (o : Observer)
         → IsAsking o
-        → NotesAsAsked rows moment (noticed_if b (ticking rows moment s) so_far o).notes
+        → NotesAsAsked rows moment (notified_if b (ticking rows moment s) so_far o).notes
     looked false so_far o asks = tt
     looked true so_far o asks =
         unless (is_unchanged
@@ -110,12 +112,12 @@ notice_notes_as_asked rows moment s asking =
         → (so_far : Effects)
         → NotesAsAsked rows moment so_far.notes
         → NotesAsAsked rows moment
-        (fold (notice_next (ticking rows moment s)) so_far standing).notes
+        (fold (notification_next (ticking rows moment s)) so_far standing).notes
     folded [] all so_far h = h
     folded (o ∷ standing) all so_far h =
-        folded standing all.1 (notice_next (ticking rows moment s) so_far o)
+        folded standing all.1 (notification_next (ticking rows moment s) so_far o)
         (each_append (NoteAsAsked (entries rows) moment) so_far.notes
-        (noticed_if (is_looked_at (ticking rows moment s) so_far o) (ticking rows moment s)
+        (notified_if (is_looked_at (ticking rows moment s) so_far o) (ticking rows moment s)
         so_far o).notes h
         (looked (is_looked_at (ticking rows moment s) so_far o) so_far o all.0))
 
@@ -125,11 +127,11 @@ pub tick_notes_as_asked : (starved : Bool) (rows : List Row) (moment : ℕ) (s :
     → NotesAsAsked rows moment (tick_effects starved rows moment s).notes
 unfolding tick_effects
 tick_notes_as_asked true rows moment s asking =
-    each_append (NoteAsAsked (entries rows) moment) (notices_again rows moment).notes
+    each_append (NoteAsAsked (entries rows) moment) (notifications_again rows moment).notes
     (requests_again rows moment).notes (again_notes_as_asked rows moment)
     (request_notes_as_asked rows moment)
 tick_notes_as_asked false rows moment s asking =
     each_append (NoteAsAsked (entries rows) moment)
-    (notices (ticking rows moment s) (notices_again rows moment)).notes
-    (requests_again rows moment).notes (notice_notes_as_asked rows moment s asking)
+    (notifications (ticking rows moment s) (notifications_again rows moment)).notes
+    (requests_again rows moment).notes (notification_notes_as_asked rows moment s asking)
     (request_notes_as_asked rows moment)

@@ -174,19 +174,19 @@ use Rattle.journal_model.specs.Responses.{
 use Rattle.journal_model.specs.Ticks.{
   confirmable_sent,
   sent_again,
-  notice_again,
+  notification_again,
   flight_again,
-  notices_again,
+  notifications_again,
   ticking,
   events_with,
   block_shown,
   is_unchanged,
-  noticed_unless,
+  notified_unless,
   listing_for,
-  noticed_if,
+  notified_if,
   is_looked_at,
-  notice_next,
-  notices,
+  notification_next,
+  notifications,
   request_again,
   fetch_again,
   requests_again,
@@ -668,7 +668,7 @@ pub tick_sends_only : (P : Peer × List ℕ → Type 0) (starved : Bool) (rows :
     → ((d : Peer × List ℕ) → IsReply d.1 → P d)
     → ((place : ℕ) (r : Row) → row_at place rows ≡ Some r → AllByRecursion P r.sent)
     → AllByRecursion P (tick_effects starved rows moment s).sent
-unfolding tick_effects notices_again requests_again notices spelling header_spelling
+unfolding tick_effects notifications_again requests_again notifications spelling header_spelling
 tick_sends_only P starved rows moment s replies past = by starved
   where
     again_one : (place : ℕ) (peer : Peer) (mid : ℕ) (n : Note)
@@ -678,18 +678,18 @@ tick_sends_only P starved rows moment s replies past = by starved
         (λ d found. (sent_by-FoundSent P (row_at place rows) peer mid d
         (λ r at. past place r at) found).holds)
 
-    noticed_again : (b c : Bool) (o : Observer) (f : Flight)
-        → AllByRecursion P (notice_again (due_by b c) rows o f).sent
-    noticed_again false c o f = tt
-    noticed_again true true o f = tt
-    noticed_again true false o f =
+    notified_again : (b c : Bool) (o : Observer) (f : Flight)
+        → AllByRecursion P (notification_again (due_by b c) rows o f).sent
+    notified_again false c o f = tt
+    notified_again true true o f = tt
+    notified_again true false o f =
         again_one f.formed.place o.peer f.mid (note.Again o.peer f.mid)
 
     flying : (o : Observer) (f : Option Flight)
         → AllByRecursion P (flight_again rows moment o f).sent
     flying o None = tt
     flying o (Some f) =
-        noticed_again (nat_le (deadline f.formed f.again) moment)
+        notified_again (nat_le (deadline f.formed f.again) moment)
         (nat_le max_again (length f.again)) o f
 
     each_flight : (standing : List Observer)
@@ -698,7 +698,7 @@ tick_sends_only P starved rows moment s replies past = by starved
     each_flight [] = tt
     each_flight (o ∷ standing) = (flying o (flight o (events rows)), each_flight standing)
 
-    again_all : AllByRecursion P (notices_again rows moment).sent
+    again_all : AllByRecursion P (notifications_again rows moment).sent
     again_all =
         each_of_sent P (λ o. flight_again rows moment o (flight o (events rows)))
         (observers (events rows)) (each_flight (observers (events rows)))
@@ -734,7 +734,7 @@ tick_sends_only P starved rows moment s replies past = by starved
         (fetches (events rows)) (each_fetch (fetches (events rows)))
 
     unless : (b : Bool) (so_far : Effects) (o : Observer) (a : Answer)
-        → AllByRecursion P (noticed_unless b (ticking rows moment s) so_far o a).sent
+        → AllByRecursion P (notified_unless b (ticking rows moment s) so_far o a).sent
     unless true so_far o a = tt
     unless false so_far o a = (
       replies _ (body_replies (Some a.tag)
@@ -744,7 +744,7 @@ tick_sends_only P starved rows moment s replies past = by starved
     )
 
     looked_at : (b : Bool) (so_far : Effects) (o : Observer)
-        → AllByRecursion P (noticed_if b (ticking rows moment s) so_far o).sent
+        → AllByRecursion P (notified_if b (ticking rows moment s) so_far o).sent
     looked_at false so_far o = tt
     looked_at true so_far o =
         unless (is_unchanged (last_body_formed (name_of o)
@@ -754,24 +754,25 @@ tick_sends_only P starved rows moment s replies past = by starved
 
     folded : (standing : List Observer) (so_far : Effects)
         → AllByRecursion P so_far.sent
-        → AllByRecursion P (fold (notice_next (ticking rows moment s)) so_far standing).sent
+        → AllByRecursion P (fold (notification_next (ticking rows moment s)) so_far standing).sent
     folded [] so_far h = h
     folded (o ∷ standing) so_far h =
-        folded standing (notice_next (ticking rows moment s) so_far o)
+        folded standing (notification_next (ticking rows moment s) so_far o)
         (each_append P so_far.sent
-        (noticed_if (is_looked_at (ticking rows moment s) so_far o) (ticking rows moment s) so_far
+        (notified_if (is_looked_at (ticking rows moment s) so_far o) (ticking rows moment s) so_far
         o).sent h
         (looked_at (is_looked_at (ticking rows moment s) so_far o) so_far o))
 
     by : (b : Bool) → AllByRecursion P (tick_effects b rows moment s).sent
     by true =
-        each_append P (notices_again rows moment).sent (requests_again rows moment).sent again_all
+        each_append P (notifications_again rows moment).sent (requests_again rows moment).sent
+        again_all
         asked_all
     by false =
-        each_append P (notices (ticking rows moment s) (notices_again rows moment)).sent
+        each_append P (notifications (ticking rows moment s) (notifications_again rows moment)).sent
         (requests_again rows moment).sent
-        (folded (observers (events_with (ticking rows moment s) (notices_again rows moment)))
-        (notices_again rows moment) again_all) asked_all
+        (folded (observers (events_with (ticking rows moment s) (notifications_again rows moment)))
+        (notifications_again rows moment) again_all) asked_all
 
 -- ---- what is settled
 

@@ -14,7 +14,13 @@ use Rattle.journal_model.specs.declared.steps.StepKind.TheVariants as step
 use Rattle.journal_model.specs.declared.rows.Row.{Row}
 use Rattle.journal_model.specs.Journal.{is_heard, events, entries}
 use Rattle.journal_model.specs.Effects.{Effects}
-use Rattle.journal_model.specs.Ticks.{ticking, notices_again, notices, requests_again, tick_effects}
+use Rattle.journal_model.specs.Ticks.{
+  ticking,
+  notifications_again,
+  notifications,
+  requests_again,
+  tick_effects,
+}
 use Rattle.journal_model.specs.Rows.{effects, row_moment, row, AreRows, empty, added}
 use Rattle.journal_model.specs.Machine.{IsJournal, begun, made}
 use Rattle.journal_model.specs.DeskJournal.{IsDeskJournal}
@@ -33,8 +39,8 @@ use Rattle.headline_law.proofs.rows.Validations.{sent_validates}
 use Rattle.journal_model.proofs.EventRows.{AllRows, row_within}
 use Rattle.rd_base.proofs.lemmas.Among.{Among, all_among, all_at_index}
 use Rattle.journal_model.proofs.notes.LookupNotes.{IsAsking, NotesAsAsked, observers_all}
-use Rattle.journal_model.proofs.flights.NoticesAgain.{events_after_again, stood}
-use Rattle.headline_law.proofs.flights.TickNotices.{TickSoFar}
+use Rattle.journal_model.proofs.flights.NotificationsAgain.{events_after_again, stood}
+use Rattle.headline_law.proofs.flights.TickNotifications.{TickSoFar}
 use Rattle.headline_law.proofs.flights.TickFolds.{tick_begins, tick_notifies}
 use Rattle.headline_law.proofs.flights.CarriedListings.{Carried}
 use Rattle.headline_law.proofs.rows.TickRows.{TickRow, tick_carried}
@@ -158,9 +164,11 @@ tick_of keeps rows r starved asked all tick sent notes = by starved sent notes
         → r.notes ≡ (tick_effects b rows r.moment.0 r.step).notes
         → TickRow rows r
     by true s n =
-        with_parts (notices_again rows r.moment.0) (tick_begins rows r.moment.0 r.step.word) s n
+        with_parts (notifications_again rows r.moment.0) (tick_begins rows r.moment.0 r.step.word) s
+        n
     by false s n =
-        with_parts (notices (ticking rows r.moment.0 r.step) (notices_again rows r.moment.0))
+        with_parts (notifications (ticking rows r.moment.0 r.step)
+        (notifications_again rows r.moment.0))
         (tick_notifies rows r.moment.0 r.step asking) s n
 
 -- what is known is known with a row of a tick

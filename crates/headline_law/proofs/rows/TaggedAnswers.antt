@@ -27,7 +27,7 @@ use Rattle.journal_model.specs.Machine.{IsJournal}
 use Rattle.journal_model.specs.DeskJournal.{IsDeskJournal}
 use Rattle.journal_model.specs.Requests.{asked_block}
 use Rattle.journal_model.specs.PlacedRows.{Within, Placed, last_row}
-use Rattle.journal_model.specs.BodyFormers.{former_of_body, former_of_kept, former_of_notice}
+use Rattle.journal_model.specs.BodyFormers.{former_of_body, former_of_kept, former_of_notification}
 use Rattle.journal_model.specs.BodyFormers.{reads_further_block, sends_again, former_of_further}
 use Rattle.journal_model.specs.BodyFormers.{former_at}
 use Rattle.journal_model.specs.BlocksOfOne.{sought_of_sent, AreBlocksOfOne}
@@ -155,7 +155,7 @@ stands_former k peer mid here p e = by k e
     by : (kind : StepKind) → former_at kind peer mid here ≡ Some p
         → Stands (here.row ∷ here.before) p
     by (step.Keep body tag) h = stands_more here.row here.before p (stands_last _ here.before p h)
-    by step.Tick h = own (sends_again peer mid here) (former_of_notice peer mid here.before) h
+    by step.Tick h = own (sends_again peer mid here) (former_of_notification peer mid here.before) h
         (λ again. stands_more here.row here.before p (stands_last _ here.before p again))
     by step.Admit h = heard h
     by step.Look h = heard h

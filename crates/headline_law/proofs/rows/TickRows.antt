@@ -48,15 +48,15 @@ use Rattle.journal_model.proofs.sends.TickSends.{FoundSent, sent_by-FoundSent, m
 use Rattle.rd_base.proofs.lemmas.Among.{all_among}
 use Rattle.journal_model.proofs.FlightKeys.{key_of}
 use Rattle.journal_model.proofs.flights.WaitedPeers.{Waits}
-use Rattle.journal_model.proofs.flights.NoticesAgain.{
+use Rattle.journal_model.proofs.flights.NotificationsAgain.{
   again_peer,
   AgainSent,
   AgainNoted,
   events_after_again,
   again_waits,
 }
-use Rattle.headline_law.proofs.flights.TickNotices.{IsNoticeOf, FreshSent, TickSoFar}
-use Rattle.headline_law.proofs.flights.KnownFlights.{NoticeOf, FlightKnown, FlightsKnown}
+use Rattle.headline_law.proofs.flights.TickNotifications.{IsNotificationOf, FreshSent, TickSoFar}
+use Rattle.headline_law.proofs.flights.KnownFlights.{NotificationOf, FlightKnown, FlightsKnown}
 use Rattle.headline_law.proofs.flights.CarriedListings.{Carried, stood_before, observer_formed}
 use Rattle.std.proofs.lemmas.Bool.{or_left}
 use Rattle.rd_base.proofs.lemmas.Each.{each_append, each_weaker}
@@ -95,27 +95,28 @@ again_carried : (rows : List Row) (r : Row)
     → AgainSent rows r.moment.0 d
     → Carried (record { row = r; before = rows }) d
 again_carried rows r t d a m e listed _ =
-    observer_formed (record { row = r; before = rows }) notice.placed a.observer d m t.tick
+    observer_formed (record { row = r; before = rows }) notification.placed a.observer d m t.tick
     a.again.stands (again_peer rows r.moment.0 d a) (found.holds found.to_peer m e listed)
     (subst (λ p. former_at step.Tick p m.mid
-    (record { row = r; before = rows }) ≡ Some notice.placed)
+    (record { row = r; before = rows }) ≡ Some notification.placed)
     (sym (again_peer rows r.moment.0 d a))
     (subst (λ n. former_at step.Tick a.observer.peer n
-    (record { row = r; before = rows }) ≡ Some notice.placed)
+    (record { row = r; before = rows }) ≡ Some notification.placed)
     (sym (mid_of_confirmable a.flight_is.mid d.1 m found.confirmable e))
-    (rw again notice.last)))
+    (rw again notification.last)))
   where
-    notice : NoticeOf rows a.observer a.flight_is.mid a.flight_is.formed.place
-    notice =
+    notification : NotificationOf rows a.observer a.flight_is.mid a.flight_is.formed.place
+    notification =
         all_among (FlightKnown rows) a.observer (observers (events rows)) t.known a.again.stands
         a.flight_is.mid a.flight_is.formed.place (ap (λ f. option_map key_of f) a.again.flies)
 
     To : Peer × List ℕ → Type 0
     To x = is_same_peer x.0 a.observer.peer ≡ true
         → IsBodyOf (wanted_by_observer a.observer)
-        (listing a.observer.query (entries (notice.placed.row ∷ notice.placed.before))
-        notice.placed.row.moment.0)
-        (tag (entries (notice.placed.row ∷ notice.placed.before)) notice.placed.row.moment.0)
+        (listing a.observer.query (entries (notification.placed.row ∷ notification.placed.before))
+        notification.placed.row.moment.0)
+        (tag (entries (notification.placed.row ∷ notification.placed.before))
+        notification.placed.row.moment.0)
         x.1
 
     found : FoundSent To a.observer.peer a.flight_is.mid d
@@ -124,7 +125,8 @@ again_carried rows r t d a m e listed _ =
         d
         (λ x at.
         subst (λ (y : Row). AllByRecursion To y.sent)
-        (same_Some notice.placed.row x (sym notice.at_place ∙ at)) notice.sent) a.found
+        (same_Some notification.placed.row x (sym notification.at_place ∙ at)) notification.sent)
+        a.found
 
     again : list_any (is_again_of a.observer.peer a.flight_is.mid) r.notes ≡ true
     again =
@@ -138,7 +140,7 @@ again_carried rows r t d a m e listed _ =
 -- the listing of a row that notes no entry
 pub as_row : (rows : List Row) (r : Row) (o : Observer) (octets : List ℕ)
     → entries (r ∷ rows) ≡ entries rows
-    → IsNoticeOf rows r.moment.0 o octets
+    → IsNotificationOf rows r.moment.0 o octets
     → IsBodyOf (wanted_by_observer o) (listing o.query (entries (r ∷ rows)) r.moment.0)
     (tag (entries (r ∷ rows)) r.moment.0) octets
 as_row rows r o octets same_entries h =

@@ -123,16 +123,16 @@ use Rattle.journal_model.specs.Ticks.{
   sent_again,
   each_of,
   confirmable_sent,
-  notice_again,
+  notification_again,
   flight_again,
-  notices_again,
+  notifications_again,
   is_unchanged,
-  noticed_unless,
+  notified_unless,
   listing_for,
-  noticed_if,
+  notified_if,
   is_looked_at,
-  notice_next,
-  notices,
+  notification_next,
+  notifications,
   requests_again,
   tick_effects,
   due_by,
@@ -157,7 +157,7 @@ use Rattle.journal_model.proofs.notes.SilentSteps.{refusal_notes, unread_notes, 
 use Rattle.journal_model.proofs.notes.ChangeNotes.{response_effects-notes}
 use Rattle.journal_model.proofs.notes.BeginNotes.{beginning-notes}
 use Rattle.journal_model.proofs.notes.ChangeNotes.{commit_effects-notes}
-use Rattle.journal_model.proofs.flights.NoticesAgain.{events_after_again}
+use Rattle.journal_model.proofs.flights.NotificationsAgain.{events_after_again}
 
 -- ---- why an observer ends or begins
 
@@ -186,9 +186,9 @@ pub record Rejected (rows : List Row) (kind : StepKind) (s : Step) (peer : Peer)
   pub stands : Among observer (observers (events rows))
   pub peer_is : observer.peer ≡ s.peer
   pub named : name_of observer ≡ (peer, token)
-  pub notice : Flight
-  pub flies : flight observer (events rows) ≡ Some notice
-  pub mid : notice.mid ≡ message.mid
+  pub notification : Flight
+  pub flies : flight observer (events rows) ≡ Some notification
+  pub mid : notification.mid ≡ message.mid
 
 -- one that stands is given up
 pub record GivenUp (rows : List Row) (moment : ℕ) (kind : StepKind) (peer : Peer) (token : List ℕ) :
@@ -197,10 +197,10 @@ pub record GivenUp (rows : List Row) (moment : ℕ) (kind : StepKind) (peer : Pe
   pub observer : Observer
   pub stands : Among observer (observers (events rows))
   pub named : name_of observer ≡ (peer, token)
-  pub notice : Flight
-  pub flies : flight observer (events rows) ≡ Some notice
-  pub over : nat_le (deadline notice.formed notice.again) moment ≡ true
-  pub last : nat_le max_again (length notice.again) ≡ true
+  pub notification : Flight
+  pub flies : flight observer (events rows) ≡ Some notification
+  pub over : nat_le (deadline notification.formed notification.again) moment ≡ true
+  pub last : nat_le max_again (length notification.again) ≡ true
 
 -- one of these
 pub data Ended (rows : List Row) (moment : ℕ) (kind : StepKind) (s : Step) (peer : Peer)
@@ -232,11 +232,11 @@ pub record SentAgain (rows : List Row) (moment : ℕ) (kind : StepKind) (peer : 
   pub observer : Observer
   pub stands : Among observer (observers (events rows))
   pub peer_is : peer ≡ observer.peer
-  pub notice : Flight
-  pub flies : flight observer (events rows) ≡ Some notice
-  pub mid_is : mid ≡ notice.mid
-  pub over : nat_le (deadline notice.formed notice.again) moment ≡ true
-  pub further : nat_le max_again (length notice.again) ≡ false
+  pub notification : Flight
+  pub flies : flight observer (events rows) ≡ Some notification
+  pub mid_is : mid ≡ notification.mid
+  pub over : nat_le (deadline notification.formed notification.again) moment ≡ true
+  pub further : nat_le max_again (length notification.again) ≡ false
 
 -- so it is of each note
 abbrev pub WatchFact : List Row → ℕ → StepKind → Step → Note → Type 0
@@ -474,7 +474,7 @@ reset_watches rows moment s m read resets =
           stands = there;
           peer_is = (is_same_peer-Decides o.peer s.peer).0 same;
           named = refl;
-          notice = f;
+          notification = f;
           flies = flies;
           mid = eqb-true f.mid m.mid h;
         })
@@ -576,8 +576,8 @@ requests_aside rows moment s =
 
 -- the first part
 again_watches : (rows : List Row) (moment : ℕ) (s : Step)
-    → WatchFacts rows moment step.Tick s (notices_again rows moment).notes
-unfolding notices_again
+    → WatchFacts rows moment step.Tick s (notifications_again rows moment).notes
+unfolding notifications_again
 again_watches rows moment s =
     each_of_noted (WatchFact rows moment step.Tick s)
     (λ o. flight_again rows moment o (flight o (events rows))) (observers (events rows))
@@ -596,7 +596,7 @@ again_watches rows moment s =
         → flight o (events rows) ≡ Some f
         → nat_le (deadline f.formed f.again) moment ≡ b
         → nat_le max_again (length f.again) ≡ c
-        → WatchFacts rows moment step.Tick s (notice_again (due_by b c) rows o f).notes
+        → WatchFacts rows moment step.Tick s (notification_again (due_by b c) rows o f).notes
     again false c o f there flies over last = tt
     again true true o f there flies over last = (
       by_waiting (record {
@@ -604,7 +604,7 @@ again_watches rows moment s =
         observer = o;
         stands = there;
         named = refl;
-        notice = f;
+        notification = f;
         flies = flies;
         over = over;
         last = last;
@@ -618,7 +618,7 @@ again_watches rows moment s =
           observer = o;
           stands = there;
           peer_is = refl;
-          notice = f;
+          notification = f;
           flies = flies;
           mid_is = refl;
           over = over;
@@ -635,15 +635,16 @@ again_watches rows moment s =
         there flies refl refl
 
 -- its notifications
-notice_watches : (rows : List Row) (moment : ℕ) (s : Step) (left : List Observer) (done : Effects)
+notification_watches : (rows : List Row) (moment : ℕ) (s : Step) (left : List Observer)
+    (done : Effects)
     → WatchFacts rows moment step.Tick s done.notes
     → WatchFacts rows moment step.Tick s
-    (fold (notice_next (ticking rows moment s)) done left).notes
-notice_watches rows moment s [] done it = it
-notice_watches rows moment s (o ∷ left) done it =
-    notice_watches rows moment s left (notice_next (ticking rows moment s) done o)
+    (fold (notification_next (ticking rows moment s)) done left).notes
+notification_watches rows moment s [] done it = it
+notification_watches rows moment s (o ∷ left) done it =
+    notification_watches rows moment s left (notification_next (ticking rows moment s) done o)
     (each_append (WatchFact rows moment step.Tick s) done.notes
-    (noticed_if (is_looked_at (ticking rows moment s) done o) (ticking rows moment s) done o).notes
+    (notified_if (is_looked_at (ticking rows moment s) done o) (ticking rows moment s) done o).notes
     it (looked (is_looked_at (ticking rows moment s) done o)))
   where
     keeps : (b : Bool) (body current : List ℕ)
@@ -654,7 +655,7 @@ notice_watches rows moment s (o ∷ left) done it =
 
     unless : (b : Bool)
         → WatchFacts rows moment step.Tick s
-        (noticed_unless b (ticking rows moment s) done o
+        (notified_unless b (ticking rows moment s) done o
         (listing_for (ticking rows moment s) o)).notes
     unless true = (tt, tt)
     unless false = (
@@ -665,7 +666,7 @@ notice_watches rows moment s (o ∷ left) done it =
 
     looked : (b : Bool)
         → WatchFacts rows moment step.Tick s
-        (noticed_if b (ticking rows moment s) done o).notes
+        (notified_if b (ticking rows moment s) done o).notes
     looked false = tt
     looked true =
         unless
@@ -675,17 +676,17 @@ notice_watches rows moment s (o ∷ left) done it =
 -- the whole of it
 tick_watches : (starved : Bool) (rows : List Row) (moment : ℕ) (s : Step)
     → WatchFacts rows moment step.Tick s (tick_effects starved rows moment s).notes
-unfolding tick_effects notices
+unfolding tick_effects notifications
 tick_watches true rows moment s =
-    each_append (WatchFact rows moment step.Tick s) (notices_again rows moment).notes
+    each_append (WatchFact rows moment step.Tick s) (notifications_again rows moment).notes
     (requests_again rows moment).notes (again_watches rows moment s)
     (requests_aside rows moment s)
 tick_watches false rows moment s =
     each_append (WatchFact rows moment step.Tick s)
-    (notices (ticking rows moment s) (notices_again rows moment)).notes
+    (notifications (ticking rows moment s) (notifications_again rows moment)).notes
     (requests_again rows moment).notes
-    (notice_watches rows moment s (observers (events_after_again rows moment s.word))
-    (notices_again rows moment) (again_watches rows moment s))
+    (notification_watches rows moment s (observers (events_after_again rows moment s.word))
+    (notifications_again rows moment) (again_watches rows moment s))
     (requests_aside rows moment s)
 
 -- ---- any step

@@ -93,14 +93,14 @@ use Rattle.journal_model.specs.AskedListings.{observer_named}
 use Rattle.journal_model.specs.Rows.{AreRows}
 use Rattle.journal_model.specs.Ticks.{
   each_of,
-  notice_again,
+  notification_again,
   flight_again,
-  notices_again,
+  notifications_again,
   ticking,
-  noticed_if,
+  notified_if,
   is_looked_at,
-  notice_next,
-  notices,
+  notification_next,
+  notifications,
   requests_again,
   tick_effects,
   due_by,
@@ -108,8 +108,8 @@ use Rattle.journal_model.specs.Ticks.{
 use Rattle.journal_model.proofs.NoteKinds.{of_empty, of_tick, are, none_of}
 use Rattle.journal_model.proofs.RowEquations.{events-row}
 use Rattle.journal_model.proofs.StepNotes.{reset-notes, tick_effects-notes}
-use Rattle.journal_model.proofs.flights.NoticesAgain.{events_after_again}
-use Rattle.headline_law.specs.ObserversStand.{Cancels, RejectsNotice, NeverAcknowledges}
+use Rattle.journal_model.proofs.flights.NotificationsAgain.{events_after_again}
+use Rattle.headline_law.specs.ObserversStand.{Cancels, RejectsNotification, NeverAcknowledges}
 use Rattle.headline_law.proofs.answers.AnsweredAlike.{Does, does}
 
 -- ---- who is ended
@@ -194,52 +194,55 @@ again_ends : (rows : List Row) (moment : ℕ) (o : Observer) (f : Flight)
     → flight o (events rows) ≡ Some f
     → nat_le (deadline f.formed f.again) moment ≡ true
     → nat_le max_again (length f.again) ≡ true
-    → is_ended_by (notices_again rows moment).notes o ≡ true
-unfolding notices_again
+    → is_ended_by (notifications_again rows moment).notes o ≡ true
+unfolding notifications_again
 again_ends rows moment o f stands flies over last =
     each_of_any (λ n. is_end_of n (name_of o))
     (λ x. flight_again rows moment x (flight x (events rows))) o (observers (events rows)) stands
     (subst (λ x. list_any (λ n. is_end_of n (name_of o)) (flight_again rows moment o x).notes
     ≡ true) (sym flies)
     (subst (λ b. list_any (λ n. is_end_of n (name_of o))
-    (notice_again (due_by b (nat_le max_again (length f.again))) rows o f).notes
+    (notification_again (due_by b (nat_le max_again (length f.again))) rows o f).notes
     ≡ true) (sym over)
     (subst (λ c. list_any (λ n. is_end_of n (name_of o))
-    (notice_again (due_by true c) rows o f).notes
+    (notification_again (due_by true c) rows o f).notes
     ≡ true) (sym last)
     (or_left (is_same_request (name_of o) (name_of o)) false (is_same_request-refl (name_of o))))))
 
 -- its notifications keep what is noted
-notices_keep : (test : Note → Bool) (rows : List Row) (moment : ℕ) (s : Step)
+notifications_keep : (test : Note → Bool) (rows : List Row) (moment : ℕ) (s : Step)
     (left : List Observer) (done : Effects)
     → list_any test done.notes ≡ true
-    → list_any test (fold (notice_next (ticking rows moment s)) done left).notes ≡ true
-notices_keep test rows moment s [] done h = h
-notices_keep test rows moment s (o ∷ left) done h =
-    notices_keep test rows moment s left (notice_next (ticking rows moment s) done o)
+    → list_any test (fold (notification_next (ticking rows moment s)) done left).notes ≡ true
+notifications_keep test rows moment s [] done h = h
+notifications_keep test rows moment s (o ∷ left) done h =
+    notifications_keep test rows moment s left (notification_next (ticking rows moment s) done o)
     (list_any-append test done.notes
-    (noticed_if (is_looked_at (ticking rows moment s) done o) (ticking rows moment s) done o).notes
+    (notified_if (is_looked_at (ticking rows moment s) done o) (ticking rows moment s) done o).notes
     ∙ or_left (list_any test done.notes)
     (list_any test
-    (noticed_if (is_looked_at (ticking rows moment s) done o) (ticking rows moment s) done o).notes)
+    (notified_if (is_looked_at (ticking rows moment s) done o) (ticking rows moment s) done
+    o).notes)
     h)
 
 -- so does the whole of it
 tick_keeps : (test : Note → Bool) (starved : Bool) (rows : List Row) (moment : ℕ) (s : Step)
-    → list_any test (notices_again rows moment).notes ≡ true
+    → list_any test (notifications_again rows moment).notes ≡ true
     → list_any test (tick_effects starved rows moment s).notes ≡ true
-unfolding tick_effects notices
+unfolding tick_effects notifications
 tick_keeps test true rows moment s h =
-    list_any-append test (notices_again rows moment).notes (requests_again rows moment).notes
-    ∙ or_left (list_any test (notices_again rows moment).notes)
+    list_any-append test (notifications_again rows moment).notes (requests_again rows moment).notes
+    ∙ or_left (list_any test (notifications_again rows moment).notes)
     (list_any test (requests_again rows moment).notes) h
 tick_keeps test false rows moment s h =
-    list_any-append test (notices (ticking rows moment s) (notices_again rows moment)).notes
+    list_any-append test (notifications (ticking rows moment s)
+    (notifications_again rows moment)).notes
     (requests_again rows moment).notes
-    ∙ or_left (list_any test (notices (ticking rows moment s) (notices_again rows moment)).notes)
+    ∙ or_left (list_any test (notifications (ticking rows moment s)
+    (notifications_again rows moment)).notes)
     (list_any test (requests_again rows moment).notes)
-    (notices_keep test rows moment s (observers (events_after_again rows moment s.word))
-    (notices_again rows moment) h)
+    (notifications_keep test rows moment s (observers (events_after_again rows moment s.word))
+    (notifications_again rows moment) h)
 
 -- ---- rows
 
@@ -263,7 +266,7 @@ tick_row starved rows moment s = refl
 pub rejected_gone : (rows before : List Row) (r : Row) (o : Observer)
     → AreRows rows
     → Within rows before r
-    → RejectsNotice before r o
+    → RejectsNotification before r o
     → Among o (observers (events before))
     → Among o (observers (events (r ∷ before)))
     → ⊥
@@ -279,7 +282,7 @@ rejected_gone rows before r o made within it stands there =
     ∙ adds_none of_empty (λ x. refl) (reset r.step.peer it.message.mid (events before)).notes
     (reset-notes r.step.peer it.message.mid (events before)))
     (ap (λ ns. is_ended_by ns o) notes_are
-    ∙ reset_ends before r.step it.message o it.notice stands it.peer it.flies it.mid)
+    ∙ reset_ends before r.step it.message o it.notification stands it.peer it.flies it.mid)
     (subst (λ past. Among o (observers past)) (events-row before r) there)
 
 -- nor does one whose notification is never acknowledged
@@ -302,9 +305,9 @@ given_up_gone rows before r o made within it stands there =
     (tick_effects-notes r.starved before r.moment.0 r.step))
     (ap (λ ns. is_ended_by ns o) notes_are
     ∙ tick_keeps (λ n. is_end_of n (name_of o)) r.starved before r.moment.0 r.step
-    (again_ends before r.moment.0 o it.notice stands it.flies
-    (le-leb (deadline it.notice.formed it.notice.again) r.moment.0 it.waited)
-    (le-leb max_again (length it.notice.again) it.sent)))
+    (again_ends before r.moment.0 o it.notification stands it.flies
+    (le-leb (deadline it.notification.formed it.notification.again) r.moment.0 it.waited)
+    (le-leb max_again (length it.notification.again) it.sent)))
     (subst (λ past. Among o (observers past)) (events-row before r) there)
 
 -- ---- a cancellation

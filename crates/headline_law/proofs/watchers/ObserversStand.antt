@@ -88,7 +88,7 @@ use Rattle.headline_law.specs.ObserversStand.{
   AsksAnew,
   EndsObserving,
   asks_anew,
-  rejects_notice,
+  rejects_notification,
   never_acknowledges,
   AsksToBe,
   ObserversStand,
@@ -296,14 +296,14 @@ ended_so before r o (note.Unwatched peer token) stands ample fact ends = by fact
     by (by_rejecting it) =
         let same : it.observer ≡ o =
         its_own before o it.observer stands it.stands (it.named ∙ named) in
-        rejects_notice (record {
+        rejects_notification (record {
           heard = it.heard;
           message = it.message;
           read = it.read;
           resets = it.resets;
           peer = ap (λ (x : Observer). x.peer) (sym same) ∙ it.peer_is;
-          notice = it.notice;
-          flies = subst (λ x. flight x (events before) ≡ Some it.notice) same it.flies;
+          notification = it.notification;
+          flies = subst (λ x. flight x (events before) ≡ Some it.notification) same it.flies;
           mid = sym it.mid;
         })
     by (by_waiting it) =
@@ -311,10 +311,11 @@ ended_so before r o (note.Unwatched peer token) stands ample fact ends = by fact
         its_own before o it.observer stands it.stands (it.named ∙ named) in
         never_acknowledges (record {
           ticks = it.ticks;
-          notice = it.notice;
-          flies = subst (λ x. flight x (events before) ≡ Some it.notice) same it.flies;
-          sent = leb-true max_again (length it.notice.again) it.last;
-          waited = leb-true (deadline it.notice.formed it.notice.again) r.moment.0 it.over;
+          notification = it.notification;
+          flies = subst (λ x. flight x (events before) ≡ Some it.notification) same it.flies;
+          sent = leb-true max_again (length it.notification.again) it.last;
+          waited = leb-true (deadline it.notification.formed it.notification.again) r.moment.0
+              it.over;
         })
 ended_so before r o _ stands ample fact ends = absurd (false≢true ends)
 
@@ -613,11 +614,12 @@ rows-ObserversStand rows made all = record {
         observer = it.observer;
         stands = among_index it.observer (observers (events before)) it.stands;
         peer_is = it.peer_is;
-        notice = it.notice;
+        notification = it.notification;
         flies = it.flies;
         mid_is = it.mid_is;
-        sent = leb-false max_again (length it.notice.again) it.further;
-        waited = leb-true (deadline it.notice.formed it.notice.again) r.moment.0 it.over;
+        sent = leb-false max_again (length it.notification.again) it.further;
+        waited = leb-true (deadline it.notification.formed it.notification.again) r.moment.0
+            it.over;
       };
 }
   where

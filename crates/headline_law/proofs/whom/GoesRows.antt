@@ -54,7 +54,7 @@ use Rattle.event_model.specs.Flights.{
   flight_after,
   is_forming_for,
   is_landing_of,
-  notice_mid,
+  notification_mid,
 }
 use Rattle.journal_model.specs.declared.steps.Step.{Step}
 use Rattle.journal_model.specs.declared.steps.StepKind.{StepKind}
@@ -62,14 +62,14 @@ use Rattle.journal_model.specs.declared.steps.StepKind.TheVariants as step
 use Rattle.journal_model.specs.declared.rows.Row.{Row}
 use Rattle.journal_model.specs.Journal.{events}
 use Rattle.journal_model.specs.Effects.{Reply, answer, answer_kind, answer_mid}
-use Rattle.journal_model.specs.BodyFormers.{forms_notice}
+use Rattle.journal_model.specs.BodyFormers.{forms_notification}
 use Rattle.journal_model.specs.Rows.{effects, row_moment, row, AreRows, empty, added}
 use Rattle.journal_model.specs.Ticks.{confirmable_sent, tick_effects}
 use Rattle.journal_model.specs.SentDatagrams.{IsForRequest, AreForRequests}
 use Rattle.journal_model.proofs.EventRows.{AllRows, RowOf, row_of, row_within, within_more, said_by}
-use Rattle.journal_model.proofs.FlightKeys.{is_notice}
+use Rattle.journal_model.proofs.FlightKeys.{is_notification}
 use Rattle.journal_model.proofs.RowEquations.{effects-Tick, row-step}
-use Rattle.journal_model.proofs.flights.NoticesAgain.{stood}
+use Rattle.journal_model.proofs.flights.NotificationsAgain.{stood}
 use Rattle.journal_model.proofs.notes.LookupNotes.{IsAsking}
 use Rattle.journal_model.proofs.observers.ObserversKnow.{IsNoTick, step_observer_notes}
 use Rattle.journal_model.proofs.sends.BodyAnswers.{same_message}
@@ -109,7 +109,7 @@ pub record RowGoes (before : List Row) (r : Row) : Type 0 where
   pub goes : GoesBy r.step.kind before r
   pub settles : SettleFacts r.step.kind r.step r.sent r.notes
   pub finds : (peer : Peer) (mid : ℕ) (d : Peer × List ℕ)
-      → list_any (forms_notice peer mid) r.notes ≡ true
+      → list_any (forms_notification peer mid) r.notes ≡ true
       → find (is_one peer mid) r.sent ≡ Some d
       → Responds d.1
 
@@ -165,7 +165,7 @@ kept_tag rows all moment name found e = last (last_said (answer_kept name) (even
 -- the event that built a notification in flight
 record FormedAt (o : Observer) (past : List Event) (f : Flight) : Type 0 where
   last : last_event (is_forming_for (name_of o)) past ≡ Some f.formed
-  mid : notice_mid f.formed.note ≡ Some f.mid
+  mid : notification_mid f.formed.note ≡ Some f.mid
 
 formed_at : (o : Observer) (past : List Event) (f : Flight)
     → flight o past ≡ Some f
@@ -178,7 +178,7 @@ formed_at o past f e = by (last_event (is_forming_for (name_of o)) past) refl e
 
     landed : (b : Bool) (x : Event) (mid : ℕ) (agains : List Event)
         → last_event (is_forming_for (name_of o)) past ≡ Some x
-        → notice_mid x.note ≡ Some mid
+        → notification_mid x.note ≡ Some mid
         → cond b None (Some (record { mid = mid; formed = x; again = agains })) ≡ Some f
         → FormedAt o past f
     landed true x mid agains last has h = absurd (let no : None ≡ Some f = h in cc)
@@ -189,7 +189,7 @@ formed_at o past f e = by (last_event (is_forming_for (name_of o)) past) refl e
 
     with_mid : (x : Event) (mid : Option ℕ)
         → last_event (is_forming_for (name_of o)) past ≡ Some x
-        → notice_mid x.note ≡ mid
+        → notification_mid x.note ≡ mid
         → option_and_then (flight_after o.peer x
         (events_since (is_forming_for (name_of o)) past)) mid
         ≡ Some f
@@ -202,17 +202,17 @@ formed_at o past f e = by (last_event (is_forming_for (name_of o)) past) refl e
     by : (x : Option Event)
         → last_event (is_forming_for (name_of o)) past ≡ x
         → option_and_then (λ formed. option_and_then (flight_after o.peer formed
-        (events_since (is_forming_for (name_of o)) past)) (notice_mid formed.note)) x
+        (events_since (is_forming_for (name_of o)) past)) (notification_mid formed.note)) x
         ≡ Some f
         → FormedAt o past f
     by None last h = absurd (let no : None ≡ Some f = h in cc)
-    by (Some x) last h = with_mid x (notice_mid x.note) last refl h
+    by (Some x) last h = with_mid x (notification_mid x.note) last refl h
 
 -- it builds a notification to the observer's peer
 forms_it : (o : Observer) (mid : ℕ) (n : Note)
     → is_forming_for (name_of o) n ≡ true
-    → notice_mid n ≡ Some mid
-    → forms_notice o.peer mid n ≡ true
+    → notification_mid n ≡ Some mid
+    → forms_notification o.peer mid n ≡ true
 forms_it o mid (note.Formed p token body None) h has =
     absurd (let no : None ≡ Some mid = has in cc)
 forms_it o mid (note.Formed p token body (Some m)) h has =
@@ -230,7 +230,7 @@ flights_respond rows all moment d a =
     row_of (is_forming_for (name_of a.observer)) rows a.flight_is.formed f.last in
     (row_within RowGoes rows it.placed.before it.placed.row all it.within).finds a.observer.peer
     a.flight_is.mid d
-    (any_among (forms_notice a.observer.peer a.flight_is.mid) a.flight_is.formed.note
+    (any_among (forms_notification a.observer.peer a.flight_is.mid) a.flight_is.formed.note
     it.placed.row.notes it.note
     (forms_it a.observer a.flight_is.mid a.flight_is.formed.note it.kind f.mid))
     (subst (λ at. confirmable_sent at a.observer.peer a.flight_is.mid ≡ Some d) it.at_place a.found)
@@ -266,12 +266,13 @@ answer_responds s m reply read good class n e =
 -- ---- one row more
 
 -- notes that build no notification build none to a peer
-no_notice_to : (peer : Peer) (mid : ℕ) (notes : List Note)
-    → list_any is_notice notes ≡ false
-    → list_any (forms_notice peer mid) notes ≡ false
-no_notice_to peer mid notes none = none_pass is_notice (forms_notice peer mid) by notes none
+no_notification_to : (peer : Peer) (mid : ℕ) (notes : List Note)
+    → list_any is_notification notes ≡ false
+    → list_any (forms_notification peer mid) notes ≡ false
+no_notification_to peer mid notes none = none_pass is_notification (forms_notification peer mid) by
+    notes none
   where
-    by : (x : Note) → is_notice x ≡ false → forms_notice peer mid x ≡ false
+    by : (x : Note) → is_notification x ≡ false → forms_notification peer mid x ≡ false
     by (note.Formed p token body None) h = refl
     by (note.Formed p token body (Some m)) h = absurd (false≢true (sym h))
     by _ h = refl
@@ -300,7 +301,8 @@ row_goes rows s starved fair sent all = by s.kind refl
           drew = (effects k starved rows (row_moment rows s) s).drew;
         })
         × ((peer : Peer) (mid : ℕ) (d : Peer × List ℕ)
-        → list_any (forms_notice peer mid) (effects k starved rows (row_moment rows s) s).notes
+        → list_any (forms_notification peer mid)
+        (effects k starved rows (row_moment rows s) s).notes
         ≡ true
         → find (is_one peer mid) (effects k starved rows (row_moment rows s) s).sent ≡ Some d
         → Responds d.1)
@@ -324,13 +326,14 @@ row_goes rows s starved fair sent all = by s.kind refl
     none : (k : StepKind)
         → IsNoTick k
         → (peer : Peer) (mid : ℕ) (d : Peer × List ℕ)
-        → list_any (forms_notice peer mid) (effects k starved rows (row_moment rows s) s).notes
+        → list_any (forms_notification peer mid)
+        (effects k starved rows (row_moment rows s) s).notes
         ≡ true
         → find (is_one peer mid) (effects k starved rows (row_moment rows s) s).sent ≡ Some d
         → Responds d.1
     none k no_tick peer mid d h found =
         absurd (false≢true
-        (sym (no_notice_to peer mid (effects k starved rows (row_moment rows s) s).notes
+        (sym (no_notification_to peer mid (effects k starved rows (row_moment rows s) s).notes
         (first_forms rows (row_moment rows s) (effects k starved rows (row_moment rows s) s).notes
         (step_observer_notes k starved rows (row_moment rows s) s no_tick)).none) ∙ h))
 

@@ -85,7 +85,7 @@ use Rattle.journal_model.specs.Journal.{events, entries, row_at}
 use Rattle.journal_model.specs.Effects.{Effects, mid_of}
 use Rattle.journal_model.specs.Requests.{szx_of, number_of}
 use Rattle.journal_model.specs.Bodies.{is_long, part_reply, body_reply}
-use Rattle.journal_model.specs.BodyFormers.{forms_notice}
+use Rattle.journal_model.specs.BodyFormers.{forms_notification}
 use Rattle.journal_model.specs.Ticks.{
   is_confirmable_with,
   confirmable_sent,
@@ -95,13 +95,13 @@ use Rattle.journal_model.specs.Ticks.{
   first_block,
   block_shown,
   is_unchanged,
-  noticed_unless,
+  notified_unless,
   listing_for,
-  noticed_if,
+  notified_if,
   is_looked_at,
-  notice_next,
-  notices_again,
-  notices,
+  notification_next,
+  notifications_again,
+  notifications,
   request_again,
   fetch_again,
   requests_again,
@@ -111,7 +111,7 @@ use Rattle.journal_model.specs.Ticks.{
 use Rattle.journal_model.proofs.NoteKinds.{of_resent, none_of}
 use Rattle.journal_model.proofs.StepNotes.{requests_again-notes}
 use Rattle.journal_model.proofs.notes.LookupNotes.{IsAsking}
-use Rattle.journal_model.proofs.flights.NoticesAgain.{
+use Rattle.journal_model.proofs.flights.NotificationsAgain.{
   AgainSent,
   again_sends,
   again_none,
@@ -178,17 +178,17 @@ found_front P test (x ∷ xs) ys d all some found =
 -- ---- new notifications
 
 -- what a tick did so far: it sent responses; and each notification that it noted is there
-record NoticesSent (done : Effects) : Type 0 where
+record NotificationsSent (done : Effects) : Type 0 where
   responds : AllByRecursion (λ (d : Peer × List ℕ). Responds d.1) done.sent
   there : (peer : Peer) (mid : ℕ)
-      → list_any (forms_notice peer mid) done.notes ≡ true
+      → list_any (forms_notification peer mid) done.notes ≡ true
       → list_any (is_one peer mid) done.sent ≡ true
 
 -- with more of that
 more_sent : (done e : Effects) (drew : ℕ)
-    → NoticesSent e
-    → NoticesSent done
-    → NoticesSent
+    → NotificationsSent e
+    → NotificationsSent done
+    → NotificationsSent
     (record { sent = done.sent ++ e.sent; notes = done.notes ++ e.notes; drew = drew })
 more_sent done e drew it so_far = record {
   responds =
@@ -196,14 +196,14 @@ more_sent done e drew it so_far = record {
       it.responds;
   there = λ peer mid h.
       list_any-append (is_one peer mid) done.sent e.sent
-      ∙ by (list_any (forms_notice peer mid) done.notes) peer mid refl
-      (sym (list_any-append (forms_notice peer mid) done.notes e.notes) ∙ h);
+      ∙ by (list_any (forms_notification peer mid) done.notes) peer mid refl
+      (sym (list_any-append (forms_notification peer mid) done.notes e.notes) ∙ h);
 }
   where
     by : (b : Bool) (peer : Peer) (mid : ℕ)
-        → list_any (forms_notice peer mid) done.notes ≡ b
-        → (list_any (forms_notice peer mid) done.notes
-        || list_any (forms_notice peer mid) e.notes)
+        → list_any (forms_notification peer mid) done.notes ≡ b
+        → (list_any (forms_notification peer mid) done.notes
+        || list_any (forms_notification peer mid) e.notes)
         ≡ true
         → (list_any (is_one peer mid) done.sent || list_any (is_one peer mid) e.sent) ≡ true
     by true peer mid is h =
@@ -212,7 +212,7 @@ more_sent done e drew it so_far = record {
     by false peer mid is h =
         or_right (list_any (is_one peer mid) done.sent) (list_any (is_one peer mid) e.sent)
         (it.there peer mid
-        (subst (λ b. (b || list_any (forms_notice peer mid) e.notes) ≡ true) is h))
+        (subst (λ b. (b || list_any (forms_notification peer mid) e.notes) ≡ true) is h))
 
 -- the size of a block that a notification names
 shown_usable : (o : Observer) (body : List ℕ)
@@ -225,12 +225,12 @@ shown_usable o body low = by (is_long (first_block o) body)
     by false = omega arith
 
 -- a notification is a response
-notice_class : (current : List ℕ) (observe : Option ℕ) (o : Observer) (body : List ℕ)
+notification_class : (current : List ℕ) (observe : Option ℕ) (o : Observer) (body : List ℕ)
     → codes_of.is_response_code
     (body_reply (Some current) observe (block_shown o body) body).code
     ≡ true
 unfolding body_reply block_of
-notice_class current observe o body = by (is_long (first_block o) body)
+notification_class current observe o body = by (is_long (first_block o) body)
   where
     by : (b : Bool)
         → codes_of.is_response_code (part_reply (Some current) observe (cond b (first_block o) None)
@@ -240,13 +240,13 @@ notice_class current observe o body = by (is_long (first_block o) body)
     by true = refl
     by false = refl
 
-notice_responds : (mid : ℕ) (current : List ℕ) (observe : Option ℕ) (o : Observer)
+notification_responds : (mid : ℕ) (current : List ℕ) (observe : Option ℕ) (o : Observer)
     (body : List ℕ)
     → IsAsking o
     → length current ≡ 8
     → Responds (spelling (with_reply Con mid o.token
     (body_reply (Some current) observe (block_shown o body) body)))
-notice_responds mid current observe o body asking short m e =
+notification_responds mid current observe o body asking short m e =
     subst (λ (x : Message). role_of x.kind x.code ≡ role.Response)
     (same_message (with_reply Con mid o.token
     (body_reply (Some current) observe (block_shown o body) body)) m
@@ -257,15 +257,15 @@ notice_responds mid current observe o body asking short m e =
     (shown_usable o body asking.szx))) e)
     (role_of_response Con
     (body_reply (Some current) observe (block_shown o body) body).code
-    (notice_class current observe o body) refl)
+    (notification_class current observe o body) refl)
 
 -- it is confirmable, and has its Message ID
-notice_one : (m : Message)
+notification_one : (m : Message)
     → m.kind ≡ Con
     → length m.token ≤ longest_token
     → is_confirmable_with m.mid (spelling m) ≡ true
 unfolding spelling header_spelling
-notice_one m con small =
+notification_one m con small =
     rw con
     (and_from _ (m.mid / 256 * 256 + m.mid % 256 == m.mid)
     (eqb-of (((1 * 64 + 0 * 16 + length m.token)) / 16) 4 (omega (arith, small)))
@@ -277,8 +277,8 @@ notice_one m con small =
 -- one observer more
 one_more : (rows : List Row) (moment : ℕ) (s : Step) (done : Effects) (o : Observer)
     → IsAsking o
-    → NoticesSent done
-    → NoticesSent (notice_next (ticking rows moment s) done o)
+    → NotificationsSent done
+    → NotificationsSent (notification_next (ticking rows moment s) done o)
 one_more rows moment s done o asking so_far = looked (is_looked_at (ticking rows moment s) done o)
   where
     t : Ticking
@@ -288,19 +288,19 @@ one_more rows moment s done o asking so_far = looked (is_looked_at (ticking rows
     short = tag-length (entries rows) moment
 
     kept_none : (b : Bool) (body : List ℕ) (peer : Peer) (mid : ℕ)
-        → list_any (forms_notice peer mid)
+        → list_any (forms_notification peer mid)
         (cond b (note.Kept o.peer o.key body (tag (entries rows) moment) ∷ []) [])
         ≡ false
     kept_none true body peer mid = refl
     kept_none false body peer mid = refl
 
     unless : (b : Bool)
-        → NoticesSent (noticed_unless b (ticking rows moment s) done o
+        → NotificationsSent (notified_unless b (ticking rows moment s) done o
         (listing_for (ticking rows moment s) o))
     unless true = record { responds = tt; there = λ peer mid h. absurd (false≢true h) }
     unless false = record {
       responds = (
-        notice_responds (mid_of s.worker (s.drawn + done.drew)) (tag (entries rows) moment)
+        notification_responds (mid_of s.worker (s.drawn + done.drew)) (tag (entries rows) moment)
             (Some (observe_value (events_with (ticking rows moment s) done))) o
             (listing o.query (entries rows) moment) asking short,
         tt,
@@ -323,7 +323,7 @@ one_more rows moment s done o asking so_far = looked (is_looked_at (ticking rows
             (listing o.query (entries rows) moment))))
             ≡ true
         is_it =
-            notice_one (with_reply Con (mid_of s.worker (s.drawn + done.drew)) o.token
+            notification_one (with_reply Con (mid_of s.worker (s.drawn + done.drew)) o.token
             (body_reply (Some (tag (entries rows) moment))
             (Some (observe_value (events_with (ticking rows moment s) done)))
             (block_shown o (listing o.query (entries rows) moment))
@@ -333,7 +333,7 @@ one_more rows moment s done o asking so_far = looked (is_looked_at (ticking rows
             → (is_same_peer o.peer peer && mid_of s.worker (s.drawn + done.drew) == mid || false)
             ≡ true
             → list_any (is_one peer mid)
-            (noticed_unless false (ticking rows moment s) done o
+            (notified_unless false (ticking rows moment s) done o
             (listing_for (ticking rows moment s) o)).sent
             ≡ true
         here peer mid h =
@@ -360,16 +360,16 @@ one_more rows moment s done o asking so_far = looked (is_looked_at (ticking rows
             ≡ true)
             (eqb-true (mid_of s.worker (s.drawn + done.drew)) mid both.1) is_it))
 
-    looked : (b : Bool) → NoticesSent (record {
-      sent = done.sent ++ (noticed_if b (ticking rows moment s) done o).sent;
-      notes = done.notes ++ (noticed_if b (ticking rows moment s) done o).notes;
-      drew = done.drew + (noticed_if b (ticking rows moment s) done o).drew;
+    looked : (b : Bool) → NotificationsSent (record {
+      sent = done.sent ++ (notified_if b (ticking rows moment s) done o).sent;
+      notes = done.notes ++ (notified_if b (ticking rows moment s) done o).notes;
+      drew = done.drew + (notified_if b (ticking rows moment s) done o).drew;
     })
     looked false =
-        more_sent done (noticed_if false (ticking rows moment s) done o) _
+        more_sent done (notified_if false (ticking rows moment s) done o) _
         (record { responds = tt; there = λ peer mid h. absurd (false≢true h) }) so_far
     looked true =
-        more_sent done (noticed_if true (ticking rows moment s) done o) _
+        more_sent done (notified_if true (ticking rows moment s) done o) _
         (unless
         (is_unchanged (last_body_formed (name_of o) (events_with (ticking rows moment s) done))
         (listing_for (ticking rows moment s) o).body)) so_far
@@ -377,11 +377,11 @@ one_more rows moment s done o asking so_far = looked (is_looked_at (ticking rows
 -- all of them
 all_more : (rows : List Row) (moment : ℕ) (s : Step) (left : List Observer) (done : Effects)
     → AllByRecursion IsAsking left
-    → NoticesSent done
-    → NoticesSent (fold (notice_next (ticking rows moment s)) done left)
+    → NotificationsSent done
+    → NotificationsSent (fold (notification_next (ticking rows moment s)) done left)
 all_more rows moment s [] done asking it = it
 all_more rows moment s (o ∷ left) done asking it =
-    all_more rows moment s left (notice_next (ticking rows moment s) done o) asking.1
+    all_more rows moment s left (notification_next (ticking rows moment s) done o) asking.1
     (one_more rows moment s done o asking.0 it)
 
 -- ---- what is retransmitted
@@ -453,24 +453,24 @@ asked_again rows moment =
 pub record TickGoes (rows : List Row) (e : Effects) : Type 0 where
   pub sent : AllByRecursion (λ (d : Peer × List ℕ). Responds d.1 ⊎ AgainAsked rows d) e.sent
   pub finds : (peer : Peer) (mid : ℕ) (d : Peer × List ℕ)
-      → list_any (forms_notice peer mid) e.notes ≡ true
+      → list_any (forms_notification peer mid) e.notes ≡ true
       → find (is_one peer mid) e.sent ≡ Some d
       → Responds d.1
 
 begins_sent : (rows : List Row) (moment : ℕ)
     → FlightsRespond rows
-    → NoticesSent (notices_again rows moment)
+    → NotificationsSent (notifications_again rows moment)
 begins_sent rows moment flights = record {
   responds =
       each_weaker (AgainSent rows moment) (λ (d : Peer × List ℕ). Responds d.1)
-      (λ d a. flights moment d a) (notices_again rows moment).sent (again_sends rows moment);
+      (λ d a. flights moment d a) (notifications_again rows moment).sent (again_sends rows moment);
   there = λ peer mid h.
       absurd (false≢true
-      (sym (again_none (forms_notice peer mid) (λ p t. refl) (λ p m. refl) rows moment) ∙ h));
+      (sym (again_none (forms_notification peer mid) (λ p t. refl) (λ p m. refl) rows moment) ∙ h));
 }
 
 ends_sent : (rows : List Row) (moment : ℕ) (done : Effects) (drew : ℕ)
-    → NoticesSent done
+    → NotificationsSent done
     → TickGoes rows (record {
       sent = done.sent ++ (requests_again rows moment).sent;
       notes = done.notes ++ (requests_again rows moment).notes;
@@ -488,37 +488,38 @@ ends_sent rows moment done drew it = record {
   finds = λ peer mid d h found.
       found_front (λ (x : Peer × List ℕ). Responds x.1) (is_one peer mid) done.sent
       (requests_again rows moment).sent d it.responds
-      (it.there peer mid (noted_before peer mid (list_any (forms_notice peer mid) done.notes) refl
-      (sym (list_any-append (forms_notice peer mid) done.notes
+      (it.there peer mid (noted_before peer mid (list_any (forms_notification peer mid) done.notes)
+      refl
+      (sym (list_any-append (forms_notification peer mid) done.notes
       (requests_again rows moment).notes) ∙ h))) found;
 }
   where
     never : (peer : Peer) (mid : ℕ) (n : Note)
         → of_resent n ≡ true
-        → forms_notice peer mid n ≡ false
+        → forms_notification peer mid n ≡ false
     never peer mid (note.Resent p) h = refl
     never peer mid (note.Ceased p) h = refl
     never peer mid _ h = absurd (false≢true h)
 
     none : (peer : Peer) (mid : ℕ)
-        → list_any (forms_notice peer mid) (requests_again rows moment).notes ≡ false
+        → list_any (forms_notification peer mid) (requests_again rows moment).notes ≡ false
     none peer mid =
-        none_of of_resent (forms_notice peer mid) (never peer mid)
+        none_of of_resent (forms_notification peer mid) (never peer mid)
         (requests_again rows moment).notes (requests_again-notes rows moment)
 
     neither : (peer : Peer) (mid : ℕ)
-        → list_any (forms_notice peer mid) done.notes ≡ false
-        → (list_any (forms_notice peer mid) done.notes
-        || list_any (forms_notice peer mid) (requests_again rows moment).notes)
+        → list_any (forms_notification peer mid) done.notes ≡ false
+        → (list_any (forms_notification peer mid) done.notes
+        || list_any (forms_notification peer mid) (requests_again rows moment).notes)
         ≡ false
     neither peer mid is = rw (is, none peer mid) refl
 
     noted_before : (peer : Peer) (mid : ℕ) (b : Bool)
-        → list_any (forms_notice peer mid) done.notes ≡ b
-        → (list_any (forms_notice peer mid) done.notes
-        || list_any (forms_notice peer mid) (requests_again rows moment).notes)
+        → list_any (forms_notification peer mid) done.notes ≡ b
+        → (list_any (forms_notification peer mid) done.notes
+        || list_any (forms_notification peer mid) (requests_again rows moment).notes)
         ≡ true
-        → list_any (forms_notice peer mid) done.notes ≡ true
+        → list_any (forms_notification peer mid) done.notes ≡ true
     noted_before peer mid true is h = is
     noted_before peer mid false is h =
         absurd (false≢true (sym (neither peer mid is) ∙ h))
@@ -527,10 +528,11 @@ pub tick_goes : (starved : Bool) (rows : List Row) (moment : ℕ) (s : Step)
     → FlightsRespond rows
     → AllByRecursion IsAsking (observers (events_after_again rows moment s.word))
     → TickGoes rows (tick_effects starved rows moment s)
-unfolding tick_effects notices
+unfolding tick_effects notifications
 tick_goes true rows moment s flights asking =
-    ends_sent rows moment (notices_again rows moment) _ (begins_sent rows moment flights)
+    ends_sent rows moment (notifications_again rows moment) _ (begins_sent rows moment flights)
 tick_goes false rows moment s flights asking =
-    ends_sent rows moment (notices (ticking rows moment s) (notices_again rows moment)) _
+    ends_sent rows moment (notifications (ticking rows moment s) (notifications_again rows moment))
+    _
     (all_more rows moment s (observers (events_after_again rows moment s.word))
-    (notices_again rows moment) asking (begins_sent rows moment flights))
+    (notifications_again rows moment) asking (begins_sent rows moment flights))

@@ -76,7 +76,7 @@ use Rattle.journal_model.proofs.RowEquations.{effects-Tick, row-step}
 use Rattle.journal_model.proofs.entries.CommitPlaces.{AtPlace, at_place, own_of}
 use Rattle.journal_model.proofs.desks.OpenAdmissions.{OwnAdmission}
 use Rattle.journal_model.proofs.notes.LookupNotes.{IsAsking, OfWatched, observers_all}
-use Rattle.journal_model.proofs.flights.NoticesAgain.{events_after_again, stood}
+use Rattle.journal_model.proofs.flights.NotificationsAgain.{events_after_again, stood}
 use Rattle.journal_model.proofs.sends.BodyAnswers.{same_message}
 use Rattle.journal_model.proofs.datagrams.OwnSends.{
   IsOwn,

@@ -62,21 +62,21 @@ use Rattle.journal_model.specs.Bodies.{is_long, part_reply, body_reply}
 use Rattle.journal_model.specs.Ticks.{
   confirmable_sent,
   sent_again,
-  notice_again,
+  notification_again,
   flight_again,
-  notices_again,
+  notifications_again,
   Ticking,
   ticking,
   events_with,
   first_block,
   block_shown,
   is_unchanged,
-  noticed_unless,
+  notified_unless,
   listing_for,
-  noticed_if,
+  notified_if,
   is_looked_at,
-  notice_next,
-  notices,
+  notification_next,
+  notifications,
   request_again,
   fetch_again,
   requests_again,
@@ -86,14 +86,14 @@ use Rattle.journal_model.specs.Ticks.{
 use Rattle.journal_model.specs.SentDatagrams.{IsFitting, is_response}
 use Rattle.journal_model.specs.CarriedBlocks.{is_content}
 use Rattle.journal_model.proofs.NoteKinds.{of_again, of_resent}
-use Rattle.journal_model.proofs.StepNotes.{notices_again-notes, requests_again-notes}
+use Rattle.journal_model.proofs.StepNotes.{notifications_again-notes, requests_again-notes}
 use Rattle.journal_model.proofs.notes.LookupNotes.{IsAsking}
-use Rattle.journal_model.proofs.flights.NoticesAgain.{events_after_again}
+use Rattle.journal_model.proofs.flights.NotificationsAgain.{events_after_again}
 use Rattle.journal_model.proofs.sends.BodyAnswers.{
   wanted_by_observer,
   same_message,
   tag-length,
-  notice_bears,
+  notification_bears,
   with_reply,
 }
 use Rattle.journal_model.proofs.sends.ValidSends.{is_confirmable}
@@ -143,16 +143,16 @@ again_one rows place peer mid n all =
     (λ d found. let it = sent_by-FoundSent IsResendable (row_at place rows) peer mid d
     (λ r at. all place r at) found in it.holds (confirmable_of mid d.1 it.confirmable))
 
-notices_ticked : (rows : List Row) (moment : ℕ)
+notifications_ticked : (rows : List Row) (moment : ℕ)
     → Resendable rows
-    → AreTicked (notices_again rows moment).sent
-unfolding notices_again
-notices_ticked rows moment all =
+    → AreTicked (notifications_again rows moment).sent
+unfolding notifications_again
+notifications_ticked rows moment all =
     each_of_sent IsTicked (λ o. flight_again rows moment o (flight o (events rows)))
     (observers (events rows)) (each (observers (events rows)))
   where
     again : (b c : Bool) (o : Observer) (f : Flight)
-        → AreTicked (notice_again (due_by b c) rows o f).sent
+        → AreTicked (notification_again (due_by b c) rows o f).sent
     again false c o f = tt
     again true true o f = tt
     again true false o f = again_one rows f.formed.place o.peer f.mid (note.Again o.peer f.mid) all
@@ -227,11 +227,11 @@ shown_usable o body low = by (is_long (first_block o) body)
     by false = omega arith
 
 -- a notification is a 2.05
-notice_content : (current : List ℕ) (observe : Option ℕ) (o : Observer) (body : List ℕ)
+notification_content : (current : List ℕ) (observe : Option ℕ) (o : Observer) (body : List ℕ)
     → ((body_reply (Some current) observe (block_shown o body) body).code == codes_of.content)
     ≡ true
 unfolding body_reply block_of
-notice_content current observe o body = by (is_long (first_block o) body)
+notification_content current observe o body = by (is_long (first_block o) body)
   where
     by : (b : Bool)
         → ((part_reply (Some current) observe (cond b (first_block o) None)
@@ -243,47 +243,50 @@ notice_content current observe o body = by (is_long (first_block o) body)
     by false = refl
 
 -- a notification, as a message
-abbrev notice_message : ℕ → List ℕ → Option ℕ → Observer → List ℕ → Message
-notice_message mid current observe o body =
+abbrev notification_message : ℕ → List ℕ → Option ℕ → Observer → List ℕ → Message
+notification_message mid current observe o body =
     with_reply Con mid o.token (body_reply (Some current) observe (block_shown o body) body)
 
-notice_read : (mid : ℕ) (current : List ℕ) (observe : Option ℕ) (o : Observer) (body : List ℕ)
+notification_read : (mid : ℕ) (current : List ℕ) (observe : Option ℕ) (o : Observer) (body : List ℕ)
     → IsAsking o
     → length current ≡ 8
-    → reading (spelling (notice_message mid current observe o body))
-    ≡ Ok (notice_message mid current observe o body)
-notice_read mid current observe o body asking short =
+    → reading (spelling (notification_message mid current observe o body))
+    ≡ Ok (notification_message mid current observe o body)
+notification_read mid current observe o body asking short =
     reply_read Con mid o.token (body_reply (Some current) observe (block_shown o body) body)
     asking.token (good_body_reply (Some current) observe (block_shown o body) body short
     (shown_usable o body asking.szx))
 
-notice_ticked : (mid : ℕ) (current : List ℕ) (observe : Option ℕ) (o : Observer) (body : List ℕ)
+notification_ticked : (mid : ℕ) (current : List ℕ) (observe : Option ℕ) (o : Observer)
+    (body : List ℕ)
     → IsAsking o
     → length current ≡ 8
-    → IsTicked (o.peer, spelling (notice_message mid current observe o body))
-notice_ticked mid current observe o body asking short = record {
+    → IsTicked (o.peer, spelling (notification_message mid current observe o body))
+notification_ticked mid current observe o body asking short = record {
   fits =
       reply_fits Con mid o.token (body_reply (Some current) observe (block_shown o body) body)
       asking.token (good_body_reply (Some current) observe (block_shown o body) body short
       (shown_usable o body asking.szx));
   content = λ n e responds. subst (λ (x : Message). is_content x ≡ true)
-      (same_message (notice_message mid current observe o body) n
-      (spelling (notice_message mid current observe o body))
-      (notice_read mid current observe o body asking short) e)
-      (notice_content current observe o body);
+      (same_message (notification_message mid current observe o body) n
+      (spelling (notification_message mid current observe o body))
+      (notification_read mid current observe o body asking short) e)
+      (notification_content current observe o body);
 }
 
-notice_first : (mid : ℕ) (current : List ℕ) (observe : Option ℕ) (o : Observer) (body : List ℕ)
+notification_first : (mid : ℕ) (current : List ℕ) (observe : Option ℕ) (o : Observer)
+    (body : List ℕ)
     → IsAsking o
     → length current ≡ 8
-    → FirstSent ((o.peer, spelling (notice_message mid current observe o body)) ∷ []) o.peer o.token
+    → FirstSent ((o.peer, spelling (notification_message mid current observe o body)) ∷ []) o.peer
+    o.token
     body
-notice_first mid current observe o body asking short =
+notification_first mid current observe o body asking short =
     first_from o.peer (wanted_by_observer o) body current
-    (notice_message mid current observe o body)
-    (notice_read mid current observe o body asking short)
-    (notice_content current observe o body) refl
-    (notice_bears mid current observe o body asking.token short asking.szx)
+    (notification_message mid current observe o body)
+    (notification_read mid current observe o body asking short)
+    (notification_content current observe o body) refl
+    (notification_bears mid current observe o body asking.token short asking.szx)
 
 -- what a tick did so far
 record Ticked (s : Step) (done : Effects) : Type 0 where
@@ -294,7 +297,7 @@ record Ticked (s : Step) (done : Effects) : Type 0 where
 one_more : (rows : List Row) (moment : ℕ) (s : Step) (done : Effects) (o : Observer)
     → IsAsking o
     → Ticked s done
-    → Ticked s (notice_next (ticking rows moment s) done o)
+    → Ticked s (notification_next (ticking rows moment s) done o)
 one_more rows moment s done o asking it = looked (is_looked_at (ticking rows moment s) done o)
   where
     t : Ticking
@@ -332,42 +335,42 @@ one_more rows moment s done o asking it = looked (is_looked_at (ticking rows mom
     unless : (b : Bool) → Ticked s (record {
       sent =
           done.sent
-          ++ (noticed_unless b (ticking rows moment s) done o
+          ++ (notified_unless b (ticking rows moment s) done o
           (listing_for (ticking rows moment s) o)).sent;
       notes =
           done.notes
-          ++ (noticed_unless b (ticking rows moment s) done o
+          ++ (notified_unless b (ticking rows moment s) done o
           (listing_for (ticking rows moment s) o)).notes;
       drew =
           done.drew
-          + (noticed_unless b (ticking rows moment s) done o
+          + (notified_unless b (ticking rows moment s) done o
           (listing_for (ticking rows moment s) o)).drew;
     })
     unless true =
-        more (noticed_unless true (ticking rows moment s) done o
+        more (notified_unless true (ticking rows moment s) done o
         (listing_for (ticking rows moment s) o)) tt (tt, tt)
     unless false =
         let e : Effects =
-        noticed_unless false (ticking rows moment s) done o
+        notified_unless false (ticking rows moment s) done o
         (listing_for (ticking rows moment s) o) in
         more e (
-          notice_ticked (mid_of s.worker (s.drawn + done.drew)) (tag (entries rows) moment)
+          notification_ticked (mid_of s.worker (s.drawn + done.drew)) (tag (entries rows) moment)
               (Some (observe_value (events_with (ticking rows moment s) done))) o
               (listing o.query (entries rows) moment) asking short,
           tt,
         ) (
-          notice_first (mid_of s.worker (s.drawn + done.drew)) (tag (entries rows) moment)
+          notification_first (mid_of s.worker (s.drawn + done.drew)) (tag (entries rows) moment)
               (Some (observe_value (events_with (ticking rows moment s) done))) o
               (listing o.query (entries rows) moment) asking short,
           keeps e.sent (is_long (first_block o) (listing o.query (entries rows) moment)),
         )
 
     looked : (b : Bool) → Ticked s (record {
-      sent = done.sent ++ (noticed_if b (ticking rows moment s) done o).sent;
-      notes = done.notes ++ (noticed_if b (ticking rows moment s) done o).notes;
-      drew = done.drew + (noticed_if b (ticking rows moment s) done o).drew;
+      sent = done.sent ++ (notified_if b (ticking rows moment s) done o).sent;
+      notes = done.notes ++ (notified_if b (ticking rows moment s) done o).notes;
+      drew = done.drew + (notified_if b (ticking rows moment s) done o).drew;
     })
-    looked false = more (noticed_if false (ticking rows moment s) done o) tt tt
+    looked false = more (notified_if false (ticking rows moment s) done o) tt tt
     looked true =
         unless
         (is_unchanged (last_body_formed (name_of o) (events_with (ticking rows moment s) done))
@@ -377,32 +380,32 @@ one_more rows moment s done o asking it = looked (is_looked_at (ticking rows mom
 all_more : (rows : List Row) (moment : ℕ) (s : Step) (left : List Observer) (done : Effects)
     → AllByRecursion IsAsking left
     → Ticked s done
-    → Ticked s (fold (notice_next (ticking rows moment s)) done left)
+    → Ticked s (fold (notification_next (ticking rows moment s)) done left)
 all_more rows moment s [] done asking it = it
 all_more rows moment s (o ∷ left) done asking it =
-    all_more rows moment s left (notice_next (ticking rows moment s) done o) asking.1
+    all_more rows moment s left (notification_next (ticking rows moment s) done o) asking.1
     (one_more rows moment s done o asking.0 it)
 
 -- the first part of a tick
 begins : (rows : List Row) (moment : ℕ) (s : Step)
     → Resendable rows
-    → Ticked s (notices_again rows moment)
+    → Ticked s (notifications_again rows moment)
 begins rows moment s all = record {
-  sent = notices_ticked rows moment all;
+  sent = notifications_ticked rows moment all;
   facts =
-      quiet_facts of_again again_tells step.Tick s (notices_again rows moment).sent
-      (notices_again rows moment).notes (notices_again-notes rows moment);
+      quiet_facts of_again again_tells step.Tick s (notifications_again rows moment).sent
+      (notifications_again rows moment).notes (notifications_again-notes rows moment);
 }
 
 -- with its notifications
 notified : (rows : List Row) (moment : ℕ) (s : Step)
     → Resendable rows
     → AllByRecursion IsAsking (observers (events_after_again rows moment s.word))
-    → Ticked s (notices (ticking rows moment s) (notices_again rows moment))
-unfolding notices
+    → Ticked s (notifications (ticking rows moment s) (notifications_again rows moment))
+unfolding notifications
 notified rows moment s all asking =
     all_more rows moment s (observers (events_after_again rows moment s.word))
-    (notices_again rows moment) asking (begins rows moment s all)
+    (notifications_again rows moment) asking (begins rows moment s all)
 
 -- and with requests of fetches
 ends : (rows : List Row) (moment : ℕ) (s : Step) (done : Effects) → Resendable rows → Ticked s done
@@ -438,13 +441,13 @@ pub tick_sends : (starved : Bool) (rows : List Row) (moment : ℕ) (s : Step)
     → TickSends s (tick_effects starved rows moment s)
 unfolding tick_effects
 tick_sends true rows moment s all asking =
-    let it = ends rows moment s (notices_again rows moment) all (begins rows moment s all) in
+    let it = ends rows moment s (notifications_again rows moment) all (begins rows moment s all) in
     record {
       sent = it.sent;
       facts = it.facts;
     }
 tick_sends false rows moment s all asking =
     let it =
-    ends rows moment s (notices (ticking rows moment s) (notices_again rows moment)) all
+    ends rows moment s (notifications (ticking rows moment s) (notifications_again rows moment)) all
     (notified rows moment s all asking) in
     record { sent = it.sent; facts = it.facts }

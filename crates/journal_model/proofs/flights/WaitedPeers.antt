@@ -47,9 +47,9 @@ use Rattle.journal_model.specs.Ticks.{
   confirmable_sent,
   sent_again,
   each_of,
-  notice_again,
+  notification_again,
   flight_again,
-  notices_again,
+  notifications_again,
   due_by,
 }
 use Rattle.rd_base.proofs.lemmas.Among.{Among, any_among, among_front, among_filter}
@@ -170,7 +170,7 @@ again_stays rows moment o f it =
     by : (b c : Bool)
         → b ≡ true
         → c ≡ false
-        → list_any (λ n. is_end_of n (name_of o)) (notice_again (due_by b c) rows o f).notes
+        → list_any (λ n. is_end_of n (name_of o)) (notification_again (due_by b c) rows o f).notes
         ≡ false
     by false c over again = absurd (false≢true over)
     by true true over again = absurd (false≢true (sym again))
@@ -185,7 +185,7 @@ other_stays : (rows : List Row) (moment : ℕ) (o x : Observer)
 other_stays rows moment o x apart = by (flight x (events rows))
   where
     again : (b c : Bool) (f : Flight)
-        → list_any (λ n. is_end_of n (name_of o)) (notice_again (due_by b c) rows x f).notes
+        → list_any (λ n. is_end_of n (name_of o)) (notification_again (due_by b c) rows x f).notes
         ≡ false
     again false c f = refl
     again true true f = rw apart refl
@@ -203,8 +203,8 @@ other_stays rows moment o x apart = by (flight x (events rows))
 pub again_stands : (rows : List Row) (moment : ℕ) (o : Observer) (f : Flight)
     → IsAgain rows moment o f
     → Only o (observers (events rows))
-    → list_any (λ n. is_end_of n (name_of o)) (notices_again rows moment).notes ≡ false
-unfolding notices_again
+    → list_any (λ n. is_end_of n (name_of o)) (notifications_again rows moment).notes ≡ false
+unfolding notifications_again
 again_stands rows moment o f it only = each (observers (events rows)) only
   where
     one : (x : Observer)

@@ -39,12 +39,12 @@ use Rattle.event_model.specs.Events.{Event, has_event, last_event, events_since}
 use Rattle.event_model.specs.Observers.{name_of, observers}
 use Rattle.event_model.specs.Flights.{
   is_forming_for,
-  notice_mid,
+  notification_mid,
   is_landing_of,
   Flight,
   flight_after,
   flight,
-  waiting_notice,
+  waiting_notification,
 }
 use Rattle.event_model.specs.Due.{Transition, Watching, watching, observers_standing}
 use Rattle.event_model.specs.Fetches.{
@@ -58,7 +58,7 @@ use Rattle.event_model.specs.Fetches.{
   fetch_of,
   fetches_running,
 }
-use Rattle.event_model.proofs.FlightLaws.{waiting_notice-octets}
+use Rattle.event_model.proofs.FlightLaws.{waiting_notification-octets}
 use Rattle.journal_model.specs.declared.rows.Row.{Row}
 use Rattle.journal_model.specs.Journal.{events, row_at}
 use Rattle.journal_model.specs.Ticks.{is_confirmable_with, octets_sent}
@@ -115,21 +115,21 @@ flight_below rows o f flies = by (last_event (is_forming_for (name_of o)) (event
         → option_and_then (λ x.
         option_and_then (flight_after o.peer x
         (events_since (is_forming_for (name_of o)) (events rows)))
-        (notice_mid x.note)) last
+        (notification_mid x.note)) last
         ≡ Some f
         → f.formed.place < length rows
     by None found h = absurd (let no : None ≡ Some f = h in cc)
     by (Some e) found h =
         let it : RowOf (is_forming_for (name_of o)) rows e =
         row_of (is_forming_for (name_of o)) rows e found in
-        with_mid e (notice_mid e.note) it.below h
+        with_mid e (notification_mid e.note) it.below h
 
 -- so what waits for an observer shows the same
-pub waiting_notice-row : (rows : List Row) (r : Row) (o : Observer)
-    → waiting_notice (octets_sent (r ∷ rows)) (events rows) o
-    ≡ waiting_notice (octets_sent rows) (events rows) o
-waiting_notice-row rows r o =
-    waiting_notice-octets (octets_sent (r ∷ rows)) (octets_sent rows) o (events rows)
+pub waiting_notification-row : (rows : List Row) (r : Row) (o : Observer)
+    → waiting_notification (octets_sent (r ∷ rows)) (events rows) o
+    ≡ waiting_notification (octets_sent rows) (events rows) o
+waiting_notification-row rows r o =
+    waiting_notification-octets (octets_sent (r ∷ rows)) (octets_sent rows) o (events rows)
     (λ f flies.
     octets_sent-before rows r f.formed.place o.peer f.mid (flight_below rows o f flies))
 
@@ -142,7 +142,7 @@ observers_standing-row rows r seen = each (observers (events rows))
     one : (o : Observer)
         → watching (octets_sent (r ∷ rows)) (events rows) seen o
         ≡ watching (octets_sent rows) (events rows) seen o
-    one o = rw (waiting_notice-row rows r o) refl
+    one o = rw (waiting_notification-row rows r o) refl
 
     each : (standing : List Observer)
         → map (watching (octets_sent (r ∷ rows)) (events rows) seen) standing

@@ -61,11 +61,11 @@ use Rattle.journal_model.specs.Ticks.{
   events_with,
   Ticking,
   ticking,
-  noticed_unless,
-  noticed_if,
-  notice_next,
-  notices_again,
-  notices,
+  notified_unless,
+  notified_if,
+  notification_next,
+  notifications_again,
+  notifications,
   requests_again,
   tick_effects,
 }
@@ -73,7 +73,7 @@ use Rattle.journal_model.proofs.EntriesNoted.{entries_in}
 use Rattle.journal_model.proofs.NoteKinds.{of_again, of_resent, of_tick, none_of, tick-entries_in}
 use Rattle.journal_model.proofs.StepNotes.{
   tick_effects-notes,
-  notices_again-notes,
+  notifications_again-notes,
   requests_again-notes,
 }
 use Rattle.journal_model.proofs.observers.ObserverKnowledge.{
@@ -145,11 +145,11 @@ kept_quiet true o x a = refl
 kept_quiet false o x a = refl
 
 -- what is retransmitted looks at no listing and adds no observer
-notices_again-quiet : (rows : List Row) (moment : ℕ)
-    → list_any is_observing (notices_again rows moment).notes ≡ false
-notices_again-quiet rows moment =
-    none_of of_again is_observing never (notices_again rows moment).notes
-    (notices_again-notes rows moment)
+notifications_again-quiet : (rows : List Row) (moment : ℕ)
+    → list_any is_observing (notifications_again rows moment).notes ≡ false
+notifications_again-quiet rows moment =
+    none_of of_again is_observing never (notifications_again rows moment).notes
+    (notifications_again-notes rows moment)
   where
     never : (n : Note) → of_again n ≡ true → is_observing n ≡ false
     never (note.Unwatched peer token) h = refl
@@ -168,12 +168,13 @@ requests_again-quiet rows moment =
     never _ h = absurd (false≢true h)
 
 -- one observer that a tick comes to
-notice_quiet_or_looked : (rows : List Row) (moment : ℕ) (s : Step) (o x : Observer) (done : Effects)
+notification_quiet_or_looked : (rows : List Row) (moment : ℕ) (s : Step) (o x : Observer)
+    (done : Effects)
     → (is_same_request (name_of x) (name_of o) ≡ true → x ≡ o)
     → QuietOrLooked rows moment s.word o done.notes
-    → QuietOrLooked rows moment s.word o (notice_next (ticking rows moment s) done x).notes
+    → QuietOrLooked rows moment s.word o (notification_next (ticking rows moment s) done x).notes
 unfolding last_body_formed last_said
-notice_quiet_or_looked rows moment s o x done only h =
+notification_quiet_or_looked rows moment s o x done only h =
     looked (is_looked_at (ticking rows moment s) done x)
   where
     t : Ticking
@@ -246,7 +247,7 @@ notice_quiet_or_looked rows moment s o x done only h =
         (listing_for (ticking rows moment s) x).body
         ≡ b
         → QuietOrLooked rows moment s.word o (done.notes
-        ++ (noticed_unless b (ticking rows moment s) done x
+        ++ (notified_unless b (ticking rows moment s) done x
         (listing_for (ticking rows moment s) x)).notes)
     unless true equal = unchanged (is_same_request (name_of x) (name_of o)) refl equal
     unless false equal =
@@ -255,7 +256,7 @@ notice_quiet_or_looked rows moment s o x done only h =
 
     looked : (b : Bool)
         → QuietOrLooked rows moment s.word o
-        (done.notes ++ (noticed_if b (ticking rows moment s) done x).notes)
+        (done.notes ++ (notified_if b (ticking rows moment s) done x).notes)
     looked true =
         unless
         (is_unchanged (last_body_formed (name_of x) (events_with (ticking rows moment s) done))
@@ -263,41 +264,43 @@ notice_quiet_or_looked rows moment s o x done only h =
     looked false = with_quiet rows moment s.word o done.notes [] refl h
 
 -- all observers that a tick comes to
-notices_quiet_or_looked : (rows : List Row) (moment : ℕ) (s : Step) (o : Observer)
+notifications_quiet_or_looked : (rows : List Row) (moment : ℕ) (s : Step) (o : Observer)
     (standing : List Observer) (done : Effects)
     → Only o standing
     → QuietOrLooked rows moment s.word o done.notes
     → QuietOrLooked rows moment s.word o
-    (fold (notice_next (ticking rows moment s)) done standing).notes
-notices_quiet_or_looked rows moment s o [] done only h = h
-notices_quiet_or_looked rows moment s o (x ∷ standing) done only h =
-    notices_quiet_or_looked rows moment s o standing (notice_next (ticking rows moment s) done x)
-    only.1 (notice_quiet_or_looked rows moment s o x done only.0 h)
+    (fold (notification_next (ticking rows moment s)) done standing).notes
+notifications_quiet_or_looked rows moment s o [] done only h = h
+notifications_quiet_or_looked rows moment s o (x ∷ standing) done only h =
+    notifications_quiet_or_looked rows moment s o standing
+    (notification_next (ticking rows moment s) done x)
+    only.1 (notification_quiet_or_looked rows moment s o x done only.0 h)
 
 -- what a tick notes of each observer
 tick_quiet_or_looked : (starved : Bool) (rows : List Row) (moment : ℕ) (s : Step) (o : Observer)
     → Only o (observers (events rows))
     → QuietOrLooked rows moment s.word o (tick_effects starved rows moment s).notes
-unfolding tick_effects notices
+unfolding tick_effects notifications
 tick_quiet_or_looked true rows moment s o only =
-    with_quiet rows moment s.word o (notices_again rows moment).notes
+    with_quiet rows moment s.word o (notifications_again rows moment).notes
     (requests_again rows moment).notes
     (not_looking (name_of o) (requests_again rows moment).notes (requests_again-quiet rows moment))
-    (inl (not_looking (name_of o) (notices_again rows moment).notes
-    (notices_again-quiet rows moment)))
+    (inl (not_looking (name_of o) (notifications_again rows moment).notes
+    (notifications_again-quiet rows moment)))
 tick_quiet_or_looked false rows moment s o only =
     with_quiet rows moment s.word o
-    (notices (ticking rows moment s) (notices_again rows moment)).notes
+    (notifications (ticking rows moment s) (notifications_again rows moment)).notes
     (requests_again rows moment).notes
     (not_looking (name_of o) (requests_again rows moment).notes (requests_again-quiet rows moment))
-    (notices_quiet_or_looked rows moment s o
-    (observers (events_with (ticking rows moment s) (notices_again rows moment)))
-    (notices_again rows moment)
+    (notifications_quiet_or_looked rows moment s o
+    (observers (events_with (ticking rows moment s) (notifications_again rows moment)))
+    (notifications_again rows moment)
     (observers-noted (λ x. is_same_request (name_of x) (name_of o) ≡ true → x ≡ o) (length rows)
-    moment s.word (notices_again rows moment).notes (events rows)
-    (not_watching (notices_again rows moment).notes (notices_again-quiet rows moment)) only)
-    (inl (not_looking (name_of o) (notices_again rows moment).notes
-    (notices_again-quiet rows moment))))
+    moment s.word (notifications_again rows moment).notes (events rows)
+    (not_watching (notifications_again rows moment).notes (notifications_again-quiet rows moment))
+    only)
+    (inl (not_looking (name_of o) (notifications_again rows moment).notes
+    (notifications_again-quiet rows moment))))
 
 -- no tick adds an observer
 tick_adds_none : (starved : Bool) (rows : List Row) (moment : ℕ) (s : Step)

@@ -542,14 +542,16 @@ body_bears kind mid token tag observe asked body small short usable =
     (block_of body (number_of asked) (szx_of asked)) small short usable refl
 
 -- a notification bears the first block that its observer wants
-pub notice_bears : (mid : ℕ) (tag : List ℕ) (observe : Option ℕ) (o : Observer) (body : List ℕ)
+pub notification_bears : (mid : ℕ) (tag : List ℕ) (observe : Option ℕ) (o : Observer)
+    (body : List ℕ)
     → length o.token ≤ longest_token
     → length tag ≡ 8
     → o.szx < reserved_szx
     → IsBodyOf (wanted_by_observer o) body tag (spelling
     (with_reply Con mid o.token (body_reply (Some tag) observe (block_shown o body) body)))
 unfolding body_reply spelling header_spelling
-notice_bears mid tag observe o body small short usable = by (is_long (first_block o) body) refl
+notification_bears mid tag observe o body small short usable
+    = by (is_long (first_block o) body) refl
   where
     by : (b : Bool)
         → is_long (first_block o) body ≡ b

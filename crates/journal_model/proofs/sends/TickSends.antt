@@ -59,20 +59,20 @@ use Rattle.journal_model.specs.Ticks.{
   confirmable_sent,
   sent_again,
   each_of,
-  notice_again,
+  notification_again,
   flight_again,
-  notices_again,
+  notifications_again,
   Ticking,
   ticking,
   events_with,
   block_shown,
-  noticed_unless,
+  notified_unless,
   listing_for,
   is_unchanged,
-  noticed_if,
+  notified_if,
   is_looked_at,
-  notice_next,
-  notices,
+  notification_next,
+  notifications,
   request_again,
   fetch_again,
   requests_again,
@@ -211,15 +211,15 @@ NoConfirmableValidAt rows =
 -- so no notification that is retransmitted has this code
 again_not_valid : (rows : List Row) (moment : ℕ)
     → NoConfirmableValidAt rows
-    → NoneValid (notices_again rows moment).sent
-unfolding notices_again
+    → NoneValid (notifications_again rows moment).sent
+unfolding notifications_again
 again_not_valid rows moment confirmables =
     each_of_sent (λ (d : Peer × List ℕ). NotValid d.1)
     (λ o. flight_again rows moment o (flight o (events rows))) (observers (events rows))
     (each (observers (events rows)))
   where
     again : (b c : Bool) (o : Observer) (f : Flight)
-        → NoneValid (notice_again (due_by b c) rows o f).sent
+        → NoneValid (notification_again (due_by b c) rows o f).sent
     again false c o f = tt
     again true true o f = tt
     again true false o f =
@@ -243,14 +243,14 @@ again_not_valid rows moment confirmables =
     each (o ∷ standing) = (flying o (flight o (events rows)), each standing)
 
 -- nor has a new one
-notices_not_valid : (t : Ticking) (done : Effects)
+notifications_not_valid : (t : Ticking) (done : Effects)
     → NoneValid done.sent
-    → NoneValid (notices t done).sent
-unfolding notices spelling header_spelling
-notices_not_valid t done h = folded (observers (events_with t done)) done h
+    → NoneValid (notifications t done).sent
+unfolding notifications spelling header_spelling
+notifications_not_valid t done h = folded (observers (events_with t done)) done h
   where
     unless : (b : Bool) (so_far : Effects) (o : Observer) (a : Answer)
-        → NoneValid (noticed_unless b t so_far o a).sent
+        → NoneValid (notified_unless b t so_far o a).sent
     unless true so_far o a = tt
     unless false so_far o a = (
       body_code (Some a.tag) (Some (observe_value (events_with t so_far))) (block_shown o a.body)
@@ -258,7 +258,8 @@ notices_not_valid t done h = folded (observers (events_with t done)) done h
       tt,
     )
 
-    looked : (b : Bool) (so_far : Effects) (o : Observer) → NoneValid (noticed_if b t so_far o).sent
+    looked : (b : Bool) (so_far : Effects) (o : Observer)
+        → NoneValid (notified_if b t so_far o).sent
     looked false so_far o = tt
     looked true so_far o =
         unless (is_unchanged (last_body_formed (name_of o) (events_with t so_far))
@@ -266,12 +267,12 @@ notices_not_valid t done h = folded (observers (events_with t done)) done h
 
     folded : (standing : List Observer) (so_far : Effects)
         → NoneValid so_far.sent
-        → NoneValid (fold (notice_next t) so_far standing).sent
+        → NoneValid (fold (notification_next t) so_far standing).sent
     folded [] so_far k = k
     folded (o ∷ standing) so_far k =
-        folded standing (notice_next t so_far o)
+        folded standing (notification_next t so_far o)
         (each_append (λ (d : Peer × List ℕ). NotValid d.1) so_far.sent
-        (noticed_if (is_looked_at t so_far o) t so_far o).sent k
+        (notified_if (is_looked_at t so_far o) t so_far o).sent k
         (looked (is_looked_at t so_far o) so_far o))
 
 -- nor has what is neither 2.05 nor 2.03
@@ -286,13 +287,13 @@ pub tick_not_valid : (starved : Bool) (rows : List Row) (moment : ℕ) (s : Step
     → NoneValid (tick_effects starved rows moment s).sent
 unfolding tick_effects
 tick_not_valid true rows moment s confirmables asked =
-    each_append (λ (d : Peer × List ℕ). NotValid d.1) (notices_again rows moment).sent
+    each_append (λ (d : Peer × List ℕ). NotValid d.1) (notifications_again rows moment).sent
     (requests_again rows moment).sent (again_not_valid rows moment confirmables)
     (plain_not_valid (requests_again rows moment).sent (requests_plain rows moment asked))
 tick_not_valid false rows moment s confirmables asked =
     each_append (λ (d : Peer × List ℕ). NotValid d.1)
-    (notices (ticking rows moment s) (notices_again rows moment)).sent
+    (notifications (ticking rows moment s) (notifications_again rows moment)).sent
     (requests_again rows moment).sent
-    (notices_not_valid (ticking rows moment s) (notices_again rows moment)
+    (notifications_not_valid (ticking rows moment s) (notifications_again rows moment)
     (again_not_valid rows moment confirmables))
     (plain_not_valid (requests_again rows moment).sent (requests_plain rows moment asked))

@@ -74,7 +74,7 @@ use Rattle.observation.specs.declared.change_kinds.ChangeKind.TheVariants as kin
 use Rattle.observation.specs.ChangeKinds.{kind_of}
 use Rattle.rd_desk.specs.declared.write.outcomes.Entering.{Entering}
 use Rattle.rd_desk.specs.declared.write.outcomes.Outcome.{Outcome}
-use Rattle.rd_desk.specs.declared.write.replies.ShortReply.{ShortReply}
+use Rattle.rd_desk.specs.declared.write.short_replies.ShortReply.{ShortReply}
 use Rattle.rd_desk.specs.parts.Replies.{short_said}
 use Rattle.rd_desk.specs.parts.Outcomes.{HasEntry, IsEntering, IsPlanned, IsBadBody}
 

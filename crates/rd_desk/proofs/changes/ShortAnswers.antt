@@ -50,7 +50,7 @@ use Rattle.coap_answers.specs.Replies.{
   options_of,
   reply_said,
 }
-use Rattle.rd_desk.specs.declared.write.replies.ShortReply.{ShortReply}
+use Rattle.rd_desk.specs.declared.write.short_replies.ShortReply.{ShortReply}
 use Rattle.rd_desk.specs.parts.Replies.{as_reply}
 
 -- an answer without a tag, an Observe value and a body, with a payload of 13 octets at most

@@ -84,9 +84,9 @@ use Rattle.journal_model.proofs.notes.ChangeNotes.{response_effects-notes}
 use Rattle.journal_model.proofs.notes.SilentSteps.{refusal_notes, unread_notes}
 use Rattle.coap_answers.specs.declared.mids.Mids.{Mids}
 use Rattle.rd_request.specs.WriteRequests.{writes_to_registrations}
-use Rattle.rd_desk.specs.declared.admissions.Admitted.{Admitted}
-use Rattle.rd_desk.specs.declared.steps.Stepped.{Stepped}
-use Rattle.rd_desk.specs.declared.steps.Stepped.TheVariants as stepped
+use Rattle.rd_desk.specs.declared.admitted.Admitted.{Admitted}
+use Rattle.rd_desk.specs.declared.stepped.Stepped.{Stepped}
+use Rattle.rd_desk.specs.declared.stepped.Stepped.TheVariants as stepped
 use Rattle.rd_desk.specs.calls.Admitting.{
   is_starved_admission,
   IsHeldFor,

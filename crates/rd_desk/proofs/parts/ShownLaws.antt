@@ -16,7 +16,7 @@ use Rattle.std.proofs.Common.{
   ◌∙◌,
 }
 use Rattle.event_model.specs.declared.notes.Observer.{Observer}
-use Rattle.event_model.specs.Flights.{OctetsSent, waiting_notice, flight, notice_sent}
+use Rattle.event_model.specs.Flights.{OctetsSent, waiting_notification, flight, notification_sent}
 use Rattle.event_model.specs.Events.{Event}
 use Rattle.event_model.specs.Observers.{observers}
 use Rattle.journal_model.specs.declared.rows.Row.{Row}
@@ -35,9 +35,9 @@ there_alike f (Some x) = refl
 
 -- a notification waits where one is in flight
 waits : (octets : OctetsSent) (past : List Event) (o : Observer)
-    → is_some (waiting_notice octets past o) ≡ is_some (flight o past)
-unfolding waiting_notice
-waits octets past o = there_alike (notice_sent octets o.peer) (flight o past)
+    → is_some (waiting_notification octets past o) ≡ is_some (flight o past)
+unfolding waiting_notification
+waits octets past o = there_alike (notification_sent octets o.peer) (flight o past)
 
 pub shown-IsObserverAfter : (rows : List Row) (w : Watching) (i : ℕ) (o : Observer)
     (x : kept.Standing) (it : Watcher)

@@ -43,8 +43,8 @@ use Rattle.event_model.specs.Flights.{
   max_again,
   deadline,
   flight,
-  notice_sent,
-  waiting_notice,
+  notification_sent,
+  waiting_notification,
   retransmission,
 }
 use Rattle.event_model.specs.Due.{Watching as Shown, watching, observers_standing}
@@ -57,22 +57,22 @@ use Rattle.journal_model.specs.Ticks.{
   is_confirmable_with,
   octets_sent,
   each_of,
-  notice_again,
+  notification_again,
   flight_again,
   repeating,
-  notices_again,
+  notifications_again,
   due_by,
 }
 use Rattle.journal_model.specs.UnfinishedRow.{making}
 use Rattle.journal_model.proofs.UnfinishedRowLaws.{events-making_nothing}
-use Rattle.journal_model.proofs.observers.SentOctets.{waiting_notice-row}
+use Rattle.journal_model.proofs.observers.SentOctets.{waiting_notification-row}
 use Rattle.exchange_core.specs.declared.resends.Again.{Again}
 use Rattle.exchange_core.specs.declared.resends.Again.TheVariants as again
 use Rattle.exchange_core.specs.Retransmissions.{kept_due}
 use Rattle.rd_desk.proofs.responses.FetchStepLaws.{repeating-octets}
 use Rattle.observers.specs.Standing.{Standing, due_of}
 use Rattle.observers.specs.ObserverEvents.{shown}
-use Rattle.observation.specs.Notices.{sending_again}
+use Rattle.observation.specs.Notifications.{sending_again}
 use Rattle.observation.specs.Watching.{Watching, IsConfirmable, WatchingStandsFor}
 use Rattle.rd_desk.specs.parts.Noticing.{again_as, again_done}
 
@@ -120,17 +120,17 @@ kept_due-flight moment f =
 again_one : (rows : List Row) (moment : ℕ) (o : Observer) (x : Standing)
     → o.peer ≡ x.peer
     → o.token ≡ x.token
-    → waiting_notice (octets_sent rows) (events rows) o ≡ x.flight
+    → waiting_notification (octets_sent rows) (events rows) o ≡ x.flight
     → IsConfirmable x
     → flight_again rows moment o (flight o (events rows)) ≡ again_done moment x
-unfolding waiting_notice
+unfolding waiting_notification
 again_one rows moment o x peer token waits fits = by (flight o (events rows)) waits
   where
     Goal : Option Flight → Option Sent → Type 0
     Goal f sent = flight_again rows moment o f ≡ again_as (due_of moment sent) x sent
 
     sends : (f : Flight) (sent : Sent)
-        → notice_sent (octets_sent rows) o.peer f ≡ sent
+        → notification_sent (octets_sent rows) o.peer f ≡ sent
         → is_confirmable_with sent.mid sent.octets ≡ true
         → repeating rows f.formed.place o.peer f.mid (note.Again o.peer f.mid)
         ≡ sending_again x sent
@@ -149,9 +149,9 @@ again_one rows moment o x peer token waits fits = by (flight o (events rows)) wa
         ∙ ap (λ (y : Sent). sending_again x y) is)
 
     due : (a b : Bool) (f : Flight) (sent : Sent)
-        → notice_sent (octets_sent rows) o.peer f ≡ sent
+        → notification_sent (octets_sent rows) o.peer f ≡ sent
         → is_confirmable_with sent.mid sent.octets ≡ true
-        → notice_again (due_by a b) rows o f
+        → notification_again (due_by a b) rows o f
         ≡ again_as (cond a (cond b again.GaveUp again.Send) again.Wait) x (Some sent)
     due false b f sent is confirmable = refl
     due true true f sent is confirmable =
@@ -160,7 +160,7 @@ again_one rows moment o x peer token waits fits = by (flight o (events rows)) wa
 
     flies : (f : Flight) (sent : Sent)
         → x.flight ≡ Some sent
-        → notice_sent (octets_sent rows) o.peer f ≡ sent
+        → notification_sent (octets_sent rows) o.peer f ≡ sent
         → Goal (Some f) (Some sent)
     flies f sent kept is =
         due (nat_le (deadline f.formed f.again) moment) (nat_le max_again (length f.again)) f sent
@@ -169,21 +169,22 @@ again_one rows moment o x peer token waits fits = by (flight o (events rows)) wa
         (sym (kept_due-flight moment f) ∙ ap (λ (y : Sent). kept_due moment y.resend) is)
 
     by : (f : Option Flight)
-        → option_map (notice_sent (octets_sent rows) o.peer) f ≡ x.flight
+        → option_map (notification_sent (octets_sent rows) o.peer) f ≡ x.flight
         → Goal f x.flight
     by None is = subst (Goal None) is refl
     by (Some f) is =
-        subst (Goal (Some f)) is (flies f (notice_sent (octets_sent rows) o.peer f) (sym is) refl)
+        subst (Goal (Some f)) is (flies f (notification_sent (octets_sent rows) o.peer f) (sym is)
+        refl)
 
 -- ---- all notifications
 
 -- The first part of a tick, by the table that stands for the journal when its row begins.
-pub notices_again-StandsFor : (rows : List Row) (s : Step) (starved : Bool) (moment : ℕ)
+pub notifications_again-StandsFor : (rows : List Row) (s : Step) (starved : Bool) (moment : ℕ)
     (w : Watching)
     → WatchingStandsFor (making rows s starved nothing) w
-    → notices_again rows moment ≡ each_of (again_done moment) w.observers
-unfolding notices_again observers_standing
-notices_again-StandsFor rows s starved moment w h =
+    → notifications_again rows moment ≡ each_of (again_done moment) w.observers
+unfolding notifications_again observers_standing
+notifications_again-StandsFor rows s starved moment w h =
     each (observers (events rows)) w.observers standing h.confirmable
   where
     Made : List Row
@@ -210,7 +211,7 @@ notices_again-StandsFor rows s starved moment w h =
     one o x here fits =
         again_one rows moment o x (ap (λ (y : Shown). y.observer.peer) here)
         (ap (λ (y : Shown). y.observer.token) here)
-        (sym (waiting_notice-row rows (row_with s (row_moment rows s) starved nothing) o)
+        (sym (waiting_notification-row rows (row_with s (row_moment rows s) starved nothing) o)
         ∙ ap (λ (y : Shown). y.waits) here) fits
 
     each : (os : List Observer) (xs : List Standing)

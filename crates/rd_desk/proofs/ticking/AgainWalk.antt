@@ -34,7 +34,7 @@ use Rattle.rd_base.proofs.lemmas.Options.{some_same}
 use Rattle.event_model.specs.declared.notes.Note.TheVariants as note
 use Rattle.event_model.specs.declared.notes.Observer.{Observer}
 use Rattle.event_model.specs.Observers.{observers}
-use Rattle.event_model.specs.Flights.{Sent, Flight, flight, notice_sent, waiting_notice}
+use Rattle.event_model.specs.Flights.{Sent, Flight, flight, notification_sent, waiting_notification}
 use Rattle.event_model.specs.Due.{Watching as Shown, watching, observers_standing}
 use Rattle.journal_model.specs.declared.steps.Step.{Step}
 use Rattle.journal_model.specs.declared.rows.Row.{Row}
@@ -42,10 +42,10 @@ use Rattle.journal_model.specs.DeskJournal.{IsDeskJournal}
 use Rattle.journal_model.specs.Effects.{Effects, nothing, joined, noting}
 use Rattle.journal_model.specs.Journal.{events, transitions}
 use Rattle.journal_model.specs.Rows.{row_with, row_moment}
-use Rattle.journal_model.specs.Ticks.{octets_sent, each_of, notices_again}
+use Rattle.journal_model.specs.Ticks.{octets_sent, each_of, notifications_again}
 use Rattle.journal_model.specs.UnfinishedRow.{making}
 use Rattle.journal_model.proofs.UnfinishedRowLaws.{events-making_nothing}
-use Rattle.journal_model.proofs.observers.SentOctets.{waiting_notice-row}
+use Rattle.journal_model.proofs.observers.SentOctets.{waiting_notification-row}
 use Rattle.exchange_core.specs.declared.resends.Again.{Again}
 use Rattle.exchange_core.specs.declared.resends.Again.TheVariants as again
 use Rattle.observers.specs.Standing.{Standing, due_of, changed_at}
@@ -53,7 +53,7 @@ use Rattle.observers.specs.ObserverEvents.{shown}
 use Rattle.coap_answers.specs.declared.mids.Mids.{Mids}
 use Rattle.coap_answers.specs.Sendings.{Sends}
 use Rattle.coap_answers.proofs.SendingLaws.{sends_notes}
-use Rattle.observation.specs.Notices.{sending_again}
+use Rattle.observation.specs.Notifications.{sending_again}
 use Rattle.observation.specs.Watching.{Watching, WatchingStandsFor}
 use Rattle.observation.proofs.TickLaws.{length-StandsFor}
 use Rattle.rd_desk.specs.calls.Desks.{Seen}
@@ -62,7 +62,7 @@ use Rattle.rd_desk.specs.parts.UnderWay.{UnderWay}
 use Rattle.rd_desk.proofs.parts.EffectLaws.{joined-nothing, joined-nothing_first, joined-assoc}
 use Rattle.rd_desk.proofs.parts.PartLaws.{more_unformed}
 use Rattle.rd_desk.proofs.parts.WayLaws.{way_moment}
-use Rattle.rd_desk.proofs.ticking.AgainLaws.{notices_again-StandsFor}
+use Rattle.rd_desk.proofs.ticking.AgainLaws.{notifications_again-StandsFor}
 use Rattle.rd_desk.proofs.ticking.BoundLaws.{few_observers}
 use Rattle.rd_desk.proofs.ticking.FittingLaws.{short_octets}
 
@@ -207,7 +207,7 @@ pub record AgainUpTo (rows : List Row) (s : Step) (starved : Bool) (d : Seen)
   pub done : Effects
   pub way : UnderWay rows s starved done d out mids
   pub whole :
-      notices_again rows (row_moment rows s)
+      notifications_again rows (row_moment rows s)
       ≡ joined done (each_of (again_done (row_moment rows s)) (drop i d.watching.observers))
   pub short : AllByRecursion IsShort (drop i d.watching.observers)
   pub few : length done.sent + length (drop i d.watching.observers) ≤ 1_024
@@ -217,7 +217,7 @@ all_short : (rows : List Row) (s : Step) (starved : Bool) (w : Watching)
     → IsDeskJournal rows
     → WatchingStandsFor (making rows s starved nothing) w
     → AllByRecursion IsShort w.observers
-unfolding observers_standing waiting_notice
+unfolding observers_standing waiting_notification
 all_short rows s starved w journal h = each (observers (events rows)) w.observers standing
   where
     Made : List Row
@@ -233,7 +233,7 @@ all_short rows s starved w journal h = each (observers (events rows)) w.observer
         h.observers.standing
 
     by : (o : Observer) (f : Option Flight) (sent : Sent)
-        → option_map (notice_sent (octets_sent rows) o.peer) f ≡ Some sent
+        → option_map (notification_sent (octets_sent rows) o.peer) f ≡ Some sent
         → length sent.octets ≤ 1_280
     by o None sent is = absurd (let no : None ≡ Some sent = is in cc)
     by o (Some f) sent is =
@@ -245,7 +245,7 @@ all_short rows s starved w journal h = each (observers (events rows)) w.observer
         → IsShort x
     one o x here sent flies =
         by o (flight o (events rows)) sent
-        (sym (waiting_notice-row rows (row_with s (row_moment rows s) starved nothing) o)
+        (sym (waiting_notification-row rows (row_with s (row_moment rows s) starved nothing) o)
         ∙ (ap (λ (y : Shown). y.waits) here ∙ flies))
 
     each : (os : List Observer) (xs : List Standing)
@@ -278,7 +278,8 @@ again_begins rows s starved d out mids way =
       done = nothing;
       way = way;
       whole =
-          notices_again-StandsFor rows s starved (row_moment rows s) d.watching way.stands.watching
+          notifications_again-StandsFor rows s starved (row_moment rows s) d.watching
+          way.stands.watching
           ∙ sym (joined-nothing_first
           (each_of (again_done (row_moment rows s)) d.watching.observers));
       short = all_short rows s starved d.watching way.journal way.stands.watching;
@@ -346,7 +347,7 @@ pub again_ends : (rows : List Row) (s : Step) (starved : Bool) (d : Seen)
     (out : List (Peer × List ℕ)) (mids : Mids) (i : ℕ)
     → length d.watching.observers ≤ i
     → AgainUpTo rows s starved d out mids i
-    → UnderWay rows s starved (notices_again rows (row_moment rows s)) d out mids
+    → UnderWay rows s starved (notifications_again rows (row_moment rows s)) d out mids
 again_ends rows s starved d out mids i past h =
     subst (λ (e : Effects). UnderWay rows s starved e d out mids)
     (sym (h.whole

@@ -63,7 +63,7 @@ use Rattle.observers.specs.Standing.{Standing}
 use Rattle.coap_answers.specs.declared.mids.Mids.{Mids}
 use Rattle.coap_answers.specs.Sendings.{Sends}
 use Rattle.coap_answers.proofs.SendingLaws.{sends_notes}
-use Rattle.observation.specs.Notices.{forming, next_noticed}
+use Rattle.observation.specs.Notifications.{forming, next_notified}
 use Rattle.observation.specs.Watching.{Watching, WatchingStandsFor}
 use Rattle.observation.proofs.TickLaws.{
   IsKeptAs,
@@ -116,7 +116,7 @@ same_index : (rows : List Row) (s : Step) (starved : Bool) (done : Effects) (fro
     → WatchingStandsFor (making rows s starved done) w
     → ((past : List Row)
     → WatchingStandsFor past w
-    → Some index ≡ next_noticed from (events past) (transitions past))
+    → Some index ≡ next_notified from (events past) (transitions past))
     → (it : IsNext rows s starved done from p)
     → it.index ≡ index
 same_index rows s starved done from index p w stands next it =
@@ -130,7 +130,7 @@ pub carries_unchanged : (rows : List Row) (s : Step) (starved : Bool) (current :
     → b ≡ d
     → ((past : List Row)
     → WatchingStandsFor past b.watching
-    → Some index ≡ next_noticed from (events past) (transitions past))
+    → Some index ≡ next_notified from (events past) (transitions past))
     → ((done : Effects) (x : Standing)
     → slice_get b.watching.observers index ≡ Some x
     → WatchingStandsFor (making rows s starved done) b.watching
@@ -241,14 +241,14 @@ kept_each-append moment [] more xs = refl
 kept_each-append moment (a ∷ ks) more xs =
     kept_each-append moment ks more (used (kept_at moment a) xs)
 
-pub carries_notice : (rows : List Row) (s : Step) (starved : Bool) (current : List ℕ)
+pub carries_notification : (rows : List Row) (s : Step) (starved : Bool) (current : List ℕ)
     (whole : Effects) (ready : List KeptAnswer) (b d : Seen) (w : Watching) (count : ℕ)
     (out sent_out : List (Peer × List ℕ)) (mids_before mids : Mids) (from index : ℕ) (sent : Sent)
     (body : Arc (List ℕ) Global)
     (rest : List Planned) → b ≡ d → count ≡ (b.observed + 1) % 2 ^ 64
     → ((past : List Row)
     → WatchingStandsFor past b.watching
-    → Some index ≡ next_noticed from (events past) (transitions past))
+    → Some index ≡ next_notified from (events past) (transitions past))
     → ((done : Effects) (x : Standing)
     → slice_get b.watching.observers index ≡ Some x
     → list_any (λ q. is_same_peer q.0 x.peer && is_confirmable_with sent.mid q.1) done.sent
@@ -267,13 +267,14 @@ pub carries_notice : (rows : List Row) (s : Step) (starved : Bool) (current : Li
     → sent_out ≡ out ++ (x.peer, sent.octets) ∷ [])
     → mids.worker ≡ mids_before.worker → mids.drawn ≡ drawing 1 mids_before.drawn
     → CarryingOut rows s starved current whole ready d out mids_before from
-    (planned.Noticed sent body ∷ rest)
+    (planned.Notified sent body ∷ rest)
     → CarryingOut rows s starved current whole ready (record b { watching = w; observed = count })
     sent_out mids (index + 1) rest
-carries_notice rows s starved current whole ready b d w count out sent_out mids_before mids from
+carries_notification rows s starved current whole ready b d w count out sent_out mids_before mids
+    from
     index sent body rest seen counted next changes pushed worker drawn h =
     record {
-      done = joined h.done (planned_done current o (planned.Noticed sent body));
+      done = joined h.done (planned_done current o (planned.Notified sent body));
       kept = later;
       answers = kept_each (row_moment rows s) own h.answers;
       way =
@@ -287,7 +288,7 @@ carries_notice rows s starved current whole ready b d w count out sent_out mids_
       plan =
           subst (λ (i : ℕ).
           AreDone rows s starved current whole
-          (joined h.done (planned_done current o (planned.Noticed sent body))) (i + 1) rest
+          (joined h.done (planned_done current o (planned.Notified sent body))) (i + 1) rest
           later) index_is h.plan.3;
       becomes =
           sym (kept_each-append (row_moment rows s) own later h.answers)
@@ -296,7 +297,7 @@ carries_notice rows s starved current whole ready b d w count out sent_out mids_
           ∙ h.becomes);
     }
   where
-    it : IsNext rows s starved h.done from (planned.Noticed sent body)
+    it : IsNext rows s starved h.done from (planned.Notified sent body)
     it = h.plan.0
 
     may : MayBeSent rows s h.done it.observer sent
@@ -321,7 +322,7 @@ carries_notice rows s starved current whole ready b d w count out sent_out mids_
 
     index_is : it.index ≡ index
     index_is =
-        same_index rows s starved h.done from index (planned.Noticed sent body) b.watching before
+        same_index rows s starved h.done from index (planned.Notified sent body) b.watching before
         next it
 
     kept : Kept (making rows s starved h.done) b.watching index o
@@ -464,7 +465,7 @@ pub carrying_none : (rows : List Row) (s : Step) (starved : Bool) (current : Lis
     → b ≡ d
     → ((past : List Row)
     → WatchingStandsFor past b.watching
-    → None ≡ next_noticed from (events past) (transitions past))
+    → None ≡ next_notified from (events past) (transitions past))
     → CarryingOut rows s starved current whole ready d out mids from (p ∷ ps)
     → ⊥
 carrying_none rows s starved current whole ready b d out mids from p ps seen next h =

@@ -207,7 +207,7 @@ use Rattle.journal_model.proofs.StepNotes.{
   write_effects-notes,
   tick_effects-notes,
 }
-use Rattle.journal_model.proofs.flights.NoticesAgain.{stood}
+use Rattle.journal_model.proofs.flights.NotificationsAgain.{stood}
 use Rattle.journal_model.proofs.notes.ChangeNotes.{
   registering-notes,
   location-notes,

@@ -94,19 +94,19 @@ use Rattle.journal_model.specs.Ticks.{
   is_confirmable_with,
   first_block,
   block_shown,
-  notice_of,
-  noticed,
+  notification_of,
+  notified,
   is_unchanged,
-  noticed_unless,
-  noticed_if,
+  notified_unless,
+  notified_if,
   listing_for,
   events_with,
-  notices_again,
+  notifications_again,
 }
 use Rattle.journal_model.specs.UnfinishedRow.{making, drawing}
 use Rattle.journal_model.proofs.EntriesNoted.{entries_in}
 use Rattle.journal_model.proofs.NoteKinds.{of_again, none_of}
-use Rattle.journal_model.proofs.StepNotes.{notices_again-notes}
+use Rattle.journal_model.proofs.StepNotes.{notifications_again-notes}
 use Rattle.journal_model.proofs.UnfinishedRowLaws.{now-making, events-making_joined}
 use Rattle.journal_model.proofs.notes.LookupNotes.{IsAsking}
 use Rattle.exchange_core.specs.Retransmissions.{Resends}
@@ -114,8 +114,8 @@ use Rattle.transfers.specs.Keeping.{NamedAnswer}
 use Rattle.observers.specs.Standing as standings
 use Rattle.observers.specs.Standing.{Standing, is_awaited, seen, changed_at, is_ready, next_ready}
 use Rattle.coap_answers.specs.declared.mids.Mids.{Mids}
-use Rattle.coap_answers.specs.Writing.{notice_saying}
-use Rattle.observation.specs.Notices.{forming}
+use Rattle.coap_answers.specs.Writing.{notification_saying}
+use Rattle.observation.specs.Notifications.{forming}
 use Rattle.observation.specs.Watching.{Watching, WatchingStandsFor}
 use Rattle.observation.proofs.TickLaws.{
   IsKeptAs,
@@ -132,10 +132,10 @@ use Rattle.rd_desk.specs.declared.tick.planning.Planned.{Planned}
 use Rattle.rd_desk.specs.declared.tick.planning.Planned.TheVariants as planned
 use Rattle.rd_desk.specs.calls.Desks.{Seen}
 use Rattle.rd_desk.specs.parts.Planning.{
-  block_of_notice,
+  block_of_notification,
   block_named,
   kept_by,
-  AddsNotice,
+  AddsNotification,
   forming_for,
   kept_of,
   keeping_noted,
@@ -147,7 +147,7 @@ use Rattle.rd_desk.specs.parts.UnderWay.{UnderWay}
 use Rattle.rd_desk.proofs.parts.EffectLaws.{joined-assoc}
 use Rattle.rd_desk.proofs.ticking.AgainWalk.{drop-changed}
 use Rattle.rd_desk.proofs.ticking.BoundLaws.{asking_observers}
-use Rattle.rd_desk.proofs.ticking.NoticeWalk.{events-with, drop-drop, got-drop}
+use Rattle.rd_desk.proofs.ticking.NotificationWalk.{events-with, drop-drop, got-drop}
 use Rattle.rd_desk.proofs.ticking.PlanSteps.{awaited-seen, planned_adds}
 use Rattle.rd_desk.proofs.ticking.PlanWay.{entries-again}
 use Rattle.rd_desk.proofs.ticking.SkipLaws.{first-least, first-passes}
@@ -175,14 +175,15 @@ record IsFound (rows : List Row) (s : Step) (starved : Bool) (done : Effects) (w
 asking_again : (rows : List Row) (s : Step) (starved : Bool)
     → IsDeskJournal rows
     → AllByRecursion IsAsking
-    (observers (events (making rows s starved (notices_again rows (row_moment rows s)))))
+    (observers (events (making rows s starved (notifications_again rows (row_moment rows s)))))
 unfolding events
 asking_again rows s starved journal =
     subst (AllByRecursion IsAsking) (sym (observers_left (length rows) (row_moment rows s) s.word
-    (notices_again rows (row_moment rows s)).notes (events rows)
-    (none_of of_again is_watching other (notices_again rows (row_moment rows s)).notes
-    (notices_again-notes rows (row_moment rows s)))))
-    (each_filter IsAsking (λ o. not (is_ended_by (notices_again rows (row_moment rows s)).notes o))
+    (notifications_again rows (row_moment rows s)).notes (events rows)
+    (none_of of_again is_watching other (notifications_again rows (row_moment rows s)).notes
+    (notifications_again-notes rows (row_moment rows s)))))
+    (each_filter IsAsking (λ o. not (is_ended_by
+    (notifications_again rows (row_moment rows s)).notes o))
     (observers (events rows)) (asking_observers rows journal))
   where
     other : (n : Note) → of_again n ≡ true → is_watching n ≡ false
@@ -269,7 +270,7 @@ IsListed rows index body =
 listed : (rows : List Row) (s : Step) (starved : Bool) (first : Effects) (index : ℕ) (o : Observer)
     (body : List ℕ)
     → is_look s.kind ≡ false
-    → first ≡ notices_again rows (row_moment rows s)
+    → first ≡ notifications_again rows (row_moment rows s)
     → IsListed (making rows s starved first) index body
     → slice_get (observers (events (making rows s starved first))) index ≡ Some o
     → body ≡ (listing_for (ticking rows (row_moment rows s) s) o).body
@@ -333,7 +334,7 @@ planned_unchanged rows s starved current whole first ws given p after from index
       got = found.at;
       does =
           ap (λ (b : Bool).
-          noticed_unless b (ticking rows (row_moment rows s) s) h.done o
+          notified_unless b (ticking rows (row_moment rows s) s) h.done o
           (listing_for (ticking rows (row_moment rows s) s) o))
           (unchanged_as rows s starved h.done o x body true found.kept is_listing same);
       may = tt;
@@ -390,11 +391,11 @@ planned_unchanged rows s starved current whole first ws given p after from index
 -- ---- it gets a notification
 
 -- a notification is a confirmable message with its Message ID
-notice_confirmable : (mid : ℕ) (token : List ℕ) (r : Reply)
+notification_confirmable : (mid : ℕ) (token : List ℕ) (r : Reply)
     → length token ≤ 8
-    → is_confirmable_with mid (spelling (notice_saying mid token r)) ≡ true
+    → is_confirmable_with mid (spelling (notification_saying mid token r)) ≡ true
 unfolding spelling header_spelling
-notice_confirmable mid token r short = rw (first, second) refl
+notification_confirmable mid token r short = rw (first, second) refl
   where
     first : ((64 + length token) / 16 == 4) ≡ true
     first = eq-eqb ((64 + length token) / 16) 4 (omega (arith, short))
@@ -417,7 +418,8 @@ capped n low = by (nat_lt n 6) refl
     by true e = refl
     by false e = let most : 6 ≤ n = grind (arith, nat_tests, e) in omega (arith, low, most)
 
-block_as : (o : Observer) (szx : ℕ) → o.szx ≡ szx → o.szx < 7 → first_block o ≡ block_of_notice szx
+block_as : (o : Observer) (szx : ℕ) → o.szx ≡ szx → o.szx < 7 → first_block o
+    ≡ block_of_notification szx
 block_as o szx same low =
     ap (λ (n : ℕ). let b : Block = record { num = 0; more = false; szx = n } in Some b)
     (sym (capped o.szx low) ∙ ap (λ (n : ℕ). cond (nat_lt n 6) n 6) same)
@@ -446,13 +448,13 @@ unsent_to peer mid ws (d ∷ ds) free h =
     by false e more = more
 
 -- a notification is in flight to its peer then, beside those before
-awaited-noticed : (peer : Peer) (sent : Sent) (body : List ℕ) (i : ℕ) (ws : List Standing)
+awaited-notified : (peer : Peer) (sent : Sent) (body : List ℕ) (i : ℕ) (ws : List Standing)
     (x : Standing)
     → slice_get ws i ≡ Some x
-    → is_awaited peer (changed_at (standings.noticed sent body) i ws)
+    → is_awaited peer (changed_at (standings.notified sent body) i ws)
     ≡ (is_awaited peer ws || list_any (λ q. is_same_peer q peer) (x.peer ∷ []))
-awaited-noticed peer sent body i [] x got = absurd (let none_is : None ≡ Some x = got in cc)
-awaited-noticed peer sent body zero (w ∷ ws) x got =
+awaited-notified peer sent body i [] x got = absurd (let none_is : None ≡ Some x = got in cc)
+awaited-notified peer sent body zero (w ∷ ws) x got =
     let same : w ≡ x = cc in
     ap (λ (y : Standing). (is_same_peer y.peer peer && true) || is_awaited peer ws) same
     ∙ (by (is_same_peer x.peer peer) (is_some x.flight) (is_awaited peer ws)
@@ -466,9 +468,9 @@ awaited-noticed peer sent body zero (w ∷ ws) x got =
     by true false false = refl
     by false b true = refl
     by false b false = refl
-awaited-noticed peer sent body (suc i) (w ∷ ws) x got =
+awaited-notified peer sent body (suc i) (w ∷ ws) x got =
     ap (λ (b : Bool). (is_same_peer w.peer peer && is_some w.flight) || b)
-    (awaited-noticed peer sent body i ws x got)
+    (awaited-notified peer sent body i ws x got)
     ∙ by (is_same_peer w.peer peer && is_some w.flight) (is_awaited peer ws)
     (is_same_peer x.peer peer || false)
   where
@@ -477,7 +479,7 @@ awaited-noticed peer sent body (suc i) (w ∷ ws) x got =
     by false b c = refl
 
 -- what is done for it, by whether its listing is kept
-noticed_as : (o : Observer) (body current : List ℕ) (sent : Sent) (long : Bool)
+notified_as : (o : Observer) (body current : List ℕ) (sent : Sent) (long : Bool)
     → ◌≡◌ {A = Effects} (record {
       sent = (o.peer, sent.octets)
           ∷ [];
@@ -488,8 +490,8 @@ noticed_as : (o : Observer) (body current : List ℕ) (sent : Sent) (long : Bool
     (joined (forming_for o body sent) (keeping_noted (cond long
     (record { name = (o.peer, o.key); answer = record { body = body; tag = current } }
     ∷ []) [])))
-noticed_as o body current sent true = refl
-noticed_as o body current sent false = refl
+notified_as o body current sent true = refl
+notified_as o body current sent false = refl
 
 -- what is noted of it is about no other
 kept_aside : (o : Observer) (body current : List ℕ)
@@ -546,7 +548,7 @@ sent_one o body current sent = by (is_long (first_block o) body)
     by true = refl
     by false = refl
 
-pub planned_notice : (rows : List Row) (s : Step) (starved : Bool) (current : List ℕ)
+pub planned_notification : (rows : List Row) (s : Step) (starved : Bool) (current : List ℕ)
     (whole first : Effects) (ws : List Standing) (given : ℕ) (p after : Plan) (from index : ℕ)
     (x : Standing) (body : Arc (List ℕ) Global) (mid observe moment word : ℕ) (sent : Sent)
     (d : Seen)
@@ -563,11 +565,12 @@ pub planned_notice : (rows : List Row) (s : Step) (starved : Bool) (current : Li
     → current ≡ tag (entries rows) (row_moment rows s)
     → mid ≡ mid_of mids.worker (mids.drawn + length p.peers.items)
     → observe ≡ (given + length p.peers.items + 1) % 2 ^ 24
-    → after.items.items ≡ p.items.items ++ planned.Noticed sent body ∷ []
-    → AddsNotice x moment word current (arc_value body) mid observe sent p after
+    → after.items.items ≡ p.items.items ++ planned.Notified sent body ∷ []
+    → AddsNotification x moment word current (arc_value body) mid observe sent p after
     → PlannedUpTo rows s starved current whole first ws given p from
     → PlannedUpTo rows s starved current whole first ws given after (index + 1)
-planned_notice rows s starved current whole first ws given p after from index x body mid observe
+planned_notification rows s starved current whole first ws given p after from index x body mid
+    observe
     moment word sent d out mids way is got free few says other moment_is word_is current_is mid_is
     observe_is items adds h =
     planned_adds rows s starved current whole first ws given p after from index x o item changed
@@ -580,7 +583,7 @@ planned_notice rows s starved current whole first ws given p after from index x 
       kept = adds.kept ∙ ap (λ (ks : List NamedAnswer). p.kept.items ++ ks) keeps;
       stands = stands;
       standing = standing_after rows s starved h.done e more.quiet;
-      same = drop-changed (standings.noticed sent listed_body) index h.watching.observers;
+      same = drop-changed (standings.notified sent listed_body) index h.watching.observers;
     })
     (record {
       peers = adds.peers;
@@ -591,7 +594,7 @@ planned_notice rows s starved current whole first ws given p after from index x 
           ap (λ (ds : List (Peer × List ℕ)). length ds) (sent_one o listed_body current sent) in
           omega (arith, same);
       awaited =
-          λ peer. awaited-noticed peer sent listed_body index h.watching.observers x found.there;
+          λ peer. awaited-notified peer sent listed_body index h.watching.observers x found.there;
       sent =
           subst (AllByRecursion (λ (y : Peer × List ℕ). is_awaited y.0 changed.observers ≡ true))
           (sym (sent_one o listed_body current sent)) (waits, tt);
@@ -608,7 +611,7 @@ planned_notice rows s starved current whole first ws given p after from index x 
     listed_body = arc_value body
 
     item : Planned
-    item = planned.Noticed sent body
+    item = planned.Notified sent body
 
     found : IsFound rows s starved h.done ws h.watching index x
     found =
@@ -627,7 +630,7 @@ planned_notice rows s starved current whole first ws given p after from index x 
     changed : Watching
     changed = record {
       watches = h.watching.watches;
-      observers = changed_at (standings.noticed sent listed_body) index h.watching.observers;
+      observers = changed_at (standings.notified sent listed_body) index h.watching.observers;
     }
 
     is_listing : listed_body ≡ (listing_for (ticking rows (row_moment rows s) s) o).body
@@ -661,32 +664,32 @@ planned_notice rows s starved current whole first ws given p after from index x 
         h.observed
         ∙ sym observe_is)
 
-    blocks : first_block o ≡ block_of_notice x.szx
+    blocks : first_block o ≡ block_of_notification x.szx
     blocks = block_as o x.szx found.kept.szx found.asks.szx
 
     octets_same : (value : ℕ)
         → value ≡ observe
-        → spelling (notice_of o sent.mid
+        → spelling (notification_of o sent.mid
         (body_reply (Some current) (Some value) (block_shown o listed_body) listed_body))
         ≡ sent.octets
     octets_same value same =
         ap₂ (λ (t : List ℕ) (m : ℕ).
-        spelling (notice_saying m t
+        spelling (notification_saying m t
         (body_reply (Some current) (Some value) (block_shown o listed_body)
         listed_body))) found.kept.token adds.mid_is
         ∙ (ap₂ (λ (n : ℕ) (b : Option Block).
         spelling
-        (notice_saying mid x.token (body_reply (Some current) (Some n) b listed_body)))
+        (notification_saying mid x.token (body_reply (Some current) (Some n) b listed_body)))
         same (ap (λ (b : Option Block). cond (is_long b listed_body) b None) blocks)
         ∙ sym adds.octets)
 
-    noticed_is :
-        noticed (ticking rows (row_moment rows s) s) h.done o
+    notified_is :
+        notified (ticking rows (row_moment rows s) s) h.done o
         (record { body = listed_body; tag = current }) (mid_of s.worker (s.drawn + h.done.drew))
         ≡ e
-    noticed_is =
+    notified_is =
         ap (λ (m : ℕ).
-        noticed (ticking rows (row_moment rows s) s) h.done o
+        notified (ticking rows (row_moment rows s) s) h.done o
         (record { body = listed_body; tag = current }) m) mid_same
         ∙ (ap (λ (octets : List ℕ). let f : Effects = record {
           sent = (o.peer, octets) ∷ [];
@@ -697,18 +700,18 @@ planned_notice rows s starved current whole first ws given p after from index x 
         } in f)
         (octets_same (observe_value (events_with (ticking rows (row_moment rows s) s) h.done))
         value_same)
-        ∙ noticed_as o listed_body current sent (is_long (first_block o) listed_body))
+        ∙ notified_as o listed_body current sent (is_long (first_block o) listed_body))
 
-    does : noticed_if true (ticking rows (row_moment rows s) s) h.done o ≡ e
+    does : notified_if true (ticking rows (row_moment rows s) s) h.done o ≡ e
     does =
         ap (λ (b : Bool).
-        noticed_unless b (ticking rows (row_moment rows s) s) h.done o
+        notified_unless b (ticking rows (row_moment rows s) s) h.done o
         (listing_for (ticking rows (row_moment rows s) s) o))
         (unchanged_as rows s starved h.done o x listed_body false found.kept is_listing other)
         ∙ (ap (λ (a : Answer).
-        noticed (ticking rows (row_moment rows s) s) h.done o a
+        notified (ticking rows (row_moment rows s) s) h.done o a
         (mid_of s.worker (s.drawn + h.done.drew))) answer_is
-        ∙ noticed_is)
+        ∙ notified_is)
 
     unsent :
         list_any (λ y. is_same_peer y.0 x.peer && is_confirmable_with sent.mid y.1) h.done.sent
@@ -718,7 +721,7 @@ planned_notice rows s starved current whole first ws given p after from index x 
     confirmable : is_confirmable_with sent.mid sent.octets ≡ true
     confirmable =
         ap₂ (λ (m : ℕ) (octets : List ℕ). is_confirmable_with m octets) adds.mid_is adds.octets
-        ∙ notice_confirmable mid x.token
+        ∙ notification_confirmable mid x.token
         (body_reply (Some current) (Some observe) (block_named x.szx listed_body) listed_body)
         (subst (λ (t : List ℕ). length t ≤ 8) found.kept.token found.asks.token)
 
@@ -778,7 +781,7 @@ planned_notice rows s starved current whole first ws given p after from index x 
 
     waits : is_awaited o.peer changed.observers ≡ true
     waits =
-        awaited-noticed o.peer sent listed_body index h.watching.observers x found.there
+        awaited-notified o.peer sent listed_body index h.watching.observers x found.there
         ∙ (ap (λ (b : Bool). is_awaited o.peer h.watching.observers || (b || false))
         (ap (is_same_peer x.peer) found.kept.peer ∙ is_same_peer-refl x.peer)
         ∙ or_true (is_awaited o.peer h.watching.observers))

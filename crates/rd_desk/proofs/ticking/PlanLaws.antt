@@ -43,11 +43,16 @@ use Rattle.journal_model.specs.declared.rows.Row.{Row}
 use Rattle.journal_model.specs.Effects.{Effects}
 use Rattle.journal_model.specs.Journal.{is_look, events}
 use Rattle.journal_model.specs.Rows.{row_moment}
-use Rattle.journal_model.specs.Ticks.{ticking, max_notices, notices_again, notices}
+use Rattle.journal_model.specs.Ticks.{
+  ticking,
+  max_notifications,
+  notifications_again,
+  notifications,
+}
 use Rattle.journal_model.specs.UnfinishedRow.{making}
 use Rattle.journal_model.proofs.NoteKinds.{again_tick, tick-entries_in}
-use Rattle.journal_model.proofs.StepNotes.{notices_again-notes}
-use Rattle.journal_model.proofs.flights.NoticesAgain.{
+use Rattle.journal_model.proofs.StepNotes.{notifications_again-notes}
+use Rattle.journal_model.proofs.flights.NotificationsAgain.{
   AgainSent,
   again_peer,
   again_sends,
@@ -66,21 +71,21 @@ use Rattle.rd_desk.specs.calls.Desks.{Seen}
 use Rattle.rd_desk.specs.parts.Planning.{AreDone, PlannedUpTo}
 use Rattle.rd_desk.specs.parts.UnderWay.{UnderWay}
 use Rattle.rd_desk.proofs.ticking.BoundLaws.{few_observers}
-use Rattle.rd_desk.proofs.ticking.NoticeWalk.{full_passes, notices-end}
+use Rattle.rd_desk.proofs.ticking.NotificationWalk.{full_passes, notifications-end}
 use Rattle.rd_desk.proofs.ticking.WholeTick.{again_size, again_draws}
 
 -- ---- it begins
 
 -- whoever got a message again is waited for
 again_awaited : (rows : List Row) (s : Step) (starved : Bool) (w : Watching)
-    → WatchingStandsFor (making rows s starved (notices_again rows (row_moment rows s))) w
+    → WatchingStandsFor (making rows s starved (notifications_again rows (row_moment rows s))) w
     → AllByRecursion (λ d. is_awaited d.0 w.observers ≡ true)
-    (notices_again rows (row_moment rows s)).sent
+    (notifications_again rows (row_moment rows s)).sent
 unfolding events
 again_awaited rows s starved w h =
     each_weaker (AgainSent rows (row_moment rows s))
     (λ (d : Peer × List ℕ). is_awaited d.0 w.observers ≡ true) one
-    (notices_again rows (row_moment rows s)).sent (again_sends rows (row_moment rows s))
+    (notifications_again rows (row_moment rows s)).sent (again_sends rows (row_moment rows s))
   where
     one : (d : Peer × List ℕ)
         → AgainSent rows (row_moment rows s) d
@@ -89,10 +94,10 @@ again_awaited rows s starved w h =
         awaited-StandsFor h.queries _ _ _ w.observers d.0 h.observers
         ∙ (ap (λ (p : Peer).
         is_waited_for p
-        (events (making rows s starved (notices_again rows (row_moment rows s)))))
+        (events (making rows s starved (notifications_again rows (row_moment rows s)))))
         (again_peer rows (row_moment rows s) d a)
         ∙ waited a.observer.peer
-        (events (making rows s starved (notices_again rows (row_moment rows s))))
+        (events (making rows s starved (notifications_again rows (row_moment rows s))))
         (again_waits rows (row_moment rows s) s.word a.observer a.flight_is a.again))
 
 pub planned_begins : (rows : List Row) (s : Step) (starved : Bool) (current : List ℕ) (d : Seen)
@@ -100,13 +105,14 @@ pub planned_begins : (rows : List Row) (s : Step) (starved : Bool) (current : Li
     → p.items.items ≡ []
     → p.peers.items ≡ []
     → p.kept.items ≡ []
-    → UnderWay rows s starved (notices_again rows (row_moment rows s)) d out mids
+    → UnderWay rows s starved (notifications_again rows (row_moment rows s)) d out mids
     → PlannedUpTo rows s starved current
-    (notices (ticking rows (row_moment rows s) s) (notices_again rows (row_moment rows s)))
-    (notices_again rows (row_moment rows s)) d.watching.observers d.observed p 0
-unfolding notices observe_values_sent events
+    (notifications (ticking rows (row_moment rows s) s)
+    (notifications_again rows (row_moment rows s)))
+    (notifications_again rows (row_moment rows s)) d.watching.observers d.observed p 0
+unfolding notifications observe_values_sent events
 planned_begins rows s starved current d p out mids items peers kept way =
-    let first = notices_again rows (row_moment rows s) in
+    let first = notifications_again rows (row_moment rows s) in
     let none : length p.peers.items ≡ 0 = ap (λ (ps : List Peer). length ps) peers in
     let drew = again_draws rows (row_moment rows s) in
     let size = again_size rows (row_moment rows s) in
@@ -131,18 +137,18 @@ planned_begins rows s starved current d p out mids items peers kept way =
       size = omega (arith, size, few, none);
       silent =
           tick-entries_in first.notes
-          (again_tick first.notes (notices_again-notes rows (row_moment rows s)));
+          (again_tick first.notes (notifications_again-notes rows (row_moment rows s)));
       observed = omega (arith, given, none);
       left = refl;
       plan =
           λ more later done.
           subst (λ (xs : List Planned).
           AreDone rows s starved current
-          (notices (ticking rows (row_moment rows s) s) first) first 0 (xs ++ more)
+          (notifications (ticking rows (row_moment rows s) s) first) first 0 (xs ++ more)
           (p.kept.items ++ later)) (sym items)
           (subst (λ (ks : List NamedAnswer).
           AreDone rows s starved current
-          (notices (ticking rows (row_moment rows s) s) first) first 0 more
+          (notifications (ticking rows (row_moment rows s) s) first) first 0 more
           (ks ++ later)) (sym kept) done);
     }
   where
@@ -209,7 +215,7 @@ pub planned_none : (rows : List Row) (s : Step) (starved : Bool) (current : List
 unfolding next_ready
 planned_none rows s starved current whole first ws given p from desk few last h =
     let drew = h.drew in
-    let room : nat_le max_notices h.done.drew ≡ false =
+    let room : nat_le max_notifications h.done.drew ≡ false =
     below h.done.drew (omega (arith, few, drew)) in
     let none : first_from (is_ready h.watching.observers) from (drop from ws) ≡ None =
     first-none (is_ready ws) (is_ready h.watching.observers)
@@ -220,7 +226,7 @@ planned_none rows s starved current whole first ws given p from desk few last h 
     ∙ (ap (λ (xs : List Standing). first_from (is_ready h.watching.observers) from xs) h.same ∙
     none) in
     planned_all rows s starved current whole first ws given p from h
-    (sym (h.left ∙ notices-end rows s starved h.done from desk h.silent room next))
+    (sym (h.left ∙ notifications-end rows s starved h.done from desk h.silent room next))
   where
     below : (n : ℕ) → n < 64 → nat_le 64 n ≡ false
     below n k = grind (arith, nat_tests, k)
@@ -233,7 +239,7 @@ pub planned_full : (rows : List Row) (s : Step) (starved : Bool) (current : List
     → AreDone rows s starved current whole first 0 p.items.items p.kept.items
 planned_full rows s starved current whole first ws given p from many h =
     let drew = h.drew in
-    let full : nat_le max_notices h.done.drew ≡ true =
+    let full : nat_le max_notifications h.done.drew ≡ true =
     at_least h.done.drew (omega (arith, many, drew)) in
     planned_all rows s starved current whole first ws given p from h
     (sym (h.left

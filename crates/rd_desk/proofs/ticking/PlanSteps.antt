@@ -48,12 +48,12 @@ use Rattle.journal_model.specs.declared.rows.Row.{Row}
 use Rattle.journal_model.specs.Effects.{Effects, joined}
 use Rattle.journal_model.specs.Journal.{is_look, events, transitions}
 use Rattle.journal_model.specs.Rows.{row_moment}
-use Rattle.journal_model.specs.Ticks.{ticking, noticed_if, notice_next}
+use Rattle.journal_model.specs.Ticks.{ticking, notified_if, notification_next}
 use Rattle.journal_model.specs.UnfinishedRow.{making}
 use Rattle.journal_model.proofs.EntriesNoted.{entries_in, none-append}
 use Rattle.transfers.specs.Keeping.{NamedAnswer}
 use Rattle.observers.specs.Standing.{Standing, is_awaited, seen, changed_at, next_ready}
-use Rattle.observation.specs.Notices.{next_noticed}
+use Rattle.observation.specs.Notifications.{next_notified}
 use Rattle.observation.specs.Watching.{Watching, WatchingStandsFor}
 use Rattle.rd_desk.specs.declared.tick.planning.Plan.{Plan}
 use Rattle.rd_desk.specs.declared.tick.planning.Planned.{Planned}
@@ -65,7 +65,7 @@ use Rattle.rd_desk.specs.parts.Planning.{
   PlannedUpTo,
 }
 use Rattle.rd_desk.proofs.ticking.AgainWalk.{length-append}
-use Rattle.rd_desk.proofs.ticking.NoticeWalk.{notices-next}
+use Rattle.rd_desk.proofs.ticking.NotificationWalk.{notifications-next}
 use Rattle.rd_desk.proofs.ticking.SkipLaws.{planned_next}
 
 -- an unchanged listing leaves whom notifications are in flight to
@@ -83,7 +83,7 @@ pub record Adds (rows : List Row) (s : Step) (starved : Bool) (current : List �
     (done : Effects) (w now : Watching) (index : ℕ) (o : Observer) (item : Planned) : Type 0 where
   pub got : slice_get (observers (events (making rows s starved done))) index ≡ Some o
   pub does :
-      noticed_if true (ticking rows (row_moment rows s) s) done o ≡ planned_done current o item
+      notified_if true (ticking rows (row_moment rows s) s) done o ≡ planned_done current o item
   pub may : MayBeDone rows s done o item
   pub items : after.items.items ≡ p.items.items ++ item ∷ []
   pub kept : after.kept.items ≡ p.kept.items ++ planned_kept current o item
@@ -139,7 +139,7 @@ planned_plan rows s starved current whole first ws given p after from index x o 
         observer = o;
         next = planned_next rows s starved current whole first ws given p from index x is got h
             ∙ ap (λ (b : Bool).
-            cond b (next_noticed (index + 1) (events (making rows s starved h.done))
+            cond b (next_notified (index + 1) (events (making rows s starved h.done))
             (transitions (making rows s starved h.done))) (Some index)) free;
         got = it.got;
         may = it.may;
@@ -162,20 +162,20 @@ pub planned_left : (rows : List Row) (s : Step) (starved : Bool) (current : List
     → (h : PlannedUpTo rows s starved current whole first ws given p from)
     → (it : Adds rows s starved current p after h.done h.watching now index o item)
     → whole
-    ≡ fold (notice_next (ticking rows (row_moment rows s) s))
+    ≡ fold (notification_next (ticking rows (row_moment rows s) s))
     (joined h.done (planned_done current o item)) (drop (index + 1) (observers
     (events (making rows s starved (joined h.done (planned_done current o item))))))
 planned_left rows s starved current whole first ws given p after from index x o item now desk is got
     free few h it =
     h.left
-    ∙ (notices-next rows s starved h.done from index o desk h.silent
+    ∙ (notifications-next rows s starved h.done from index o desk h.silent
     (let drew = h.drew in below h.done.drew (omega (arith, few, drew)))
     (planned_next rows s starved current whole first ws given p from index x is got h
     ∙ ap (λ (b : Bool).
-    cond b (next_noticed (index + 1) (events (making rows s starved h.done))
+    cond b (next_notified (index + 1) (events (making rows s starved h.done))
     (transitions (making rows s starved h.done))) (Some index)) free) it.got
     ∙ ap₂ (λ (e : Effects) (os : List Observer).
-    fold (notice_next (ticking rows (row_moment rows s) s)) (joined h.done e)
+    fold (notification_next (ticking rows (row_moment rows s) s)) (joined h.done e)
     (drop (index + 1) os)) it.does (sym it.standing))
   where
     below : (n : ℕ) → n < 64 → nat_le 64 n ≡ false

@@ -28,10 +28,10 @@ use Rattle.journal_model.specs.declared.rows.Row.{Row}
 use Rattle.journal_model.specs.Effects.{Effects}
 use Rattle.journal_model.specs.Journal.{entries}
 use Rattle.journal_model.specs.Rows.{row_moment}
-use Rattle.journal_model.specs.Ticks.{notices_again}
+use Rattle.journal_model.specs.Ticks.{notifications_again}
 use Rattle.journal_model.specs.UnfinishedRow.{making}
 use Rattle.journal_model.proofs.NoteKinds.{again_tick, tick-entries_in}
-use Rattle.journal_model.proofs.StepNotes.{notices_again-notes}
+use Rattle.journal_model.proofs.StepNotes.{notifications_again-notes}
 use Rattle.journal_model.proofs.UnfinishedRowLaws.{now-making}
 use Rattle.coap_answers.specs.declared.mids.Mids.{Mids}
 use Rattle.rd_desk.specs.calls.Desks.{Seen, StandsFor}
@@ -39,13 +39,13 @@ use Rattle.rd_desk.specs.parts.UnderWay.{UnderWay}
 
 -- nothing is entered where notifications are retransmitted
 pub entries-again : (rows : List Row) (s : Step) (starved : Bool)
-    → entries (making rows s starved (notices_again rows (row_moment rows s))) ≡ entries rows
+    → entries (making rows s starved (notifications_again rows (row_moment rows s))) ≡ entries rows
 unfolding entries
 entries-again rows s starved =
     ap (λ (es : List Entry). entries rows ++ es)
-    (tick-entries_in (notices_again rows (row_moment rows s)).notes
-    (again_tick (notices_again rows (row_moment rows s)).notes
-    (notices_again-notes rows (row_moment rows s))))
+    (tick-entries_in (notifications_again rows (row_moment rows s)).notes
+    (again_tick (notifications_again rows (row_moment rows s)).notes
+    (notifications_again-notes rows (row_moment rows s))))
     ∙ append-nil (entries rows)
 
 -- ---- while a plan is made
@@ -89,25 +89,25 @@ IsTagged current v moment =
 pub moment_again : (rows : List Row) (s : Step) (starved : Bool) (b d : Seen)
     (out : List (Peer × List ℕ)) (mids : Mids)
     → b ≡ d
-    → UnderWay rows s starved (notices_again rows (row_moment rows s)) d out mids
+    → UnderWay rows s starved (notifications_again rows (row_moment rows s)) d out mids
     → b.moment ≡ row_moment rows s
 moment_again rows s starved b d out mids seen way =
     ap (λ (y : Seen). y.moment) seen
     ∙ (way.stands.moment
-    ∙ now-making rows s starved (notices_again rows (row_moment rows s)) way.no_look)
+    ∙ now-making rows s starved (notifications_again rows (row_moment rows s)) way.no_look)
 
 -- it is the tag of the tick
 pub tag_again : (rows : List Row) (s : Step) (starved : Bool) (b d : Seen)
     (out : List (Peer × List ℕ)) (mids : Mids) (current : List ℕ)
     → b ≡ d
     → IsTagged current b.version b.moment
-    → UnderWay rows s starved (notices_again rows (row_moment rows s)) d out mids
+    → UnderWay rows s starved (notifications_again rows (row_moment rows s)) d out mids
     → current ≡ tag (entries rows) (row_moment rows s)
 tag_again rows s starved b d out mids current seen says way =
-    says 0 (entries (making rows s starved (notices_again rows (row_moment rows s))))
+    says 0 (entries (making rows s starved (notifications_again rows (row_moment rows s))))
     (subst (λ (y : Seen).
     VersionStandsFor 0
-    (entries (making rows s starved (notices_again rows (row_moment rows s))))
+    (entries (making rows s starved (notifications_again rows (row_moment rows s))))
     y.version) (sym seen) way.stands.directory.history)
     ∙ ap₂ (λ (es : List Entry) (m : ℕ). tag es m) (entries-again rows s starved)
     (moment_again rows s starved b d out mids seen way)

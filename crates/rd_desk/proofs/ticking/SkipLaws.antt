@@ -50,18 +50,18 @@ use Rattle.journal_model.specs.declared.rows.Row.{Row}
 use Rattle.journal_model.specs.Effects.{Effects}
 use Rattle.journal_model.specs.Journal.{is_look, events, transitions}
 use Rattle.journal_model.specs.Rows.{row_moment}
-use Rattle.journal_model.specs.Ticks.{ticking, max_notices, notice_next}
+use Rattle.journal_model.specs.Ticks.{ticking, max_notifications, notification_next}
 use Rattle.journal_model.specs.UnfinishedRow.{making}
 use Rattle.journal_model.proofs.EntriesNoted.{entries_in}
 use Rattle.observers.specs.Standing.{Standing, is_awaited, is_ready, first_from, next_ready}
-use Rattle.observation.specs.Notices.{first_observer, next_noticed}
+use Rattle.observation.specs.Notifications.{first_observer, next_notified}
 use Rattle.observation.specs.Watching.{Watching, WatchingStandsFor}
 use Rattle.observation.proofs.TickLaws.{next-StandsFor, got_inside}
 use Rattle.rd_desk.specs.declared.tick.planning.Plan.{Plan}
 use Rattle.transfers.specs.Keeping.{NamedAnswer}
 use Rattle.rd_desk.specs.declared.tick.planning.Planned.{Planned}
 use Rattle.rd_desk.specs.parts.Planning.{AreDone, PlannedUpTo}
-use Rattle.rd_desk.proofs.ticking.NoticeWalk.{notices-next, notices-end, drop-drop, got-drop}
+use Rattle.rd_desk.proofs.ticking.NotificationWalk.{notifications-next, notifications-end, drop-drop, got-drop}
 use Rattle.rd_desk.proofs.ticking.PlanLaws.{free_before}
 
 -- ---- the first that passes one test, and the first that passes a stronger one
@@ -161,10 +161,10 @@ pub planned_next : (rows : List Row) (s : Step) (starved : Bool) (current : List
     → next_ready from ws ≡ Some index
     → slice_get ws index ≡ Some x
     → (h : PlannedUpTo rows s starved current whole first ws given p from)
-    → next_noticed from (events (making rows s starved h.done))
+    → next_notified from (events (making rows s starved h.done))
     (transitions (making rows s starved h.done))
     ≡ cond (list_any (λ q. is_same_peer q x.peer) p.peers.items)
-    (next_noticed (index + 1) (events (making rows s starved h.done))
+    (next_notified (index + 1) (events (making rows s starved h.done))
     (transitions (making rows s starved h.done))) (Some index)
 unfolding next_ready
 planned_next rows s starved current whole first ws given p from index x is got h =
@@ -201,7 +201,7 @@ planned_next rows s starved current whole first ws given p from index x is got h
 
     later :
         first_from strong (index + 1) (drop (suc (index - from)) (drop from ws))
-        ≡ next_noticed (index + 1) (events (making rows s starved h.done))
+        ≡ next_notified (index + 1) (events (making rows s starved h.done))
         (transitions (making rows s starved h.done))
     later =
         ap (λ (xs : List Standing). first_from strong (index + 1) xs) rest
@@ -212,7 +212,7 @@ planned_next rows s starved current whole first ws given p from index x is got h
         → weak x ≡ true
         → cond (strong x) (Some index)
         (first_from strong (index + 1) (drop (suc (index - from)) (drop from ws)))
-        ≡ cond planned (next_noticed (index + 1) (events (making rows s starved h.done))
+        ≡ cond planned (next_notified (index + 1) (events (making rows s starved h.done))
         (transitions (making rows s starved h.done))) (Some index)
     by true is_strong free =
         ap (λ (b : Bool).
@@ -243,25 +243,25 @@ same_fold : (rows : List Row) (s : Step) (starved : Bool) (d : Effects) (from ot
     (w : Watching)
     → is_look s.kind ≡ false
     → entries_in d.notes ≡ []
-    → nat_le max_notices d.drew ≡ false
+    → nat_le max_notifications d.drew ≡ false
     → WatchingStandsFor (making rows s starved d) w
     → (n : Option ℕ)
-    → next_noticed from (events (making rows s starved d)) (transitions (making rows s starved d))
+    → next_notified from (events (making rows s starved d)) (transitions (making rows s starved d))
     ≡ n
-    → next_noticed other (events (making rows s starved d)) (transitions (making rows s starved d))
+    → next_notified other (events (making rows s starved d)) (transitions (making rows s starved d))
     ≡ n
     → ((i : ℕ) → n ≡ Some i → i < length (observers (events (making rows s starved d))))
-    → fold (notice_next (ticking rows (row_moment rows s) s)) d
+    → fold (notification_next (ticking rows (row_moment rows s) s)) d
     (drop from (observers (events (making rows s starved d))))
-    ≡ fold (notice_next (ticking rows (row_moment rows s) s)) d
+    ≡ fold (notification_next (ticking rows (row_moment rows s) s)) d
     (drop other (observers (events (making rows s starved d))))
 same_fold rows s starved d from other w desk silent room stands None one two within =
-    notices-end rows s starved d from desk silent room one
-    ∙ sym (notices-end rows s starved d other desk silent room two)
+    notifications-end rows s starved d from desk silent room one
+    ∙ sym (notifications-end rows s starved d other desk silent room two)
 same_fold rows s starved d from other w desk silent room stands (Some i) one two within =
     let found = got_inside (observers (events (making rows s starved d))) i (within i refl) in
-    notices-next rows s starved d from i found.0 desk silent room one found.1
-    ∙ sym (notices-next rows s starved d other i found.0 desk silent room two found.1)
+    notifications-next rows s starved d from i found.0 desk silent room one found.1
+    ∙ sym (notifications-next rows s starved d other i found.0 desk silent room two found.1)
 
 -- the next is one of them
 length-drop : {X : Type 0} (xs : List X) (n : ℕ) → length (drop n xs) ≡ length xs - n
@@ -297,9 +297,9 @@ first_low test i j (x ∷ xs) h = by (test x) h (λ g. first_low test (i + 1) j 
     by false g more = let later = more g in omega (arith, later)
 
 next_within : (from i : ℕ) (past : List Event) (seen : List Transition)
-    → next_noticed from past seen ≡ Some i
+    → next_notified from past seen ≡ Some i
     → i < length (observers past)
-unfolding next_noticed
+unfolding next_notified
 next_within from i past seen is =
     let high =
     first_within (λ o. is_due o past seen && not (is_waited_for o.peer past)) from i
@@ -313,9 +313,9 @@ next_within from i past seen is =
 -- the plan goes on from the index after it
 later_done : (rows : List Row) (s : Step) (starved : Bool) (current : List ℕ) (whole done : Effects)
     (from other : ℕ) (ps : List Planned) (kept : List NamedAnswer)
-    → next_noticed from (events (making rows s starved done))
+    → next_notified from (events (making rows s starved done))
     (transitions (making rows s starved done))
-    ≡ next_noticed other (events (making rows s starved done))
+    ≡ next_notified other (events (making rows s starved done))
     (transitions (making rows s starved done))
     → AreDone rows s starved current whole done other ps kept
     → AreDone rows s starved current whole done from ps kept
@@ -367,7 +367,7 @@ planned_skips rows s starved current whole first ws given p from index x desk fe
       left =
           h.left
           ∙ same_fold rows s starved h.done from (index + 1) h.watching desk h.silent room h.stands
-          (next_noticed (index + 1) (events Made) (transitions Made)) next refl within;
+          (next_notified (index + 1) (events Made) (transitions Made)) next refl within;
       plan =
           λ more later done.
           h.plan more later
@@ -379,15 +379,15 @@ planned_skips rows s starved current whole first ws given p from index x desk fe
     Made = making rows s starved h.done
 
     next :
-        next_noticed from (events Made) (transitions Made)
-        ≡ next_noticed (index + 1) (events Made) (transitions Made)
+        next_notified from (events Made) (transitions Made)
+        ≡ next_notified (index + 1) (events Made) (transitions Made)
     next =
         planned_next rows s starved current whole first ws given p from index x is got h
         ∙ ap (λ (b : Bool).
-        cond b (next_noticed (index + 1) (events Made) (transitions Made)) (Some index))
+        cond b (next_notified (index + 1) (events Made) (transitions Made)) (Some index))
         planned
 
-    room : nat_le max_notices h.done.drew ≡ false
+    room : nat_le max_notifications h.done.drew ≡ false
     room = let drew = h.drew in below h.done.drew (omega (arith, few, drew))
       where
         below : (n : ℕ) → n < 64 → nat_le 64 n ≡ false
@@ -406,6 +406,6 @@ planned_skips rows s starved current whole first ws given p from index x desk fe
         ∙ (drop-drop ws from (index - from) ∙ ap (λ (n : ℕ). drop n ws) e))
 
     within : (i : ℕ)
-        → next_noticed (index + 1) (events Made) (transitions Made) ≡ Some i
+        → next_notified (index + 1) (events Made) (transitions Made) ≡ Some i
         → i < length (observers (events Made))
     within i found = next_within (index + 1) i (events Made) (transitions Made) found

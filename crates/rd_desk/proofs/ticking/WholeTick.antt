@@ -56,34 +56,34 @@ use Rattle.journal_model.specs.Ticks.{
   confirmable_sent,
   sent_again,
   each_of,
-  notice_again,
+  notification_again,
   flight_again,
-  notices_again,
+  notifications_again,
   Ticking,
   ticking,
   events_with,
   first_block,
   is_unchanged,
-  noticed_unless,
+  notified_unless,
   listing_for,
-  noticed_if,
+  notified_if,
   is_looked_at,
-  notice_next,
-  notices,
+  notification_next,
+  notifications,
   requests_again,
   tick_effects,
   due_by,
 }
 use Rattle.journal_model.specs.Journal.{row_at}
 use Rattle.journal_model.proofs.NoteKinds.{of_again, none_of}
-use Rattle.journal_model.proofs.StepNotes.{notices_again-notes}
+use Rattle.journal_model.proofs.StepNotes.{notifications_again-notes}
 use Rattle.simple_registration.specs.FetchEvents.{fetch_due}
 use Rattle.simple_registration.proofs.DeskLaws.{last_request-other, fetch_due-other}
 use Rattle.simple_registration.proofs.NoteLaws.{IsAside}
 use Rattle.simple_registration.proofs.PeerLaws.{fetches-aside}
 use Rattle.coap_answers.specs.declared.mids.Mids.{Mids}
 use Rattle.rd_desk.specs.calls.Desks.{Seen}
-use Rattle.rd_desk.specs.parts.Planning.{notices_done}
+use Rattle.rd_desk.specs.parts.Planning.{notifications_done}
 use Rattle.rd_desk.specs.parts.Resending.{LeavesFetches}
 use Rattle.rd_desk.specs.parts.UnderWay.{UnderWay}
 use Rattle.rd_desk.specs.calls.Steps.{IsCalled, Made}
@@ -152,8 +152,8 @@ record SoFar (n : ℕ) (d : Effects) : Type 0 where
   few : d.drew ≤ 64
 
 pub again_size : (rows : List Row) (moment : ℕ)
-    → length (notices_again rows moment).sent ≤ length (observers (events rows))
-unfolding notices_again
+    → length (notifications_again rows moment).sent ≤ length (observers (events rows))
+unfolding notifications_again
 again_size rows moment = each (observers (events rows))
   where
     sent_one : (d : Option (Peer × List ℕ)) (n : Note) → length (sent_again d n).sent ≤ 1
@@ -161,7 +161,7 @@ again_size rows moment = each (observers (events rows))
     sent_one (Some d) n = omega arith
 
     due : (a b : Bool) (o : Observer) (f : Flight)
-        → length (notice_again (due_by a b) rows o f).sent ≤ 1
+        → length (notification_again (due_by a b) rows o f).sent ≤ 1
     due false b o f = omega arith
     due true true o f = omega arith
     due true false o f =
@@ -185,8 +185,8 @@ again_size rows moment = each (observers (events rows))
         (each_of (λ x. flight_again rows moment x (flight x (events rows))) os).sent in
         omega (arith, first, rest, sum)
 
-pub again_draws : (rows : List Row) (moment : ℕ) → (notices_again rows moment).drew ≡ 0
-unfolding notices_again
+pub again_draws : (rows : List Row) (moment : ℕ) → (notifications_again rows moment).drew ≡ 0
+unfolding notifications_again
 again_draws rows moment = each (observers (events rows))
   where
     sent_one : (d : Option (Peer × List ℕ)) (n : Note) → (sent_again d n).drew ≡ 0
@@ -194,7 +194,7 @@ again_draws rows moment = each (observers (events rows))
     sent_one (Some d) n = refl
 
     due : (a b : Bool) (o : Observer) (f : Flight)
-        → (notice_again (due_by a b) rows o f).drew ≡ 0
+        → (notification_again (due_by a b) rows o f).drew ≡ 0
     due false b o f = refl
     due true true o f = refl
     due true false o f =
@@ -215,14 +215,14 @@ again_draws rows moment = each (observers (events rows))
         omega (arith, first, rest)
 
 again_so_far : (rows : List Row) (moment : ℕ)
-    → SoFar (length (observers (events rows))) (notices_again rows moment)
+    → SoFar (length (observers (events rows))) (notifications_again rows moment)
 again_so_far rows moment =
     let size = again_size rows moment in
     let drew = again_draws rows moment in
     record {
       aside =
-          none_of of_again about_fetches other (notices_again rows moment).notes
-          (notices_again-notes rows moment);
+          none_of of_again about_fetches other (notifications_again rows moment).notes
+          (notifications_again-notes rows moment);
       size = omega (arith, size, drew);
       few = omega (arith, drew);
     }
@@ -235,7 +235,7 @@ again_so_far rows moment =
 -- one observer more
 one_so_far : (n : ℕ) (t : Ticking) (d : Effects) (o : Observer)
     → SoFar n d
-    → SoFar n (notice_next t d o)
+    → SoFar n (notification_next t d o)
 one_so_far n t d o h = by (is_looked_at t d o) refl
   where
     more : (e : Effects)
@@ -272,15 +272,16 @@ one_so_far n t d o h = by (is_looked_at t d o) refl
     keeps true a = refl
     keeps false a = refl
 
-    unless : (b : Bool) (a : Answer) → d.drew < 64 → SoFar n (joined d (noticed_unless b t d o a))
+    unless : (b : Bool) (a : Answer) → d.drew < 64 → SoFar n (joined d (notified_unless b t d o a))
     unless true a low =
         let few = h.few in
-        more (noticed_unless true t d o a) refl (omega arith) (omega (arith, few))
+        more (notified_unless true t d o a) refl (omega arith) (omega (arith, few))
     unless false a low =
-        more (noticed_unless false t d o a) (keeps (is_long (first_block o) a.body) a) (omega arith)
+        more (notified_unless false t d o a) (keeps (is_long (first_block o) a.body) a)
+        (omega arith)
         (omega (arith, low))
 
-    by : (b : Bool) → is_looked_at t d o ≡ b → SoFar n (joined d (noticed_if b t d o))
+    by : (b : Bool) → is_looked_at t d o ≡ b → SoFar n (joined d (notified_if b t d o))
     by false e = let few = h.few in more nothing refl (omega arith) (omega (arith, few))
     by true e =
         unless
@@ -289,31 +290,32 @@ one_so_far n t d o h = by (is_looked_at t d o) refl
 
 all_so_far : (n : ℕ) (t : Ticking) (os : List Observer) (d : Effects)
     → SoFar n d
-    → SoFar n (fold (notice_next t) d os)
+    → SoFar n (fold (notification_next t) d os)
 all_so_far n t [] d h = h
-all_so_far n t (o ∷ os) d h = all_so_far n t os (notice_next t d o) (one_so_far n t d o h)
+all_so_far n t (o ∷ os) d h = all_so_far n t os (notification_next t d o) (one_so_far n t d o h)
 
 done_so_far : (starved : Bool) (rows : List Row) (s : Step)
-    → SoFar (length (observers (events rows))) (notices_done starved rows s)
-unfolding notices
+    → SoFar (length (observers (events rows))) (notifications_done starved rows s)
+unfolding notifications
 done_so_far true rows s = again_so_far rows (row_moment rows s)
 done_so_far false rows s =
     all_so_far (length (observers (events rows))) (ticking rows (row_moment rows s) s)
     (observers (events_with (ticking rows (row_moment rows s) s)
-    (notices_again rows (row_moment rows s)))) (notices_again rows (row_moment rows s))
+    (notifications_again rows (row_moment rows s)))) (notifications_again rows (row_moment rows s))
     (again_so_far rows (row_moment rows s))
 
 -- ---- the tick
 
 -- what the requests of fetches ask of the notifications
-pub notices_leave : (starved : Bool) (rows : List Row) (s : Step)
-    → LeavesFetches rows s starved (notices_done starved rows s)
-notices_leave starved rows s =
-    leaves_fetches rows s starved (notices_done starved rows s) (done_so_far starved rows s).aside
+pub notifications_leave : (starved : Bool) (rows : List Row) (s : Step)
+    → LeavesFetches rows s starved (notifications_done starved rows s)
+notifications_leave starved rows s =
+    leaves_fetches rows s starved (notifications_done starved rows s)
+    (done_so_far starved rows s).aside
 
 pub requests_room : (starved : Bool) (rows : List Row) (s : Step)
     → IsDeskJournal rows
-    → length (notices_done starved rows s).sent + length (fetches (events rows)) ≤ 1_152
+    → length (notifications_done starved rows s).sent + length (fetches (events rows)) ≤ 1_152
 requests_room starved rows s journal =
     let so_far = done_so_far starved rows s in
     let size = so_far.size in
@@ -325,7 +327,7 @@ requests_room starved rows s journal =
 -- the parts are all that a tick does
 tick_is : (starved : Bool) (rows : List Row) (s : Step)
     → s.kind ≡ step.Tick
-    → joined (notices_done starved rows s) (requests_again rows (row_moment rows s))
+    → joined (notifications_done starved rows s) (requests_again rows (row_moment rows s))
     ≡ effects s.kind starved rows (row_moment rows s) s
 unfolding effects tick_effects
 tick_is true rows s kind =
@@ -339,10 +341,10 @@ pub tick_made : (rows : List Row) (s : Step) (starved : Bool) (now : Moment) (be
     → s.kind ≡ step.Tick
     → IsCalled rows s now mids_before before
     → UnderWay rows s starved
-    (joined (notices_done starved rows s) (requests_again rows (row_moment rows s))) after out
+    (joined (notifications_done starved rows s) (requests_again rows (row_moment rows s))) after out
     mids
     → Made rows (row rows s starved) after out mids_before mids
 tick_made rows s starved now before after out mids_before mids kind call way =
     ended rows s starved
-    (joined (notices_done starved rows s) (requests_again rows (row_moment rows s))) after out
+    (joined (notifications_done starved rows s) (requests_again rows (row_moment rows s))) after out
     mids_before mids way (tick_is starved rows s kind) call.worker call.drawn

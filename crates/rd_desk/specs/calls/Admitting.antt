@@ -43,8 +43,8 @@ use Rattle.journal_model.specs.Requests.{
 }
 use Rattle.journal_model.specs.Responses.{fetch_of}
 use Rattle.journal_model.specs.Writes.{write_effects}
-use Rattle.rd_desk.specs.declared.admissions.Admitted.{Admitted}
-use Rattle.rd_desk.specs.declared.admissions.Admitted.TheVariants as admitted
+use Rattle.rd_desk.specs.declared.admitted.Admitted.{Admitted}
+use Rattle.rd_desk.specs.declared.admitted.Admitted.TheVariants as admitted
 
 -- Returns whether memory ran out.
 abbrev pub is_starved_admission : Admitted → Bool

@@ -1,7 +1,7 @@
 -- How a step ends that does a job, a tick or a beginning.
 use Rattle.std.specs.Prelude.{Bool, true, false}
-use Rattle.rd_desk.specs.declared.steps.Stepped.{Stepped}
-use Rattle.rd_desk.specs.declared.steps.Stepped.TheVariants as stepped
+use Rattle.rd_desk.specs.declared.stepped.Stepped.{Stepped}
+use Rattle.rd_desk.specs.declared.stepped.Stepped.TheVariants as stepped
 
 -- Returns whether memory ran out.
 abbrev pub is_starved_step : Stepped → Bool

@@ -17,10 +17,10 @@ use Rattle.journal_model.specs.Rows.{row_moment}
 use Rattle.journal_model.specs.Writes.{write_effects}
 use Rattle.exchange_core.specs.declared.writes.Keyed.{Keyed}
 use Rattle.exchange_core.specs.declared.writes.Keyed.TheVariants as keyed
-use Rattle.rd_desk.specs.declared.admissions.Admitted.{Admitted}
-use Rattle.rd_desk.specs.declared.admissions.Admitted.TheVariants as admitted
-use Rattle.rd_desk.specs.declared.steps.Stepped.{Stepped}
-use Rattle.rd_desk.specs.declared.steps.Stepped.TheVariants as stepped
+use Rattle.rd_desk.specs.declared.admitted.Admitted.{Admitted}
+use Rattle.rd_desk.specs.declared.admitted.Admitted.TheVariants as admitted
+use Rattle.rd_desk.specs.declared.stepped.Stepped.{Stepped}
+use Rattle.rd_desk.specs.declared.stepped.Stepped.TheVariants as stepped
 
 -- Returns the effects of a write that is not refused. If memory ran out, the answer is 5.00.
 abbrev pub write_heard : Bool → List Row → Step → Message → Effects

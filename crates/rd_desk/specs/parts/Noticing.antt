@@ -7,7 +7,7 @@ use Rattle.exchange_core.specs.declared.resends.Again.{Again}
 use Rattle.exchange_core.specs.declared.resends.Again.TheVariants as again
 use Rattle.journal_model.specs.Effects.{Effects, nothing, noting}
 use Rattle.observers.specs.Standing.{Standing, due_of}
-use Rattle.observation.specs.Notices.{sending_again}
+use Rattle.observation.specs.Notifications.{sending_again}
 
 -- Returns what a tick does with the notification in flight to an observer, by what is due for it:
 -- nothing, a retransmission, or the removal of the observer (RFC 7641 section 4.5).

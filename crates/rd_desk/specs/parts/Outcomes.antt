@@ -12,7 +12,7 @@ use Rattle.observation.specs.declared.change_kinds.ChangeKind.{ChangeKind}
 use Rattle.observation.specs.ChangeKinds.{kind_of}
 use Rattle.rd_desk.specs.declared.write.outcomes.Entering.{Entering}
 use Rattle.rd_desk.specs.declared.write.outcomes.Outcome.{Outcome}
-use Rattle.rd_desk.specs.declared.write.replies.ShortReply.{ShortReply}
+use Rattle.rd_desk.specs.declared.write.short_replies.ShortReply.{ShortReply}
 use Rattle.rd_desk.specs.parts.Replies.{short_said}
 use Rattle.message_model.specs.Codes as codes_of
 use Rattle.history_model.specs.declared.refusals.Refusal.{Refusal}

@@ -50,17 +50,17 @@ use Rattle.journal_model.specs.Ticks.{
   ticking,
   is_confirmable_with,
   first_block,
-  notices_again,
-  notices,
-  notice_next,
+  notifications_again,
+  notifications,
+  notification_next,
 }
 use Rattle.journal_model.specs.UnfinishedRow.{making}
 use Rattle.exchange_core.specs.Retransmissions.{Resends}
 use Rattle.transfers.specs.Keeping.{NamedAnswer, kept_each}
 use Rattle.observers.specs.Standing.{Standing, is_awaited}
 use Rattle.coap_answers.specs.declared.mids.Mids.{Mids}
-use Rattle.coap_answers.specs.Writing.{notice_saying}
-use Rattle.observation.specs.Notices.{next_noticed}
+use Rattle.coap_answers.specs.Writing.{notification_saying}
+use Rattle.observation.specs.Notifications.{next_notified}
 use Rattle.observation.specs.Watching.{Watching, WatchingStandsFor}
 use Rattle.rd_desk.specs.declared.tick.planning.Plan.{Plan}
 use Rattle.rd_desk.specs.declared.tick.planning.Planned.{Planned}
@@ -72,32 +72,38 @@ use Rattle.rd_desk.specs.parts.UnderWay.{UnderWay}
 
 -- Returns the block that an observer gets, by the exponent of the size that it requested. It is the
 -- first block, of a size that exists (RFC 7959 section 2.2).
-abbrev pub block_of_notice : ℕ → Option Block
-block_of_notice szx = Some (record { num = 0; more = false; szx = if nat_lt szx 6 then szx else 6 })
+abbrev pub block_of_notification : ℕ → Option Block
+block_of_notification szx = Some (record {
+  num = 0;
+  more = false;
+  szx = if nat_lt szx 6 then szx
+      else 6;
+})
 
 -- Returns the block that a notification names: the first, if its body is longer than that, and
 -- otherwise none.
 abbrev pub block_named : ℕ → List ℕ → Option Block
-block_named szx body = if is_long (block_of_notice szx) body then block_of_notice szx else None
+block_named szx body = if is_long (block_of_notification szx) body then block_of_notification szx
+    else None
 
 -- Returns the octets of a notification to an observer, with a body.
-abbrev pub notice_spelled : Standing → List ℕ → ℕ → ℕ → List ℕ → List ℕ
-notice_spelled x current mid observe body =
-    spelling (notice_saying mid x.token
+abbrev pub notification_spelled : Standing → List ℕ → ℕ → ℕ → List ℕ → List ℕ
+notification_spelled x current mid observe body =
+    spelling (notification_saying mid x.token
     (body_reply (Some current) (Some observe) (block_named x.szx body) body))
 
 -- Returns the answer that is kept of a notification, if its body is longer than the block.
 abbrev pub kept_by : Standing → List ℕ → List ℕ → List NamedAnswer
 kept_by x body current =
-    if is_long (block_of_notice x.szx) body
+    if is_long (block_of_notification x.szx) body
     then record { name = (x.peer, x.key); answer = record { body = body; tag = current } } ∷ []
     else []
 
 -- A notification to an observer that is added to a plan.
-pub record AddsNotice (x : Standing) (now word : ℕ) (current body : List ℕ) (mid observe : ℕ)
+pub record AddsNotification (x : Standing) (now word : ℕ) (current body : List ℕ) (mid observe : ℕ)
     (sent : Sent) (before after : Plan) : Type 0 where
   pub mid_is : sent.mid ≡ mid
-  pub octets : sent.octets ≡ notice_spelled x current mid observe body
+  pub octets : sent.octets ≡ notification_spelled x current mid observe body
   pub short : length sent.octets ≤ 1_280
   pub resends : (first : Event)
       → first.moment ≡ now
@@ -133,14 +139,14 @@ keeping_noted (a ∷ more) = noting (note.Kept a.name.0 a.name.1 a.answer.body a
 -- Returns what is done for an observer as planned, if listings have this tag.
 abbrev pub planned_done : List ℕ → Observer → Planned → Effects
 planned_done current o planned.Unchanged = noting (note.Unchanged o.peer o.token ∷ [])
-planned_done current o (planned.Noticed sent body) =
+planned_done current o (planned.Notified sent body) =
     joined (forming_for o (arc_value body) sent)
     (keeping_noted (kept_of o (arc_value body) current))
 
 -- Returns the answers that are kept when this is done.
 abbrev pub planned_kept : List ℕ → Observer → Planned → List NamedAnswer
 planned_kept current o planned.Unchanged = []
-planned_kept current o (planned.Noticed sent body) = kept_of o (arc_value body) current
+planned_kept current o (planned.Notified sent body) = kept_of o (arc_value body) current
 
 -- A notification that may be sent to an observer in a row that did this so far. The row has not
 -- sent a confirmable message with its Message ID to that peer. The notification is confirmable, its
@@ -159,7 +165,7 @@ pub record MayBeSent (rows : List Row) (s : Step) (done : Effects) (o : Observer
 -- States the same of what is planned.
 abbrev pub MayBeDone : List Row → Step → Effects → Observer → Planned → Type 0
 MayBeDone rows s done o planned.Unchanged = Unit {0}
-MayBeDone rows s done o (planned.Noticed sent body) = MayBeSent rows s done o sent
+MayBeDone rows s done o (planned.Notified sent body) = MayBeSent rows s done o sent
 
 -- The next observer from an index on that is due and has no notification in flight, after what the
 -- row did so far. What is planned may be done for it.
@@ -168,7 +174,7 @@ pub record IsNext (rows : List Row) (s : Step) (starved : Bool) (done : Effects)
   pub index : ℕ
   pub observer : Observer
   pub next :
-      next_noticed from (events (making rows s starved done))
+      next_notified from (events (making rows s starved done))
       (transitions (making rows s starved done))
       ≡ Some index
   pub got : slice_get (observers (events (making rows s starved done))) index ≡ Some observer
@@ -202,7 +208,7 @@ AreDone rows s starved current whole done from (p ∷ ps) kept =
 pub record PlannedUpTo (rows : List Row) (s : Step) (starved : Bool) (current : List ℕ)
     (whole first : Effects) (ws : List Standing) (given : ℕ) (p : Plan)
     (from : ℕ) : Type 0 where
-  pub begins : first ≡ notices_again rows (row_moment rows s)
+  pub begins : first ≡ notifications_again rows (row_moment rows s)
   pub done : Effects
   pub watching : Watching
   pub stands : WatchingStandsFor (making rows s starved done) watching
@@ -223,7 +229,7 @@ pub record PlannedUpTo (rows : List Row) (s : Step) (starved : Bool) (current : 
       ≡ (given + length p.peers.items) % 2 ^ 64
   pub left :
       whole
-      ≡ fold (notice_next (ticking rows (row_moment rows s) s)) done
+      ≡ fold (notification_next (ticking rows (row_moment rows s) s)) done
       (drop from (observers (events (making rows s starved done))))
   pub plan : (more : List Planned) (later : List NamedAnswer)
       → AreDone rows s starved current whole done from more later
@@ -247,7 +253,8 @@ pub record CarryingOut (rows : List Row) (s : Step) (starved : Bool) (current : 
 
 -- Returns what a row does with notifications: retransmissions, then new ones. If memory ran out, it
 -- does only the retransmissions.
-abbrev pub notices_done : Bool → List Row → Step → Effects
-notices_done true rows s = notices_again rows (row_moment rows s)
-notices_done false rows s =
-    notices (ticking rows (row_moment rows s) s) (notices_again rows (row_moment rows s))
+abbrev pub notifications_done : Bool → List Row → Step → Effects
+notifications_done true rows s = notifications_again rows (row_moment rows s)
+notifications_done false rows s =
+    notifications (ticking rows (row_moment rows s) s)
+    (notifications_again rows (row_moment rows s))

@@ -3,7 +3,7 @@ use Rattle.std.specs.Prelude.{false, None}
 use Rattle.journal_model.specs.Effects as effects
 use Rattle.coap_answers.specs.declared.replies.Reply.{Reply}
 use Rattle.coap_answers.specs.Replies.{reply_said}
-use Rattle.rd_desk.specs.declared.write.replies.ShortReply.{ShortReply}
+use Rattle.rd_desk.specs.declared.write.short_replies.ShortReply.{ShortReply}
 
 -- Returns the answer as a reply, without tag, Observe value, format and Block2.
 abbrev pub as_reply : ShortReply → Reply

@@ -25,11 +25,11 @@ ghost use Rattle.observers.specs.Standing.{Standing};
 ghost use Rattle.coap_answers.specs.declared.mids.Mids.{Mids as Drawn};
 ghost use Rattle.observation.specs.Watching.{WatchingStandsFor};
 ghost use Rattle.rd_desk.specs.declared.tick.planning.Planned.TheVariants as planned;
-ghost use Rattle.rd_desk.specs.parts.Planning.{notice_spelled, AddsNotice};
+ghost use Rattle.rd_desk.specs.parts.Planning.{notification_spelled, AddsNotification};
 ghost use Rattle.rd_desk.specs.parts.Planning as planning_of;
 ghost use Rattle.rd_desk.specs.parts.UnderWay.{UnderWay};
 
-use coap_answers::{body_reply, is_long, spell_notice};
+use coap_answers::{body_reply, is_long, spell_notification};
 use coap_message::TokenRef;
 use directory_core::Directory;
 use exchange_core::{Resend, Sent};
@@ -45,7 +45,7 @@ use std::sync::ledger::Blank;
 use transfers::Answer;
 
 /// The most notifications that one tick builds.
-pub(crate) const MAX_NOTICES: usize = 64;
+pub(crate) const MAX_NOTIFICATIONS: usize = 64;
 
 /// What is planned for an observer whose listing is examined.
 #[derive(Drop)]
@@ -53,7 +53,7 @@ pub(crate) enum Planned {
     /// Its listing is unchanged.
     Unchanged,
     /// It gets this notification, with this body.
-    Noticed(Sent, Arc<Bytes>),
+    Notified(Sent, Arc<Bytes>),
 }
 
 /// What is planned for the observers that are examined, in their order.
@@ -81,8 +81,8 @@ pub(crate) struct Occasion {
 
 /// Returns the block that an observer gets, given the exponent of the size that it requested: the
 /// first block (RFC 7959 section 2.4).
-fn block_of_notice(szx: u8) -> Option<Block>
-    ensures first { result ≡ planning_of.block_of_notice szx }
+fn block_of_notification(szx: u8) -> Option<Block>
+    ensures first { result ≡ planning_of.block_of_notification szx }
     ensures block { ForSome result IsBlock }
 {
     Some(Block {
@@ -97,7 +97,7 @@ fn block_named(szx: u8, body: &[u8]) -> Option<Block>
     ensures named { result ≡ planning_of.block_named szx body.now }
     ensures block { ForSome result IsBlock }
 {
-    let first = block_of_notice(szx);
+    let first = block_of_notification(szx);
     if is_long(&first, body) {
         return first;
     }
@@ -105,7 +105,7 @@ fn block_named(szx: u8, body: &[u8]) -> Option<Block>
 }
 
 /// Returns the octets of a notification to an observer, with a body (RFC 7641 section 4.2).
-fn notice_octets(
+fn notification_octets(
     alloc: Global,
     observer: &Observer,
     tag: Tag,
@@ -115,7 +115,7 @@ fn notice_octets(
 ) -> Result<Bytes, Starved>
     requires { observe < 2 ^ 24 }
     ensures spelled { IfOk result (λ octets. octets
-        ≡ notice_spelled observer.now tag.0 mid observe body.now) }
+        ≡ notification_spelled observer.now tag.0 mid observe body.now) }
     ensures short { IfOk result (λ octets. length octets ≤ longest_datagram) }
 {
     let named = block_named(observer.szx, body);
@@ -123,7 +123,7 @@ fn notice_octets(
     let token = TokenRef {
         octets: observer.token.as_slice(),
     };
-    spell_notice(alloc, mid, token, &reply)
+    spell_notification(alloc, mid, token, &reply)
 }
 
 /// Returns the Observe value that follows `given` values and `more` further ones (RFC 7641 section
@@ -189,7 +189,7 @@ impl Plan {
         ensures peers { self.new.peers.items ≡ self.old.peers.items }
         ensures items { self.new.items.items ≡ self.old.items.items }
     {
-        if !is_long(&block_of_notice(observer.szx), body.as_slice()) {
+        if !is_long(&block_of_notification(observer.szx), body.as_slice()) {
             return Ok(());
         }
         let key = observer.key.clone()?;
@@ -204,7 +204,7 @@ impl Plan {
     }
 
     /// Adds a notification with this body, Message ID and Observe value to an observer.
-    pub(crate) fn add_notice(
+    pub(crate) fn add_notification(
         &mut self,
         alloc: Global,
         observer: &Observer,
@@ -215,11 +215,19 @@ impl Plan {
     ) -> Result<(), Starved>
         requires { observe < 2 ^ 24 }
         ensures { OnOk result ((sent : Message)
-            × (self.new.items.items ≡ self.old.items.items ++ planned.Noticed sent body ∷ [])
-            × AddsNotice observer.now occasion.now.0 occasion.word occasion.tag.0 (arc_value body)
+            × (self.new.items.items ≡ self.old.items.items ++ planned.Notified sent body ∷ [])
+            × AddsNotification observer.now occasion.now.0 occasion.word occasion.tag.0
+            (arc_value body)
             mid observe sent self.old self.new) }
     {
-        let bytes = notice_octets(alloc, observer, occasion.tag, mid, observe, body.as_slice())?;
+        let bytes = notification_octets(
+            alloc,
+            observer,
+            occasion.tag,
+            mid,
+            observe,
+            body.as_slice(),
+        )?;
         self.keep(observer, &body, occasion.tag)?;
         self.peers.push(observer.peer)?;
         let sent = Sent {
@@ -227,7 +235,7 @@ impl Plan {
             bytes,
             resend: Resend::start(occasion.now, occasion.word),
         };
-        self.items.push(Planned::Noticed(sent, body))?;
+        self.items.push(Planned::Notified(sent, body))?;
         Ok(())
     }
 }

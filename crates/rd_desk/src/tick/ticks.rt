@@ -95,8 +95,8 @@ impl Tables {
             → is_starved_step result ≡ false }
     {
         self.pass(now);
-        self.notices_again(out);
-        let stepped = self.notices(word, mids, out);
+        self.notifications_again(out);
+        let stepped = self.notifications(word, mids, out);
         self.requests_again(out);
         self.drop_old();
         stepped

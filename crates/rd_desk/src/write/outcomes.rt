@@ -27,7 +27,7 @@ ghost use Rattle.rd_desk.specs.parts.Laying.{IsNextOf};
 ghost use Rattle.rd_desk.specs.parts.Outcomes.{HasEntry, IsTimely, IsPlanned, IsRefusedWith};
 ghost use Rattle.rd_desk.specs.parts.Outcomes.{IsBadBody};
 
-use crate::write::replies::ShortReply;
+use crate::write::short_replies::ShortReply;
 use directory_core::{Directory, Refusal};
 use message_model::Block;
 use message_model::codes::{

@@ -20,7 +20,7 @@ ghost use Rattle.rd_desk.specs.parts.UnderWay.{UnderWay};
 
 use crate::tables::Tables;
 use crate::write::asked::Write;
-use crate::write::replies::ShortReply;
+use crate::write::short_replies::ShortReply;
 use crate::{Mids, Outbox};
 use coap_answers::{Datagram, Reply, answer, begin_answer, internal_server_error};
 use coap_message::View;

@@ -35,7 +35,7 @@ use crate::tables::Tables;
 use crate::write::asked::{BringingLinks, Write};
 use crate::write::links::whole_outcome;
 use crate::write::outcomes::Outcome;
-use crate::write::replies::ShortReply;
+use crate::write::short_replies::ShortReply;
 use crate::write::staging::staged;
 use crate::{Mids, Outbox, Stepped};
 use coap_options::request_key;

@@ -664,15 +664,19 @@ def blocks():
     read("past-the-end.pcap", story)
 
 
+# What `rd_capture` prints of an input that is no capture.
+NO_CAPTURE = "standard input: it is no capture"
+
+
 def no_captures():
     say("files that are no captures")
-    refused("nothing.pcap", b"", "no capture", 4)
-    refused("text.pcap", b"in 0 5 192.0.2.10:5683 40011234\n", "no capture", 4)
-    refused("version.pcap", Pcap(1, version=(3, 0)).octets, "no capture", 4)
-    refused("modified.pcap", Pcap(1, magic=0xA1B2CD34).octets, "no capture", 4)
-    refused("magic.pcapng", Pcapng().section("<", magic=0x1A2B3C4E).octets, "no capture", 4)
-    refused("version.pcapng", Pcapng().section("<", version=(2, 0)).octets, "no capture", 4)
-    refused("text.pcap", FILES["text.pcap"], "no capture", 4, "--replies")
+    refused("nothing.pcap", b"", NO_CAPTURE, 4)
+    refused("text.pcap", b"in 0 5 192.0.2.10:5683 40011234\n", NO_CAPTURE, 4)
+    refused("version.pcap", Pcap(1, version=(3, 0)).octets, NO_CAPTURE, 4)
+    refused("modified.pcap", Pcap(1, magic=0xA1B2CD34).octets, NO_CAPTURE, 4)
+    refused("magic.pcapng", Pcapng().section("<", magic=0x1A2B3C4E).octets, NO_CAPTURE, 4)
+    refused("version.pcapng", Pcapng().section("<", version=(2, 0)).octets, NO_CAPTURE, 4)
+    refused("text.pcap", FILES["text.pcap"], NO_CAPTURE, 4, "--replies")
 
 
 def words():

@@ -1,6 +1,6 @@
 //! Tables of a desk, which are read line by line, one table after another.
 
-use super::station::Station;
+use super::fixture::Fixture;
 use rd_base::Starved;
 use std::alloc::Global;
 
@@ -22,7 +22,7 @@ struct Table {
     /// Its name.
     name: String,
     /// The desk.
-    station: Station,
+    fixture: Fixture,
     /// The first line that does not hold.
     failing: Option<Failing>,
 }
@@ -32,14 +32,14 @@ impl Table {
     fn new(alloc: Global, name: &str) -> Result<Table, Starved> {
         Ok(Table {
             name: String::from_str(alloc, name)?,
-            station: Station::new(alloc)?,
+            fixture: Fixture::new(alloc)?,
             failing: None,
         })
     }
 
     /// Handles the next line, if those before it held.
     fn take(&mut self, alloc: Global, number: u64, line: &str) -> Result<(), Starved> {
-        if self.failing.is_some() || self.station.holds(line)? {
+        if self.failing.is_some() || self.fixture.holds(line)? {
             return Ok(());
         }
         let line = String::from_str(alloc, line)?;
@@ -53,7 +53,7 @@ impl Table {
         if let Some(Failing { number, line }) = &self.failing {
             return Ok(Some(format!(in alloc; "{name}: line {number}: {line}")?));
         }
-        if self.station.is_told() {
+        if self.fixture.is_told() {
             return Ok(None);
         }
         Ok(Some(format!(in alloc; "{name}: the end")?))

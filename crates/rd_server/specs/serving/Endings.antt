@@ -7,8 +7,8 @@ use Rattle.rd_base.specs.Outside.{Rose}
 use Rattle.rd_server.specs.declared.serving.served.Served.{Served}
 use Rattle.rd_server.specs.declared.serving.served.ServeFault.{ServeFault}
 use Rattle.rd_server.specs.declared.serving.served.ServeFault.TheVariants as fault
-use Rattle.rd_server.specs.declared.serving.statuses.ServeStatus.{ServeStatus}
-use Rattle.rd_server.specs.declared.serving.statuses.ServeStatus.TheVariants as status
+use Rattle.rd_server.specs.declared.serving.serve_status.ServeStatus.{ServeStatus}
+use Rattle.rd_server.specs.declared.serving.serve_status.ServeStatus.TheVariants as status
 
 -- ---- sums
 

@@ -10,8 +10,8 @@ use Rattle.rd_seat.specs.Runs.{HasCalled, IsSeatAfter}
 use Rattle.rd_server.specs.declared.serving.ends.End.{End}
 use Rattle.rd_server.specs.declared.serving.served.Served.{Served}
 use Rattle.rd_server.specs.declared.serving.served.ServeFault.TheVariants as fault
-use Rattle.rd_server.specs.declared.serving.statuses.ServeStatus.{ServeStatus}
-use Rattle.rd_server.specs.declared.serving.statuses.ServeStatus.TheVariants as status
+use Rattle.rd_server.specs.declared.serving.serve_status.ServeStatus.{ServeStatus}
+use Rattle.rd_server.specs.declared.serving.serve_status.ServeStatus.TheVariants as status
 use Rattle.rd_server.specs.serving.Workers.{WorkerSeen, link_seen, worker_seen}
 use Rattle.rd_server.specs.serving.Service.{Serves, CountsTold}
 use Rattle.rd_server.specs.serving.Endings.{none_served, both_served, served_line}

@@ -10,7 +10,7 @@ ghost use Rattle.rd_server.specs.serving.Calls.{Call};
 ghost use Rattle.rd_server.specs.serving.Workers.{CallsMade, worker_seen};
 ghost use Rattle.rd_server.specs.serving.Sums.{CountsCalls, GrowsBy, HasRoom};
 
-use crate::serving::posts::{Post, Tally};
+use crate::serving::contexts::{Context, Tally};
 use crate::serving::sends::finish;
 use crate::serving::served::{is_starved, is_starved_hearing};
 use rd_base::Peer;
@@ -21,13 +21,13 @@ use udp_link::{Clock, Link};
 
 /// Lets time pass at the seat.
 pub(crate) fn tick<R: Wait, L: Link, C: Clock, G: Gate>(
-    post: &Post<R, G>,
+    context: &Context<R, G>,
     seat: &mut Seat,
     link: &mut L,
     clock: &mut C,
     tally: &mut Tally,
 )
-    requires hall { seat.old.hall ≡ post.now.hall.now }
+    requires hall { seat.old.hall ≡ context.now.hall.now }
     requires room { HasRoom tally.old.served }
     ensures hall { seat.new.hall ≡ seat.old.hall }
     ensures grows { GrowsBy (most_datagrams + 1) tally.old.served tally.new.served }
@@ -38,7 +38,14 @@ pub(crate) fn tick<R: Wait, L: Link, C: Clock, G: Gate>(
 {
     let now = clock.now();
     let word = clock.word();
-    let stepped = seat.tick(post.rt, post.hall, post.gate, now, word, &mut tally.out);
+    let stepped = seat.tick(
+        context.rt,
+        context.hall,
+        context.gate,
+        now,
+        word,
+        &mut tally.out,
+    );
     finish(link, is_starved(stepped), &mut tally.out, &mut tally.served);
 }
 
@@ -54,7 +61,7 @@ fn job_in(heard: SeatHeard) -> Option<Job>
 
 /// Has the seat handle a datagram. Returns the job that it leaves, if there is one.
 pub(crate) fn hear<R: Wait, L: Link, C: Clock, G: Gate>(
-    post: &Post<R, G>,
+    context: &Context<R, G>,
     seat: &mut Seat,
     link: &mut L,
     clock: &mut C,
@@ -62,7 +69,7 @@ pub(crate) fn hear<R: Wait, L: Link, C: Clock, G: Gate>(
     peer: Peer,
     datagram: &[u8],
 ) -> Option<Job>
-    requires hall { seat.old.hall ≡ post.now.hall.now }
+    requires hall { seat.old.hall ≡ context.now.hall.now }
     requires room { HasRoom tally.old.served }
     ensures hall { seat.new.hall ≡ seat.old.hall }
     ensures grows { GrowsBy (most_datagrams + 1) tally.old.served tally.new.served }
@@ -73,7 +80,7 @@ pub(crate) fn hear<R: Wait, L: Link, C: Clock, G: Gate>(
         × CountsCalls (c ∷ []) tally.old.served tally.new.served }
     ensures open { IfSome result (λ job. IsOpenWrite (last_place seat.new.seen) seat.new job) }
 {
-    let (rt, hall, gate) = (post.rt, post.hall, post.gate);
+    let (rt, hall, gate) = (context.rt, context.hall, context.gate);
     let now = clock.now();
     let word = clock.word();
     let heard = seat.hear(rt, hall, gate, now, word, peer, datagram, &mut tally.out);
@@ -84,14 +91,14 @@ pub(crate) fn hear<R: Wait, L: Link, C: Clock, G: Gate>(
 
 /// Has the seat do the job that the last datagram left.
 pub(crate) fn go<R: Wait, L: Link, C: Clock, G: Gate>(
-    post: &Post<R, G>,
+    context: &Context<R, G>,
     seat: &mut Seat,
     link: &mut L,
     clock: &mut C,
     tally: &mut Tally,
     job: Job,
 )
-    requires hall { seat.old.hall ≡ post.now.hall.now }
+    requires hall { seat.old.hall ≡ context.now.hall.now }
     requires room { HasRoom tally.old.served }
     requires open { IsOpenWrite (last_place seat.old.seen) seat.old job }
     ensures hall { seat.new.hall ≡ seat.old.hall }
@@ -102,6 +109,13 @@ pub(crate) fn go<R: Wait, L: Link, C: Clock, G: Gate>(
         × CountsCalls (c ∷ []) tally.old.served tally.new.served }
 {
     let now = clock.now();
-    let stepped = seat.go(post.rt, post.hall, post.gate, now, job, &mut tally.out);
+    let stepped = seat.go(
+        context.rt,
+        context.hall,
+        context.gate,
+        now,
+        job,
+        &mut tally.out,
+    );
     finish(link, is_starved(stepped), &mut tally.out, &mut tally.served);
 }

@@ -5,8 +5,8 @@ ghost use Rattle.rd_server.specs.serving.Endings as spec;
 ghost use Rattle.rd_server.specs.serving.Endings.{Concludes, served_line};
 
 use crate::serving::ends::End;
+use crate::serving::serve_status::ServeStatus;
 use crate::serving::served::{ServeFault, Served};
-use crate::serving::statuses::ServeStatus;
 use rd_base::{Bytes, Sink, Starved, write_all};
 use std::alloc::Global;
 

@@ -6,7 +6,7 @@ ghost use Rattle.rd_server.specs.serving.Servers.{EachGoesOn, PrintsSums};
 
 use crate::serving::conclusions::{conclude, joined};
 use crate::serving::ends::{End, seat_ends, serve_ends, unseat_ends};
-use crate::serving::statuses::ServeStatus;
+use crate::serving::serve_status::ServeStatus;
 use rd_base::{Sink, Starved};
 use rd_seat::{Gate, Hall};
 use std::sync::Wait;

@@ -10,7 +10,7 @@ ghost use Rattle.rd_server.specs.serving.Sums.{GrowsBy, IsBelow, worker_most};
 ghost use Rattle.rd_server.specs.serving.Service.{GoesOn, TurnMade};
 
 use crate::serving::calls::{go, hear, tick};
-use crate::serving::posts::{Post, Tally};
+use crate::serving::contexts::{Context, Tally};
 use rd_base::Peer;
 use rd_seat::{Gate, Seat};
 use std::sync::Wait;
@@ -21,7 +21,7 @@ const HEARD_BEFORE_TICK: u64 = 16;
 
 /// Has the seat handle a datagram, and does its job at once.
 fn answer<R: Wait, L: Link, C: Clock, G: Gate>(
-    post: &Post<R, G>,
+    context: &Context<R, G>,
     seat: &mut Seat,
     link: &mut L,
     clock: &mut C,
@@ -29,7 +29,7 @@ fn answer<R: Wait, L: Link, C: Clock, G: Gate>(
     peer: Peer,
     datagram: &[u8],
 )
-    requires hall { seat.old.hall ≡ post.now.hall.now }
+    requires hall { seat.old.hall ≡ context.now.hall.now }
     requires room { IsBelow (5 * 10 ^ 16) tally.old.served }
     ensures hall { seat.new.hall ≡ seat.old.hall }
     ensures grows { GrowsBy (2 * 1_153) tally.old.served tally.new.served }
@@ -38,15 +38,15 @@ fn answer<R: Wait, L: Link, C: Clock, G: Gate>(
         (worker_seen L.Link.own C.Clock.own seat.new link.new clock.new)
         × CountsCalls calls tally.old.served tally.new.served }
 {
-    let job = hear(post, seat, link, clock, tally, peer, datagram);
+    let job = hear(context, seat, link, clock, tally, peer, datagram);
     if let Some(job) = job {
-        go(post, seat, link, clock, tally, job);
+        go(context, seat, link, clock, tally, job);
     }
 }
 
 /// Has the seat handle a datagram, which is already counted. Lets time pass after each sixteenth.
 fn hear_datagram<R: Wait, L: Link, C: Clock, G: Gate>(
-    post: &Post<R, G>,
+    context: &Context<R, G>,
     seat: &mut Seat,
     link: &mut L,
     clock: &mut C,
@@ -54,7 +54,7 @@ fn hear_datagram<R: Wait, L: Link, C: Clock, G: Gate>(
     peer: Peer,
     datagram: &[u8],
 )
-    requires hall { seat.old.hall ≡ post.now.hall.now }
+    requires hall { seat.old.hall ≡ context.now.hall.now }
     requires room { IsBelow (2 * 10 ^ 16) tally.old.served }
     requires within { length datagram.now ≤ MAX_DATAGRAM }
     ensures hall { seat.new.hall ≡ seat.old.hall }
@@ -64,22 +64,22 @@ fn hear_datagram<R: Wait, L: Link, C: Clock, G: Gate>(
         (worker_seen L.Link.own C.Clock.own seat.new link.new clock.new)
         × CountsCalls calls tally.old.served tally.new.served }
 {
-    answer(post, seat, link, clock, tally, peer, datagram);
+    answer(context, seat, link, clock, tally, peer, datagram);
     if tally.served.heard % HEARD_BEFORE_TICK == 0 {
-        tick(post, seat, link, clock, tally);
+        tick(context, seat, link, clock, tally);
     }
 }
 
 /// Makes one receive and the calls that follow it. Returns false if the receive failed.
 pub(crate) fn turn<R: Wait, L: Link, C: Clock, G: Gate>(
-    post: &Post<R, G>,
+    context: &Context<R, G>,
     seat: &mut Seat,
     link: &mut L,
     clock: &mut C,
     tally: &mut Tally,
     room: &mut [u8; MAX_DATAGRAM],
 ) -> bool
-    requires hall { seat.old.hall ≡ post.now.hall.now }
+    requires hall { seat.old.hall ≡ context.now.hall.now }
     requires room { IsBelow worker_most tally.old.served }
     ensures hall { seat.new.hall ≡ seat.old.hall }
     ensures grows { GrowsBy 4_000 tally.old.served tally.new.served }
@@ -93,16 +93,16 @@ pub(crate) fn turn<R: Wait, L: Link, C: Clock, G: Gate>(
     match link.recv(room) {
         Came::Datagram(peer, n) => {
             tally.served.heard += 1;
-            hear_datagram(post, seat, link, clock, tally, peer, &room[..n]);
+            hear_datagram(context, seat, link, clock, tally, peer, &room[..n]);
             true
         }
         Came::TooLong => {
             tally.served.too_long += 1;
-            tick(post, seat, link, clock, tally);
+            tick(context, seat, link, clock, tally);
             true
         }
         Came::Nothing => {
-            tick(post, seat, link, clock, tally);
+            tick(context, seat, link, clock, tally);
             true
         }
         Came::Failed => false,

@@ -4,7 +4,7 @@ ghost use Rattle.rd_server.specs.serving.Workers.{link_seen, worker_seen};
 ghost use Rattle.rd_server.specs.serving.Sums.{IsBelow, worker_most};
 ghost use Rattle.rd_server.specs.serving.Service.{CountsTold, Serves};
 
-use crate::serving::posts::{Post, Tally};
+use crate::serving::contexts::{Context, Tally};
 use crate::serving::served::{ServeFault, Served};
 use crate::serving::turns::turn;
 use rd_desk::Outbox;
@@ -14,14 +14,14 @@ use udp_link::{Clock, Link, MAX_DATAGRAM};
 
 /// Makes `turns` receives, each with its calls, until one fails.
 fn run<R: Wait, L: Link, C: Clock, G: Gate>(
-    post: &Post<R, G>,
+    context: &Context<R, G>,
     seat: &mut Seat,
     link: &mut L,
     clock: &mut C,
     out: Outbox,
     turns: u64,
 ) -> Result<Served, ServeFault>
-    requires hall { seat.old.hall ≡ post.now.hall.now }
+    requires hall { seat.old.hall ≡ context.now.hall.now }
     requires turns { turns ≤ 10 ^ 12 }
     requires empty { out ≡ [] }
     ensures hall { seat.new.hall ≡ seat.old.hall }
@@ -37,7 +37,7 @@ fn run<R: Wait, L: Link, C: Clock, G: Gate>(
     };
     let mut done = 0u64;
     'turns: while done < turns {
-        if !turn(post, seat, link, clock, &mut tally, &mut room) {
+        if !turn(context, seat, link, clock, &mut tally, &mut room) {
             return Err(ServeFault::Link);
         }
         done += 1;
@@ -85,6 +85,6 @@ pub fn serve_worker<R: Wait + AllocGlobal, L: Link, C: Clock, G: Gate>(
     let Ok(out) = Outbox::make(rt.alloc()) else {
         return Err(ServeFault::Memory);
     };
-    let post = Post { rt, hall, gate };
-    run(&post, seat, link, clock, out, turns)
+    let context = Context { rt, hall, gate };
+    run(&context, seat, link, clock, out, turns)
 }

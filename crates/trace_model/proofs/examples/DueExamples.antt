@@ -55,15 +55,15 @@ unfolding output_on_literals
 not_due_by_other_change = refl
 
 -- the notification is sent at 1350; then a look comes long after the lapse, and a tick
-abbrev noticed : List (List ℕ)
-noticed = observing ++ (registering ++ codes "tick 0 1350" ∷ [])
+abbrev notified : List (List ℕ)
+notified = observing ++ (registering ++ codes "tick 0 1350" ∷ [])
 
-not_due_by_look : due_after (noticed ++ looking) ≡ false ∷ []
+not_due_by_look : due_after (notified ++ looking) ≡ false ∷ []
 unfolding output_on_literals
 not_due_by_look = refl
 
 due_by_time :
-    due_after (noticed ++ (looking ++ codes "in 0 91301000 192.0.2.10:5683 70000009" ∷ []))
+    due_after (notified ++ (looking ++ codes "in 0 91301000 192.0.2.10:5683 70000009" ∷ []))
     ≡ true ∷ []
 unfolding output_on_literals
 due_by_time = refl
@@ -72,7 +72,7 @@ due_by_time = refl
 
 -- the device replaces its link by another: CON 0.03 m=0003 t=a3 [11 rd][11 1] | </t>
 due_by_replacement :
-    due_after (noticed ++ (codes "in 0 1400 192.0.2.10:5683 41030003a3b272640131ff3c2f743e"
+    due_after (notified ++ (codes "in 0 1400 192.0.2.10:5683 41030003a3b272640131ff3c2f743e"
     ∷ codes "go 0 1400"
     ∷ []))
     ≡ true ∷ []
@@ -81,7 +81,7 @@ due_by_replacement = refl
 
 -- and by the same: CON 0.03 m=0003 t=a3 [11 rd][11 1] | </l>;rt="light-lux"
 not_due_by_same_links :
-    due_after (noticed
+    due_after (notified
     ++ (codes
     "in 0 1400 192.0.2.10:5683 41030003a3b272640131ff3c2f6c3e3b72743d226c696768742d6c757822"
     ∷ codes "go 0 1400"
@@ -92,7 +92,7 @@ not_due_by_same_links = refl
 
 -- its registration is read: CON 0.01 m=0003 t=a3 [11 rd][11 1]
 not_due_by_read :
-    due_after (noticed ++ codes "in 0 1400 192.0.2.30:40000 41010003a3b272640131" ∷ [])
+    due_after (notified ++ codes "in 0 1400 192.0.2.30:40000 41010003a3b272640131" ∷ [])
     ≡ false ∷ []
 unfolding output_on_literals
 not_due_by_read = refl

@@ -100,8 +100,8 @@ not_confirmable_by_steps = refl
 --     tick 0 1400
 --         out 0 192.0.2.30:40000: CON 2.05 m=0000 t=c1 [4 x0000000000020000][6 x02][12 x28] |
 -- <coap://192.0.2.10/light>;rt="light-lux";if="sensor"
-abbrev noticed : List (List ℕ)
-noticed =
+abbrev notified : List (List ℕ)
+notified =
     codes
     "in 0 1000 192.0.2.30:40000 41010010c1605972642d6c6f6f6b7570037265734c72743d6c696768742d6c7578"
     ∷ codes
@@ -114,8 +114,8 @@ noticed =
     ∷ codes "tick 0 1400" ∷ []
 
 -- what these steps write
-abbrev noticed_writes : List (List (List ℕ))
-noticed_writes =
+abbrev notified_writes : List (List (List ℕ))
+notified_writes =
     (codes "out 0 192.0.2.30:40000 61450010c148000000000000000021016128" ∷ [])
     ∷ []
     ∷ (codes "out 0 192.0.2.20:61616 61410001d18272640131" ∷ [])
@@ -165,18 +165,18 @@ changed_back_writes =
 -- the tick after it writes nothing
 --     tick 0 700020
 --     end 4 1 1
-observed_by_steps : step_by_step 1 (noticed ++ (changed_back ++ codes "tick 0 700020" ∷ []))
-    ≡ map lines (noticed_writes ++ (changed_back_writes ++ [] ∷ (codes "end 4 1 1" ∷ []) ∷ []))
+observed_by_steps : step_by_step 1 (notified ++ (changed_back ++ codes "tick 0 700020" ∷ []))
+    ≡ map lines (notified_writes ++ (changed_back_writes ++ [] ∷ (codes "end 4 1 1" ∷ []) ∷ []))
 unfolding output_on_literals
 observed_by_steps = refl
 
 -- though the listing is the same again, the observer is due before that tick, and no more after it
-due_by_a_change_back : due_after (noticed ++ changed_back) ≡ true ∷ []
+due_by_a_change_back : due_after (notified ++ changed_back) ≡ true ∷ []
 unfolding output_on_literals
 due_by_a_change_back = refl
 
 not_due_after_the_tick :
-    due_after (noticed ++ (changed_back ++ codes "tick 0 700020" ∷ [])) ≡ false ∷ []
+    due_after (notified ++ (changed_back ++ codes "tick 0 700020" ∷ [])) ≡ false ∷ []
 unfolding output_on_literals
 not_due_after_the_tick = refl
 
@@ -196,13 +196,13 @@ not_due_after_the_tick = refl
 -- <coap://192.0.2.10/light>;rt="light-lux";if="sensor"
 --     tick 0 63400
 --     end 2 2 0
-never_acknowledged_by_steps : step_by_step 1 (noticed ++ (
+never_acknowledged_by_steps : step_by_step 1 (notified ++ (
     codes "tick 0 3400"
     ∷ codes "tick 0 7400"
     ∷ codes "tick 0 15400"
     ∷ codes "tick 0 31400"
     ∷ codes "tick 0 63400" ∷ []))
-    ≡ map lines (noticed_writes ++ (
+    ≡ map lines (notified_writes ++ (
     (codes
     "out 0 192.0.2.30:40000 41450000c148000000000002000021026128ff3c636f61703a2f2f3139322e302e322e31302f6c696768743e3b72743d226c696768742d6c7578223b69663d2273656e736f7222"
     ∷ [])

@@ -113,8 +113,9 @@ old_answer = refl
 -- ---- notifications in flight
 
 -- what waits for each observer
-abbrev notices_after : List (List ℕ) → List (Option Retransmission)
-notices_after trace = map (λ w. option_map (λ m. m.resend) w.waits) (standing (journal_of trace))
+abbrev notifications_after : List (List ℕ) → List (Option Retransmission)
+notifications_after trace = map (λ w. option_map (λ m. m.resend) w.waits)
+    (standing (journal_of trace))
 
 -- an observer asks at 800, and such a link is registered at 900: CON 0.01 m=0010 t=c1 [6 x][11
 -- rd-lookup][11 res][15 rt=light-lux]
@@ -130,27 +131,27 @@ observing =
 -- a notification that was sent at 1000 and waits for 3000, and one that was sent at 2000 and waits
 -- for 2000, are not the same
 long_wait :
-    notices_after (observing ++ codes "tick 0 1000 1000" ∷ codes "tick 0 2000" ∷ [])
+    notifications_after (observing ++ codes "tick 0 1000 1000" ∷ codes "tick 0 2000" ∷ [])
     ≡ Some (record { sent = 1_000; wait = 3_000; again = 0 }) ∷ []
 unfolding output_on_literals
 long_wait = refl
 
 short_wait :
-    notices_after (observing ++ codes "tick 0 2000" ∷ [])
+    notifications_after (observing ++ codes "tick 0 2000" ∷ [])
     ≡ Some (record { sent = 2_000; wait = 2_000; again = 0 }) ∷ []
 unfolding output_on_literals
 short_wait = refl
 
 -- both are retransmitted at 4000, and then they wait until 10000 and until 8000
 long_again :
-    notices_after
+    notifications_after
     (observing ++ codes "tick 0 1000 1000" ∷ codes "tick 0 2000" ∷ codes "tick 0 4000" ∷ [])
     ≡ Some (record { sent = 4_000; wait = 6_000; again = 1 }) ∷ []
 unfolding output_on_literals
 long_again = refl
 
 short_again :
-    notices_after (observing ++ codes "tick 0 2000" ∷ codes "tick 0 4000" ∷ [])
+    notifications_after (observing ++ codes "tick 0 2000" ∷ codes "tick 0 4000" ∷ [])
     ≡ Some (record { sent = 4_000; wait = 4_000; again = 1 }) ∷ []
 unfolding output_on_literals
 short_again = refl

@@ -16,7 +16,7 @@ returns-clause-made g c =
     let seen = c.hear-heard.new.self.seen in
     let result = c.hear-heard.result in
     let out = c.hear-heard.new.out in
-    let peer = c.args.post.now.peer in
+    let peer = c.args.context.now.line.peer in
     let look : Bool = is_look_datagram c.args.datagram.now in
     let made : Call = hear_call look seat seen c.now-now.result c.word-word.result peer
     c.args.datagram.now result out in (

@@ -28,7 +28,8 @@ pub returns-in-Some-clause-made : goal.returns-in-Some-clause-made
 returns-in-Some-clause-made g c =
     let heard = c.hear-job.ensures.made in
     let done = c.go.ensures.made in
-    let peer = c.args.post.now.peer in
+    let line = c.args.context.now.line in
+    let most = c.args.tally.now.most in
     let v0 = voice_seen g.K.Sink c.args.out.now c.args.tally.now.still in
     let v1 = voice_seen g.K.Sink c.hear-job.new.out c.hear-job.new.tally.still in
     let v2 = voice_seen g.K.Sink c.go.new.out c.go.new.tally.still in
@@ -46,7 +47,9 @@ returns-in-Some-clause-made g c =
             (done.0, refl, done.1);
       },
       CallsMade-then as_they_came (heard.0 ∷ []) (done.0 ∷ []) _ _ _ heard.3 done.2,
-      subst (λ (l : List ℕ). Speaks v0 l v2) (sym (replies-then peer heard.0.sent done.0.sent))
-          (Speaks-then v0 v1 v2 (replies_to peer heard.0.sent) (replies_to peer done.0.sent)
-          heard.4 done.3),
+      subst (λ (l : List ℕ). Speaks v0 l v2) (sym (replies-then line most heard.0.sent done.0.sent))
+          (Speaks-then v0 v1 v2 (replies_to line most heard.0.sent)
+          (replies_to line most done.0.sent)
+          heard.4 (subst (λ (n : ℕ). Speaks v1 (replies_to line n done.0.sent) v2)
+          c.hear-job.ensures.most done.3)),
     )

@@ -13,7 +13,7 @@ datagrams-preserved g c = (
   Speaks-next (voice_seen g.K.Sink c.args.out.now c.args.still)
       (voice_seen g.K.Sink c.datagrams.out c.datagrams.holds)
       (voice_seen g.K.Sink c.carry_for-holds.new.out c.carry_for-holds.result)
-      c.args.peer.now c.args.outbox.now (c.in-Some.to, c.in-Some.datagram.now)
+      c.args.line.now c.args.most c.args.outbox.now (c.in-Some.to, c.in-Some.datagram.now)
       c.datagrams.index (sym c.in-Some.ensures) c.datagrams.invariant.1
       c.carry_for-holds.ensures,
 )

@@ -6,7 +6,8 @@ use Rattle.coap_stream.proofs.carried.carry_all.Given as goal
 -- The first datagrams were written.
 abbrev pub invariant-datagrams : goal.invariant-datagrams
 invariant-datagrams g l = (l.index ≤ length l.outbox)
-    × Speaks (voice_seen g.K.Sink l.fn.out l.still) (replies_to l.peer (take l.index l.outbox))
+    × Speaks (voice_seen g.K.Sink l.fn.out l.still)
+    (replies_to l.line l.most (take l.index l.outbox))
     (voice_seen g.K.Sink l.out l.holds)
 
 abbrev pub decreases-datagrams : goal.decreases-datagrams

@@ -5,10 +5,10 @@ use Rattle.directory_core.proofs.races.race.Given as goal
 
 abbrev pub invariant-turns : goal.invariant-turns
 invariant-turns g l = record {
-  within : l.at < length l.racers;
-  same : map whole l.racers ≡ map whole l.fn.racers;
-  fair : IsFair l.fn.steps l.steps (length l.fn.racers) l.at l.at l.racers;
+  within : l.at < length l.cursors;
+  same : map whole l.cursors ≡ map whole l.fn.cursors;
+  fair : IsFair l.fn.steps l.steps (length l.fn.cursors) l.at l.at l.cursors;
 }
 
 abbrev pub decreases-turns : goal.decreases-turns
-decreases-turns g l = left_of l.racers
+decreases-turns g l = left_of l.cursors

@@ -1,7 +1,14 @@
 use Rattle.std.proofs.Common.{◌≡◌, ◌++◌, ℕ, sym, ap, ◌∙◌}
 use Rattle.line_model.specs.Texts.{lines_of}
 use Rattle.install_list.specs.Lists.{entries_from, items_of, listed}
-use Rattle.install_list.proofs.ListLaws.{in_front, judged_next, judged_all, sent_more, was_pushed, none_left}
+use Rattle.install_list.proofs.ListLaws.{
+  in_front,
+  judged_next,
+  judged_all,
+  sent_more,
+  was_pushed,
+  none_left,
+}
 use Rattle.install_list.proofs.listing.list_read.Goals as goal
 
 pub lines-preserved : goal.lines-preserved

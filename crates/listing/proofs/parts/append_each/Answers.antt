@@ -1,5 +1,5 @@
 use Rattle.std.proofs.Common.{◌≡◌, ◌∙◌, ◌+◌, ◌-◌, ℕ, List, length, ap, sym, true, arith}
-use Rattle.listing.specs.Sieves.{sifts}
+use Rattle.listing.specs.LinkFilters.{sifts}
 use Rattle.listing.proofs.StepLaws.{
   counts_link,
   front_stays,
@@ -19,20 +19,20 @@ returns-then-to_write-eq0-clause-text c =
 
 pub links-preserved-then-to_skip-gt0 : goal.links-preserved-then-to_skip-gt0
 links-preserved-then-to_skip-gt0 c =
-    let listed : sifts c.args.sieve.now c.in-Some.link ≡ true =
+    let listed : sifts c.args.link_filter.now c.in-Some.link ≡ true =
     sym c.lists.ensures ∙ c.if-not-lists.false in
     let some : c.links.to_skip ≡ c.links.to_skip - 1 + 1 = omega arith in
     let more =
-    lines_more (sifts c.args.sieve.now) c.in-Some.link c.next.new.self c.links.left
+    lines_more (sifts c.args.link_filter.now) c.in-Some.link c.next.new.self c.links.left
     c.in-Some.ensures.steps listed in
     let shown =
     ap (λ (ls : List (List ℕ)). length ls)
-    (shown_after (sifts c.args.sieve.now) c.in-Some.link c.next.new.self c.links.left
+    (shown_after (sifts c.args.link_filter.now) c.in-Some.link c.next.new.self c.links.left
     c.links.to_skip c.links.to_write (c.links.to_skip - 1) c.in-Some.ensures.steps
     listed some) in
     record {
       text =
-          skips_link (sifts c.args.sieve.now) c.in-Some.link c.next.new.self c.links.left
+          skips_link (sifts c.args.link_filter.now) c.in-Some.link c.next.new.self c.links.left
           c.links.into _ c.links.to_skip c.links.to_write (c.links.to_skip - 1)
           c.in-Some.ensures.steps listed some c.links.invariant.text;
       front = c.links.invariant.front;
@@ -44,7 +44,7 @@ links-preserved-then-to_skip-gt0 c =
 
 pub links-preserved : goal.links-preserved
 links-preserved c =
-    let listed : sifts c.args.sieve.now c.in-Some.link ≡ true =
+    let listed : sifts c.args.link_filter.now c.in-Some.link ≡ true =
     sym c.lists.ensures ∙ c.if-not-lists.false in
     let some : c.links.to_write ≡ c.links.to_write - 1 + 1 = omega arith in
     let none : c.links.to_skip ≡ 0 = omega arith in
@@ -52,12 +52,12 @@ links-preserved c =
     where_ok c.append_link.result (sym c.is_err.ensures.value ∙ c.if-is_err.false)
     c.append_link.ensures.ok in
     let counted =
-    counts_link (sifts c.args.sieve.now) c.in-Some.link c.next.new.self c.links.left
+    counts_link (sifts c.args.link_filter.now) c.in-Some.link c.next.new.self c.links.left
     c.links.to_skip c.links.to_write (c.links.to_write - 1) c.in-Some.ensures.steps listed
     none some in
     record {
       text =
-          writes_link (sifts c.args.sieve.now) c.in-Some.link c.next.new.self c.links.left
+          writes_link (sifts c.args.link_filter.now) c.in-Some.link c.next.new.self c.links.left
           c.links.into c.append_link.new.into _ c.links.to_skip c.links.to_write
           (c.links.to_write - 1) c.in-Some.ensures.steps listed none some new
           c.links.invariant.text;
@@ -70,5 +70,5 @@ links-preserved c =
 
 pub returns-clause-text : goal.returns-clause-text
 returns-clause-text c =
-    none_left (sifts c.args.sieve.now) c.links.left _ _ c.links.to_skip c.links.to_write
+    none_left (sifts c.args.link_filter.now) c.links.left _ _ c.links.to_skip c.links.to_write
     c.in_default.ensures.steps.0 c.links.invariant.text

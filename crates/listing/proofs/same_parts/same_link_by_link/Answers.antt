@@ -3,7 +3,7 @@
 use Rattle.std.proofs.Common.{◌∙◌}
 use Rattle.record_model.specs.ListingLines.{same_lines, link_line}
 use Rattle.listing.specs.ListedLinks.{lines_by}
-use Rattle.listing.specs.Sieves.{sifts}
+use Rattle.listing.specs.LinkFilters.{sifts}
 use Rattle.listing.proofs.AlikeLaws.{lines_end, line_missing, line_differs, line_same}
 use Rattle.listing.proofs.same_parts.same_link_by_link.Goals as goal
 

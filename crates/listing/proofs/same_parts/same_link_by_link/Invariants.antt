@@ -1,7 +1,7 @@
 use Rattle.std.proofs.Common.{◌≡◌, length}
 use Rattle.record_model.specs.ListingLines.{same_lines}
 use Rattle.listing.specs.ListedLinks.{lines_by}
-use Rattle.listing.specs.Sieves.{sifts}
+use Rattle.listing.specs.LinkFilters.{sifts}
 use Rattle.listing.proofs.same_parts.same_link_by_link.Given as goal
 
 abbrev pub invariant-links : goal.invariant-links

@@ -1,7 +1,7 @@
 -- Where all links pass, all lines are compared; where all are alike, all lines are the same.
 use Rattle.std.proofs.Common.{List, ℕ, ◌∙◌, ap₂, sym}
 use Rattle.record_model.specs.ListingLines.{same_lines}
-use Rattle.listing.specs.Sieves.{sifts}
+use Rattle.listing.specs.LinkFilters.{sifts}
 use Rattle.listing.proofs.AlikeLaws.{all_alike}
 use Rattle.listing.proofs.StepLaws.{lines_of_all}
 use Rattle.listing.proofs.same_parts.same_sifted.Goals as goal

@@ -1,6 +1,6 @@
 use Rattle.std.proofs.Common.{slice_set, sym, ap, ◌∙◌}
 use Rattle.std.specs.Arc.{arc_value}
-use Rattle.observers.specs.Standing.{noticed, seen, timed, due_of}
+use Rattle.observers.specs.Standing.{notified, seen, timed, due_of}
 use Rattle.observers.proofs.WalkLaws.{changed-set, got-at}
 use Rattle.observers.proofs.walks.time_at.Goals as goal
 

@@ -5,7 +5,7 @@ use Rattle.journal_model.specs.Effects.{joined, noting}
 use Rattle.journal_model.specs.EmptyMessages.{waited_for}
 use Rattle.journal_model.specs.Journal.{events}
 use Rattle.journal_model.specs.UnfinishedRow.{making}
-use Rattle.observers.specs.Standing.{has_notice, landed}
+use Rattle.observers.specs.Standing.{has_notification, landed}
 use Rattle.observation.specs.Watching.{AreWatched, WatchingStandsFor}
 use Rattle.observation.proofs.JoiningLaws.{any_waited-StandsFor}
 use Rattle.observation.proofs.WatchedLaws.{changed_first-AreWatched}
@@ -15,7 +15,7 @@ use Rattle.observation.proofs.watching.Watching.acked.Goals as goal
 pub invariant_of-self : goal.invariant_of-self
 invariant_of-self c =
     subst (AreWatched c.self.inside.watches) (sym c.acked.ensures.landed)
-    (changed_first-AreWatched (has_notice c.args.peer.now c.args.mid) landed (λ w. refl)
+    (changed_first-AreWatched (has_notification c.args.peer.now c.args.mid) landed (λ w. refl)
     c.self.inside.watches c.self.inside.observers c.self.invariant)
 
 pub returns-clause-found : goal.returns-clause-found

@@ -2,8 +2,8 @@ use Rattle.std.proofs.Common.{length, slice_get, refl, sym, ap, subst, ◌∙◌
 use Rattle.std.specs.Arc.{arc_value}
 use Rattle.journal_model.specs.Effects.{joined}
 use Rattle.journal_model.specs.UnfinishedRow.{making}
-use Rattle.observers.specs.Standing.{is_awaited, noticed}
-use Rattle.observation.specs.Notices.{forming}
+use Rattle.observers.specs.Standing.{is_awaited, notified}
+use Rattle.observation.specs.Notifications.{forming}
 use Rattle.observation.specs.Watching.{Watching, AreWatched, WatchingStandsFor}
 use Rattle.observation.proofs.FoundObservers.{length-changed_at}
 use Rattle.observation.proofs.WatchedLaws.{changed_at-AreWatched}
@@ -13,7 +13,7 @@ use Rattle.observation.proofs.watching.Watching.formed.Goals as goal
 pub invariant_of-self : goal.invariant_of-self
 invariant_of-self c =
     subst (AreWatched c.self.inside.watches) (sym c.formed.ensures.formed)
-    (changed_at-AreWatched (noticed c.args.flight (arc_value c.args.body)) (λ w. refl) c.args.index
+    (changed_at-AreWatched (notified c.args.flight (arc_value c.args.body)) (λ w. refl) c.args.index
     c.self.inside.watches c.self.inside.observers c.self.invariant)
 
 pub returns-clause-stands : goal.returns-clause-stands
@@ -34,6 +34,6 @@ returns-clause-stands c rows s starved done x there unsent fits resends h =
 pub returns-clause-len : goal.returns-clause-len
 returns-clause-len c =
     ap length c.formed.ensures.formed
-    ∙ (length-changed_at (noticed c.args.flight (arc_value c.args.body)) c.args.index
+    ∙ (length-changed_at (notified c.args.flight (arc_value c.args.body)) c.args.index
     c.self.inside.observers
     ∙ ap (λ (w : Watching). length w.observers) c.self.view_is)

@@ -5,7 +5,7 @@ use Rattle.journal_model.specs.Effects.{joined, noting}
 use Rattle.journal_model.specs.EmptyMessages.{waited_for}
 use Rattle.journal_model.specs.Journal.{events}
 use Rattle.journal_model.specs.UnfinishedRow.{making}
-use Rattle.observers.specs.Standing.{has_notice}
+use Rattle.observers.specs.Standing.{has_notification}
 use Rattle.observation.specs.Watching.{WatchingStandsFor}
 use Rattle.observation.proofs.JoiningLaws.{is_waited-StandsFor}
 use Rattle.observation.proofs.WatchedLaws.{left-AreWatched, both-AreWatched}
@@ -15,7 +15,7 @@ use Rattle.observation.proofs.watching.Watching.reset.Goals as goal
 pub invariant_of-self : goal.invariant_of-self
 invariant_of-self c =
     both-AreWatched (sym c.reset.ensures.watches) (sym c.reset.ensures.observers)
-    (left-AreWatched (has_notice c.args.peer.now c.args.mid) c.self.inside.watches
+    (left-AreWatched (has_notification c.args.peer.now c.args.mid) c.self.inside.watches
     c.self.inside.observers c.self.invariant)
 
 pub returns-clause-found : goal.returns-clause-found

@@ -2,7 +2,7 @@ use Rattle.std.proofs.Common.{length, slice_get, refl, sym, ap, subst, ◌∙◌
 use Rattle.journal_model.specs.Effects.{joined}
 use Rattle.journal_model.specs.UnfinishedRow.{making}
 use Rattle.observers.specs.Standing.{due_of, timed}
-use Rattle.observation.specs.Notices.{sending_again}
+use Rattle.observation.specs.Notifications.{sending_again}
 use Rattle.observation.specs.Watching.{Watching, AreWatched, WatchingStandsFor}
 use Rattle.observation.proofs.FoundObservers.{length-changed_at}
 use Rattle.observation.proofs.WatchedLaws.{changed_at-AreWatched}

@@ -4,7 +4,7 @@ use Rattle.observers.proofs.AwaitedLaws.{of-AreAwaited}
 use Rattle.std.proofs.Common.{◌∷◌, sym, ap, subst, ◌∙◌}
 use Rattle.observers.specs.ObserverEvents.{ObserversStandFor}
 use Rattle.rd_base.specs.Firsts.{changed_first}
-use Rattle.observers.specs.Standing.{has_notice, landed}
+use Rattle.observers.specs.Standing.{has_notification, landed}
 use Rattle.observers.proofs.StandLaws.{landed-StandsFor}
 use Rattle.observers.proofs.table.Observers.acked.Goals as goal
 
@@ -12,7 +12,7 @@ pub returns-clause-stands : goal.returns-clause-stands
 returns-clause-stands c queries octets events transitions e is h =
     subst (ObserversStandFor queries octets (e ∷ events) transitions)
     (sym (c.land_first-found.ensures.landed
-    ∙ ap (changed_first (has_notice c.args.peer.now c.args.mid) landed) c.self.view_is))
+    ∙ ap (changed_first (has_notification c.args.peer.now c.args.mid) landed) c.self.view_is))
     (landed-StandsFor queries octets events transitions e c.args.peer.now c.args.mid c.args.self.now
     is h)
 

@@ -6,15 +6,15 @@ use Rattle.std.proofs.Common.{◌∷◌, [], ◌++◌, sym, ap, subst, remove, �
 use Rattle.std.specs.Arc.{arc_value}
 use Rattle.std.specs.List.{position}
 use Rattle.observers.specs.ObserverEvents.{ObserversStandFor}
-use Rattle.observers.specs.Standing.{noticed, changed_at}
+use Rattle.observers.specs.Standing.{notified, changed_at}
 use Rattle.observers.proofs.StandLaws.{formed-StandsFor}
 use Rattle.observers.proofs.table.Observers.formed.Goals as goal
 
 pub returns-clause-stands : goal.returns-clause-stands
 returns-clause-stands c queries octets events transitions e w there is same fresh low h =
     subst (ObserversStandFor queries octets (e ∷ events) transitions)
-    (sym (c.notice_at.ensures.noticed
-    ∙ ap (changed_at (noticed c.args.flight (arc_value c.args.body)) c.args.index)
+    (sym (c.notification_at.ensures.notified
+    ∙ ap (changed_at (notified c.args.flight (arc_value c.args.body)) c.args.index)
     c.self.view_is))
     (formed-StandsFor queries octets events transitions e c.args.self.now c.args.index w
     c.args.flight (arc_value c.args.body) there (c.requires.free w there) is same fresh low h)
@@ -35,18 +35,18 @@ pub invariant_of-self : goal.invariant_of-self
 invariant_of-self c =
     let few = c.self.invariant.0 in
     let room = c.self.invariant.1 in
-    let len = c.notice_at.ensures.len in
-    let capacity = c.notice_at.ensures.capacity in
+    let len = c.notification_at.ensures.len in
+    let capacity = c.notification_at.ensures.capacity in
     let more = c.self.invariant.2 in
     let pushed = c.await_peer.ensures.capacity in (
       omega (arith, few, len),
       omega (arith, room, capacity),
       omega (arith, more, pushed),
       formed-AreAwaited c.args.flight (arc_value c.args.body) c.self.inside.items.items
-          c.args.self.now c.notice_at.new.observers.items c.self.inside.awaited.items
+          c.args.self.now c.notification_at.new.observers.items c.self.inside.awaited.items
           c.await_peer.new.awaited.items c.args.index c.peer_at-peer.result
           c.self.view_is c.requires.within c.requires.free c.self.invariant.3
-          c.notice_at.ensures.noticed (λ w there.
+          c.notification_at.ensures.notified (λ w there.
           c.peer_at-peer.ensures w
           (ap (λ xs. slice_get xs c.args.index) c.as_slice.ensures.value ∙ there))
           c.await_peer.ensures.awaited,

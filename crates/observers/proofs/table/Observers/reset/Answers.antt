@@ -6,22 +6,22 @@ use Rattle.std.proofs.Common.{◌∷◌, sym, ap, subst, ◌∙◌}
 use Rattle.std.specs.List.{position}
 use Rattle.observers.specs.ObserverEvents.{ObserversStandFor}
 use Rattle.rd_base.specs.Firsts.{without_first}
-use Rattle.observers.specs.Standing.{has_notice}
+use Rattle.observers.specs.Standing.{has_notification}
 use Rattle.observers.proofs.StandLaws.{reset-StandsFor}
 use Rattle.observers.proofs.table.Observers.reset.Goals as goal
 
 pub returns-clause-stands : goal.returns-clause-stands
 returns-clause-stands c queries octets events transitions e w got is h =
     subst (ObserversStandFor queries octets (e ∷ events) transitions)
-    (sym (c.take-taken.ensures.left (has_notice c.args.peer.now c.args.mid)
-    (c.index_of_notice-index.ensures
-    ∙ ap (position (has_notice c.args.peer.now c.args.mid)) c.as_slice.ensures.value)
-    ∙ ap (without_first (has_notice c.args.peer.now c.args.mid)) c.self.view_is))
+    (sym (c.take-taken.ensures.left (has_notification c.args.peer.now c.args.mid)
+    (c.index_of_notification-index.ensures
+    ∙ ap (position (has_notification c.args.peer.now c.args.mid)) c.as_slice.ensures.value)
+    ∙ ap (without_first (has_notification c.args.peer.now c.args.mid)) c.self.view_is))
     (reset-StandsFor queries octets events transitions e c.args.peer.now c.args.mid c.args.self.now
-    w (ap (find (has_notice c.args.peer.now c.args.mid)) (sym c.self.view_is)
-    ∙ (sym (c.take-taken.ensures.found (has_notice c.args.peer.now c.args.mid)
-    (c.index_of_notice-index.ensures
-    ∙ ap (position (has_notice c.args.peer.now c.args.mid))
+    w (ap (find (has_notification c.args.peer.now c.args.mid)) (sym c.self.view_is)
+    ∙ (sym (c.take-taken.ensures.found (has_notification c.args.peer.now c.args.mid)
+    (c.index_of_notification-index.ensures
+    ∙ ap (position (has_notification c.args.peer.now c.args.mid))
     c.as_slice.ensures.value))
     ∙ got)) is h)
 

@@ -8,7 +8,7 @@ use Rattle.journal_model.specs.UnfinishedRow.{making}
 use Rattle.observers.specs.Standing.{Standing}
 use Rattle.rd_desk.specs.calls.Desks.{Seen}
 use Rattle.rd_desk.proofs.ticking.SkipLaws.{planned_skips}
-use Rattle.rd_desk.proofs.ticking.PlanCases.{planned_unchanged, planned_notice}
+use Rattle.rd_desk.proofs.ticking.PlanCases.{planned_unchanged, planned_notification}
 use Rattle.rd_desk.proofs.ticking.PlanWay.{on_ok}
 use Rattle.rd_desk.proofs.tables.Tables.plan_one.Goals as goal
 
@@ -71,9 +71,9 @@ returns-clause-planned c rows s starved whole first out from word way tag is few
     let given =
     ap (λ (d : Seen). d.observed) c.self-2.view_is
     ∙ ap (λ (d : Seen). d.observed) c.body_for.ensures.others in
-    on_ok c.add_notice.result c.add_notice.ensures (λ it.
-    planned_notice rows s starved c.args.tag.0 whole first c.args.self.now.watching.observers
-    c.args.self.now.observed c.args.plan.now c.add_notice.new.self from c.args.index
+    on_ok c.add_notification.result c.add_notification.ensures (λ it.
+    planned_notification rows s starved c.args.tag.0 whole first c.args.self.now.watching.observers
+    c.args.self.now.observed c.args.plan.now c.add_notification.new.self from c.args.index
     c.in-Some-at.observer.now c.in_ok-body.body c.after.result c.observe_after.result _
     c.args.word it.0
     c.args.self.now out c.args.mids.now way is again free few

@@ -1,13 +1,13 @@
 use Rattle.std.proofs.Common.{refl, ap, subst}
 use Rattle.observation.specs.Watching.{WatchingStandsFor}
 use Rattle.rd_desk.specs.calls.Desks.{Seen}
-use Rattle.rd_desk.proofs.ticking.CarryLaws.{carries_notice}
+use Rattle.rd_desk.proofs.ticking.CarryLaws.{carries_notification}
 use Rattle.rd_desk.proofs.tables.Tables.send_new.Goals as goal
 
 pub returns : goal.returns
 returns c rows s starved current whole ready from rest next h =
     let shown = ap (λ (d : Seen). d.watching) c.self.view_is in
-    carries_notice rows s starved current whole ready _ c.args.self.now c.formed.new.self _
+    carries_notification rows s starved current whole ready _ c.args.self.now c.formed.new.self _
     c.args.out.now c.send_to.new.out c.args.mids.now c.next-drawn.new.self from c.args.index
     c.args.sent c.args.body rest
     c.self.view_is refl (λ past stands. next past (subst (WatchingStandsFor past) shown stands))

@@ -3,7 +3,7 @@ use Rattle.std.proofs.KnownBytes.{Appends-nil}
 use Rattle.rd_server.specs.declared.serving.ends.End.{End}
 use Rattle.rd_server.specs.declared.serving.served.Served.{Served}
 use Rattle.rd_server.specs.declared.serving.served.ServeFault.{ServeFault}
-use Rattle.rd_server.specs.declared.serving.statuses.ServeStatus.TheVariants as status
+use Rattle.rd_server.specs.declared.serving.serve_status.ServeStatus.TheVariants as status
 use Rattle.rd_server.specs.serving.Endings.{Concludes}
 use Rattle.rd_server.proofs.service.EndLaws.{unserved-joined, end-EndServed}
 use Rattle.rd_server.proofs.service.SumLaws.{prints_as}

@@ -1,6 +1,0 @@
-use Rattle.history_model.specs.Live.{last_moment}
-use Rattle.machine_tests.proofs.versions.full.Goals as goal
-
-pub registered-requires-clause-at : goal.registered-requires-clause-at
-unfolding last_moment
-registered-requires-clause-at c = c.in_ok-empty.ensures.stands.at

@@ -1,0 +1,11 @@
+use Rattle.std.proofs.Common.{slice_set, sym, ap, ◌∙◌}
+use Rattle.std.specs.Arc.{arc_value}
+use Rattle.observers.specs.Standing.{notified, seen, timed, due_of}
+use Rattle.observers.proofs.WalkLaws.{changed-set, got-at}
+use Rattle.observers.proofs.walks.notification_at.Goals as goal
+
+pub returns-clause-notified : goal.returns-clause-notified
+returns-clause-notified c =
+    ap (slice_set c.args.observers.now.items c.args.index) c.notification.ensures
+    ∙ changed-set (notified c.args.flight (arc_value c.args.body)) c.args.observers.now.items
+    c.args.index c.index_mut.result.now c.requires c.index_mut.ensures.value

@@ -1,5 +1,0 @@
-use Rattle.rd_seat.specs.Jobs.{last_place}
-use Rattle.seat_tests.proofs.calls.register.Given as goal
-
-abbrev pub ghost-go : goal.ghost-go
-ghost-go g a = last_place a.self.now.seen

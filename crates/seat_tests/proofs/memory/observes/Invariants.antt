@@ -1,5 +1,0 @@
-use Rattle.std.proofs.Common.{◌≡◌}
-use Rattle.seat_tests.proofs.memory.observes.Given as goal
-
-abbrev pub invariant-tries : goal.invariant-tries
-invariant-tries g l = l.seat.hall ≡ l.hall
