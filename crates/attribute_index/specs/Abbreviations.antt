@@ -1,4 +1,4 @@
--- Numbers that order most names and values before their texts.
+-- Numbers that order most names and values before their texts are compared.
 use Rattle.std.specs.Prelude.{
   ◌≡◌,
   ℕ,
@@ -23,13 +23,13 @@ use Rattle.attribute_index.specs.declared.abbreviations.Abbreviation.{Abbreviati
 use Rattle.attribute_index.specs.declared.abbreviations.Last.{Last}
 use Rattle.attribute_index.specs.declared.abbreviations.Last.TheVariants.{Own, Raised}
 
--- a name and a value as one list of symbols: an octet is its number and one more, and 0 stands
--- between the two
+-- a name and a value as one list of symbols: each octet is its number plus one, and 0 separates the
+-- two
 abbrev pub symbols_of : List ℕ × List ℕ → List ℕ
 symbols_of value = map (λ octet. octet + 1) value.0 ++ (0 ∷ map (λ octet. octet + 1) value.1)
 
--- the symbols with one more in place of the last: before them, of all that are not before these,
--- stand those that begin with these
+-- the symbols with the last one raised by one: the least list after all that begin with these
+-- symbols
 abbrev pub raised : List ℕ → List ℕ
 raised [] = []
 raised (symbol ∷ []) = (symbol + 1) ∷ []
@@ -40,12 +40,12 @@ abbrev pub symbols_to : Last → List ℕ × List ℕ → List ℕ
 symbols_to Own value = symbols_of value
 symbols_to Raised value = raised (symbols_of value)
 
--- the digit of the first symbol: its number and one more, or 0 where there is none
+-- the digit of the first symbol: its number plus one, or 0 if there is none
 abbrev pub digit_of : List ℕ → ℕ
 digit_of [] = 0
 digit_of (symbol ∷ symbols) = symbol + 1
 
--- the number that so many symbols spell in base 256, the first symbol the greatest
+-- the number that the first symbols spell in base 256, the first symbol being the greatest digit
 unfoldable pub spelled : ℕ → List ℕ → ℕ
 spelled zero symbols = 0
 spelled (suc n) symbols = spelled n symbols * 256 + digit_of (drop n symbols)
@@ -66,25 +66,25 @@ pub record IsAbbreviation (abbreviation : Abbreviation) (value : List ℕ × Lis
   pub name_octets : AreOctets value.0
   pub value_octets : AreOctets value.1
 
--- abbreviations are ordered by their first numbers, then by their second, then by their third
+-- abbreviations are ordered by their first numbers, then by their second, and then by their third
 abbrev pub abbreviation_cmp : Abbreviation → Abbreviation → Ordering
 abbreviation_cmp f g =
     ordering_then (nat_cmp f.first g.first)
     (ordering_then (nat_cmp f.second g.second) (nat_cmp f.third g.third))
 
--- so many digits of a number in base 256, the greatest first
+-- the given number of digits of a number in base 256, the greatest first
 unfoldable pub digits_in : ℕ → ℕ → List ℕ
 digits_in zero number = []
 digits_in (suc n) number = digits_in n (number / 256) ++ (number % 256 ∷ [])
 
--- the octets whose digits stand in front: 2 is the digit of the octet 0, and 1 ends a name
+-- the octets of the first digits, up to one below 2: the digit 2 is the octet 0, and 1 ends a name
 abbrev pub octets_in : List ℕ → List ℕ
 octets_in [] = []
 octets_in (zero ∷ digits) = []
 octets_in (suc zero ∷ digits) = []
 octets_in (suc (suc octet) ∷ digits) = octet ∷ octets_in digits
 
--- the digits behind the first 1
+-- the digits after the first 1
 abbrev pub digits_behind : List ℕ → List ℕ
 digits_behind [] = []
 digits_behind (zero ∷ digits) = digits_behind digits
@@ -97,7 +97,7 @@ digits_of abbreviation =
     digits_in 8 abbreviation.first
     ++ (digits_in 8 abbreviation.second ++ digits_in 8 abbreviation.third)
 
--- the name and the value whose first 24 symbols the abbreviation's numbers spell
+-- the name and the value whose first 24 symbols the numbers of the abbreviation spell
 abbrev pub told_by : Abbreviation → List ℕ × List ℕ
 told_by abbreviation = (
   octets_in (digits_of abbreviation),

@@ -1,5 +1,5 @@
 -- The entries of an index of attributes: which record carries which value of which name. Values of
--- rel, rev, rt and if are lists (RFC 6690 section 2), and stand in it part by part.
+-- rel, rev, rt and if are lists (RFC 6690 section 2), and have an entry for each part.
 use Rattle.std.specs.Prelude.{
   ◌≡◌,
   ℕ,
@@ -29,8 +29,8 @@ pub record Entry : Type 0 where
   pub value : List ℕ
   pub number : ℕ
 
--- the values of a name by which an attribute is found: the parts of its value where values of its
--- name are lists, else its value
+-- the values of a name by which an attribute is found: the parts of its value if values of its name
+-- are lists, or else its value
 unfoldable pub values_of : List ℕ → List ℕ → List (List ℕ)
 values_of name value = if is_among list_names name then parts_of value else value ∷ []
 
@@ -44,7 +44,7 @@ entries_of pair number =
 unfoldable pub entries_of_all : List Pair → ℕ → List Entry
 entries_of_all pairs number = flat_map (λ pair. entries_of pair number) pairs
 
--- they are one entry
+-- both are the same entry
 abbrev pub is_same : Entry → Entry → Bool
 is_same x y = bytes_eq x.name y.name && (bytes_eq x.value y.value && (x.number == y.number))
 
@@ -63,7 +63,7 @@ entry_cmp x y =
     ordering_then (slice_cmp nat_cmp x.name y.name)
     (ordering_then (slice_cmp nat_cmp x.value y.value) (nat_cmp x.number y.number))
 
--- each entry stands before all that follow it: so the index is sorted, and no entry is there twice
+-- each entry is less than all that follow it, so the index is sorted and has no entry twice
 unfoldable pub IsAscending : List Entry → Type 0
 IsAscending [] = Unit {0}
 IsAscending (x ∷ xs) = AllByRecursion (λ y. entry_cmp x y ≡ Less) xs × IsAscending xs

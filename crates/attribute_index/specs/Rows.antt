@@ -1,4 +1,5 @@
--- How an index is kept: a row for each value of a name and each number of a record that carries it.
+-- How an index is stored: a row for each value of a name and each number of a record that carries
+-- it.
 use Rattle.std.specs.Prelude.{
   ◌≡◌,
   ℕ,
@@ -30,14 +31,14 @@ use Rattle.attribute_index.specs.declared.rows.Edit.TheVariants.{Put, Take}
 use Rattle.attribute_index.specs.declared.rows.Row.{Row}
 use Rattle.attribute_index.specs.Entries.{Entry}
 
--- a name with a value: values are ordered by their names, those of one name by their texts
+-- the order of names with values: by name, and for one name by the text of the value
 abbrev pub value_cmp : List ℕ × List ℕ → List ℕ × List ℕ → Ordering
 value_cmp x y = ordering_then (slice_cmp nat_cmp x.0 y.0) (slice_cmp nat_cmp x.1 y.1)
 
 abbrev pub is_same_value : List ℕ × List ℕ → List ℕ × List ℕ → Bool
 is_same_value x y = pointwise nat_eq x.0 y.0 && pointwise nat_eq x.1 y.1
 
--- rows are ordered by their values, those of one value by their numbers
+-- rows are ordered by value, and rows of one value by number
 abbrev pub row_cmp : Row → Row → Ordering
 row_cmp x y = ordering_then (value_cmp x.value y.value) (nat_cmp x.number y.number)
 
@@ -54,8 +55,8 @@ abbrev pub entries_under_name : List ℕ → List (List ℕ) → ℕ → List En
 entries_under_name name values number =
     map (λ value. record { name = name; value = value; number = number }) values
 
--- where the values begin that a pattern of a name matches: at what stands before its wildcard, or
--- at the pattern
+-- where the values that a pattern of a name matches begin: at the text before its wildcard, or at
+-- the pattern
 abbrev pub first_wanted : List ℕ → List ℕ → List ℕ × List ℕ
 first_wanted name pattern = (name, unwrap_or (before_wildcard pattern) pattern)
 
@@ -67,12 +68,12 @@ first_row name pattern = record { value = first_wanted name pattern; number = 0 
 abbrev pub is_wanted : List ℕ → List ℕ → List ℕ × List ℕ → Bool
 is_wanted name pattern value = bytes_eq value.0 name && matches_value pattern value.1
 
--- the numbers of the rows whose values are wanted
+-- the numbers of the rows whose values are sought
 abbrev pub wanted_numbers : List ℕ → List ℕ → List (Row × Unit {0}) → List ℕ
 wanted_numbers name pattern rows =
     map (λ row. row.0.number) (filter (λ row. is_wanted name pattern row.0.value) rows)
 
--- the wanted rows stand in front: behind one that is not wanted none is
+-- the rows that are sought come first: no such row follows one that is not
 unfoldable pub WantedFirst : List ℕ → List ℕ → List (Row × Unit {0}) → Type 0
 WantedFirst name pattern [] = Unit {0}
 WantedFirst name pattern (row ∷ rows) =
@@ -80,13 +81,13 @@ WantedFirst name pattern (row ∷ rows) =
     → AllByRecursion (λ other. is_wanted name pattern other.0.value ≡ false) rows)
     × WantedFirst name pattern rows
 
--- whether an entry is there after an edit: where it was there before, or not, and is one of those
--- that come or go, or not
+-- whether an entry is there after an edit, given whether it was there before and whether the edit
+-- is about it
 abbrev pub is_after : Edit → Bool → Bool → Bool
 is_after Put before edited = before || edited
 is_after Take before edited = before && not edited
 
--- what an edit of a row leaves at its key
+-- the value that an edit of a row leaves at its key
 abbrev pub after_edit : Edit → Option (Unit {0})
 after_edit Put = Some tt
 after_edit Take = None

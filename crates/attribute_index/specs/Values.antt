@@ -1,4 +1,4 @@
--- How a name and a value are kept.
+-- How a name and a value are stored.
 use Rattle.std.specs.Prelude.{◌≡◌, ℕ, List, [], drop}
 use Rattle.std.specs.Arc.{arc_value}
 use Rattle.attribute_index.specs.declared.abbreviations.Abbreviation.{Abbreviation}
@@ -16,7 +16,7 @@ abbrev pub abbreviation_in : Kept → Abbreviation
 abbreviation_in (Whole abbreviation) = abbreviation
 abbreviation_in (Long texts) = (arc_value texts).abbreviation
 
--- what is kept without texts has fewer than 24 symbols
+-- a value that is stored without texts has fewer than 24 symbols
 abbrev pub IsKept : Kept → Type 0
 IsKept (Whole abbreviation) = drop 23 (symbols_of (told_by abbreviation)) ≡ []
 IsKept (Long texts) = Unit {0}

@@ -1,36 +1,37 @@
-//! Numbers that order most names and values before their texts are looked at.
+//! Numbers that order most names and values before their texts are compared.
 ghost use Rattle.std.specs.Prelude.{◌≡◌, ◌<◌, ◌≤◌, ℕ, List, [], IsTrue, drop};
 ghost use Rattle.attribute_index.specs.Abbreviations.{AreOctets, IsAbbreviation, Spells, digit_of};
 ghost use Rattle.attribute_index.specs.Abbreviations.{spelled, symbols_of, symbols_to};
 
-/// How many symbols stand in a number.
+/// How many symbols one number spells.
 const SYMBOLS: usize = 8;
 
-/// The base in which a number spells them: above all digits.
+/// The base in which a number spells symbols. Every digit is below it.
 const BASE: u64 = 256;
 
-/// The first 24 symbols of a name and its value, eight in each number. Abbreviations are ordered as
-/// the names and values are whose abbreviations they are, where they differ.
+/// The first 24 symbols of a name and its value, eight in each number.
+///
+/// Different abbreviations have the order of their names and values.
 #[derive(Clone, Copy, Drop, PartialEq, Eq, PartialOrd, Ord)]
 pub(crate) struct Abbreviation {
     /// The first eight symbols.
     first: u64,
     /// The next eight.
     second: u64,
-    /// The eight after those.
+    /// The last eight.
     third: u64,
 }
 
-/// Which symbol is the last of a name and a value.
+/// Which symbol counts as the last of a name and a value.
 #[derive(Clone, Copy, Drop)]
 pub(crate) enum Last {
-    /// Their own.
+    /// Their own last symbol.
     Own,
-    /// The one behind it.
+    /// The symbol after it.
     Raised,
 }
 
-/// The digit of the symbol at this place of a name and a value.
+/// Returns the digit of the symbol at this index of a name and a value.
 fn digit_at(name: &[u8], value: &[u8], at: usize) -> u64
     requires name { AreOctets name.now }
     requires value { AreOctets value.now }
@@ -50,7 +51,7 @@ fn digit_at(name: &[u8], value: &[u8], at: usize) -> u64
     0
 }
 
-/// The same with this last symbol.
+/// Returns the digit of the symbol at this index, with this last symbol.
 fn digit_to(name: &[u8], value: &[u8], last: Last, at: usize) -> u64
     requires name { AreOctets name.now }
     requires value { AreOctets value.now }
@@ -69,7 +70,8 @@ fn digit_to(name: &[u8], value: &[u8], last: Last, at: usize) -> u64
     }
 }
 
-/// A number of eight symbols of a name and a value, from this place on, with this last symbol.
+/// Returns the number of eight symbols of a name and a value, from this index on, with this last
+/// symbol.
 fn number_at(name: &[u8], value: &[u8], last: Last, from: usize) -> u64
     requires name { AreOctets name.now }
     requires value { AreOctets value.now }
@@ -86,7 +88,7 @@ fn number_at(name: &[u8], value: &[u8], last: Last, from: usize) -> u64
     number
 }
 
-/// The numbers of the first 24 symbols of a name and a value, with this last symbol.
+/// Returns the numbers of the first 24 symbols of a name and a value, with this last symbol.
 fn numbers_of(name: &[u8], value: &[u8], last: Last) -> Abbreviation
     requires name { AreOctets name.now }
     requires value { AreOctets value.now }
@@ -100,22 +102,22 @@ fn numbers_of(name: &[u8], value: &[u8], last: Last) -> Abbreviation
 }
 
 impl Abbreviation {
-    /// The abbreviation of a name and a value.
+    /// Returns the abbreviation of a name and a value.
     pub(crate) fn of(name: &str, value: &str) -> Abbreviation
         ensures { IsAbbreviation result (name.now, value.now) }
     {
         numbers_of(name.as_bytes(), value.as_bytes(), Last::Own)
     }
 
-    /// What all abbreviations are before that begin with the symbols of this name and this value,
-    /// and none that is behind those.
+    /// Returns the least abbreviation after all those that begin with the symbols of this name and
+    /// value.
     pub(crate) fn behind(name: &str, value: &str) -> Abbreviation
         ensures { Spells result (symbols_to (Last.Raised) (name.now, value.now)) }
     {
         numbers_of(name.as_bytes(), value.as_bytes(), Last::Raised)
     }
 
-    /// Whether it spells the whole of its name and its value.
+    /// Returns whether the abbreviation spells its whole name and value.
     pub(crate) fn is_whole(&self) -> bool
         ensures { (value : List ℕ × List ℕ) → IsAbbreviation self.now value → IsTrue result
             → drop 23 (symbols_of value) ≡ [] }

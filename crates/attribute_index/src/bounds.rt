@@ -1,22 +1,22 @@
-//! Where the abbreviations stand of the values that a pattern matches.
+//! The range of abbreviations of the values that a pattern matches.
 ghost use Rattle.std.specs.Prelude.{◌≡◌};
 ghost use Rattle.attribute_index.specs.Bounds.{AreBounds, is_within};
 
 use crate::abbreviations::Abbreviation;
 use listing::before_wildcard;
 
-/// Which abbreviations are of values of a name that a pattern matches, among those that spell the
-/// whole of their values.
+/// The range of abbreviations whose values a pattern of a name matches, among those that spell
+/// their whole values.
 #[derive(Clone, Copy, Drop)]
 pub(crate) struct Bounds {
     /// The first.
     from: Abbreviation,
-    /// What all of them are before; None where the first is the only one.
+    /// The first after the range, or `None` if the range has only one.
     end: Option<Abbreviation>,
 }
 
 impl Bounds {
-    /// Those of a name and a pattern (RFC 6690 section 4.1).
+    /// Returns the range of a name and a pattern (RFC 6690 section 4.1).
     pub(crate) fn of(name: &str, pattern: &str) -> Bounds
         ensures { AreBounds result name.now pattern.now }
     {
@@ -32,7 +32,7 @@ impl Bounds {
         }
     }
 
-    /// Whether this abbreviation is one of them.
+    /// Returns whether this abbreviation is in the range.
     pub(crate) fn has(&self, abbreviation: &Abbreviation) -> bool
         ensures { result ≡ is_within self.now abbreviation.now }
     {

@@ -1,4 +1,4 @@
-//! The records that carry a value that a pattern matches, one after another.
+//! The records that carry a value which a pattern matches, one after another.
 ghost use Rattle.std.specs.Prelude.{◌≡◌, ◌+◌, [], ◌∷◌, IfSome, IfNone};
 ghost use Rattle.attribute_index.specs.Bounds.{AreBounds};
 ghost use Rattle.attribute_index.specs.Rows as spec;
@@ -13,16 +13,16 @@ use rd_base::{Steps, Text};
 use std::marker::{Brand, Model};
 use std::sync::ledger::{Blank, Ledger};
 
-/// A cursor over numbers of records: contracts see it as the numbers that are left, in order.
+/// A cursor over numbers of records. Contracts see it as the numbers that are left, in order.
 #[derive(Drop)]
 pub struct Carriers<'a> {
-    /// The name whose values are wanted.
+    /// The name whose values are sought.
     name: Text,
-    /// The pattern that matches the values that are wanted.
+    /// The pattern that matches the values sought.
     pattern: Text,
-    /// Which abbreviations are of values that are wanted.
+    /// The range of abbreviations of values sought.
     bounds: Bounds,
-    /// The rows that are left, the wanted ones in front.
+    /// The rows that are left, beginning with those sought.
     rows: RangeIter<'a, Row, ()>,
 }
 
@@ -39,7 +39,7 @@ impl<'a> Model for Carriers<'a> {
         × AreBounds c.bounds c.name c.pattern };
 }
 
-/// Whether the value is of this name, and the pattern matches it.
+/// Returns whether the value is of this name, and the pattern matches it.
 fn is_wanted(name: &str, pattern: &str, bounds: &Bounds, value: &Value) -> bool
     requires { AreBounds bounds.now name.now pattern.now }
     ensures { result ≡ spec.is_wanted name.now pattern.now value.now }
@@ -50,8 +50,8 @@ fn is_wanted(name: &str, pattern: &str, bounds: &Bounds, value: &Value) -> bool
     }
 }
 
-/// The number of the next row, where its value is wanted; None exactly where no row is left whose
-/// value is.
+/// Returns the number of the next row if its value is sought. Returns `None` if and only if no row
+/// with such a value is left.
 fn next_wanted(
     name: &str,
     pattern: &str,
@@ -75,7 +75,7 @@ fn next_wanted(
 }
 
 impl<'a> Carriers<'a> {
-    /// A cursor over the numbers of those of these rows whose values are wanted.
+    /// Creates a cursor over the numbers of those rows whose values are sought.
     pub(crate) fn over(name: Text, pattern: Text, rows: RangeIter<'a, Row, ()>) -> Carriers<'a>
         requires { WantedFirst name pattern rows }
         ensures { result ≡ wanted_numbers name pattern rows.entry }
@@ -89,8 +89,10 @@ impl<'a> Carriers<'a> {
         }
     }
 
-    /// The number of the next entry; None exactly at the end. Each call counts one step, that at
-    /// the end too. Takes no memory. A number comes once for each of its entries.
+    /// Returns the number of the next entry, or `None` at the end.
+    ///
+    /// Each call counts one step, also at the end. Does not allocate. A number comes once for each
+    /// of its entries.
     pub fn step<L: Ledger>(&mut self, steps: &mut Steps<L>) -> Option<u64>
         ensures next { IfSome result (λ number. self.old ≡ number ∷ self.new) }
         ensures end { IfNone result ((self.old ≡ []) × (self.new ≡ [])) }

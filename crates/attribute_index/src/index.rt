@@ -19,12 +19,17 @@ use rd_base::{PairRef, Starved, Text};
 use std::alloc::Global;
 use std::marker::Model;
 
-/// Which records carry which values of which names. The values of `rel`, `rev`, `rt` and `if` are
-/// lists (RFC 6690 section 2), and stand in it part by part; a value without a part stands in it
-/// nowhere. An index never changes: [`AttributeIndex::put`] and [`AttributeIndex::take`] make
-/// another one, [`AttributeIndex::with`] and [`AttributeIndex::without`] one in place of an index
-/// that is given up. Contracts see it as the list of its entries, each of a name, a value and a
-/// number, in ascending order and without doubles.
+/// An index of which records carry which values of which names.
+///
+/// The values of `rel`, `rev`, `rt` and `if` are lists (RFC 6690 section 2). The index has an entry
+/// for each part of such a value, and so none for a value without a part.
+///
+/// An index never changes. [`AttributeIndex::put`] and [`AttributeIndex::take`] return another one.
+/// [`AttributeIndex::with`] and [`AttributeIndex::without`] consume an index and return the changed
+/// one.
+///
+/// Contracts see an index as the list of its entries: each a name, a value and a number, in
+/// ascending order and without duplicates.
 #[derive(Drop)]
 pub struct AttributeIndex {
     /// Each value with each number of a record that carries it.
@@ -44,8 +49,8 @@ impl Model for AttributeIndex {
     ghost invariant = { λ a. sorted.IsAscending row_cmp a.rows };
 }
 
-/// Where the values begin that a pattern of a name matches: at what stands before its wildcard, or
-/// at the pattern. `Starved`: out of memory.
+/// Returns where the values that a pattern of a name matches begin: at the text before its
+/// wildcard, or at the pattern.
 fn first_wanted(alloc: Global, name: &str, pattern: &str) -> Result<Row, Starved>
     ensures { IfOk result (λ row. row ≡ spec.first_row name.now pattern.now) }
 {
@@ -57,7 +62,11 @@ fn first_wanted(alloc: Global, name: &str, pattern: &str) -> Result<Row, Starved
 }
 
 impl AttributeIndex {
-    /// The index without an entry. `Starved`: out of memory.
+    /// Returns the index without an entry.
+    ///
+    /// # Errors
+    ///
+    /// `Starved` if memory runs out.
     pub fn empty(alloc: Global) -> Result<AttributeIndex, Starved>
         ensures { IfOk result (λ index. index ≡ []) }
     {
@@ -66,7 +75,11 @@ impl AttributeIndex {
         })
     }
 
-    /// An equal index, which shares all entries. `Starved`: out of memory.
+    /// Returns an equal index, which shares all entries.
+    ///
+    /// # Errors
+    ///
+    /// `Starved` if memory runs out.
     pub fn share(&self, _: Global) -> Result<AttributeIndex, Starved>
         ensures same { IfOk result (λ index. index ≡ self.now) }
         ensures ascends { IfOk result (λ index. IsAscending index) }
@@ -76,8 +89,12 @@ impl AttributeIndex {
         })
     }
 
-    /// The index in which the record with this number carries this attribute too: it has the
-    /// entries of this one, and those of the attribute. `Starved`: out of memory.
+    /// Returns the index in which the record with this number carries this attribute, too. It has
+    /// the entries of this index and those of the attribute.
+    ///
+    /// # Errors
+    ///
+    /// `Starved` if memory runs out.
     pub fn put(
         &self,
         alloc: Global,
@@ -93,9 +110,14 @@ impl AttributeIndex {
         })
     }
 
-    /// The index without the entries of this attribute of the record with this number. Two
-    /// attributes of a record can have an entry in common, so who takes one of them takes all.
-    /// `Starved`: out of memory.
+    /// Returns the index without the entries of this attribute of the record with this number.
+    ///
+    /// Two attributes of a record can have an entry in common. So a caller that takes one of them
+    /// must take all.
+    ///
+    /// # Errors
+    ///
+    /// `Starved` if memory runs out.
     pub fn take(
         &self,
         alloc: Global,
@@ -112,10 +134,15 @@ impl AttributeIndex {
         })
     }
 
-    /// This index, in which the record with this number carries this attribute too, as
-    /// [`AttributeIndex::put`] makes one: what no other index has is changed in place, so that
-    /// several changes of one index copy each part of it once. `Starved`: out of memory; this
-    /// index is gone then, and all others are as before.
+    /// Consumes this index and returns it with this attribute of the record with this number, as
+    /// [`AttributeIndex::put`] does.
+    ///
+    /// Parts that no other index shares are changed in place, so a series of changes copies each
+    /// part once.
+    ///
+    /// # Errors
+    ///
+    /// `Starved` if memory runs out. This index is lost then; the others are unaffected.
     pub fn with(
         self,
         alloc: Global,
@@ -133,9 +160,14 @@ impl AttributeIndex {
         })
     }
 
-    /// This index without the entries of this attribute of the record with this number, as
-    /// [`AttributeIndex::take`] makes one: what no other index has is changed in place. `Starved`:
-    /// out of memory; this index is gone then, and all others are as before.
+    /// Consumes this index and returns it without the entries of this attribute of the record with
+    /// this number, as [`AttributeIndex::take`] does.
+    ///
+    /// Parts that no other index shares are changed in place.
+    ///
+    /// # Errors
+    ///
+    /// `Starved` if memory runs out. This index is lost then; the others are unaffected.
     pub fn without(
         self,
         alloc: Global,
@@ -153,8 +185,12 @@ impl AttributeIndex {
         })
     }
 
-    /// A cursor over the entries of this name whose values the pattern matches (RFC 6690 section
-    /// 4.1), in order. It begins where the first of them stands. `Starved`: out of memory.
+    /// Returns a cursor over the entries of this name whose values the pattern matches (RFC 6690
+    /// section 4.1), in order. It begins at the first of them.
+    ///
+    /// # Errors
+    ///
+    /// `Starved` if memory runs out.
     pub fn carriers(
         &self,
         alloc: Global,

@@ -1,4 +1,4 @@
-//! The rows of an index: edited one value of a name at a time.
+//! The rows of an index, and how they are edited, one value of a name at a time.
 ghost use Rattle.std.specs.Prelude.{◌≡◌, ◌<◌, IfOk, IfSome, IfNone, [], ◌∷◌};
 ghost use Rattle.chunk_map.specs.Sorted.{IsAscending};
 ghost use Rattle.rd_base.specs.PairRefs.{pair_seen};
@@ -21,8 +21,10 @@ use std::alloc::Global;
 use std::marker::Brand;
 use std::sync::ledger::{Blank, Ledger};
 
-/// A value of a name, and the number of a record that carries it. Rows are ordered by their values,
-/// those of one value by their numbers. What is shared of one shares the texts of its value.
+/// A value of a name, and the number of a record that carries it.
+///
+/// Rows are ordered by value, and rows of one value by number. Copies of a row share the texts of
+/// its value.
 #[derive(Drop, PartialEq, Eq, PartialOrd, Ord)]
 pub struct Row {
     /// The value.
@@ -44,12 +46,12 @@ impl Shared for Row {
 /// The rows of an index, as keys.
 pub(crate) type Rows = ChunkMap<Row, ()>;
 
-/// What is done to rows.
+/// An edit of rows.
 #[derive(Clone, Copy, Drop)]
 pub(crate) enum Edit {
-    /// They come, or stay where they are there.
+    /// Adds rows that are not there yet.
     Put,
-    /// They go.
+    /// Removes rows.
     Take,
 }
 
@@ -68,7 +70,7 @@ impl Change<()> for Edit {
     }
 }
 
-/// The next row of a cursor over rows.
+/// Returns the next row of a cursor over rows.
 pub(crate) fn next_row<'a, L: Ledger>(
     blank: Blank,
     rows: &mut RangeIter<'a, Row, ()>,
@@ -84,8 +86,10 @@ pub(crate) fn next_row<'a, L: Ledger>(
     Some(row)
 }
 
-/// An equal row, whose value is that of a row that is there already, where one has an equal value:
-/// so records that carry a long value share its texts. `Starved`: out of memory.
+/// Returns an equal row. If a row is there that has an equal value, both share the texts of the
+/// value.
+///
+/// So records that carry a long value share its texts.
 fn shared_row(rows: &Rows, row: Row) -> Result<Row, Starved>
     ensures { IfOk result (λ shared. shared ≡ row) }
 {
@@ -99,7 +103,7 @@ fn shared_row(rows: &Rows, row: Row) -> Result<Row, Starved>
     Ok(Row { value, number })
 }
 
-/// These rows after an edit of a row. `Starved`: out of memory.
+/// Returns these rows after an edit of one row.
 fn edited_row(rows: Rows, row: &Row, edit: Edit) -> Result<Rows, Starved>
     requires { IsAscending row_cmp rows }
     ensures entries { IfOk result
@@ -110,7 +114,7 @@ fn edited_row(rows: Rows, row: &Row, edit: Edit) -> Result<Rows, Starved>
     rows.changed(row, edit)
 }
 
-/// These rows after an edit of a row whose value is kept in texts. `Starved`: out of memory.
+/// Returns these rows after an edit of a row whose value is stored as texts.
 #[inline(never)]
 fn edited_long(rows: Rows, row: Row, edit: Edit) -> Result<Rows, Starved>
     requires { IsAscending row_cmp rows }
@@ -132,8 +136,8 @@ fn edited_long(rows: Rows, row: Row, edit: Edit) -> Result<Rows, Starved>
     }
 }
 
-/// These rows, in which the record with this number carries this value too, or carries it no
-/// longer. `Starved`: out of memory.
+/// Returns these rows, in which the record with this number now carries this value, or no longer
+/// does.
 fn edited_value(rows: Rows, value: Value, number: u64, edit: Edit) -> Result<Rows, Starved>
     requires { IsAscending row_cmp rows }
     ensures entries { IfOk result
@@ -149,8 +153,8 @@ fn edited_value(rows: Rows, value: Value, number: u64, edit: Edit) -> Result<Row
     edited_row(rows, &row, edit)
 }
 
-/// These rows, in which the record with this number carries the parts of this value too, or
-/// carries none of them. `Starved`: out of memory.
+/// Returns these rows, in which the record with this number now carries the parts of this value, or
+/// none of them.
 fn edited_parts(
     alloc: Global,
     rows: Rows,
@@ -176,8 +180,8 @@ fn edited_parts(
     Ok(after)
 }
 
-/// These rows, in which the record with this number carries this attribute too, or carries no
-/// value of it. `Starved`: out of memory.
+/// Returns these rows, in which the record with this number now carries this attribute, or no value
+/// of it.
 #[tactic(auto, unfolding(crate::specs::Entries::entries_of, crate::specs::Entries::values_of))]
 pub(crate) fn edited(
     alloc: Global,

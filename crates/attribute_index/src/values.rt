@@ -23,27 +23,29 @@ use std::cmp::Ordering;
 use std::marker::Model;
 use std::sync::Arc;
 
-/// A name and a value, with what orders them among most others without a look at their texts.
+/// A name and a value, with an abbreviation that orders them among most others without comparing
+/// texts.
 #[derive(Drop)]
 struct Abbreviated {
-    /// The abbreviation of the two.
+    /// The abbreviation of the name and the value.
     abbreviation: Abbreviation,
     /// The name and the value.
     pair: Pair,
 }
 
-/// Where a name and a value stand.
+/// How a name and a value are stored.
 #[derive(Drop)]
 enum Kept {
-    /// In an abbreviation that spells the whole of them, and takes no memory.
+    /// As an abbreviation that spells both whole, without allocating.
     Whole(Abbreviation),
-    /// In texts, which no version copies.
+    /// As texts, which no version copies.
     Long(Arc<Abbreviated>),
 }
 
-/// A name with a value of it, or with one part of the value. Values are ordered by their names,
-/// those of one name by their texts. What is shared of one shares the texts. Contracts see it as
-/// the name and the value.
+/// A name with one of its values, or with one part of such a value.
+///
+/// Values are ordered by name, and values of one name by their texts. Copies of a value share its
+/// texts. Contracts see it as the name and the value.
 #[derive(Drop)]
 pub struct Value {
     /// The name and the value.
@@ -63,7 +65,7 @@ impl Model for Value {
         × IsKept v.kept };
 }
 
-/// How the texts of two values are ordered, those of their names first.
+/// Returns the order of two values by their texts, those of their names first.
 fn order_of_texts(one: &Pair, other: &Pair) -> Ordering
     ensures { result ≡ value_cmp (one.now.name, one.now.value) (other.now.name, other.now.value) }
 {
@@ -74,7 +76,7 @@ fn order_of_texts(one: &Pair, other: &Pair) -> Ordering
 }
 
 impl Value {
-    /// A value of a name. `Starved`: out of memory, which only texts take that are long.
+    /// Creates a value of a name. Allocates only for long texts.
     pub(crate) fn of(alloc: Global, name: &str, value: &str) -> Result<Value, Starved>
         ensures { IfOk result (λ v. v ≡ (name.now, value.now)) }
     {
@@ -93,7 +95,7 @@ impl Value {
         })
     }
 
-    /// The abbreviation of its name and its value.
+    /// Returns the abbreviation of the name and the value.
     pub(crate) fn abbreviation(&self) -> &Abbreviation
         ensures { IsAbbreviation result.now self.now }
     {
@@ -106,7 +108,7 @@ impl Value {
         }
     }
 
-    /// The name and the value as texts; None where the abbreviation spells the whole of them.
+    /// Returns the name and the value as texts, or `None` if the abbreviation spells both whole.
     pub(crate) fn texts(&self) -> Option<&Pair>
         ensures some { IfSome result (λ pair. (pair.now.name, pair.now.value) ≡ self.now) }
         ensures none { IfNone result (drop 23 (symbols_of self.now) ≡ []) }
@@ -120,8 +122,8 @@ impl Value {
         }
     }
 
-    /// How it is ordered, where it is kept in texts: as its abbreviation, and by the texts where
-    /// the abbreviations are equal and leave some of them out.
+    /// Returns the order of a value that is stored as texts. The order is that of the
+    /// abbreviations. If these are equal and leave symbols out, it is that of the texts.
     #[inline(never)]
     fn order_by_texts(&self, other: &Value) -> Ordering
         ensures { result ≡ value_cmp self.now other.now }
@@ -140,7 +142,8 @@ impl Value {
         }
     }
 
-    /// How it is ordered: as its abbreviation, where that spells the whole of it.
+    /// Returns the order of two values: that of their abbreviations, if these spell the values
+    /// whole.
     fn order(&self, other: &Value) -> Ordering
         ensures { result ≡ value_cmp self.now other.now }
     {
@@ -151,7 +154,7 @@ impl Value {
     }
 }
 
-/// An equal value, which shares the texts.
+/// Returns an equal value, which shares the texts.
 impl Shared for Value {
     fn share(&self) -> Result<Value, Starved> {
         match &self.kept {

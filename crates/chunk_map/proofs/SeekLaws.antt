@@ -88,13 +88,3 @@ first_front R key (e ∷ es) rest lt = refl
 -- lists one after another, nested to the right and to the left
 pub behind_two : {E : Type 0} (xs bs cs : List E) → xs ++ (bs ++ cs) ≡ (xs ++ bs) ++ cs
 behind_two xs bs cs = sym (append_assoc xs bs cs)
-
-pub behind_three : {E : Type 0} (xs bs cs ds : List E)
-    → xs ++ (bs ++ (cs ++ ds)) ≡ (xs ++ (bs ++ cs)) ++ ds
-behind_three xs bs cs ds =
-    ap (λ rest. xs ++ rest) (behind_two bs cs ds) ∙ behind_two xs (bs ++ cs) ds
-
-pub nested_four : {E : Type 0} (xs bs cs ds : List E)
-    → ((xs ++ bs) ++ cs) ++ ds ≡ xs ++ (bs ++ (cs ++ ds))
-nested_four xs bs cs ds =
-    append_assoc (xs ++ bs) cs ds ∙ append_assoc xs bs (cs ++ ds)

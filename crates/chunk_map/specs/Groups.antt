@@ -1,4 +1,4 @@
--- The pairs that chunks, groups of chunks and sections of groups show.
+-- The pairs that chunks and groups of chunks show.
 use Rattle.std.specs.Prelude.{List, [], ◌∷◌, ◌<◌, length}
 use Rattle.std.specs.List.{All, flat_map}
 use Rattle.std.specs.Global.{Vec}
@@ -23,12 +23,6 @@ chunk_pairs chunk = list_pairs (λ p. p ∷ []) chunk
 abbrev pub group_pairs : {K V : Type 0} → Arc (Vec (Arc (Vec (K × V)) Global)) Global → List (K × V)
 group_pairs group = list_pairs chunk_pairs group
 
--- Returns the pairs of a section, one group after another.
-abbrev pub section_pairs : {K V : Type 0}
-    → Arc (Vec (Arc (Vec (Arc (Vec (K × V)) Global)) Global)) Global
-    → List (K × V)
-section_pairs section = list_pairs group_pairs section
-
 -- States that the chunk has a pair.
 abbrev pub IsWholeChunk : {K V : Type 0} → Arc (Vec (K × V)) Global → Type 0
 IsWholeChunk {K} {V} chunk = IsWholeList (λ (_ : K × V). Unit {0}) chunk
@@ -36,9 +30,3 @@ IsWholeChunk {K} {V} chunk = IsWholeList (λ (_ : K × V). Unit {0}) chunk
 -- States that the group has a chunk, and each of its chunks has a pair.
 abbrev pub IsWholeGroup : {K V : Type 0} → Arc (Vec (Arc (Vec (K × V)) Global)) Global → Type 0
 IsWholeGroup group = IsWholeList IsWholeChunk group
-
--- States that the section has a group, and each of its groups is whole.
-abbrev pub IsWholeSection : {K V : Type 0}
-    → Arc (Vec (Arc (Vec (Arc (Vec (K × V)) Global)) Global)) Global
-    → Type 0
-IsWholeSection section = IsWholeList IsWholeGroup section

@@ -5,8 +5,8 @@ ghost use Rattle.std.specs.Map.{lookup};
 ghost use Rattle.std.specs.BTreeMap.{is_at};
 ghost use Rattle.chunk_map.specs.Changes.{IsChanged, IsCounted};
 ghost use Rattle.chunk_map.specs.Sorted.{IsAscending};
-ghost use Rattle.chunk_map.specs.Groups.{chunk_pairs, group_pairs, list_pairs};
-ghost use Rattle.chunk_map.specs.Groups.{IsWholeChunk, IsWholeGroup, IsWholeList};
+ghost use Rattle.chunk_map.specs.Groups.{chunk_pairs, list_pairs};
+ghost use Rattle.chunk_map.specs.Groups.{IsWholeChunk, IsWholeList};
 ghost use Rattle.chunk_map.specs.Levels.{AreWhole, pairs_in};
 
 use crate::change::Tally;
@@ -20,22 +20,17 @@ use std::sync::Arc;
 /// A chunk: at least one pair, in ascending order of the keys.
 pub(crate) type Chunk<K, V> = Arc<Vec<(K, V)>>;
 
-/// A group: one to 12 chunks, with ascending pairs from chunk to chunk.
+/// A group: one to 32 chunks, with ascending pairs from chunk to chunk.
 pub(crate) type Group<K, V> = Arc<Vec<Chunk<K, V>>>;
-
-/// A section: one to 12 groups, with ascending pairs from group to group.
-pub(crate) type Section<K, V> = Arc<Vec<Group<K, V>>>;
 
 /// The pairs of a map, in the levels that they need. If there are too many parts for one list,
 /// there is one more level.
 #[derive(Drop)]
 pub(crate) enum Levels<K: Ord + Shared, V: Shared> {
-    /// At most 12 chunks.
+    /// At most 32 chunks.
     Chunks(Vec<Chunk<K, V>>),
-    /// At most 12 groups of chunks.
+    /// Any number of groups of chunks.
     Groups(Vec<Group<K, V>>),
-    /// Any number of sections of groups.
-    Sections(Vec<Section<K, V>>),
 }
 
 /// Returns two lists of these parts after a change of the value at this key, or one if that is not
@@ -82,37 +77,11 @@ fn over_chunks<K: Ord + Shared, V: Shared>(
     Ok(Levels::Groups(groups))
 }
 
-/// Returns levels over these groups, after a change of the value at this key.
-fn over_groups<K: Ord + Shared, V: Shared>(
-    alloc: Global,
-    groups: Vec<Group<K, V>>,
-    key: &K,
-) -> Result<Levels<K, V>, Starved>
-    requires whole { All IsWholeGroup groups.items }
-    ensures pairs { IfOk result (λ levels. pairs_in levels ≡ flat_map group_pairs groups.items) }
-    ensures whole { IfOk result AreWhole }
-{
-    if groups.len() <= MOST_PARTS {
-        return Ok(Levels::Groups(groups));
-    }
-    let sections = raised(alloc, groups, key)?;
-    Ok(Levels::Sections(sections))
-}
-
 /// Returns the number of chunks of these groups.
 fn chunks_of_groups<K: Ord + Shared, V: Shared>(groups: &[Group<K, V>]) -> usize {
     let mut count = 0;
     for group in groups {
         count = usize::saturating_add(count, group.len());
-    }
-    count
-}
-
-/// Returns the number of chunks of these sections.
-fn chunks_of_sections<K: Ord + Shared, V: Shared>(sections: &[Section<K, V>]) -> usize {
-    let mut count = 0;
-    for section in sections {
-        count = usize::saturating_add(count, chunks_of_groups(section.as_slice()));
     }
     count
 }
@@ -123,7 +92,6 @@ impl<K: Ord + Shared, V: Shared> Levels<K, V> {
         match self {
             Levels::Chunks(chunks) => chunks.len(),
             Levels::Groups(groups) => chunks_of_groups(groups.as_slice()),
-            Levels::Sections(sections) => chunks_of_sections(sections.as_slice()),
         }
     }
 
@@ -136,9 +104,6 @@ impl<K: Ord + Shared, V: Shared> Levels<K, V> {
         match self {
             Levels::Chunks(chunks) => Ok(Levels::Chunks(copied(alloc, chunks.as_slice())?)),
             Levels::Groups(groups) => Ok(Levels::Groups(copied(alloc, groups.as_slice())?)),
-            Levels::Sections(sections) => {
-                Ok(Levels::Sections(copied(alloc, sections.as_slice())?))
-            }
         }
     }
 
@@ -152,7 +117,6 @@ impl<K: Ord + Shared, V: Shared> Levels<K, V> {
         match self {
             Levels::Chunks(chunks) => get(chunks.as_slice(), key),
             Levels::Groups(groups) => get(groups.as_slice(), key),
-            Levels::Sections(sections) => get(sections.as_slice(), key),
         }
     }
 
@@ -180,12 +144,7 @@ impl<K: Ord + Shared, V: Shared> Levels<K, V> {
             }
             Levels::Groups(mut groups) => {
                 let tally = change_in(alloc, &mut groups, key, change)?;
-                let levels = over_groups(alloc, groups, key)?;
-                Ok((levels, tally))
-            }
-            Levels::Sections(mut sections) => {
-                let tally = change_in(alloc, &mut sections, key, change)?;
-                Ok((Levels::Sections(sections), tally))
+                Ok((Levels::Groups(groups), tally))
             }
         }
     }

@@ -26,7 +26,7 @@ const MOST_SHARED_PAIRS: usize = 24;
 
 /// The most parts of a list of shared parts. Most of the cost of changing a large map is raising
 /// and lowering their reference counts.
-pub(crate) const MOST_PARTS: usize = 12;
+pub(crate) const MOST_PARTS: usize = 32;
 
 /// What a change in place leaves of a part.
 #[derive(Drop)]
@@ -40,8 +40,8 @@ pub(crate) enum Outcome<P: Drop> {
 }
 
 /// A part of a map. It shows at least one pair, in ascending order of the keys. A pair is the
-/// smallest part, a list of parts is a part, and so is an `Arc` of a part. Chunks, groups, sections
-/// and lists of them share this code.
+/// smallest part, a list of parts is a part, and so is an `Arc` of a part. Chunks, groups and lists
+/// of them share this code.
 pub(crate) trait Part<K: Ord + Drop, V: Drop>: Drop {
     /// The pairs that it shows.
     ghost pairs: { Self → List (K × V) };

@@ -1,4 +1,4 @@
-//! Lists of parts: the parts of a chunk, of a group, of a section and of a map.
+//! Lists of parts: the parts of a chunk, of a group and of a map.
 ghost use Rattle.std.specs.Prelude.{◌≡◌, ◌<◌, ◌≤◌, ◌+◌, List, [], ◌∷◌, ◌++◌, length, take, drop};
 ghost use Rattle.std.specs.Prelude.{slice_index_or, IfOk, OnOk, IfSome, IfNone, option_map};
 ghost use Rattle.std.specs.List.{All, flat_map};
@@ -211,12 +211,56 @@ fn join_before<K: Ord + Drop, V: Drop, P: Part<K, V>>(
     join_next(alloc, parts, at - 1)
 }
 
-/// Puts what is left of the part at this index in its place, and joins small adjacent parts.
+/// Joins the part at this index with its neighbours, if it lost a pair and both are small. Parts
+/// that lost none are as large as before.
+fn join_around<K: Ord + Drop, V: Drop, P: Part<K, V>>(
+    alloc: Global,
+    parts: &mut Vec<P>,
+    at: usize,
+    tally: Tally,
+) -> Result<(), Starved>
+    requires whole { All P.is_whole parts.old.items }
+    ensures pairs { OnOk result
+        (flat_map P.pairs parts.new.items ≡ flat_map P.pairs parts.old.items) }
+    ensures whole { OnOk result (All P.is_whole parts.new.items) }
+{
+    match tally {
+        Tally::Fewer => {
+            join_next(alloc, parts, at)?;
+            join_before(alloc, parts, at)?;
+            Ok(())
+        }
+        Tally::Same => Ok(()),
+        Tally::More => Ok(()),
+    }
+}
+
+/// Joins the two halves of a part that was split with their neighbours, if both are small. The
+/// first half is at this index.
+fn join_halves<K: Ord + Drop, V: Drop, P: Part<K, V>>(
+    alloc: Global,
+    parts: &mut Vec<P>,
+    at: usize,
+) -> Result<(), Starved>
+    requires bound { at < length parts.old.items }
+    requires whole { All P.is_whole parts.old.items }
+    ensures pairs { OnOk result
+        (flat_map P.pairs parts.new.items ≡ flat_map P.pairs parts.old.items) }
+    ensures whole { OnOk result (All P.is_whole parts.new.items) }
+{
+    join_next(alloc, parts, at + 1)?;
+    join_before(alloc, parts, at)?;
+    Ok(())
+}
+
+/// Puts what is left of the part at this index in its place, given the effect on the number of its
+/// pairs, and joins small adjacent parts.
 fn settle<K: Ord + Drop, V: Drop, P: Part<K, V>>(
     alloc: Global,
     parts: &mut Vec<P>,
     at: usize,
     outcome: Outcome<P>,
+    tally: Tally,
 ) -> Result<(), Starved>
     requires bound { at < length parts.old.items }
     requires front { All P.is_whole (take at parts.old.items) }
@@ -234,13 +278,10 @@ fn settle<K: Ord + Drop, V: Drop, P: Part<K, V>>(
             parts.remove(at);
             Ok(())
         }
-        Outcome::Kept => {
-            join_next(alloc, parts, at)?;
-            join_before(alloc, parts, at)
-        }
+        Outcome::Kept => join_around(alloc, parts, at, tally),
         Outcome::Split(behind) => {
             parts.insert(at + 1, behind)?;
-            join_before(alloc, parts, at)
+            join_halves(alloc, parts, at)
         }
     }
 }
@@ -291,7 +332,7 @@ pub(crate) fn change_in<K: Ord + Drop, V: Drop, P: Part<K, V>, C: Change<V>>(
     }
     let at = find(parts.as_slice(), key);
     let (outcome, tally) = parts[at].change(alloc, key, change)?;
-    settle(alloc, parts, at, outcome)?;
+    settle(alloc, parts, at, outcome, tally)?;
     Ok(tally)
 }
 

@@ -6,12 +6,11 @@ ghost use Rattle.std.specs.Map.{lookup};
 ghost use Rattle.std.specs.BTreeMap.{is_at};
 ghost use Rattle.std.specs.BTreeMap.Range.{entries_from};
 ghost use Rattle.chunk_map.specs.Sorted.{IsAscending, begins_by, first_value};
-ghost use Rattle.chunk_map.specs.Groups.{chunk_pairs, group_pairs, section_pairs};
-ghost use Rattle.chunk_map.specs.Groups.{IsWholeChunk, IsWholeGroup, IsWholeSection};
+ghost use Rattle.chunk_map.specs.Groups.{chunk_pairs, group_pairs, IsWholeChunk, IsWholeGroup};
 ghost use Rattle.chunk_map.specs.Levels.{AreWhole, pairs_in};
 
 use crate::Shared;
-use crate::levels::{Chunk, Group, Levels, Section};
+use crate::levels::{Chunk, Group, Levels};
 use crate::part::Part;
 use crate::parts::{cut, find, first, parts_of};
 use rd_base::Steps;
@@ -26,28 +25,22 @@ pub struct RangeIter<'a, K: Ord + Shared, V: Shared> {
     pairs: &'a [(K, V)],
     /// The chunks after the current one in its group.
     chunks: &'a [Chunk<K, V>],
-    /// The groups after the current one in its section.
+    /// The groups after the current one.
     groups: &'a [Group<K, V>],
-    /// The sections after the current one.
-    sections: &'a [Section<K, V>],
 }
 
 impl<'a, K: Ord + Shared, V: Shared> Model for RangeIter<'a, K, V> {
     ghost use Rattle.std.specs.Prelude.{List, ◌++◌};
     ghost use Rattle.std.specs.List.{All, flat_map};
-    ghost use Rattle.chunk_map.specs.Groups.{chunk_pairs, group_pairs, section_pairs};
-    ghost use Rattle.chunk_map.specs.Groups.{IsWholeChunk, IsWholeGroup, IsWholeSection};
+    ghost use Rattle.chunk_map.specs.Groups.{chunk_pairs, group_pairs};
+    ghost use Rattle.chunk_map.specs.Groups.{IsWholeChunk, IsWholeGroup};
 
     ghost Value = { List (K × V) };
 
     ghost view = { λ r. r.pairs.now
-        ++ (flat_map chunk_pairs r.chunks.now
-        ++ (flat_map group_pairs r.groups.now
-        ++ flat_map section_pairs r.sections.now)) };
+        ++ (flat_map chunk_pairs r.chunks.now ++ flat_map group_pairs r.groups.now) };
 
-    ghost invariant = { λ r. All IsWholeChunk r.chunks.now
-        × All IsWholeGroup r.groups.now
-        × All IsWholeSection r.sections.now };
+    ghost invariant = { λ r. All IsWholeChunk r.chunks.now × All IsWholeGroup r.groups.now };
 }
 
 /// Returns the pairs from the first key that is not below this one.
@@ -76,76 +69,35 @@ fn pairs_of<'a, K: Ord + Shared, V: Shared>(chunk: &'a Chunk<K, V>) -> &'a [(K, 
     chunk.as_slice()
 }
 
-/// Returns the next group, and the groups and sections after it, or `None` if there is none.
-fn next_group<'a, K: Ord + Shared, V: Shared>(
-    groups: &'a [Group<K, V>],
-    sections: &'a [Section<K, V>],
-) -> Option<(&'a Group<K, V>, &'a [Group<K, V>], &'a [Section<K, V>])>
-    requires groups { All IsWholeGroup groups.now }
-    requires sections { All IsWholeSection sections.now }
-    ensures pairs { IfSome result (λ next.
-        group_pairs next.0.now
-        ++ (flat_map group_pairs next.1.now ++ flat_map section_pairs next.2.now)
-        ≡ flat_map group_pairs groups.now ++ flat_map section_pairs sections.now) }
-    ensures group { IfSome result (λ next. IsWholeGroup next.0.now) }
-    ensures groups { IfSome result (λ next. All IsWholeGroup next.1.now) }
-    ensures sections { IfSome result (λ next. All IsWholeSection next.2.now) }
-    ensures end { IfNone result
-        (flat_map group_pairs groups.now ++ flat_map section_pairs sections.now ≡ []) }
-{
-    if !groups.is_empty() {
-        let (group, groups) = first(groups);
-        return Some((group, groups, sections));
-    }
-    if sections.is_empty() {
-        return None;
-    }
-    let (section, sections) = first(sections);
-    let (group, groups) = first(parts_of(section));
-    Some((group, groups, sections))
-}
-
-/// The pairs of the next chunk, and the chunks, groups and sections after it.
-type Next<'a, K, V> = (
-    &'a [(K, V)],
-    &'a [Chunk<K, V>],
-    &'a [Group<K, V>],
-    &'a [Section<K, V>],
-);
+/// The pairs of the next chunk, and the chunks and groups after it.
+type Next<'a, K, V> = (&'a [(K, V)], &'a [Chunk<K, V>], &'a [Group<K, V>]);
 
 /// Returns the next chunk, or `None` if there is none.
 fn next_chunk<'a, K: Ord + Shared, V: Shared>(
     chunks: &'a [Chunk<K, V>],
     groups: &'a [Group<K, V>],
-    sections: &'a [Section<K, V>],
 ) -> Option<Next<'a, K, V>>
     requires chunks { All IsWholeChunk chunks.now }
     requires groups { All IsWholeGroup groups.now }
-    requires sections { All IsWholeSection sections.now }
     ensures pairs { IfSome result (λ next.
-        next.0.now
-        ++ (flat_map chunk_pairs next.1.now
-        ++ (flat_map group_pairs next.2.now
-        ++ flat_map section_pairs next.3.now))
-        ≡ flat_map chunk_pairs chunks.now
-        ++ (flat_map group_pairs groups.now
-        ++ flat_map section_pairs sections.now)) }
+        next.0.now ++ (flat_map chunk_pairs next.1.now ++ flat_map group_pairs next.2.now)
+        ≡ flat_map chunk_pairs chunks.now ++ flat_map group_pairs groups.now) }
     ensures any { IfSome result (λ next. 0 < length next.0.now) }
     ensures chunks { IfSome result (λ next. All IsWholeChunk next.1.now) }
     ensures groups { IfSome result (λ next. All IsWholeGroup next.2.now) }
-    ensures sections { IfSome result (λ next. All IsWholeSection next.3.now) }
-    ensures end { IfNone result (flat_map chunk_pairs chunks.now
-        ++ (flat_map group_pairs groups.now
-        ++ flat_map section_pairs sections.now)
-        ≡ []) }
+    ensures end { IfNone result
+        (flat_map chunk_pairs chunks.now ++ flat_map group_pairs groups.now ≡ []) }
 {
     if !chunks.is_empty() {
         let (chunk, chunks) = first(chunks);
-        return Some((pairs_of(chunk), chunks, groups, sections));
+        return Some((pairs_of(chunk), chunks, groups));
     }
-    let (group, groups, sections) = next_group(groups, sections)?;
+    if groups.is_empty() {
+        return None;
+    }
+    let (group, groups) = first(groups);
     let (chunk, chunks) = first(parts_of(group));
-    Some((pairs_of(chunk), chunks, groups, sections))
+    Some((pairs_of(chunk), chunks, groups))
 }
 
 /// Returns the pairs of these chunks from the first key that is not below this one: those of the
@@ -168,10 +120,7 @@ fn in_chunks<'a, K: Ord + Shared, V: Shared>(
 
 /// Returns the pairs of these groups from the first key that is not below this one: those of the
 /// first such chunk, and the chunks and groups after it.
-fn in_groups<'a, K: Ord + Shared, V: Shared>(
-    groups: &'a [Group<K, V>],
-    from: &K,
-) -> (&'a [(K, V)], &'a [Chunk<K, V>], &'a [Group<K, V>])
+fn in_groups<'a, K: Ord + Shared, V: Shared>(groups: &'a [Group<K, V>], from: &K) -> Next<'a, K, V>
     requires whole { All IsWholeGroup groups.now }
     requires ascends { IsAscending K.cmp (flat_map group_pairs groups.now) }
     ensures pairs { result.0.now
@@ -185,29 +134,6 @@ fn in_groups<'a, K: Ord + Shared, V: Shared>(
     };
     let (pairs, chunks) = in_chunks(parts_of(group), from);
     (pairs, chunks, groups)
-}
-
-/// Returns the pairs of these sections from the first key that is not below this one: those of the
-/// first such chunk, and the chunks, groups and sections after it.
-fn in_sections<'a, K: Ord + Shared, V: Shared>(
-    sections: &'a [Section<K, V>],
-    from: &K,
-) -> Next<'a, K, V>
-    requires whole { All IsWholeSection sections.now }
-    requires ascends { IsAscending K.cmp (flat_map section_pairs sections.now) }
-    ensures pairs { result.0.now
-        ++ (flat_map chunk_pairs result.1.now
-        ++ (flat_map group_pairs result.2.now ++ flat_map section_pairs result.3.now))
-        ≡ entries_from (K.cmp from.now) (flat_map section_pairs sections.now) }
-    ensures chunks { All IsWholeChunk result.1.now }
-    ensures groups { All IsWholeGroup result.2.now }
-    ensures sections { All IsWholeSection result.3.now }
-{
-    let Some((section, sections)) = cut(sections, from) else {
-        return (&[], &[], &[], &[]);
-    };
-    let (pairs, chunks, groups) = in_groups(parts_of(section), from);
-    (pairs, chunks, groups, sections)
 }
 
 /// Returns whether the pairs of these parts begin with a key that is not above this one.
@@ -247,7 +173,7 @@ fn from_groups<'a, K: Ord + Shared, V: Shared>(
     chunks: &'a [Chunk<K, V>],
     groups: &'a [Group<K, V>],
     from: &K,
-) -> (&'a [(K, V)], &'a [Chunk<K, V>], &'a [Group<K, V>])
+) -> Next<'a, K, V>
     requires chunks { All IsWholeChunk chunks.now }
     requires groups { All IsWholeGroup groups.now }
     requires ascends { IsAscending K.cmp
@@ -264,37 +190,6 @@ fn from_groups<'a, K: Ord + Shared, V: Shared>(
     }
     let (pairs, chunks) = from_chunks(pairs, chunks, from);
     (pairs, chunks, groups)
-}
-
-/// Returns the same as [`from_groups`], with sections after the groups.
-fn from_sections<'a, K: Ord + Shared, V: Shared>(
-    pairs: &'a [(K, V)],
-    chunks: &'a [Chunk<K, V>],
-    groups: &'a [Group<K, V>],
-    sections: &'a [Section<K, V>],
-    from: &K,
-) -> Next<'a, K, V>
-    requires chunks { All IsWholeChunk chunks.now }
-    requires groups { All IsWholeGroup groups.now }
-    requires sections { All IsWholeSection sections.now }
-    requires ascends { IsAscending K.cmp
-        (((pairs.now ++ flat_map chunk_pairs chunks.now) ++ flat_map group_pairs groups.now)
-        ++ flat_map section_pairs sections.now) }
-    ensures pairs { result.0.now
-        ++ (flat_map chunk_pairs result.1.now
-        ++ (flat_map group_pairs result.2.now ++ flat_map section_pairs result.3.now))
-        ≡ entries_from (K.cmp from.now)
-        (((pairs.now ++ flat_map chunk_pairs chunks.now) ++ flat_map group_pairs groups.now)
-        ++ flat_map section_pairs sections.now) }
-    ensures chunks { All IsWholeChunk result.1.now }
-    ensures groups { All IsWholeGroup result.2.now }
-    ensures sections { All IsWholeSection result.3.now }
-{
-    if begin_by(sections, from) {
-        return in_sections(sections, from);
-    }
-    let (pairs, chunks, groups) = from_groups(pairs, chunks, groups, from);
-    (pairs, chunks, groups, sections)
 }
 
 /// Returns the value of the first pair, if it has this key.
@@ -323,7 +218,6 @@ impl<'a, K: Ord + Shared, V: Shared> RangeIter<'a, K, V> {
                     pairs,
                     chunks,
                     groups: &[],
-                    sections: &[],
                 }
             }
             Levels::Groups(groups) => {
@@ -332,16 +226,6 @@ impl<'a, K: Ord + Shared, V: Shared> RangeIter<'a, K, V> {
                     pairs,
                     chunks,
                     groups,
-                    sections: &[],
-                }
-            }
-            Levels::Sections(sections) => {
-                let (pairs, chunks, groups, sections) = in_sections(sections.as_slice(), from);
-                RangeIter {
-                    pairs,
-                    chunks,
-                    groups,
-                    sections,
                 }
             }
         }
@@ -356,12 +240,10 @@ impl<'a, K: Ord + Shared, V: Shared> RangeIter<'a, K, V> {
             pairs: &[],
             chunks: &[],
             groups: &[],
-            sections: &[],
         };
         match levels {
             Levels::Chunks(chunks) => cursor.chunks = chunks.as_slice(),
             Levels::Groups(groups) => cursor.groups = groups.as_slice(),
-            Levels::Sections(sections) => cursor.sections = sections.as_slice(),
         }
         cursor
     }
@@ -374,15 +256,10 @@ impl<'a, K: Ord + Shared, V: Shared> RangeIter<'a, K, V> {
         if !self.pairs.is_empty() {
             return value_at(self.pairs, key);
         }
-        let (pairs, chunks, groups, sections) = next_chunk(
-            self.chunks,
-            self.groups,
-            self.sections,
-        )?;
+        let (pairs, chunks, groups) = next_chunk(self.chunks, self.groups)?;
         self.pairs = pairs;
         self.chunks = chunks;
         self.groups = groups;
-        self.sections = sections;
         value_at(pairs, key)
     }
 
@@ -398,17 +275,10 @@ impl<'a, K: Ord + Shared, V: Shared> RangeIter<'a, K, V> {
         ensures left { self.new ≡ entries_from (K.cmp key.now) self.old }
         ensures found { option_map (λ v. v.now) result ≡ lookup (is_at (K.cmp key.now)) self.old }
     {
-        let (pairs, chunks, groups, sections) = from_sections(
-            self.pairs,
-            self.chunks,
-            self.groups,
-            self.sections,
-            key,
-        );
+        let (pairs, chunks, groups) = from_groups(self.pairs, self.chunks, self.groups, key);
         self.pairs = pairs;
         self.chunks = chunks;
         self.groups = groups;
-        self.sections = sections;
         self.next_value(key)
     }
 
@@ -426,16 +296,11 @@ impl<'a, K: Ord + Shared, V: Shared> RangeIter<'a, K, V> {
                 Some((&first.0, &first.1))
             }
             None => {
-                let (pairs, chunks, groups, sections) = next_chunk(
-                    self.chunks,
-                    self.groups,
-                    self.sections,
-                )?;
+                let (pairs, chunks, groups) = next_chunk(self.chunks, self.groups)?;
                 let (first, rest) = pairs.split_first()?;
                 self.pairs = rest;
                 self.chunks = chunks;
                 self.groups = groups;
-                self.sections = sections;
                 Some((&first.0, &first.1))
             }
         }

@@ -1,5 +1,5 @@
--- Links that are alike: the same queries list them, where their endpoints are judged alike, and in
--- the same line.
+-- Links that are alike. If their endpoints are judged alike, the same queries list them, and in the
+-- same line.
 use Rattle.std.specs.Prelude.{◌≡◌, ◌≤◌, Bool, true, List, [], ◌∷◌, length}
 use Rattle.std.specs.List.{AllByRecursion}
 use Rattle.rd_base.specs.declared.queries.Criterion.{Criterion}
@@ -16,7 +16,7 @@ pub record AreAlike (x y : Item) : Type 0 where
   pub anchor : x.anchor ≡ y.anchor
   pub pairs : x.pairs ≡ y.pairs
 
--- the same of as many links
+-- both lists have the same length, and their links are alike, one by one
 abbrev pub AreAllAlike : List Item → List Item → Type 0
 AreAllAlike [] [] = Unit {0}
 AreAllAlike [] (y ∷ ys) = ⊥
@@ -29,12 +29,12 @@ AreJudgedAlike criteria r s =
     AllByRecursion (λ criterion. endpoint_matches criterion r ≡ endpoint_matches criterion s)
     criteria
 
--- two tests that pass both of two links that are alike or neither, where they are said to
+-- if `together` holds, each of two links that are alike passes both tests or neither
 abbrev pub Agree : Bool → (Item → Bool) → (Item → Bool) → Type 0
 Agree together test other = together ≡ true → (x y : Item) → AreAlike x y → test x ≡ other y
 
--- what is left of the links of two registrations, where links were left out at the beginning that
--- are alike, if the tests agree: whether both give the same lines is whether what is left does
+-- What is left of the links of two registrations after links at the beginning were left out that
+-- are alike. If the tests agree, both contribute the same lines if and only if what is left does.
 pub record AreLeftAlike (together : Bool) (old new left others : List Item) : Type 0 where
   pub same : (test other : Item → Bool)
       → Agree together test other

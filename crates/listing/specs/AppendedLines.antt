@@ -1,5 +1,5 @@
--- Which lines of a record are shown, and how lines stand after a text (RFC 6690 section 2: commas
--- part link-values).
+-- Which lines of a record are shown, and how lines follow a text (RFC 6690 section 2: commas
+-- separate link-values).
 use Rattle.std.specs.Prelude.{ℕ, List, [], ◌∷◌, ◌++◌, take, drop, flat_map}
 use Rattle.std.specs.List.{join_with_byte}
 use Rattle.link_model.specs.Characters.{comma}
@@ -8,12 +8,13 @@ use Rattle.link_model.specs.Characters.{comma}
 abbrev pub shown_lines : ℕ → ℕ → List (List ℕ) → List (List ℕ)
 shown_lines skip most lines = take most (drop skip lines)
 
--- lines after a text: with a comma between each two, and one after the text where it is not empty
+-- a text followed by lines: with a comma between each two, and one after the text unless it is
+-- empty
 unfoldable pub appended : List ℕ → List (List ℕ) → List ℕ
 appended [] lines = join_with_byte comma lines
 appended (c ∷ cs) lines = (c ∷ cs) ++ flat_map (λ line. comma ∷ line) lines
 
--- a text before a line: with a comma, where it is not empty
+-- a text before a line: with a comma after it, unless it is empty
 abbrev pub separated : List ℕ → List ℕ
 separated [] = []
 separated (c ∷ cs) = (c ∷ cs) ++ comma ∷ []

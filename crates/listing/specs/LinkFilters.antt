@@ -1,5 +1,5 @@
--- Which links a query lists, by what its first criterion seeks that the endpoint does not meet, and
--- the criteria after it.
+-- Which links a query lists: by what the first criterion that the endpoint does not match seeks,
+-- and by the criteria after it.
 use Rattle.std.specs.Prelude.{◌≡◌, Bool, ◌&&◌, ◌||◌, List, Option, Some, None}
 use Rattle.std.specs.List.{list_all}
 use Rattle.std.specs.Option.{option_copied}
@@ -14,14 +14,14 @@ use Rattle.listing.specs.JudgedEndpoints.{AreJudged, AreJudgedOf}
 use Rattle.listing.specs.ListedLinks.{listed_of}
 use Rattle.listing.specs.SoughtLinks.{is_found_if_any}
 
--- each criterion matches the link by itself or its endpoint by itself, where there is one
+-- each criterion matches the link by itself, or its endpoint by itself if there is one
 abbrev pub meets : Option Record → List Criterion → Item → Bool
 meets (Some r) criteria item =
     list_all (λ criterion. link_matches criterion item || endpoint_matches criterion r) criteria
 meets None criteria item = list_all (λ criterion. link_matches criterion item) criteria
 
--- what the first criterion seeks that the endpoint does not meet by itself, the criteria after it,
--- and answers for the first of these
+-- what the first criterion that does not match the endpoint by itself seeks, the criteria after it,
+-- and the answers for the first of these
 pub record IsSifted (criteria : List Criterion) (answers : List Bool) (first : Option Sought)
     (rest : List Criterion) (left : List Bool) : Type 0 where
   pub judged : (r : Record) → AreJudged r answers criteria → AreJudged r left rest
@@ -30,15 +30,15 @@ pub record IsSifted (criteria : List Criterion) (answers : List Bool) (first : O
       → (item : Item)
       → (is_found_if_any first item && meets (Some r) rest item) ≡ meets (Some r) criteria item
 
--- the link passes through the link_filter
+-- the filter lists the link
 abbrev pub sifts : LinkFilter → Item → Bool
 sifts s item = is_found_if_any s.first item && meets (option_copied s.owner) s.rest.now item
 
--- its answers tell which of the first of its criteria match the endpoint by itself
+-- its answers say which of the first of its criteria match the endpoint by itself
 abbrev pub IsJudged : LinkFilter → Type 0
 IsJudged s = AreJudgedOf (option_copied s.owner) s.judged.now s.rest.now
 
--- through which those links pass that a query lists
+-- the filter lists exactly the links that the query lists
 pub record IsLinkFilter (query : Query) (owner : Option Record) (s : LinkFilter) : Type 0 where
   pub judged : IsJudged s
   pub lists : (item : Item) → sifts s item ≡ listed_of query owner item

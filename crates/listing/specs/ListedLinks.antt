@@ -36,6 +36,6 @@ lines_by test items = all_lines (filter test items)
 abbrev pub listed_lines : Query → Option Record → List Item → List (List ℕ)
 listed_lines query owner items = lines_by (listed_of query owner) items
 
--- the line of an endpoint, where it is listed
+-- the line of an endpoint, if it is listed
 abbrev pub listed_endpoint : Query → Record → List (List ℕ)
 listed_endpoint query r = if endpoint_listed query r then endpoint_line r ∷ [] else []

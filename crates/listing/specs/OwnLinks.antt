@@ -1,19 +1,19 @@
--- The directory's own links, as they stand in memory.
+-- The directory's own links, as they are stored.
 use Rattle.std.specs.Prelude.{ℕ, Bool, List, [], ◌∷◌, ◌++◌, codes, None, if◌then◌else◌}
 use Rattle.rd_base.specs.declared.attributes.Pair.{Pair}
 use Rattle.rd_base.specs.declared.records.Item.{Item}
 
--- the attribute of a resource that can be observed (RFC 7641 section 6)
+-- the attribute of an observable resource (RFC 7641 section 6)
 abbrev pub observable_pairs : Bool → List Pair
 observable_pairs observable =
     if observable then record { name = codes "obs"; value = [] } ∷ [] else []
 
--- attributes as they were written, and that of such a resource
+-- attributes as they were written, and that of an observable resource
 abbrev pub observed_text : Bool → List ℕ → List ℕ
 observed_text observable raw = if observable then raw ++ codes ";obs" else raw
 
--- a link of the directory itself: its type, with how it is written, that it gives link documents,
--- and whether it can be observed
+-- A link of the directory itself. Its attributes are its type as it is written, the content format
+-- of link documents, and whether it can be observed.
 abbrev pub own_item : List ℕ → List ℕ → List ℕ → Bool → Item
 own_item target typed type observable = record {
   target_ref = target;

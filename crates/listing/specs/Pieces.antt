@@ -1,4 +1,4 @@
--- What the pieces of a line say.
+-- The octets of the pieces of a line.
 use Rattle.std.specs.Prelude.{ℕ, List, ◌++◌, flat_map}
 use Rattle.rd_base.specs.declared.records.Record.{Record}
 use Rattle.record_model.specs.ListingLines.{bracketed, own_pairs, quoted_attribute}

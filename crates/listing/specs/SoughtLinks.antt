@@ -9,7 +9,7 @@ use Rattle.listing.specs.declared.sought.Sought.{Sought}
 use Rattle.listing.specs.declared.sought.Sought.TheVariants.{Target, Anchor, Value, Part}
 use Rattle.listing.specs.Patterns.{fits}
 
--- there is a text, which fits the pattern
+-- there is a text, and it fits the pattern
 abbrev pub fits_present : Pattern → Option (List ℕ) → Bool
 fits_present pattern None = false
 fits_present pattern (Some text) = fits pattern text
@@ -19,7 +19,7 @@ abbrev pub has_value : List ℕ → Pattern → List Pair → Bool
 has_value name pattern pairs =
     list_any (λ pair. bytes_eq pair.name name && fits pattern pair.value) pairs
 
--- an attribute has this name and a value of which a part fits the pattern
+-- an attribute has this name and a value of which one part fits the pattern
 abbrev pub has_part : List ℕ → Pattern → List Pair → Bool
 has_part name pattern pairs =
     list_any (λ pair. bytes_eq pair.name name && list_any (fits pattern) (parts_of pair.value))
@@ -32,7 +32,7 @@ is_found (Anchor pattern) item = fits_present pattern item.anchor
 is_found (Value name pattern) item = has_value name.now pattern item.pairs
 is_found (Part name pattern) item = has_part name.now pattern item.pairs
 
--- the same, where something is sought
+-- the link has what is sought, if something is
 abbrev pub is_found_if_any : Option Sought → Item → Bool
 is_found_if_any None item = true
 is_found_if_any (Some sought) item = is_found sought item

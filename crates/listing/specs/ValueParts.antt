@@ -4,8 +4,7 @@ use Rattle.std.specs.Prelude.{◌≡◌, ℕ, ◌<◌, List, [], ◌∷◌, leng
 use denote.Ref.{Bor}
 use Rattle.record_model.specs.Matching.{parts_of}
 
--- a part comes first of those of the value and the others are those of a shorter text, or the value
--- has none
+-- the first part of a value, and a shorter text with its other parts; or the value has no part
 abbrev pub FirstPart : List ℕ → Option (Bor (List ℕ) × Bor (List ℕ)) → Type 0
 FirstPart value (Some (part, rest)) =
     (parts_of value ≡ part.now ∷ parts_of rest.now) × (length rest.now < length value)

@@ -40,16 +40,16 @@ left o =
 abbrev pub attribute_weight : ℕ
 attribute_weight = 10
 
--- how many pieces are left at most, and one more for each attribute
+-- the most pieces that are left, plus one for each attribute
 abbrev pub pieces_left : Octets → ℕ
 pieces_left o = length o.extra.now * attribute_weight + (length o.pieces - o.at)
 
--- an octet comes first of those that were left, or none was
+-- the octet is the first of those that were left, or none was left
 abbrev pub Gives : Option ℕ → List ℕ → List ℕ → Type 0
 Gives (Some c) before now = before ≡ c ∷ now
 Gives None before now = before ≡ []
 
--- the piece at an index, or that there is none
+-- the piece at an index, or none if there is none
 abbrev pub PieceAt : List Piece → ℕ → Option Piece → Type 0
 PieceAt pieces at (Some piece) =
     (drop at pieces ≡ piece ∷ drop (at + 1) pieces) × (at < length pieces) × (at + 1 < 2 ^ 64)

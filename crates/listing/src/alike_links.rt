@@ -12,7 +12,7 @@ ghost use Rattle.listing.specs.ListedLinks.{all_lines};
 
 use rd_base::{Criterion, Items, Link, Links, Query};
 
-/// Whether both have the same anchor, or none.
+/// Returns whether both links have the same anchor, or both have none.
 fn same_anchor(old: Option<&str>, new: Option<&str>) -> bool
     ensures { IsTrue result → text_seen old.entry ≡ text_seen new.entry }
 {
@@ -23,7 +23,7 @@ fn same_anchor(old: Option<&str>, new: Option<&str>) -> bool
     }
 }
 
-/// Whether the lines of both links have the same octets.
+/// Returns whether the lines of both links have the same octets.
 pub(crate) fn same_line(old: &Link<'_>, new: &Link<'_>) -> bool
     ensures { result ≡ bytes_eq (listing_model.link_line old.now)
         (listing_model.link_line new.now) }
@@ -31,8 +31,7 @@ pub(crate) fn same_line(old: &Link<'_>, new: &Link<'_>) -> bool
     old.line() == new.line()
 }
 
-/// Whether both links are alike, where their lines are the same: their targets stand at the
-/// beginnings of these.
+/// Returns whether two links with the same line are alike. Their lines begin with their targets.
 fn are_alike_in_line(old: &Link<'_>, new: &Link<'_>) -> bool
     ensures { IsTrue result
         → listing_model.link_line old.now ≡ listing_model.link_line new.now
@@ -47,7 +46,7 @@ fn are_alike_in_line(old: &Link<'_>, new: &Link<'_>) -> bool
     old.pairs() == new.pairs()
 }
 
-/// Whether both links are alike.
+/// Returns whether both links are alike.
 fn are_alike(old: &Link<'_>, new: &Link<'_>) -> bool
     ensures { IsTrue result → AreAlike old.now new.now }
 {
@@ -57,7 +56,7 @@ fn are_alike(old: &Link<'_>, new: &Link<'_>) -> bool
     are_alike_in_line(old, new)
 }
 
-/// Whether all links are alike, one by one, where their lines make the same text.
+/// Returns whether links whose lines make the same text are alike, one by one.
 fn are_alike_in_text(old: Links<'_>, new: Links<'_>) -> bool
     requires { listed old ≡ listed new }
     ensures { IsTrue result → AreAllAlike old.entry new.entry }
@@ -78,8 +77,10 @@ fn are_alike_in_text(old: Links<'_>, new: Links<'_>) -> bool
     others.is_empty()
 }
 
-/// Whether all links of two registrations are alike, and are listed of both or of neither where
-/// they are. Their lines are compared as one text.
+/// Returns whether all links of two registrations are alike, and `together` holds.
+///
+/// `together` says that links which are alike are listed of both or of neither. The lines are
+/// compared as one text.
 pub(crate) fn are_all_alike(together: bool, old: &Items, new: &Items) -> bool
     ensures together { IsTrue result → IsTrue together }
     ensures links { IsTrue result → AreAllAlike old.now new.now }
@@ -93,7 +94,7 @@ pub(crate) fn are_all_alike(together: bool, old: &Items, new: &Items) -> bool
     are_alike_in_text(old.links(), new.links())
 }
 
-/// Whether the lines of all links are the same, one by one, where they make the same text.
+/// Returns whether links whose lines make the same text have the same lines, one by one.
 fn same_lines_in_text(old: Links<'_>, new: Links<'_>) -> bool
     requires { listed old ≡ listed new }
     ensures { result ≡ same_lines (all_lines old.entry) (all_lines new.entry) }
@@ -111,8 +112,8 @@ fn same_lines_in_text(old: Links<'_>, new: Links<'_>) -> bool
     others.is_empty()
 }
 
-/// Whether all links of two registrations have the same lines in the same order, which are compared
-/// as one text.
+/// Returns whether all links of two registrations have the same lines in the same order. The lines
+/// are compared as one text.
 pub(crate) fn same_all_lines(old: &Items, new: &Items) -> bool
     ensures { result ≡ same_lines (all_lines old.now) (all_lines new.now) }
 {
@@ -122,8 +123,10 @@ pub(crate) fn same_all_lines(old: &Items, new: &Items) -> bool
     same_lines_in_text(old.links(), new.links())
 }
 
-/// What is left of the links of two registrations after those at the beginning that are alike,
-/// where these are listed of both or of neither; else all.
+/// Returns what is left of the links of two registrations after those at the beginning that are
+/// alike.
+///
+/// Returns all links unless links that are alike are listed of both or of neither.
 pub(crate) fn after_alike<'a, 'b>(
     together: bool,
     old: Links<'a>,
@@ -149,7 +152,8 @@ pub(crate) fn after_alike<'a, 'b>(
     (left, others)
 }
 
-/// Whether, by these answers, each criterion matches both endpoints by themselves, or neither.
+/// Returns whether, by these answers, each criterion matches both endpoints by themselves, or
+/// neither.
 fn are_judged_alike(criteria: &[Criterion], old_judged: &[bool], new_judged: &[bool]) -> bool
     ensures { IsTrue result → (r s : Record) → AreJudged r old_judged.now criteria.now
         → AreJudged s new_judged.now criteria.now → AreJudgedAlike criteria.now r s }
@@ -157,8 +161,8 @@ fn are_judged_alike(criteria: &[Criterion], old_judged: &[bool], new_judged: &[b
     criteria.len() <= old_judged.len() && old_judged == new_judged
 }
 
-/// Whether links of two registrations that are alike are listed of both or of neither, by the
-/// answers for their endpoints.
+/// Returns whether links of two registrations that are alike are listed of both or of neither, by
+/// the answers for their endpoints.
 pub(crate) fn are_listed_together(query: &Query, old_judged: &[bool], new_judged: &[bool]) -> bool
     ensures { (r s : Record) → AreJudged r old_judged.now query.now.criteria
         → AreJudged s new_judged.now query.now.criteria

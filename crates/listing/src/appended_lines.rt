@@ -37,7 +37,7 @@ fn append_octets(text: &[u8], into: &mut Bytes) -> Result<(), Starved>
     Ok(())
 }
 
-/// Whether the text has a quote or a backslash.
+/// Returns whether the text has a quote or a backslash.
 fn has_escaped(text: &[u8]) -> bool
     ensures { result ≡ list_any (λ c. c == quote_mark || c == backslash) text.now }
 {
@@ -56,7 +56,7 @@ fn append_plain(text: &[u8], into: &mut Bytes) -> Result<(), Starved>
     }
 }
 
-/// Appends a text with a backslash before each quote and each backslash.
+/// Appends a text, with a backslash before each quote and each backslash.
 fn append_escaped(text: &[u8], into: &mut Bytes) -> Result<(), Starved>
     ensures ok { OnOk result (into.new ≡ into.old ++ flat_map escaped_character text.now) }
     ensures starved { OnErr result (into.new ≡ into.old) }
@@ -93,7 +93,7 @@ fn append_pieces(pieces: &[Piece<'_>], into: &mut Bytes) -> Result<(), Starved>
     Ok(())
 }
 
-/// Appends a comma after what is there.
+/// Appends a comma, unless `into` is empty.
 fn append_comma(into: &mut Bytes) -> Result<(), Starved>
     ensures ok { OnOk result (into.new ≡ separated into.old) }
     ensures starved { OnErr result (into.new ≡ into.old) }
@@ -104,8 +104,7 @@ fn append_comma(into: &mut Bytes) -> Result<(), Starved>
     into.push(b',')
 }
 
-/// Appends a text after a comma, which stands after what is there. Out of memory, the octets are as
-/// before.
+/// Appends a text, after a comma unless `into` is empty. On an error, `into` does not change.
 fn append_separated(text: &str, into: &mut Bytes) -> Result<(), Starved>
     ensures ok { OnOk result (into.new ≡ separated into.old ++ text.now) }
     ensures starved { OnErr result (into.new ≡ into.old) }
@@ -119,7 +118,11 @@ fn append_separated(text: &str, into: &mut Bytes) -> Result<(), Starved>
     Ok(())
 }
 
-/// Appends the line of a link. Out of memory, the octets are as before.
+/// Appends the line of a link (RFC 6690 section 2).
+///
+/// # Errors
+///
+/// `Starved` if memory runs out; `into` does not change.
 pub fn append_link(link: &Link<'_>, into: &mut Bytes) -> Result<(), Starved>
     ensures ok { OnOk result (into.new ≡ separated into.old ++ listing_model.link_line link.now) }
     ensures starved { OnErr result (into.new ≡ into.old) }
@@ -127,8 +130,11 @@ pub fn append_link(link: &Link<'_>, into: &mut Bytes) -> Result<(), Starved>
     append_separated(link.line(), into)
 }
 
-/// Appends the lines of all links of a registration, which stand as one text. Out of memory, the
-/// octets are as before.
+/// Appends the lines of all links of a registration, which are stored as one text.
+///
+/// # Errors
+///
+/// `Starved` if memory runs out; `into` does not change.
 pub fn append_all_links(items: &Items, into: &mut Bytes) -> Result<(), Starved>
     ensures ok { OnOk result (into.new
         ≡ appended into.old (map listing_model.link_line items.now)) }
@@ -140,7 +146,7 @@ pub fn append_all_links(items: &Items, into: &mut Bytes) -> Result<(), Starved>
     append_separated(items.listed(), into)
 }
 
-/// Appends extra attributes of an endpoint.
+/// Appends the extra attributes of an endpoint.
 fn append_attributes(pairs: &[Pair], into: &mut Bytes) -> Result<(), Starved>
     ensures ok { OnOk result (into.new
         ≡ into.old ++ flat_map listing_model.extra_attribute pairs.now) }
@@ -156,7 +162,7 @@ fn append_attributes(pairs: &[Pair], into: &mut Bytes) -> Result<(), Starved>
     Ok(())
 }
 
-/// Appends the line of an endpoint before its extra attributes.
+/// Appends the part of an endpoint's line before its extra attributes.
 fn append_own(record_of: &Record, into: &mut Bytes) -> Result<(), Starved>
     ensures ok { OnOk result (into.new ≡ into.old ++ own_line record_of.now) }
     ensures starved { OnErr result (into.new ≡ into.old) }
@@ -168,7 +174,11 @@ fn append_own(record_of: &Record, into: &mut Bytes) -> Result<(), Starved>
     )
 }
 
-/// Appends the line of an endpoint. Out of memory, the octets are as before.
+/// Appends the line of an endpoint (RFC 9176 section 6.4).
+///
+/// # Errors
+///
+/// `Starved` if memory runs out; `into` does not change.
 #[tactic(auto, using(crate::proofs::PieceLaws::endpoint_whole))]
 pub fn append_endpoint(record_of: &Record, into: &mut Bytes) -> Result<(), Starved>
     ensures ok { OnOk result (into.new

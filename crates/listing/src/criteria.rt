@@ -1,4 +1,4 @@
-//! Which links and endpoints meet criteria (RFC 6690 section 4.1, RFC 9176 section 6.2).
+//! Which links and endpoints match criteria (RFC 6690 section 4.1, RFC 9176 section 6.2).
 ghost use Rattle.std.specs.Prelude.{◌≡◌, ◌<◌, ◌&&◌, bytes_eq, codes, length};
 ghost use Rattle.std.specs.List.{list_any, HoldsAt};
 ghost use Rattle.record_model.specs.Matching as model;
@@ -11,7 +11,7 @@ use crate::patterns::{matches_named, matches_value};
 use crate::sought::{Sought, is_href};
 use rd_base::{Criterion, Link, Links, Pair, Query, Record};
 
-/// Whether a criterion of this name and pattern matches one of the attributes.
+/// Returns whether a criterion of this name and pattern matches one of the attributes.
 fn matches_pairs(name: &str, pattern: &str, pairs: &[Pair]) -> bool
     ensures { result ≡ model.matches_pairs
         (record { name = name.now; pattern = pattern.now }) pairs.now }
@@ -20,43 +20,45 @@ fn matches_pairs(name: &str, pattern: &str, pairs: &[Pair]) -> bool
         && matches_named(name, pattern, pair.value.as_str()))
 }
 
-/// Whether the criterion matches the link by itself: `href` by its target, `anchor` by its anchor
-/// where it has one, and any other name by one of its attributes (RFC 9176 section 6.2).
+/// Returns whether the criterion matches the link by itself (RFC 9176 section 6.2).
+///
+/// `href` matches by its target, `anchor` by its anchor if it has one, and any other name by one of
+/// its attributes.
 pub fn link_matches(criterion: &Criterion, link: &Link<'_>) -> bool
     ensures { result ≡ model.link_matches criterion.now link.now }
 {
     Sought::of(criterion).is_in(link)
 }
 
-/// Whether a criterion of this name is about the base of an endpoint.
+/// Returns whether a criterion of this name is about the base of an endpoint.
 fn is_base(name: &str) -> bool
     ensures { result ≡ bytes_eq (codes "base") name.now }
 {
     matches!(name.as_bytes(), [b'b', b'a', b's', b'e'])
 }
 
-/// Whether it is about the name of an endpoint.
+/// Returns whether a criterion of this name is about the name of an endpoint.
 fn is_endpoint_name(name: &str) -> bool
     ensures { result ≡ bytes_eq (codes "ep") name.now }
 {
     matches!(name.as_bytes(), [b'e', b'p'])
 }
 
-/// Whether it is about the sector of an endpoint.
+/// Returns whether a criterion of this name is about the sector of an endpoint.
 fn is_sector(name: &str) -> bool
     ensures { result ≡ bytes_eq (codes "d") name.now }
 {
     matches!(name.as_bytes(), [b'd'])
 }
 
-/// Whether it is about resource types.
+/// Returns whether a criterion of this name is about resource types.
 fn is_resource_type(name: &str) -> bool
     ensures { result ≡ bytes_eq name.now (codes "rt") }
 {
     matches!(name.as_bytes(), [b'r', b't'])
 }
 
-/// Whether a criterion of this name and pattern matches the type that each endpoint has.
+/// Returns whether a criterion of this name and pattern matches the type that each endpoint has.
 #[tactic(auto, using(crate::proofs::EndpointLaws::is_of_type))]
 fn matches_type(name: &str, pattern: &str) -> bool
     ensures { result ≡ (bytes_eq (codes "rt") name.now
@@ -65,8 +67,8 @@ fn matches_type(name: &str, pattern: &str) -> bool
     is_resource_type(name) && matches_value(pattern, "core.rd-ep")
 }
 
-/// Whether a criterion of this name and pattern matches one of the attributes that each endpoint
-/// has: its base, its name, its sector where it has one, and its type.
+/// Returns whether a criterion of this name and pattern matches an attribute that each endpoint
+/// has: its base, its name, its sector if it has one, or its type.
 fn matches_own(name: &str, pattern: &str, record_of: &Record) -> bool
     ensures { result ≡ model.matches_pairs (record { name = name.now; pattern = pattern.now })
         (listing_model.own_pairs record_of.now) }
@@ -85,16 +87,17 @@ fn matches_own(name: &str, pattern: &str, record_of: &Record) -> bool
     matches_type(name, pattern)
 }
 
-/// Whether the pattern matches the location of the registration.
+/// Returns whether the pattern matches the location of the registration.
 fn matches_location(pattern: &str, number: u64) -> bool
     ensures { result ≡ model.matches_value pattern.now (model.location number) }
 {
     matches_value(pattern, location_of(number).as_str())
 }
 
-/// Whether the criterion matches the endpoint by itself: `href` by its location, and any other name
-/// by its base, its name, its sector where it has one, its type, and its extra attributes (RFC 9176
-/// section 6.2).
+/// Returns whether the criterion matches the endpoint by itself (RFC 9176 section 6.2).
+///
+/// `href` matches by its location. Any other name matches by its base, its name, its sector if it
+/// has one, its type, and its extra attributes.
 #[tactic(auto, unfolding(record_model::specs::Matching::endpoint_matches))]
 pub fn endpoint_matches(criterion: &Criterion, record_of: &Record) -> bool
     ensures { result ≡ model.endpoint_matches criterion.now record_of.now }
@@ -110,7 +113,8 @@ pub fn endpoint_matches(criterion: &Criterion, record_of: &Record) -> bool
     matches_pairs(name, pattern, record_of.attrs.as_slice())
 }
 
-/// Writes for each criterion whether it matches the endpoint by itself, as far as there is room.
+/// Writes for each criterion whether it matches the endpoint by itself, as far as `judged` has
+/// room.
 fn judge_into(criteria: &[Criterion], record_of: &Record, judged: &mut [bool])
     ensures { AreJudged record_of.now judged.new criteria.now }
 {
@@ -124,11 +128,11 @@ fn judge_into(criteria: &[Criterion], record_of: &Record, judged: &mut [bool])
     judge_into(more, record_of, left);
 }
 
-/// How many criteria are judged once for all links of a registration; any further ones are judged
-/// link by link.
+/// The number of criteria that are judged once for all links of a registration. Any further ones
+/// are judged link by link.
 pub const JUDGED: usize = 64;
 
-/// Which of the first criteria match the endpoint by itself, where there is one.
+/// Returns which of the first criteria match the endpoint by itself, if there is an endpoint.
 pub(crate) fn judge(query: &Query, owner: Option<&Record>) -> [bool; JUDGED]
     ensures { AreJudgedOf (option_copied owner.entry) result query.now.criteria }
 {
@@ -139,7 +143,7 @@ pub(crate) fn judge(query: &Query, owner: Option<&Record>) -> [bool; JUDGED]
     judged
 }
 
-/// Whether each criterion matches the link by itself or its endpoint by itself.
+/// Returns whether each criterion matches the link by itself or its endpoint by itself.
 #[tactic(auto, unfolding(record_model::specs::ListingLines::link_listed))]
 fn link_listed(query: &Query, record_of: &Record, link: &Link<'_>) -> bool
     ensures { result ≡ listing_model.link_listed query.now record_of.now link.now }
@@ -149,8 +153,10 @@ fn link_listed(query: &Query, record_of: &Record, link: &Link<'_>) -> bool
     })
 }
 
-/// Whether a resource lookup lists the link with this index: each criterion matches the link by
-/// itself or its endpoint by itself (RFC 9176 section 6.2). The query's kind does not count.
+/// Returns whether a resource lookup lists the link with this index (RFC 9176 section 6.2).
+///
+/// It does if each criterion matches the link by itself or its endpoint by itself. The query's kind
+/// does not count.
 pub fn matches(query: &Query, record_of: &Record, item: usize) -> bool
     requires { item < length record_of.now.items }
     ensures { HoldsAt (λ link. result
@@ -162,7 +168,7 @@ pub fn matches(query: &Query, record_of: &Record, item: usize) -> bool
     }
 }
 
-/// Whether the criterion matches one of the links by itself.
+/// Returns whether the criterion matches one of the links by itself.
 fn any_link_matches(criterion: &Criterion, links: Links<'_>) -> bool
     ensures { result ≡ list_any (model.link_matches criterion.now) links.entry }
 {
@@ -176,8 +182,10 @@ fn any_link_matches(criterion: &Criterion, links: Links<'_>) -> bool
     false
 }
 
-/// Whether an endpoint lookup lists the endpoint: each criterion matches the endpoint by itself or
-/// any one of its links by itself (RFC 9176 section 6.2). The query's kind does not count.
+/// Returns whether an endpoint lookup lists the endpoint (RFC 9176 section 6.2).
+///
+/// It does if each criterion matches the endpoint by itself or any one of its links by itself. The
+/// query's kind does not count.
 #[tactic(auto, unfolding(record_model::specs::ListingLines::endpoint_listed))]
 pub fn endpoint_listed(query: &Query, record_of: &Record) -> bool
     ensures { result ≡ listing_model.endpoint_listed query.now record_of.now }

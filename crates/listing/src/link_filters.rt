@@ -1,4 +1,5 @@
-//! Which links of one registration a query lists, told once for all of them (RFC 9176 section 6.2).
+//! Which links of one registration a query lists, determined once for all of them (RFC 9176 section
+//! 6.2).
 ghost use Rattle.std.specs.Prelude.{◌≡◌, ◌||◌, true, IsTrue};
 ghost use Rattle.std.specs.List.{list_all};
 ghost use Rattle.std.specs.Option.{option_copied};
@@ -11,21 +12,23 @@ use crate::criteria::{endpoint_matches, link_matches};
 use crate::sought::Sought;
 use rd_base::{Criterion, Link, Query, Record};
 
-/// Which links of a registration a query lists, or of the directory itself, which has no endpoint.
+/// The filter of a query for the links of a registration, or of the directory itself, which has no
+/// endpoint.
 #[derive(Clone, Copy)]
 pub(crate) struct LinkFilter<'a> {
-    /// The registration.
+    /// The registration, or `None` for the directory itself.
     owner: Option<&'a Record>,
-    /// What the first criterion seeks that does not match the endpoint by itself.
+    /// What the first criterion that does not match the endpoint by itself seeks.
     first: Option<Sought<'a>>,
-    /// The criteria after that.
+    /// The criteria after that one.
     rest: &'a [Criterion],
-    /// Which of the first of these match the endpoint by itself.
+    /// For the first of those, whether they match the endpoint by itself.
     judged: &'a [bool],
 }
 
-/// What the first criterion seeks that does not match the endpoint by itself, the criteria after
-/// it, and the answers for the first of these.
+/// Finds the first criterion that does not match the endpoint by itself.
+///
+/// Returns what it seeks, the criteria after it, and the answers for the first of these.
 fn sift<'a>(
     criteria: &'a [Criterion],
     judged: &'a [bool],
@@ -47,8 +50,8 @@ fn sift<'a>(
     (None, rest, left)
 }
 
-/// Whether each criterion matches the link by itself or its endpoint by itself, where the first
-/// answers tell of the endpoint.
+/// Returns whether each criterion matches the link by itself or its endpoint by itself. The first
+/// answers say which criteria match the endpoint.
 #[inline(never)]
 fn link_listed_by(
     criteria: &[Criterion],
@@ -80,7 +83,7 @@ fn link_listed_by(
     true
 }
 
-/// Whether each criterion matches the link by itself.
+/// Returns whether each criterion matches the link by itself.
 #[inline(never)]
 fn own_link_listed(criteria: &[Criterion], link: &Link<'_>) -> bool
     ensures { result ≡ list_all (λ criterion. model.link_matches criterion link.now) criteria.now }
@@ -91,9 +94,10 @@ fn own_link_listed(criteria: &[Criterion], link: &Link<'_>) -> bool
 }
 
 impl<'a> LinkFilter<'a> {
-    /// The link_filter of a query for the links of this registration, whose endpoint is judged as
-    /// these
-    /// answers say, or of the directory itself.
+    /// Creates the filter of a query for the links of this registration, or of the directory
+    /// itself.
+    ///
+    /// `judged` has the answers for the endpoint of the registration.
     pub(crate) fn of(
         query: &'a Query,
         owner: Option<&'a Record>,
@@ -120,7 +124,7 @@ impl<'a> LinkFilter<'a> {
         }
     }
 
-    /// Whether the query lists the link.
+    /// Returns whether the query lists the link.
     pub(crate) fn lists(&self, link: &Link<'_>) -> bool
         requires { IsJudged self.now }
         ensures { result ≡ sifts self.now link.now }
@@ -136,8 +140,9 @@ impl<'a> LinkFilter<'a> {
         }
     }
 
-    /// Whether the query lists all links, whatever they are: where each criterion matches the
-    /// endpoint by itself, or there is no criterion.
+    /// Returns whether the query lists all links, whatever they are.
+    ///
+    /// It does if each criterion matches the endpoint by itself, or there is no criterion.
     pub(crate) fn lists_all(&self) -> bool
         ensures { IsTrue result → (item : Item) → sifts self.now item ≡ true }
     {
@@ -148,7 +153,7 @@ impl<'a> LinkFilter<'a> {
     }
 }
 
-/// Whether all links pass through both link_filters, whatever they are.
+/// Returns whether both filters list all links, whatever they are.
 pub(crate) fn both_list_all(one: &LinkFilter<'_>, other: &LinkFilter<'_>) -> bool
     ensures one { IsTrue result → (item : Item) → sifts one.now item ≡ true }
     ensures other { IsTrue result → (item : Item) → sifts other.now item ≡ true }

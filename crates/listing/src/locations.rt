@@ -1,14 +1,14 @@
-//! The location of a registration, as it stands in a link (RFC 9176 section 5).
+//! The location of a registration, as it appears in a link (RFC 9176 section 5).
 ghost use Rattle.std.specs.Prelude.{◌≡◌};
 ghost use Rattle.record_model.specs.Matching as model;
 
 use arrayvec::ArrayString;
 use itoa::Buffer;
 
-/// The octets that a location has at most: its path, and the digits of a number of 64 bits.
+/// The most octets of a location: its path, and the digits of a number of 64 bits.
 pub const ROOM: usize = 24;
 
-/// The location of the registration of this number. Takes no memory.
+/// Returns the location of the registration with this number. Does not allocate.
 #[tactic(auto, unfolding(record_model::specs::Matching::location))]
 pub fn location_of(number: u64) -> ArrayString<ROOM>
     ensures { result.bytes ≡ model.location number }

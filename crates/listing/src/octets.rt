@@ -1,4 +1,4 @@
-//! Lines that are read octet by octet, so that two can be compared without memory.
+//! Lines that are read octet by octet, so that two can be compared without allocating.
 ghost use Rattle.std.specs.Prelude.{◌≡◌, ◌<◌, ◌++◌, [], false, flat_map, bytes_eq, IsTrue};
 ghost use Rattle.record_model.specs.ListingLines as listing_model;
 ghost use Rattle.listing.specs.Views.{Gives, PieceAt, left, pieces_left};
@@ -10,18 +10,18 @@ use rd_base::Pair;
 /// The octets of a line that are left.
 #[derive(Drop)]
 pub struct Octets<'a> {
-    /// Octets that come first.
+    /// The octets that come first.
     run: &'a [u8],
-    /// Octets after them, each escaped where it has to be.
+    /// The octets after them, each escaped if it has to be.
     escaped: &'a [u8],
-    /// Pieces of which those from `at` on stand after them.
+    /// The pieces, of which those from `at` on come next.
     pieces: [Piece<'a>; PIECES],
     at: usize,
-    /// Extra attributes after the pieces.
+    /// The extra attributes after the pieces.
     extra: &'a [Pair],
 }
 
-/// The octets of pieces and of extra attributes after them.
+/// Returns the octets of pieces, and of extra attributes after them.
 pub fn octets_of<'a>(pieces: [Piece<'a>; PIECES], extra: &'a [Pair]) -> Octets<'a>
     ensures { left result ≡ octets_of_pieces pieces.entry
         ++ flat_map listing_model.extra_attribute extra.now }
@@ -35,7 +35,7 @@ pub fn octets_of<'a>(pieces: [Piece<'a>; PIECES], extra: &'a [Pair]) -> Octets<'
     }
 }
 
-/// The piece with this index, where there is one.
+/// Returns the piece with this index, if there is one.
 fn piece_at<'a>(pieces: [Piece<'a>; PIECES], at: usize) -> Option<Piece<'a>>
     ensures { PieceAt pieces.entry at result }
 {
@@ -43,7 +43,7 @@ fn piece_at<'a>(pieces: [Piece<'a>; PIECES], at: usize) -> Option<Piece<'a>>
 }
 
 impl<'a> Octets<'a> {
-    /// Goes on to the next piece; false where none is left.
+    /// Advances to the next piece. Returns whether there is one.
     fn refill(&mut self) -> bool
         requires run { self.old.run.now ≡ [] }
         requires escaped { self.old.escaped.now ≡ [] }
@@ -68,7 +68,7 @@ impl<'a> Octets<'a> {
         false
     }
 
-    /// The next octet; None where none is left.
+    /// Returns the next octet, or `None` if none is left.
     fn next_octet(&mut self) -> Option<u8>
         ensures { Gives result (left self.old) (left self.new) }
     {
@@ -93,7 +93,7 @@ impl<'a> Octets<'a> {
     }
 }
 
-/// Whether the same octets are left of both.
+/// Returns whether the same octets are left of both.
 pub fn same_octets(old: &mut Octets<'_>, new: &mut Octets<'_>) -> bool
     ensures { result ≡ bytes_eq (left old.old) (left new.old) }
 {

@@ -10,8 +10,8 @@ use crate::parts::append_links;
 use rd_base::{Bytes, Items, LinkParts, LinksBuilder, Query, Starved};
 use std::alloc::Global;
 
-/// The builder, where the next link is that of a resource which can be observed, or not (RFC 7641
-/// section 6).
+/// Returns the builder. Marks the next link as that of an observable resource if `observable` holds
+/// (RFC 7641 section 6).
 fn with_observed(builder: LinksBuilder, observable: bool) -> Result<LinksBuilder, Starved>
     ensures { IfOk result (λ more. more ≡ drafted builder.links
         (observed_text observable builder.raw) (builder.pairs ++ observable_pairs observable)) }
@@ -22,8 +22,8 @@ fn with_observed(builder: LinksBuilder, observable: bool) -> Result<LinksBuilder
     Ok(builder)
 }
 
-/// The builder with one more link of the directory itself, whose type stands in the first of its
-/// attributes.
+/// Returns the builder with one more link of the directory itself. The first attribute of the link
+/// is its type.
 fn with_own_link(
     builder: LinksBuilder,
     path: &str,
@@ -46,7 +46,7 @@ fn with_own_link(
     })
 }
 
-/// The links of the directory itself.
+/// Returns the links of the directory itself.
 #[tactic(auto, using(crate::proofs::OwnLaws::own_links))]
 fn make_own_links(alloc: Global) -> Result<Items, Starved>
     ensures { IfOk result (λ items. items ≡ discovery_model.own_items) }
@@ -70,14 +70,14 @@ fn make_own_links(alloc: Global) -> Result<Items, Starved>
     three.build(alloc)
 }
 
-/// How many lines stand before a page of so many lines.
+/// Returns how many lines precede this page, if each page has `count` lines.
 fn page_start(page: u32, count: u32) -> u64
     ensures { result ≡ page * count }
 {
     u64::from(page) * u64::from(count)
 }
 
-/// How many lines stand before the page that a query asks for, and how many lines it has at most.
+/// Returns how many lines precede the page that a query requests, and the most lines of that page.
 pub fn page_bounds(query: &Query) -> (u64, u64)
     ensures { (lines : List (List ℕ)) → length lines < 2 ^ 64
         → page_of query.now.page query.now.count lines ≡ shown_lines result.0 result.1 lines }
@@ -100,8 +100,14 @@ fn append_own_links(query: &Query, items: &Items, into: &mut Bytes) -> Result<()
     Ok(())
 }
 
-/// The answer to a discovery request: the links of the directory itself that each criterion matches
-/// by themselves, cut by page and count (RFC 9176 section 4.1, RFC 6690 section 4).
+/// Returns the payload for a discovery request (RFC 9176 section 4.1, RFC 6690 section 4).
+///
+/// It has the links of the directory itself that each criterion matches by themselves, cut by page
+/// and count.
+///
+/// # Errors
+///
+/// `Starved` if memory runs out.
 pub fn discovery(alloc: Global, query: &Query) -> Result<Bytes, Starved>
     ensures { IfOk result (λ text. text ≡ discovery_model.discovery query.now) }
 {

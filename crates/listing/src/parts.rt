@@ -1,4 +1,4 @@
-//! The lines that one registration gives to a listing (RFC 9176 sections 6.3 and 6.4).
+//! The lines that one registration contributes to a listing (RFC 9176 sections 6.3 and 6.4).
 ghost use Rattle.std.specs.Prelude.{◌≡◌, ◌≤◌, length, min, IfOk, IsTrue, OnOk, OnErr};
 ghost use Rattle.std.specs.Option.{option_copied};
 ghost use Rattle.record_model.specs.ListingLines.{part};
@@ -12,9 +12,10 @@ use crate::link_filters::LinkFilter;
 use rd_base::{Bytes, Items, Kind, Links, Query, Record, Starved};
 use std::alloc::Global;
 
-/// Appends the lines of the links that the link_filter lists, link by link, after the first `skip`
-/// and at
-/// most `most`, and answers how many it skipped and wrote. Out of memory, the octets are as before.
+/// Appends the lines of the links that the filter lists, link by link.
+///
+/// Skips the first `skip` lines and appends at most `most`. Returns how many it skipped and
+/// appended. On an error, `into` does not change.
 fn append_each(
     link_filter: &LinkFilter<'_>,
     links: Links<'_>,
@@ -55,7 +56,7 @@ fn append_each(
     Ok((skip - to_skip, most - to_write))
 }
 
-/// Whether so many lines are all that there are of these links, from the first one on.
+/// Returns whether all of these links remain after skipping `skip` and keeping at most `most`.
 fn is_whole(links: &Items, skip: u64, most: u64) -> bool
     ensures { IsTrue result → (skip ≡ 0) × (length links.now ≤ most) }
 {
@@ -65,9 +66,10 @@ fn is_whole(links: &Items, skip: u64, most: u64) -> bool
     links.len() as u64 <= most
 }
 
-/// Appends the lines of the links that the link_filter lists, after the first `skip` and at most
-/// `most`,
-/// and answers how many it skipped and wrote. Out of memory, the octets are as before.
+/// Appends the lines of the links that the filter lists.
+///
+/// Skips the first `skip` lines and appends at most `most`. Returns how many it skipped and
+/// appended. On an error, `into` does not change.
 fn append_sifted(
     link_filter: &LinkFilter<'_>,
     items: &Items,
@@ -94,8 +96,14 @@ fn append_sifted(
     Ok((0, items.len() as u64))
 }
 
-/// Appends the lines of the links that are listed, after the first `skip` and at most `most`, and
-/// answers how many it skipped and wrote. Out of memory, the octets are as before.
+/// Appends the lines of the links that are listed.
+///
+/// Skips the first `skip` lines and appends at most `most`. Returns how many it skipped and
+/// appended.
+///
+/// # Errors
+///
+/// `Starved` if memory runs out; `into` does not change.
 pub fn append_links(
     query: &Query,
     owner: Option<&Record>,
@@ -117,7 +125,7 @@ pub fn append_links(
     append_sifted(&link_filter, items, skip, most, into)
 }
 
-/// Appends the line of the endpoint where it is listed, by the same rules.
+/// Appends the line of the endpoint if it is listed, by the same rules.
 fn append_listed_endpoint(
     query: &Query,
     record_of: &Record,
@@ -146,11 +154,16 @@ fn append_listed_endpoint(
     Ok((0, 1))
 }
 
-/// Appends the lines that the registration gives to a lookup of this kind, after the first `skip`
-/// and at most `most`: the links that a resource lookup lists, or the endpoint where an endpoint
-/// lookup lists it. A comma stands before each line where the octets are not empty (RFC 6690
-/// section 2). Answers how many lines were skipped and how many written; those skipped are all that
-/// there are where that is fewer than `skip`. Out of memory, the octets are as before.
+/// Appends the lines that one registration contributes to a listing (RFC 9176 section 6).
+///
+/// These are the links that a resource lookup lists, or the endpoint if an endpoint lookup lists
+/// it. Skips the first `skip` lines and appends at most `most`, each after a comma unless `into` is
+/// empty (RFC 6690 section 2). Returns how many lines were skipped and how many appended. If fewer
+/// than `skip` were skipped, the registration has no more lines.
+///
+/// # Errors
+///
+/// `Starved` if memory runs out; `into` does not change.
 #[tactic(auto, unfolding(record_model::specs::ListingLines::part))]
 pub fn lines(
     _alloc: Global,

@@ -9,7 +9,7 @@ ghost use Rattle.record_model.specs.Matching as model;
 ghost use Rattle.listing.specs.Patterns.{fits};
 ghost use Rattle.listing.specs.ValueParts.{FirstPart};
 
-/// Whether the last octet of the pattern is an asterisk.
+/// Returns whether the last octet of the pattern is an asterisk.
 fn ends_with_wildcard(pattern: &str) -> bool
     ensures { result ≡ false → model.before_wildcard pattern.now ≡ None }
 {
@@ -19,7 +19,8 @@ fn ends_with_wildcard(pattern: &str) -> bool
     }
 }
 
-/// What stands before an asterisk that ends the pattern, where one does (RFC 6690 section 4.1).
+/// Returns the text before the asterisk that ends the pattern, or `None` if no asterisk ends it
+/// (RFC 6690 section 4.1).
 pub fn before_wildcard(pattern: &str) -> Option<&str>
     ensures { option_copied result ≡ model.before_wildcard pattern.now }
 {
@@ -29,15 +30,16 @@ pub fn before_wildcard(pattern: &str) -> Option<&str>
     pattern.strip_suffix('*')
 }
 
-/// Whether the last octets of both texts are the same.
+/// Returns whether both texts have the same last octet.
 fn end_alike(text: &str, other: &str) -> bool
     ensures { text.now ≡ other.now → result ≡ true }
 {
     text.as_bytes().last() == other.as_bytes().last()
 }
 
-/// Whether both texts are the same. Values that differ mostly have another length or another last
-/// octet, which is found before all octets are compared.
+/// Returns whether both texts are the same.
+///
+/// Different values mostly differ in their length or last octet, which are compared first.
 fn same_text(text: &str, other: &str) -> bool
     ensures { result ≡ bytes_eq text.now other.now }
 {
@@ -53,14 +55,14 @@ fn same_text(text: &str, other: &str) -> bool
 /// A pattern that is cut once for all values.
 #[derive(Clone, Copy)]
 pub(crate) enum Pattern<'a> {
-    /// What a value begins with: an asterisk ends the pattern.
+    /// The text with which a value must begin: an asterisk ends the pattern.
     Front(&'a str),
-    /// What a value is.
+    /// The text that a value must be.
     Whole(&'a str),
 }
 
 impl<'a> Pattern<'a> {
-    /// The pattern of this text.
+    /// Returns the pattern of this text.
     pub(crate) fn of(text: &'a str) -> Pattern<'a>
         ensures { (value : List ℕ) → fits result value ≡ model.matches_value text.now value }
     {
@@ -70,7 +72,7 @@ impl<'a> Pattern<'a> {
         }
     }
 
-    /// Whether the value begins with the text of the pattern, or is that text.
+    /// Returns whether the value begins with the text of the pattern, or is that text.
     pub(crate) fn fits(&self, value: &str) -> bool
         ensures { result ≡ fits self.now value.now }
     {
@@ -80,8 +82,10 @@ impl<'a> Pattern<'a> {
         }
     }
 
-    /// Whether one part of the value does, which spaces part. A value that is no longer than the
-    /// text of a whole pattern is compared with it before spaces are looked for.
+    /// Returns whether one part of the value fits the pattern. Spaces separate parts.
+    ///
+    /// A value no longer than the text of a whole pattern is compared with it before spaces are
+    /// searched for.
     pub(crate) fn fits_part(&self, value: &str) -> bool
         ensures { result ≡ list_any (fits self.now) (model.parts_of value.now) }
     {
@@ -91,7 +95,7 @@ impl<'a> Pattern<'a> {
         }
     }
 
-    /// The same of any value.
+    /// Returns whether one part of the value fits the pattern, for any value.
     #[inline(never)]
     fn fits_any_part(&self, value: &str) -> bool
         ensures { result ≡ list_any (fits self.now) (model.parts_of value.now) }
@@ -105,7 +109,7 @@ impl<'a> Pattern<'a> {
         self.fits(value)
     }
 
-    /// The same of a value that has spaces, part by part.
+    /// Returns whether one part of the value fits the pattern, for a value with spaces.
     fn fits_a_part(&self, value: &str) -> bool
         ensures { result ≡ list_any (fits self.now) (model.parts_of value.now) }
     {
@@ -120,16 +124,18 @@ impl<'a> Pattern<'a> {
     }
 }
 
-/// Whether the pattern matches the value: one that ends with an asterisk a value that begins with
-/// the rest of it, and any other the equal value.
+/// Returns whether the pattern matches the value (RFC 6690 section 4.1).
+///
+/// A pattern that ends with an asterisk matches a value that begins with the rest of the pattern.
+/// Any other pattern matches the equal value.
 pub fn matches_value(pattern: &str, value: &str) -> bool
     ensures { result ≡ model.matches_value pattern.now value.now }
 {
     Pattern::of(pattern).fits(value)
 }
 
-/// Whether the values of the name are lists of parts: `rel`, `rev`, `rt` and `if` (RFC 6690 section
-/// 2).
+/// Returns whether the values of the name are lists of parts: `rel`, `rev`, `rt` and `if` (RFC 6690
+/// section 2).
 pub fn is_list_name(name: &str) -> bool
     ensures { result ≡ is_among model.list_names name.now }
 {
@@ -139,8 +145,9 @@ pub fn is_list_name(name: &str) -> bool
     )
 }
 
-/// The first part of a value, and what stands after it; None where the value has no part. Spaces
-/// part a value, and an empty text is no part (RFC 6690 section 2, relation-types).
+/// Returns the first part of a value and the text after it, or `None` if the value has no part.
+///
+/// Spaces separate parts, and an empty text is no part (RFC 6690 section 2, relation-types).
 pub fn first_part(value: &str) -> Option<(&str, &str)>
     ensures { FirstPart value.now result }
 {
@@ -157,14 +164,14 @@ pub fn first_part(value: &str) -> Option<(&str, &str)>
     Some((rest, ""))
 }
 
-/// Whether the value has a space.
+/// Returns whether the value has a space.
 fn has_space(value: &str) -> bool
     ensures { result ≡ list_any (λ c. c == model.space) value.now }
 {
     value.as_bytes().iter().any(|octet| *octet == b' ')
 }
 
-/// Whether the value is one part, which is not empty.
+/// Returns whether the value is one part, which is not empty.
 fn is_one_part(value: &str) -> bool
     ensures { result ≡ (not (is_empty value.now)
         && not (list_any (λ c. c == model.space) value.now)) }
@@ -172,7 +179,7 @@ fn is_one_part(value: &str) -> bool
     !value.is_empty() && !has_space(value)
 }
 
-/// Whether the text is a part of a value that is no longer.
+/// Returns whether the text is a part of a value that is no longer than the text.
 #[tactic(auto, using(crate::proofs::PartSizes::same_or_none))]
 fn is_short_part(text: &str, value: &str) -> bool
     requires { length value.now ≤ length text.now }
@@ -181,8 +188,9 @@ fn is_short_part(text: &str, value: &str) -> bool
     same_text(value, text) && is_one_part(value)
 }
 
-/// Whether the pattern matches a value of the name: one part of it where the name's values are
-/// lists, and else the value.
+/// Returns whether the pattern matches a value of the name.
+///
+/// If the values of the name are lists, it must match one part. Otherwise it must match the value.
 #[tactic(auto, unfolding(record_model::specs::Matching::matches_named))]
 pub fn matches_named(name: &str, pattern: &str, value: &str) -> bool
     ensures { result ≡ model.matches_named name.now pattern.now value.now }

@@ -1,5 +1,4 @@
-//! The pieces of lines: texts that stand in them as they are, and texts that stand in quotes (RFC
-//! 6690 section 2).
+//! The pieces of lines: texts that appear as they are, and texts in quotes (RFC 6690 section 2).
 ghost use Rattle.std.specs.Prelude.{◌≡◌, ◌==◌, ◌||◌};
 ghost use Rattle.link_model.specs.Characters.{backslash, quote_mark};
 ghost use Rattle.record_model.specs.ListingLines as listing_model;
@@ -8,7 +7,7 @@ ghost use Rattle.listing.specs.Pieces.{octets_of_pieces, own_line};
 
 use rd_base::{Pair, Record};
 
-/// How many pieces each part of a line is cut into; those that are left over are empty.
+/// How many pieces each part of a line is cut into. Pieces that are not needed are empty.
 pub const PIECES: usize = 9;
 
 /// A piece of a line.
@@ -20,14 +19,14 @@ pub enum Piece<'a> {
     Escaped(&'a [u8]),
 }
 
-/// Whether a backslash stands before the octet in a quoted text.
+/// Returns whether the octet needs a backslash before it in a quoted text.
 pub fn is_escaped(octet: u8) -> bool
     ensures { result ≡ (octet == quote_mark || octet == backslash) }
 {
     octet == b'"' || octet == b'\\'
 }
 
-/// The line of an endpoint before its extra attributes.
+/// Returns the part of an endpoint's line before its extra attributes.
 pub fn endpoint_pieces<'a>(record_of: &'a Record, location: &'a [u8]) -> [Piece<'a>; PIECES]
     requires { location.now ≡ model.location record_of.now.number }
     ensures { octets_of_pieces result ≡ own_line record_of.now }
@@ -62,7 +61,7 @@ pub fn endpoint_pieces<'a>(record_of: &'a Record, location: &'a [u8]) -> [Piece<
     ]
 }
 
-/// An extra attribute of an endpoint: its name alone where its value is empty.
+/// Returns an extra attribute of an endpoint: its name alone if its value is empty.
 #[rattlefmt::skip]
 #[tactic(
     auto,

@@ -1,4 +1,4 @@
-//! Whether two states of a registration give the same lines.
+//! Whether two states of a registration contribute the same lines.
 ghost use Rattle.std.specs.Prelude.{◌≡◌, ◌↔◌, [], Some, bytes_eq, IsTrue};
 ghost use Rattle.std.specs.Option.{option_copied};
 ghost use Rattle.record_model.specs.ListingLines as listing_model;
@@ -19,7 +19,7 @@ use crate::octets::{Octets, octets_of, same_octets};
 use crate::pieces::endpoint_pieces;
 use rd_base::{Items, Kind, Link, Links, Query, Record};
 
-/// The line of an endpoint, octet by octet.
+/// Returns the line of an endpoint, to be read octet by octet.
 #[tactic(auto, using(crate::proofs::PieceLaws::endpoint_parts))]
 fn endpoint_octets<'a>(record_of: &'a Record, location: &'a [u8]) -> Octets<'a>
     requires { location.now ≡ model.location record_of.now.number }
@@ -31,7 +31,7 @@ fn endpoint_octets<'a>(record_of: &'a Record, location: &'a [u8]) -> Octets<'a>
     )
 }
 
-/// Whether the lines of both endpoints have the same octets.
+/// Returns whether the lines of both endpoints have the same octets.
 fn same_endpoint(old: &Record, new: &Record) -> bool
     ensures { result ≡ bytes_eq (listing_model.endpoint_line old.now)
         (listing_model.endpoint_line new.now) }
@@ -43,7 +43,7 @@ fn same_endpoint(old: &Record, new: &Record) -> bool
     same_octets(&mut old_line, &mut new_line)
 }
 
-/// The first of the links that is listed, and those after it.
+/// Returns the first link that is listed, and the links after it.
 fn first_listed<'a>(link_filter: &LinkFilter<'_>, links: Links<'a>) -> Option<(Link<'a>, Links<'a>)>
     requires { IsJudged link_filter.now }
     ensures { FirstListed (sifts link_filter.now) links.entry result }
@@ -57,9 +57,8 @@ fn first_listed<'a>(link_filter: &LinkFilter<'_>, links: Links<'a>) -> Option<(L
     None
 }
 
-/// Whether the links that pass through their link_filters have the same lines in the same order,
-/// which
-/// are compared link by link.
+/// Returns whether the links that each filter lists have the same lines in the same order. Compares
+/// them link by link.
 fn same_link_by_link(
     together: bool,
     old: &LinkFilter<'_>,
@@ -96,9 +95,9 @@ fn same_link_by_link(
     }
 }
 
-/// Whether the links that pass through their link_filters have the same lines in the same order.
-/// Where
-/// all pass, or all are alike, their lines are compared as one text.
+/// Returns whether the links that each filter lists have the same lines in the same order.
+///
+/// If both filters list all links, or all links are alike, compares their lines as one text.
 fn same_sifted(
     together: bool,
     old: &LinkFilter<'_>,
@@ -122,7 +121,7 @@ fn same_sifted(
     same_link_by_link(together, old, new, old_items, new_items)
 }
 
-/// Whether the links that are listed of both have the same lines in the same order.
+/// Returns whether the listed links of both have the same lines in the same order.
 fn same_links(query: &Query, old: &Record, new: &Record) -> bool
     ensures { result ≡ same_lines (listed_lines query.now (Some old.now) old.now.items)
         (listed_lines query.now (Some new.now) new.now.items) }
@@ -135,7 +134,7 @@ fn same_links(query: &Query, old: &Record, new: &Record) -> bool
     same_sifted(together, &old_sieve, &new_sieve, &old.items, &new.items)
 }
 
-/// Whether both give the same lines to an endpoint lookup.
+/// Returns whether both contribute the same lines to an endpoint lookup.
 fn same_listed_endpoint(query: &Query, old: &Record, new: &Record) -> bool
     ensures { result ≡ same_lines (listed_endpoint query.now old.now)
         (listed_endpoint query.now new.now) }
@@ -149,7 +148,7 @@ fn same_listed_endpoint(query: &Query, old: &Record, new: &Record) -> bool
     same_endpoint(old, new)
 }
 
-/// Whether both give the same lines.
+/// Returns whether both contribute the same lines.
 #[tactic(auto, unfolding(record_model::specs::ListingLines::part))]
 fn same_parts(query: &Query, old: &Record, new: &Record) -> bool
     ensures { result ≡ same_lines (listing_model.part query.now old.now)
@@ -162,7 +161,7 @@ fn same_parts(query: &Query, old: &Record, new: &Record) -> bool
     }
 }
 
-/// Whether the registration gives no line.
+/// Returns whether the registration contributes no line.
 #[tactic(auto, unfolding(record_model::specs::ListingLines::part))]
 fn gives_none(query: &Query, record_of: &Record) -> bool
     ensures { result ≡ same_lines (listing_model.part query.now record_of.now) [] }
@@ -178,8 +177,10 @@ fn gives_none(query: &Query, record_of: &Record) -> bool
     }
 }
 
-/// Whether both give the same lines, in the same order, to a lookup of this kind; where there is no
-/// registration, there is no line (RFC 9176 section 6). Takes no memory.
+/// Returns whether both contribute the same lines, in the same order, to a lookup of this kind (RFC
+/// 9176 section 6).
+///
+/// A registration that does not exist contributes no line. Does not allocate.
 #[tactic(auto, using(crate::proofs::SamePartLaws::same_lines_answered))]
 pub fn same_part(query: &Query, old: Option<&Record>, new: Option<&Record>) -> bool
     ensures { IsTrue result ↔ (part_or_none query.now (option_copied old.entry)

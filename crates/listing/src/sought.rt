@@ -1,4 +1,4 @@
-//! What a criterion seeks in links, told once for all links (RFC 9176 section 6.2).
+//! What a criterion seeks in links, determined once for all links (RFC 9176 section 6.2).
 ghost use Rattle.std.specs.Prelude.{◌≡◌, ◌&&◌, bytes_eq, codes};
 ghost use Rattle.std.specs.List.{list_any};
 ghost use Rattle.rd_base.specs.declared.records.Item.{Item};
@@ -15,29 +15,29 @@ use rd_base::{Criterion, Link, LinkPairs, PairRef};
 pub(crate) enum Sought<'a> {
     /// A target that fits the pattern.
     Target(Pattern<'a>),
-    /// An anchor that fits it.
+    /// An anchor that fits the pattern.
     Anchor(Pattern<'a>),
-    /// An attribute of this name, whose value fits it.
+    /// An attribute of this name whose value fits the pattern.
     Value(&'a str, Pattern<'a>),
-    /// An attribute of this name, whose values are lists, where a part fits it.
+    /// An attribute of this name whose values are lists, if one part fits the pattern.
     Part(&'a str, Pattern<'a>),
 }
 
-/// Whether criteria of this name are about targets.
+/// Returns whether criteria of this name are about targets.
 pub(crate) fn is_href(name: &str) -> bool
     ensures { result ≡ bytes_eq name.now (codes "href") }
 {
     matches!(name.as_bytes(), [b'h', b'r', b'e', b'f'])
 }
 
-/// Whether criteria of this name are about anchors.
+/// Returns whether criteria of this name are about anchors.
 fn is_anchor(name: &str) -> bool
     ensures { result ≡ bytes_eq name.now (codes "anchor") }
 {
     name.len() == "anchor".len() && name == "anchor"
 }
 
-/// Whether there is a text, which fits the pattern.
+/// Returns whether there is a text, and it fits the pattern.
 fn fits_present(pattern: &Pattern<'_>, text: Option<&str>) -> bool
     ensures { result ≡ fits_present pattern.now (text_seen text.entry) }
 {
@@ -47,8 +47,9 @@ fn fits_present(pattern: &Pattern<'_>, text: Option<&str>) -> bool
     }
 }
 
-/// Whether the attribute has this name and a value that fits the pattern. Names that are equally
-/// long are mostly the same, so they are compared last.
+/// Returns whether the attribute has this name and a value that fits the pattern.
+///
+/// Names of the same length are mostly the same, so they are compared last.
 fn has_value_of(name: &str, pattern: &Pattern<'_>, pair: &PairRef<'_>) -> bool
     ensures { result ≡ (bytes_eq pair.now.name.now name.now
         && fits pattern.now pair.now.value.now) }
@@ -59,8 +60,9 @@ fn has_value_of(name: &str, pattern: &Pattern<'_>, pair: &PairRef<'_>) -> bool
     pattern.fits(pair.value) && pair.name == name
 }
 
-/// Whether the attribute has this name and a value of which a part fits the pattern. Names that
-/// are equally long are mostly the same, so they are compared last.
+/// Returns whether the attribute has this name and a value of which one part fits the pattern.
+///
+/// Names of the same length are mostly the same, so they are compared last.
 fn has_part_of(name: &str, pattern: &Pattern<'_>, pair: &PairRef<'_>) -> bool
     ensures { result ≡ (bytes_eq pair.now.name.now name.now
         && list_any (fits pattern.now) (model.parts_of pair.now.value.now)) }
@@ -71,7 +73,7 @@ fn has_part_of(name: &str, pattern: &Pattern<'_>, pair: &PairRef<'_>) -> bool
     pattern.fits_part(pair.value) && pair.name == name
 }
 
-/// Whether one of the attributes has this name and a value that fits the pattern.
+/// Returns whether one of the attributes has this name and a value that fits the pattern.
 #[inline(never)]
 fn has_value(name: &str, pattern: &Pattern<'_>, pairs: LinkPairs<'_>) -> bool
     ensures { result ≡ has_value name.now pattern.now pairs.entry }
@@ -85,7 +87,8 @@ fn has_value(name: &str, pattern: &Pattern<'_>, pairs: LinkPairs<'_>) -> bool
     false
 }
 
-/// Whether one of the attributes has this name and a value of which a part fits the pattern.
+/// Returns whether one of the attributes has this name and a value of which one part fits the
+/// pattern.
 fn has_part(name: &str, pattern: &Pattern<'_>, pairs: LinkPairs<'_>) -> bool
     ensures { result ≡ has_part name.now pattern.now pairs.entry }
 {
@@ -99,8 +102,9 @@ fn has_part(name: &str, pattern: &Pattern<'_>, pairs: LinkPairs<'_>) -> bool
 }
 
 impl<'a> Sought<'a> {
-    /// What the criterion seeks: `href` a target, `anchor` an anchor, and any other name an
-    /// attribute (RFC 9176 section 6.2).
+    /// Returns what the criterion seeks (RFC 9176 section 6.2).
+    ///
+    /// `href` seeks a target, `anchor` an anchor, and any other name an attribute.
     pub(crate) fn of(criterion: &'a Criterion) -> Sought<'a>
         ensures { (item : Item) → is_found result item ≡ model.link_matches criterion.now item }
     {
@@ -118,7 +122,7 @@ impl<'a> Sought<'a> {
         Sought::Value(name, pattern)
     }
 
-    /// Whether the link has it.
+    /// Returns whether the link has what the criterion seeks.
     pub(crate) fn is_in(&self, link: &Link<'_>) -> bool
         ensures { result ≡ is_found self.now link.now }
     {

@@ -6,7 +6,7 @@ ghost use Rattle.rd_base.specs.LinkTexts.{IsLineAt};
 ghost use Rattle.rd_base.specs.Spans.{IsPlacedIfAny, kept_apart_if_any};
 
 use crate::Starved;
-use crate::spans::{Span, Stretch, append, append_escaped, offset, push};
+use crate::spans::{Span, Stretch, append, append_escaped, offset, push, push_mark};
 
 /// The spans of the parts of a line.
 #[derive(Clone, Copy, Debug, Drop)]
@@ -87,7 +87,7 @@ fn append_anchor(
     };
     push(text, ";anchor=\"")?;
     let stretch = append_escaped(text, anchor, apart)?;
-    push(text, "\"")?;
+    push_mark(text, '"')?;
     Ok(Some(stretch))
 }
 
@@ -111,9 +111,9 @@ pub(crate) fn append_line(
         ++ kept_apart_if_any spans.anchor (option_map (λ a. a.now) anchor.entry)) }
 {
     let from = offset(text.len())?;
-    push(text, "<")?;
+    push_mark(text, '<')?;
     let target = append(text, target)?;
-    push(text, ">")?;
+    push_mark(text, '>')?;
     let raw = append(text, raw)?;
     let anchor = append_anchor(text, anchor, apart)?;
     let upto = offset(text.len())?;

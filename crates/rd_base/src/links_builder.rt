@@ -9,7 +9,7 @@ use crate::Starved;
 use crate::link_reading::Link;
 use crate::link_texts::{LinkSpans, LinkTexts, PairSpans, Room, append_line};
 use crate::shared_links::Items;
-use crate::spans::{Span, offset, push, stretch_of};
+use crate::spans::{Span, offset, push_mark, stretch_of};
 use std::alloc::Global;
 use std::marker::Model;
 
@@ -25,6 +25,18 @@ pub struct LinkParts<'a> {
     /// The anchor, resolved against the base of the registration.
     pub anchor: Option<&'a str>,
 }
+
+/// How many octets of a body there are for each attribute, in most bodies.
+const OCTETS_OF_PAIR: usize = 16;
+
+/// How many octets of a body there are for each link, in most bodies.
+const OCTETS_OF_LINK: usize = 40;
+
+/// The most attributes for which a body's length asks for room.
+const EXPECTED_PAIRS: usize = 16;
+
+/// The most links for which a body's length asks for room.
+const EXPECTED_LINKS: usize = 8;
 
 /// A builder of links, with the attributes of the next link.
 ///
@@ -60,7 +72,7 @@ fn separate(text: &mut String, links: &Vec<LinkSpans>) -> Result<(), Starved>
     if links.is_empty() {
         return Ok(());
     }
-    push(text, ",")
+    push_mark(text, ',')
 }
 
 /// Returns where the value of an attribute is expected that is written from `from` on. This is
@@ -110,8 +122,8 @@ impl LinksBuilder {
         builder.reserve(Room {
             submitted,
             listed,
-            pairs: 0,
-            links: 0,
+            pairs: usize::min(submitted / OCTETS_OF_PAIR, EXPECTED_PAIRS),
+            links: usize::min(submitted / OCTETS_OF_LINK, EXPECTED_LINKS),
         })?;
         Ok(builder)
     }
@@ -137,6 +149,7 @@ impl LinksBuilder {
         self.texts.listed.reserve(room.listed)?;
         self.texts.pairs.reserve(room.pairs)?;
         self.texts.links.reserve(room.links)?;
+        self.raw.reserve(room.submitted)?;
         Ok(())
     }
 

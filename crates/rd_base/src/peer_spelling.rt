@@ -1,46 +1,25 @@
 //! The one text of a peer, printed and read (RFC 5952 sections 4 to 6).
-ghost use Rattle.std.specs.Prelude.{◌≡◌, ◌↔◌, Ok, option_map, IfOk, ok_or, bytes_eq, decimal};
+ghost use Rattle.std.specs.Prelude.{◌≡◌, ◌↔◌, ◌++◌, Ok, option_map, IfOk, OnOk, ok_or};
+ghost use Rattle.std.specs.Prelude.{◌<◌, bytes_eq, decimal};
+ghost use Rattle.std.specs.Net.Text.{ipv4_text};
 ghost use Rattle.std.specs.String.{string_bytes};
 ghost use Rattle.rd_base.specs.Peers as peers;
 ghost use Rattle.rd_base.specs.Bases as bases;
 ghost use Rattle.rd_base.specs.Prefixes.{after_prefix};
+ghost use Rattle.rd_base.specs.declared.peers.Host.TheVariants as host;
 ghost use Rattle.rd_base.specs.declared.peers.Peer.{Peer};
 
 use crate::addresses::{after_ipv4, after_ipv6};
 use crate::prefixes::{after_number, after_prefix};
+use crate::spans::{push, push_mark};
 use crate::{Host, Peer, Starved, Text};
+use itoa::Buffer;
 use std::alloc::Global;
-use std::net::{Ipv4Addr, Ipv6Addr, SocketAddr, SocketAddrV4, SocketAddrV6};
+use std::net::{Ipv6Addr, SocketAddrV4, SocketAddrV6};
 
 /// The error of a text that prints no peer.
 #[derive(Clone, Copy, Debug, PartialEq, Eq)]
 pub struct PeerBad;
-
-/// Returns the socket address of a peer, with no flow information and no zone.
-fn socket_of(peer: &Peer) -> SocketAddr
-    ensures { result ≡ peers.socket_of peer.now.host peer.now.port }
-{
-    match peer.host {
-        Host::V4(octets) => { SocketAddr::V4(SocketAddrV4::new(Ipv4Addr::from(octets), peer.port)) }
-        Host::V6(groups) => {
-            SocketAddr::V6(SocketAddrV6::new(Ipv6Addr::from(groups), peer.port, 0, 0))
-        }
-    }
-}
-
-/// Returns a peer as text, as 192.0.2.1:5683 or [2001:db8::1]:61616 (RFC 5952). An IPv6 address has
-/// dots if it maps an IPv4 address.
-///
-/// # Errors
-///
-/// `Starved` if memory runs out.
-#[tactic(auto, unfolding(crate::specs::Peers::peer_text))]
-pub fn peer_text(alloc: Global, peer: &Peer) -> Result<Text, Starved>
-    ensures { IfOk result (λ text. text ≡ peers.peer_text peer.now) }
-{
-    let text = socket_of(peer).to_string(alloc)?;
-    Ok(Text::of(text))
-}
 
 /// Returns the peer that a text names in any spelling that the standard library accepts.
 #[tactic(auto, unfolding(crate::specs::Peers::named_peer))]
@@ -129,34 +108,94 @@ pub fn peer_read_ascii(text: &[u8]) -> Result<Peer, PeerBad>
     Ok(peer)
 }
 
-/// Returns an address as a host, an IPv6 address in brackets (RFC 3986 section 3.2.2).
-fn host_text(alloc: Global, host: Host) -> Result<String, Starved>
-    ensures text { IfOk result (λ text. string_bytes text ≡ bases.host_text host) }
-    ensures fits { peers.IsHost host }
+/// Appends a number in decimal.
+fn push_number(text: &mut String, number: u16) -> Result<(), Starved>
+    ensures { OnOk result (string_bytes text.new ≡ string_bytes text.old ++ decimal number) }
+{
+    let mut buffer = Buffer::new();
+    push(text, buffer.format(number))
+}
+
+/// Appends an IPv4 address.
+fn push_ipv4(text: &mut String, octets: [u8; 4]) -> Result<(), Starved>
+    ensures { OnOk result (string_bytes text.new ≡ string_bytes text.old ++ ipv4_text octets) }
+{
+    let [a, b, c, d] = octets;
+    push_number(text, u16::from(a))?;
+    push_mark(text, '.')?;
+    push_number(text, u16::from(b))?;
+    push_mark(text, '.')?;
+    push_number(text, u16::from(c))?;
+    push_mark(text, '.')?;
+    push_number(text, u16::from(d))
+}
+
+/// Appends an IPv6 address in brackets (RFC 3986 section 3.2.2).
+fn push_ipv6(text: &mut String, groups: [u16; 8]) -> Result<(), Starved>
+    ensures { OnOk result (string_bytes text.new ≡ string_bytes text.old
+        ++ bases.host_text (host.V6 groups)) }
+{
+    let address = Ipv6Addr::from(groups);
+    let literal = format!(in *text.allocator(); "[{address}]")?;
+    push(text, literal.as_str())
+}
+
+/// Appends an address as a host.
+fn push_host(text: &mut String, host: Host) -> Result<(), Starved>
+    ensures { OnOk result (string_bytes text.new ≡ string_bytes text.old ++ bases.host_text host) }
 {
     match host {
-        Host::V4(octets) => {
-            let address = Ipv4Addr::from(octets);
-            Ok(address.to_string(alloc)?)
-        }
-        Host::V6(groups) => {
-            let address = Ipv6Addr::from(groups);
-            Ok(format!(in alloc; "[{address}]")?)
-        }
+        Host::V4(octets) => push_ipv4(text, octets),
+        Host::V6(groups) => push_ipv6(text, groups),
     }
 }
+
+/// What comes before the host in a URI of CoAP (RFC 7252 section 6.1).
+const COAP: &str = "coap://";
 
 /// The port of CoAP (RFC 7252 section 6.1).
 const COAP_PORT: u16 = 5683;
 
-/// Returns a colon and a port, or nothing for the port of CoAP.
-fn port_text(alloc: Global, port: u16) -> Result<String, Starved>
-    ensures { IfOk result (λ text. string_bytes text ≡ bases.port_text port) }
+/// Appends a colon and a port, or nothing for the port of CoAP.
+fn push_port(text: &mut String, port: u16) -> Result<(), Starved>
+    ensures { OnOk result (string_bytes text.new ≡ string_bytes text.old
+        ++ bases.port_text port) }
 {
     if port == COAP_PORT {
-        return Ok(String::new(alloc));
+        return Ok(());
     }
-    Ok(format!(in alloc; ":{port}")?)
+    push_mark(text, ':')?;
+    push_number(text, port)
+}
+
+/// Returns how many octets an address has at most as a host.
+fn room_of_host(host: Host) -> usize
+    ensures fits { peers.IsHost host }
+    ensures small { result < 64 }
+{
+    match host {
+        Host::V4(_) => 15,
+        Host::V6(_) => 41,
+    }
+}
+
+/// How many octets a colon and a port have at most.
+const PORT_ROOM: usize = 6;
+
+/// Returns a peer as text, as 192.0.2.1:5683 or [2001:db8::1]:61616 (RFC 5952). An IPv6 address has
+/// dots if it maps an IPv4 address.
+///
+/// # Errors
+///
+/// `Starved` if memory runs out.
+pub fn peer_text(alloc: Global, peer: &Peer) -> Result<Text, Starved>
+    ensures { IfOk result (λ text. text ≡ peers.peer_text peer.now) }
+{
+    let mut text = String::with_capacity(alloc, room_of_host(peer.host) + PORT_ROOM)?;
+    push_host(&mut text, peer.host)?;
+    push_mark(&mut text, ':')?;
+    push_number(&mut text, peer.port)?;
+    Ok(Text::of(text))
 }
 
 /// Returns the base of a registration that gives none (RFC 9176 section 5): `coap://`, the peer's
@@ -170,8 +209,10 @@ pub fn base_of(alloc: Global, peer: &Peer) -> Result<Text, Starved>
     ensures text { IfOk result (λ text. text ≡ bases.base_of peer.now) }
     ensures fits { peers.IsHost peer.now.host }
 {
-    let host = host_text(alloc, peer.host)?;
-    let port = port_text(alloc, peer.port)?;
-    let text = format!(in alloc; "coap://{host}{port}")?;
+    let room = COAP.len() + room_of_host(peer.host) + PORT_ROOM;
+    let mut text = String::with_capacity(alloc, room)?;
+    push(&mut text, COAP)?;
+    push_host(&mut text, peer.host)?;
+    push_port(&mut text, peer.port)?;
     Ok(Text::of(text))
 }

@@ -1,6 +1,6 @@
 //! The spans of parts of a text that grows.
-ghost use Rattle.std.specs.Prelude.{◌≡◌, ◌<◌, ◌++◌, ◌==◌, ◌||◌, length, flat_map, IfOk, IfSome};
-ghost use Rattle.std.specs.Prelude.{OnOk, encode_utf8};
+ghost use Rattle.std.specs.Prelude.{◌≡◌, ◌<◌, ◌++◌, ◌∷◌, ◌==◌, ◌||◌, [], length, flat_map, IfOk};
+ghost use Rattle.std.specs.Prelude.{IfSome, OnOk, encode_utf8};
 ghost use Rattle.std.specs.List.{list_any};
 ghost use Rattle.std.specs.String.{string_bytes};
 ghost use Rattle.rd_base.specs.LinkLines.{quote_mark, backslash, escaped_character};
@@ -47,6 +47,16 @@ pub(crate) fn push(text: &mut String, more: &str) -> Result<(), Starved>
     Ok(())
 }
 
+/// Appends a mark of ASCII.
+#[inline(always)]
+pub(crate) fn push_mark(text: &mut String, mark: char) -> Result<(), Starved>
+    requires { mark < 128 }
+    ensures { OnOk result (string_bytes text.new ≡ string_bytes text.old ++ mark ∷ []) }
+{
+    text.push(mark)?;
+    Ok(())
+}
+
 /// Appends a text, and returns its span. Returns `Starved` also if the text is longer than a `u32`
 /// counts.
 #[inline(always)]
@@ -88,7 +98,7 @@ fn found(text: &str, from: usize, part: &str) -> Option<Span>
     ensures { IfSome result (λ span. IsTextAt text.now span part.now) }
 {
     let upto = from.checked_add(part.len())?;
-    if text.as_bytes().get(from..upto)? != part.as_bytes() {
+    if text.get(from..upto)? != part {
         return None;
     }
     let from = offset(from).ok()?;

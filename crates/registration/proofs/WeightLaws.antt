@@ -3,6 +3,8 @@ use Rattle.std.proofs.Common.{
   ◌≡◌,
   ℕ,
   ◌+◌,
+  ◌==◌,
+  ◌||◌,
   Bool,
   true,
   false,
@@ -13,6 +15,8 @@ use Rattle.std.proofs.Common.{
   ◌++◌,
   [],
   length,
+  filter,
+  if◌then◌else◌,
   flat_map,
   sum_by,
   decimal,
@@ -27,7 +31,7 @@ use Rattle.std.proofs.lemmas.Grind.{flat_map-append}
 use Rattle.rd_base.specs.declared.attributes.Pair.{Pair}
 use Rattle.rd_base.specs.declared.moments.Moment.{Moment}
 use Rattle.rd_base.specs.declared.records.Item.{Item}
-use Rattle.link_model.specs.Characters.{quote_mark}
+use Rattle.link_model.specs.Characters.{quote_mark, backslash}
 use Rattle.rd_base.specs.LinkLines.{comma, listed}
 use Rattle.std.specs.Prelude.{IsTrue, ◌↔◌}
 use Rattle.std.specs.List.{join_with_byte}
@@ -38,7 +42,6 @@ use Rattle.record_model.specs.ListingLines.{
   weight,
   quoted_attribute,
   extra_attribute,
-  anchor_text,
 }
 use Rattle.record_model.specs.Matching.{location, sector_pairs}
 use Rattle.link_model.specs.Quoting.{quoted, escaped_character}
@@ -52,6 +55,29 @@ unfolding quoted
 quoted_size text =
     let joined = length-append (flat_map escaped_character text) (quote_mark ∷ []) in
     omega (arith, joined)
+
+-- a text has an octet more for each mark
+pub marks_size : (text : List ℕ)
+    → length (flat_map escaped_character text)
+    ≡ length text + length (filter (λ c. c == quote_mark || c == backslash) text)
+marks_size [] = refl
+marks_size (c ∷ cs) =
+    let rest = marks_size cs in
+    one (c == quote_mark || c == backslash) c (flat_map escaped_character cs) cs
+    (filter (λ d. d == quote_mark || d == backslash) cs) rest
+  where
+    one : (b : Bool) (c : ℕ) (spelled text marks : List ℕ)
+        → length spelled ≡ length text + length marks
+        → length ((if b then backslash ∷ c ∷ [] else c ∷ []) ++ spelled)
+        ≡ length (c ∷ text) + length (if b then c ∷ marks else marks)
+    one true c spelled text marks e = omega (arith, e)
+    one false c spelled text marks e = omega (arith, e)
+
+-- the type of an endpoint
+pub typed_size :
+    length (quoted_attribute (record { name = codes "rt"; value = codes "core.rd-ep" })) ≡ 16
+unfolding quoted
+typed_size = refl
 
 -- links: their lines with commas between them, and one octet more
 pub listed_size : (item : Item) (items : List Item)

@@ -1,9 +1,11 @@
 //! What a draft weighs: the octets of the lines that it gives, each with one more for a comma.
-ghost use Rattle.std.specs.Prelude.{◌≡◌, ◌+◌, ◌<◌, length, flat_map, sum_by, decimal};
+ghost use Rattle.std.specs.Prelude.{◌≡◌, ◌==◌, ◌||◌, ◌+◌, ◌<◌, length, filter, flat_map, sum_by};
+ghost use Rattle.std.specs.Prelude.{decimal};
 ghost use Rattle.rd_base.specs.declared.moments.Moment.{Moment};
 ghost use Rattle.record_model.specs.ListingLines as listing_model;
 ghost use Rattle.record_model.specs.Matching as matching;
-ghost use Rattle.link_model.specs.Quoting.{escaped_character, quoted};
+ghost use Rattle.link_model.specs.Characters.{quote_mark, backslash};
+ghost use Rattle.link_model.specs.Quoting.{quoted};
 ghost use Rattle.registration.specs.Drafts.{recorded};
 ghost use Rattle.registration.specs.Weights.{capped};
 
@@ -21,26 +23,27 @@ fn add(weight: u64, octets: usize) -> u64
     weight.saturating_add(octets as u64)
 }
 
-/// How many octets an octet takes in a quoted text: two where a backslash stands before it.
-fn quoted_size(octet: u8) -> usize
-    ensures { result ≡ length (escaped_character octet) }
+/// Returns whether an octet has a backslash before it in a quoted text.
+fn is_mark(octet: u8) -> bool
+    ensures { result ≡ (octet == quote_mark || octet == backslash) }
 {
-    if octet == b'"' || octet == b'\\' {
-        2
-    } else {
-        1
-    }
+    octet == b'"' || octet == b'\\'
+}
+
+/// Returns how many octets have a backslash before them in a quoted text.
+fn marks(octets: &[u8]) -> usize
+    ensures { result ≡ length (filter (λ c. c == quote_mark || c == backslash) octets.now) }
+{
+    octets.iter().filter(|octet| is_mark(**octet)).count()
 }
 
 /// With a text in quotes, a backslash before each quote and each backslash in it.
 fn add_quoted(weight: u64, text: &str) -> u64
     ensures { result ≡ capped (weight + length (quoted text.now)) }
 {
-    let mut sum = add(weight, 2);
-    'octets: for octet in text.as_bytes() {
-        sum = add(sum, quoted_size(*octet));
-    }
-    sum
+    let octets = text.as_bytes();
+    let plain = add(weight, 2 + octets.len());
+    add(plain, marks(octets))
 }
 
 /// With a name of so many octets and a value in quotes: a semicolon stands before the name and an
@@ -95,6 +98,9 @@ fn digits(number: u64) -> usize
     DIGITS - write_digits(number, &mut room, DIGITS)
 }
 
+/// How many octets the type of an endpoint takes in its line: `;rt="core.rd-ep"`.
+const TYPED: usize = 16;
+
 /// With the line of an endpoint.
 fn add_endpoint(weight: u64, draft: &Draft, number: u64) -> u64
     ensures { (now : Moment)
@@ -106,7 +112,7 @@ fn add_endpoint(weight: u64, draft: &Draft, number: u64) -> u64
     let sum = add_attribute(sum, "base", draft.base.as_str());
     let sum = add_attribute(sum, "ep", draft.name.ep.as_str());
     let sum = add_sector(sum, &draft.name.sector);
-    let sum = add_attribute(sum, "rt", "core.rd-ep");
+    let sum = add(sum, TYPED);
     add_extras(sum, draft.attrs.as_slice())
 }
 

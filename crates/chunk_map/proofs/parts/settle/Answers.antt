@@ -7,8 +7,8 @@ use Rattle.chunk_map.proofs.PartLaws.{cut_or}
 use Rattle.chunk_map.proofs.OutcomeLaws.{all_around, all_inserted, all_removed}
 use Rattle.chunk_map.proofs.parts.settle.Goals as goal
 
-pub join_next-requires : goal.join_next-requires
-join_next-requires g c =
+pub join_around-requires : goal.join_around-requires
+join_around-requires g c =
     let parts = c.args.parts.now.items in
     record {
       whole =
@@ -18,8 +18,8 @@ join_next-requires g c =
           c.in-Kept.is (c.requires.part d)) c.requires.behind;
     }
 
-pub join_before-requires-in-Split : goal.join_before-requires-in-Split
-join_before-requires-in-Split g c =
+pub join_halves-requires-clause-whole : goal.join_halves-requires-clause-whole
+join_halves-requires-clause-whole g c =
     let parts = c.args.parts.now.items in
     let stand : (d : g.row.P.Denot)
     → StandWhole g.P.Part.is_whole (slice_index_or parts c.args.at d)
@@ -30,12 +30,9 @@ join_before-requires-in-Split g c =
     let all =
     all_around g.P.Part.is_whole parts c.args.at c.requires.bound c.requires.front
     (λ d. (stand d).0) c.requires.behind in
-    record {
-      whole =
-          rw c.in_ok-insert-in-Split.ensures.items
-          (all_inserted g.P.Part.is_whole parts (c.args.at + 1) c.in-Split.behind
-          (stand c.in-Split.behind).1 all);
-    }
+    rw c.in_ok-insert-in-Split.ensures.items
+    (all_inserted g.P.Part.is_whole parts (c.args.at + 1) c.in-Split.behind
+    (stand c.in-Split.behind).1 all)
 
 pub returns-in-Gone-clause-whole : goal.returns-in-Gone-clause-whole
 returns-in-Gone-clause-whole g c =
@@ -43,17 +40,16 @@ returns-in-Gone-clause-whole g c =
     (all_removed g.P.Part.is_whole c.args.parts.now.items c.args.at c.requires.front
     c.requires.behind)
 
-pub returns-in_ok-join_next-in-Kept-clause-pairs : goal.returns-in_ok-join_next-in-Kept-clause-pairs
-returns-in_ok-join_next-in-Kept-clause-pairs g c =
+pub returns-in-Kept-clause-pairs : goal.returns-in-Kept-clause-pairs
+returns-in-Kept-clause-pairs g c =
     let pairs = g.P.Part.pairs in
     let parts = c.args.parts.now.items in
     let at = c.args.at in
-    on_ok_weaker c.join_before.result
+    on_ok_weaker c.join_around.result
     (λ same d. same
-    ∙ c.in_ok-join_next-in-Kept.ensures.pairs
     ∙ cut_or pairs parts at d c.requires.bound
     ∙ ap (λ o.
     flat_map pairs (take at parts)
     ++ (standing pairs (slice_index_or parts at d) o
     ++ flat_map pairs (drop (at + 1) parts))) (sym c.in-Kept.is))
-    c.join_before.ensures.pairs
+    c.join_around.ensures.pairs
