@@ -54,6 +54,12 @@ goes_on options =
 abbrev pub query_count : List Opt → ℕ
 query_count options = count_by (λ option. option.0 == table.uri_query) options
 
+-- neither Observe nor more query options than so many
+abbrev pub are_brief : ℕ → List Opt → Bool
+are_brief most options =
+    if list_any (λ option. option.0 == table.observe) options then false
+    else nat_le (query_count options) most
+
 -- Any request other than GET is a write. A simple registration is a POST below `.well-known` (RFC
 -- 9176 section 5.1). It and the first block of an upload begin something that lasts.
 abbrev pub write_class : ℕ → List Opt → Class

@@ -1,7 +1,9 @@
 -- What a message that a server sends reports as done, by its type and its code.
-use Rattle.std.specs.Prelude.{ℕ, ◌==◌, nat_le, if◌then◌else◌}
+use Rattle.std.specs.Prelude.{ℕ, ◌/◌, ◌%◌, ◌==◌, nat_le, if◌then◌else◌}
+use Rattle.std.specs.Prelude.{List, ◌∷◌, Option, Some, None}
 use Rattle.message_model.specs.declared.messages.Kind4.{Kind4}
 use Rattle.message_model.specs.declared.messages.Kind4.TheVariants as kind
+use Rattle.message_model.specs.Reading.{kind_of}
 use Rattle.message_model.specs.Codes.{bad_request, changed, content, created, deleted, valid}
 use Rattle.hosting.specs.declared.deeds.Deed.{Deed}
 use Rattle.hosting.specs.declared.deeds.Deed.TheVariants as deed
@@ -22,3 +24,8 @@ deed_by kind code =
     else (if code == valid then deed.Found
     else (if code == content then found_by kind
     else (if nat_le bad_request code then deed.Refused else deed.Other)))))
+
+-- by the first two octets of a message, which have its type and its code (RFC 7252 section 3)
+abbrev pub deed_in : List ℕ → Option Deed
+deed_in (first ∷ code ∷ octets) = Some (deed_by (kind_of (first / 16 % 4)) code)
+deed_in octets = None

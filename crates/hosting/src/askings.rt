@@ -130,6 +130,26 @@ fn has_more_queries(options: OptionsIter<'_>, most: usize) -> bool
     false
 }
 
+/// Returns whether options have neither Observe nor more query options than so many.
+pub(crate) fn are_brief(options: OptionsIter<'_>, most: usize) -> bool
+    ensures { result ≡ spec.are_brief most (options_left options.entry) }
+{
+    let mut left = options;
+    let mut room = most;
+    'options: while let Some(option) = left.next() {
+        if option.number == OBSERVE {
+            return false;
+        }
+        if option.number == URI_QUERY {
+            if room == 0 {
+                return false;
+            }
+            room -= 1;
+        }
+    }
+    true
+}
+
 /// Returns the class of a write.
 fn write_class(view: &View<'_>) -> Class
     ensures { result ≡ spec.write_class view.now.code (message_in view.now).options }

@@ -1,9 +1,8 @@
 //! A link that counts its datagrams, and reports the counts at most once a minute.
 ghost use Rattle.std.specs.Prelude.{◌≡◌};
 
-use crate::counts::{Counts, Event};
-use crate::deeds::deed_of;
-use coap_message::view;
+use crate::counts::{Batch, Counts, Event};
+use crate::deeds::deed_in;
 use rd_base::Peer;
 use std::alloc::Global;
 use std::io::Write;
@@ -20,6 +19,8 @@ pub struct Teller<'a, C, W> {
     alloc: Global,
     clock: C,
     out: W,
+    /// The counts that were not handed over yet.
+    batch: Batch,
     /// The peer of the last datagram, if that has not been answered yet.
     asking: Option<Peer>,
     /// The number of datagrams received since the time was last read.
@@ -34,6 +35,7 @@ impl<'a, C, W> Teller<'a, C, W> {
             alloc,
             clock,
             out,
+            batch: Batch::new(),
             asking: None,
             in_a_row: 0,
         }
@@ -42,7 +44,7 @@ impl<'a, C, W> Teller<'a, C, W> {
     /// Counts the datagram before as ignored, if nothing answered it.
     fn settle(&mut self) {
         if self.asking.take().is_some() {
-            self.counts.add(Event::Ignored);
+            self.batch.add(Event::Ignored);
         }
     }
 
@@ -50,18 +52,20 @@ impl<'a, C, W> Teller<'a, C, W> {
     fn note_sent(&mut self, peer: Peer, piece: &[u8]) {
         if self.asking == Some(peer) {
             self.asking = None;
-            self.counts.add(Event::Answered);
+            self.batch.add(Event::Answered);
         }
-        if let Ok(view) = view(piece) {
-            self.counts.add_deed(deed_of(&view), &view);
+        if let Some(deed) = deed_in(piece) {
+            self.counts.add_deed(&mut self.batch, deed, piece);
         }
     }
 }
 
 impl<C: Clock, W: Write> Teller<'_, C, W> {
-    /// Writes the counts if a line is due. Continues if they cannot be written.
+    /// Hands over what was counted, and writes the counts of all links if a line is due. Continues
+    /// if they cannot be written.
     fn tell(&mut self) {
         self.in_a_row = 0;
+        self.counts.take_over(&mut self.batch);
         if self.counts.is_due(self.clock.now()) {
             if let Ok(line) = self.counts.line(self.alloc) {
                 let _ = self.out.write_all(line.as_bytes());
@@ -74,13 +78,13 @@ impl<C: Clock, W: Write> Teller<'_, C, W> {
         self.settle();
         match came {
             Came::Datagram(peer, _) => {
-                self.counts.add(Event::Heard);
+                self.batch.add(Event::Heard);
                 self.asking = Some(peer);
                 self.in_a_row = self.in_a_row.saturating_add(1);
             }
             Came::TooLong => {
-                self.counts.add(Event::Heard);
-                self.counts.add(Event::Ignored);
+                self.batch.add(Event::Heard);
+                self.batch.add(Event::Ignored);
             }
             Came::Nothing | Came::Failed => self.in_a_row = MOST_IN_A_ROW,
         }

@@ -1,7 +1,7 @@
 //! The counts of the datagrams that pass the links of a server, and the line that reports them.
 use crate::deeds::Deed;
 use crate::refusals::TOO_MANY;
-use coap_message::View;
+use coap_message::view;
 use message_model::codes::{
     BAD_OPTION, BAD_REQUEST, INTERNAL_SERVER_ERROR, METHOD_NOT_ALLOWED, NOT_ACCEPTABLE, NOT_FOUND,
     PROXYING_NOT_SUPPORTED, REQUEST_ENTITY_INCOMPLETE, REQUEST_ENTITY_TOO_LARGE,
@@ -139,6 +139,33 @@ fn write_refusal(line: &mut String, code: u8, word: &str, number: u64) -> Result
     Ok(())
 }
 
+/// What a link has counted and not handed over yet, by the places of the line.
+#[derive(Drop)]
+pub(crate) struct Batch {
+    numbers: [u64; NAMES.len()],
+}
+
+impl Batch {
+    /// Creates a batch in which nothing is counted.
+    pub(crate) fn new() -> Batch {
+        Batch {
+            numbers: [0; NAMES.len()],
+        }
+    }
+
+    /// Counts one more at a place.
+    fn count(&mut self, place: usize) {
+        if let Some(number) = self.numbers.get_mut(place) {
+            *number = number.saturating_add(1);
+        }
+    }
+
+    /// Counts an event.
+    pub(crate) fn add(&mut self, event: Event) {
+        self.count(event.place());
+    }
+}
+
 /// The counters that all links of a server share. No link waits for another one.
 #[derive(Drop)]
 pub struct Counts {
@@ -167,16 +194,26 @@ impl Counts {
         count(self.events.as_slice(), event.place());
     }
 
-    /// Counts what a sent message reports as done.
-    pub(crate) fn add_deed(&self, deed: Deed, view: &View<'_>) {
+    /// Adds what a link counted, and empties its batch.
+    pub(crate) fn take_over(&self, batch: &mut Batch) {
+        for (number, sum) in batch.numbers.iter_mut().zip(self.events.as_slice()) {
+            if *number > 0 {
+                sum.fetch_add(*number, Ordering::SeqCst);
+                *number = 0;
+            }
+        }
+    }
+
+    /// Counts what a sent message reports as done: a refusal here, anything else in the batch.
+    pub(crate) fn add_deed(&self, batch: &mut Batch, deed: Deed, octets: &[u8]) {
         if let Some(place) = place_of(deed) {
-            count(self.events.as_slice(), place);
+            batch.count(place);
         }
         if deed == Deed::Refused {
-            count(
-                self.refusals.as_slice(),
-                place_among(view.code, view.payload),
-            );
+            if let Ok(view) = view(octets) {
+                let place = place_among(view.code, view.payload);
+                count(self.refusals.as_slice(), place);
+            }
         }
     }
 

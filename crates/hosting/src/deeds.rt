@@ -1,8 +1,9 @@
 //! What a message that a server sends reports as done.
 ghost use Rattle.std.specs.Prelude.{◌≡◌};
+ghost use Rattle.message_model.specs.Reading as reading;
 ghost use Rattle.hosting.specs.Deeds as spec;
 
-use coap_message::{Kind4, View};
+use coap_message::Kind4;
 use message_model::codes::{BAD_REQUEST, CHANGED, CONTENT, CREATED, DELETED, VALID};
 
 /// What a message reports as done.
@@ -50,9 +51,24 @@ fn deed_by(kind: Kind4, code: u8) -> Deed
     }
 }
 
-/// Returns what a message reports as done.
-pub(crate) fn deed_of(view: &View<'_>) -> Deed
-    ensures { result ≡ spec.deed_by view.now.kind view.now.code }
+/// Returns the type that these two bits of a message are (RFC 7252 section 3).
+fn kind_of(bits: u8) -> Kind4
+    ensures { result ≡ reading.kind_of bits }
 {
-    deed_by(view.kind, view.code)
+    match bits {
+        0 => Kind4::Con,
+        1 => Kind4::Non,
+        2 => Kind4::Ack,
+        _ => Kind4::Rst,
+    }
+}
+
+/// Returns what a message reports as done, by its first two octets. No message has fewer.
+pub(crate) fn deed_in(octets: &[u8]) -> Option<Deed>
+    ensures { result ≡ spec.deed_in octets.now }
+{
+    match octets {
+        [first, code, ..] => Some(deed_by(kind_of(*first / 16 % 4), *code)),
+        _ => None,
+    }
 }

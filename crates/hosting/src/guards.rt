@@ -4,13 +4,14 @@ ghost use Rattle.std.specs.Prelude.{ℕ, IfSome};
 ghost use Rattle.coap_message.specs.Views.{message_in};
 ghost use Rattle.hosting.specs.Refusals.{IsWhy, most_of};
 
-use crate::askings::{Class, class_of, passes_criteria};
+use crate::askings::{Class, are_brief, class_of, passes_criteria};
 use crate::networks::is_in_any;
 use crate::plans::HostPlan;
 use crate::prefixes::Network;
 use crate::refusals::Refused;
 use crate::shares::{Heard, Share, Told, seconds_left, source_of, window_at};
-use coap_message::View;
+use coap_message::{View, options_of};
+use message_model::codes::GET;
 use rd_base::{Host, List, Moment, Peer, Starved};
 use std::alloc::Global;
 use std::hash::RandomState;
@@ -161,6 +162,13 @@ impl Guard {
         self.allow.is_empty() || is_in_any(host, self.allow.as_slice())
     }
 
+    /// Returns whether no limit concerns a message: lookups have no share, and it is a GET without
+    /// Observe (RFC 7641 section 2) that has no more query options than a lookup may have.
+    fn is_free(&self, view: &View<'_>) -> bool {
+        let most = self.criteria.unwrap_or(u16::MAX);
+        view.code == GET && !self.has_lookups && are_brief(options_of(view), usize::from(most))
+    }
+
     /// Returns why a request is beyond the share of its source, or `None` if it is within it.
     fn past_share<R: Wait, C: Clock>(
         &self,
@@ -197,6 +205,9 @@ impl Guard {
     ) -> Option<Refused>
         ensures { IfSome result (IsWhy (message_in view.now) (most_of self.now.criteria)) }
     {
+        if self.is_free(view) {
+            return None;
+        }
         if let Some(most) = self.criteria {
             if passes_criteria(usize::from(most), view) {
                 return Some(Refused::Criteria);

@@ -18,10 +18,10 @@ pub enum Knock<S, K> {
 /// its own lane, so that no connection of another door has one of them.
 pub trait Entrance {
     /// The type from which the octets of a connection are read.
-    type In: Source + Drop;
+    type In: Source + Drop + Send;
 
     /// The type to which a connection is written.
-    type Out: Sink + Drop;
+    type Out: Sink + Drop + Send;
 
     /// Its lane, how many connections it opened, and how many calls failed.
     ghost seen: { Self → LaneSeen };
