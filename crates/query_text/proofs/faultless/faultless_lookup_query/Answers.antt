@@ -1,5 +1,5 @@
 -- From what the options ask for.
-use Rattle.std.proofs.Common.{true, tt, refl, sym, ap, ◌∙◌}
+use Rattle.std.proofs.Common.{true, refl, sym, ap, ◌∙◌}
 use Rattle.record_model.specs.declared.readings.Reading.TheVariants as reading
 use Rattle.query_text.specs.AskedOptions.{query_of}
 use Rattle.query_text.proofs.FaultlessLaws.{options_faultless}

@@ -1,5 +1,5 @@
 -- From what the parameters give.
-use Rattle.std.proofs.Common.{false, tt, refl, sym, ap, ◌∙◌}
+use Rattle.std.proofs.Common.{false, refl, sym, ap, ◌∙◌}
 use Rattle.record_model.proofs.AllowedLaws.{registration_allowed}
 use Rattle.query_text.specs.GivenParameters.{registration_of}
 use Rattle.query_text.specs.Outcomes.{registering}
