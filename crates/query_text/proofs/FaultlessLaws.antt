@@ -25,7 +25,14 @@ use Rattle.record_model.specs.declared.readings.Why.{Why}
 use Rattle.record_model.specs.Criteria.{fault_of}
 use Rattle.record_model.specs.Faults.{Fault, or_else}
 use Rattle.record_model.specs.Options.{option_name, option_value}
-use Rattle.record_model.specs.Parameters.{is_update, unless_fault, registration_values, registration_parameters, update_values, update_parameters}
+use Rattle.record_model.specs.Parameters.{
+  is_update,
+  unless_fault,
+  registration_values,
+  registration_parameters,
+  update_values,
+  update_parameters,
+}
 use Rattle.query_text.specs.declared.rules.Named.{Named}
 use Rattle.query_text.specs.declared.walks.Walk.{Walk}
 use Rattle.query_text.specs.Faultless.{AreFaultless, Follows}
