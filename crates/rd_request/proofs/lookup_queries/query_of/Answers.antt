@@ -1,4 +1,4 @@
-use Rattle.std.proofs.Common.{◌≡◌, IfOk, ap, subst, ◌∙◌}
+use Rattle.std.proofs.Common.{◌≡◌, IfOk, refl, ap, subst, ◌∙◌}
 use Rattle.coap_options.specs.ValuesLeft.{queries_left}
 use Rattle.coap_message.specs.Views.{message_in}
 use Rattle.rd_base.specs.declared.queries.Query.{Query}
@@ -9,10 +9,12 @@ use Rattle.rd_request.proofs.ResourceLaws.{kind_there}
 use Rattle.rd_request.proofs.lookup_queries.query_of.Goals as goal
 
 pub faultless_lookup_query-requires : goal.faultless_lookup_query-requires
-faultless_lookup_query-requires c =
-    let m = message_in c.args.request.now.meaning.view in
-    no_fault_said m (queries_left c.queries.result) c.queries.ensures c.requires.seeks
-    (good_request m (none_there (refusal_of_request m) c.args.request.now.accepted))
+faultless_lookup_query-requires c k =
+    let m = message_in c.args.request.now.meaning.view in (
+      (refl, tt),
+      no_fault_said m (queries_left c.queries.result) c.queries.ensures c.requires.seeks
+          (good_request m (none_there (refusal_of_request m) c.args.request.now.accepted)),
+    )
 
 pub returns : goal.returns
 returns c =

@@ -1,4 +1,4 @@
-use Rattle.std.proofs.Common.{◌≡◌, ℕ, List, IfOk, ap, subst, ◌∙◌}
+use Rattle.std.proofs.Common.{◌≡◌, ℕ, List, IfOk, refl, ap, subst, ◌∙◌}
 use Rattle.coap_message.specs.Views.{message_in}
 use Rattle.message_model.specs.Request.{queries_in}
 use Rattle.record_model.specs.declared.readings.Reading.TheVariants as reading
@@ -8,11 +8,13 @@ use Rattle.rd_request.proofs.AskedLaws.{none_there}
 use Rattle.rd_desk.proofs.write.locations.given_change.Goals as goal
 
 pub faultless_update_params-requires : goal.faultless_update_params-requires
-faultless_update_params-requires c =
-    ap (fault_of reading.Update) c.queries.ensures
-    ∙ none_there (fault_of reading.Update
-    (queries_in (message_in c.args.updating.now.write.request.meaning.view)))
-    c.args.updating.now.good
+faultless_update_params-requires c k = (
+  (refl, tt),
+  ap (fault_of reading.Update) c.queries.ensures
+      ∙ none_there (fault_of reading.Update
+      (queries_in (message_in c.args.updating.now.write.request.meaning.view)))
+      c.args.updating.now.good,
+)
 
 pub returns-clause-value : goal.returns-clause-value
 returns-clause-value c =
