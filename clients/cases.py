@@ -299,7 +299,7 @@ def too_long(octet_count: int, size: int) -> list[str]:
     return [*uploaded(octet_count, size, 0)[:-1], refused("4.13", "size")]
 
 
-def notice(body: str, tag: str, observe: int, *block: str) -> str:
+def notification(body: str, tag: str, observe: int, *block: str) -> str:
     """A confirmable 2.05 that tells an observer what is listed now."""
     return text_of("CON", "2.05", [f"ETag:{tag}", f"Observe:{observe}", LINK_FORMAT, *block], body)
 
@@ -320,9 +320,9 @@ def observing(run):
     watch.until(4)
     run.ask("after the second lamp has lapsed the first is removed", ["-m", "delete"], "/rd/8",
             [DELETED_BARE])
-    run.finish(watch, [content(observe=1), notice(lamp1, "B", 2),
-                       notice(f"{lamp1},{lamp2}", "C", 3), notice(lamp1, "D", 4),
-                       notice("", "E", 5)])
+    run.finish(watch, [content(observe=1), notification(lamp1, "B", 2),
+                       notification(f"{lamp1},{lamp2}", "C", 3), notification(lamp1, "D", 4),
+                       notification("", "E", 5)])
     observing_endpoints(run)
     observing_blocks(run)
     run.ask("an observation that never was is ended, by a lookup", ["-O", "6,0x01"],
@@ -345,12 +345,12 @@ def observing_endpoints(run):
     watch.until(3)
     light = f'</rd/2>;base="{MOVED}";ep="node2";d="floor2";rt="core.rd-ep";et="oic.d.light"'
     run.finish(watch, [content(light, observe=6),
-                       notice(f"{light},{line('oic.d.lamp')}", "B", 7),
-                       notice(f"{light},{line('oic.d.led')}", "C", 8)])
+                       notification(f"{light},{line('oic.d.lamp')}", "B", 7),
+                       notification(f"{light},{line('oic.d.led')}", "C", 8)])
 
 
 def observing_blocks(run):
-    """Of a long list the notice has the first block, and the client asks for the rest."""
+    """Of a long list the notification has the first block, and the client asks for the rest."""
     many = sensors(60)
     sent, listing = ",".join(many), at(run.base("wall"), many)
     first, *rest = blocks(listing, 1_024)
@@ -533,7 +533,7 @@ def messages_as_octets(run):
 
 
 def reset_by_observer(run):
-    """Who resets a notice is told nothing more (RFC 7641 section 3.6)."""
+    """Who resets a notification is told nothing more (RFC 7641 section 3.6)."""
     came = []
     with run.open_socket("bell") as device, run.open_socket() as client:
         for each in (device, client):
@@ -551,7 +551,7 @@ def reset_by_observer(run):
         came += [each[1] for each in received(device)]
         client.settimeout(FIRST_WAIT)
         came += [each[1] for each in received(client)]
-    run.tell("an observer that resets a notice is told nothing more", "(octets)",
+    run.tell("an observer that resets a notification is told nothing more", "(octets)",
              ["content", "created", "content", "deleted"], [CODES.get(each, "?") for each in came])
 
 

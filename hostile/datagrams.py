@@ -322,7 +322,7 @@ class Maker:
         return octets(kind, code, mid, token, sorted_options(options), b'</f>;rt="h1",' * 5)
 
     def acknowledgement(self) -> bytes:
-        """An ACK or RST of a notice or a fetch that may be under way."""
+        """An ACK or RST of a notification or a fetch that may be under way."""
         code = self.chance.choice([EMPTY, EMPTY, EMPTY, GET, POST])
         return header(self.chance.choice([ACK, RST]), 0, code, self.chance.randrange(0x4000))
 

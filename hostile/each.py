@@ -5,10 +5,10 @@ A server of one worker takes datagrams in the order in which they are sent. So h
 (hostile/datagrams.py) are sent to one, and all that comes to each port is compared with what
 rd_replay and the plain directory (hostile/plain) send there for the same datagrams at the same
 moments, to the octet, tags among it. Passed over is what depends on when a server lets time pass:
-notices and fetches, values of Observe, and Message IDs of answers that are not confirmed; leases of
-some seconds are left out. These are judged by a conversation with a second server (hostile/live.py)
-for some seconds, in which all that comes is what the plain directory sends. The status is 1 where
-anything differs.
+notifications and fetches, values of Observe, and Message IDs of answers that are not confirmed;
+leases of some seconds are left out. These are judged by a conversation with a second server
+(hostile/live.py) for some seconds, in which all that comes is what the plain directory sends. The
+status is 1 where anything differs.
 """
 
 import argparse

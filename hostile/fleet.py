@@ -28,9 +28,9 @@ TRIES = 4
 FETCH_LIMIT = 8
 REFUSED_WAIT = 1.0
 
-# A notice comes when time passes in some worker, which it does behind each sixteenth datagram of
-# one: how many pings are answered till then, how often that is waited for, and for how many seconds
-# what was sent may lie here.
+# A notification comes when time passes in some worker, which it does behind each sixteenth datagram
+# of one: how many pings are answered till then, how often that is waited for, and for how many
+# seconds what was sent may lie here.
 TICK_PINGS, NEWS_TRIES, NEWS_GRACE = 72, 3, 0.1
 
 # How often each other act comes for one of writing.
@@ -305,12 +305,12 @@ class Observer:
         self.token, self.value, self.body = b"\x07", -1, b""
 
     def heard(self, message: Message):
-        """Takes a notice and acknowledges it."""
+        """Takes a notification and acknowledges it."""
         if message.kind != CON:
             return
         is_own = message.code == CONTENT and message.token == self.token
         self.port.transport.sendto(octets(ACK if is_own else RST, EMPTY, message.mid))
-        self.ledger.judge("notices", is_own and message.values(CONTENT_FORMAT) == [b"\x28"],
+        self.ledger.judge("notifications", is_own and message.values(CONTENT_FORMAT) == [b"\x28"],
                           message)
         if is_own:
             self.take(message)

@@ -2,11 +2,11 @@
 
 The world of hostile/chance.py, in real time: the server and the plain directory (hostile/plain) get
 the same datagrams at the same moments. All that comes to each port is to be what the plain
-directory sends there, octet for octet: tags, locations, Message IDs, values of Observe, notices. A
-step is followed by a ping, so that it is known when it was made; no step is made within some
-milliseconds of the end of a lease. Time passes in a server behind each sixteenth datagram at the
-latest, so a notice is to come while so many pings are answered. Only the first four octets of an
-Echo are taken from what came: they are the server's own.
+directory sends there, octet for octet: tags, locations, Message IDs, values of Observe,
+notifications. A step is followed by a ping, so that it is known when it was made; no step is made
+within some milliseconds of the end of a lease. Time passes in a server behind each sixteenth
+datagram at the latest, so a notification is to come while so many pings are answered. Only the
+first four octets of an Echo are taken from what came: they are the server's own.
 """
 
 import copy
@@ -84,12 +84,12 @@ class LiveWorld(chance.World):
             after = min(near) + EDGE + self.slack + 2
             until = self.chance.choice([before, after, after])
             time.sleep(max(0, until - now()) / 1_000)
-        self.notices()
+        self.notifications()
 
     def tick(self):
         """Waits for some milliseconds."""
         time.sleep(self.chance.choice([0.01, 0.06]))
-        self.notices()
+        self.notifications()
 
     # Steps.
 
@@ -204,7 +204,7 @@ class LiveWorld(chance.World):
                 print(f"differs behind {told.hex()}: came {shown(got)}, wanted {shown(wanted)}",
                       flush=True)
 
-    def notices(self):
+    def notifications(self):
         """Lets time pass in the server, where somebody is to be told something."""
         self.keep_off()
         self.judge_ticks()
@@ -219,7 +219,7 @@ class LiveWorld(chance.World):
     # What is answered to the server.
 
     def settle_all(self):
-        """Acknowledges or resets all notices and requests of the server that stand."""
+        """Acknowledges or resets all notifications and requests of the server that stand."""
         desk = self.machine.desk
         for observer in list(desk.observers.all):
             if observer.flight and observer in desk.observers.all:

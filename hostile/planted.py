@@ -63,7 +63,7 @@ FAULTS = [
      "if known is None or len(known.body) != block.start:", "if known is None:"),
     ("an upload stays when it is done", "desk.py",
      "        if block:\n            self.uploads.end(peer, request.key)\n", ""),
-    ("a notice is sent of an unchanged listing", "desk.py",
+    ("a notification is sent of an unchanged listing", "desk.py",
      "if body != observer.body:", "if True:"),
     ("a changed lookup marks nobody who matched before", "desk.py",
      "!= lookup.part(observer.query, after.get(number)) for number in changed):",

@@ -236,7 +236,7 @@ class Probe:
             self.server.settle()
 
     def observe(self, name: str, number: int):
-        """Is told of each change, at the next tick, until it resets a notice."""
+        """Is told of each change, at the next tick, until it resets a notification."""
         options = [(OBSERVE, b""), *RESOURCES, *query(f"ep={name}", "rt=probe")]
         asked = self.request(self.observer, GET, options)
         message, base = self.read(self.ask(self.observer, asked)), self.base(self.device)
@@ -253,22 +253,22 @@ class Probe:
         self.lists("what was observed", RESOURCES + query(f"ep={name}"), line, 1)
 
     def told(self, line: str, before: int, is_reset: bool) -> int:
-        """The value of Observe of a notice, which comes at the next tick."""
+        """The value of Observe of a notification, which comes at the next tick."""
         self.let_time_pass()
         message = self.read(self.came(self.observer, LIMIT / 4))
         value = int.from_bytes((message.values(OBSERVE) or [b""])[0], "big")
-        self.counted("of notices", message, 1)
+        self.counted("of notifications", message, 1)
         options = [number for number, _ in message.options]
         is_right = (message.kind, message.code, message.token, message.payload, options) \
             == (CON, CONTENT, b"\x5a\x01", line.encode(), [ETAG, OBSERVE, CONTENT_FORMAT])
-        self.judge("notices", is_right, message)
+        self.judge("notifications", is_right, message)
         self.judge("values of Observe", value > before, (value, before))
         self.observer.send(octets(RST if is_reset else ACK, EMPTY, message.mid))
         self.reset_at = time.monotonic()
         return value
 
     def stay_reset(self):
-        """A notice that was reset does not come again when it would, were it not."""
+        """A notification that was reset does not come again when it would, were it not."""
         time.sleep(max(0.0, self.reset_at + FIRST_WAIT - time.monotonic()))
         self.drain(self.observer)
 

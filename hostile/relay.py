@@ -54,7 +54,7 @@ def is_answer(message: Message) -> bool:
 
 
 def is_notification(message: Message) -> bool:
-    """Whether a message is a notice to an observer."""
+    """Whether a message is a notification to an observer."""
     return message.kind == CON and message.code == CONTENT
 
 
@@ -193,7 +193,7 @@ class Late(Fault):
 
 
 class Swallowed(Fault):
-    """Each one of so many notices is acknowledged by the relay, and reaches nobody."""
+    """Each one of so many notifications is acknowledged by the relay, and reaches nobody."""
 
     def answered(self, client, message):
         if not is_notification(message) or not self.is_next():
@@ -310,9 +310,9 @@ FAULTS = {
     "stale": (Stale, 1, "a lookup is answered as it was the time before"),
     "observe": (on_answers(lambda each: is_notification(each) and bool(each.values(OBSERVE)),
                            lambda each: with_option(each, OBSERVE, lambda _: b"\x01")), 1,
-                "the value of Observe in each Nth notice is 1"),
-    "notices": (Swallowed, 3, "each Nth notice is acknowledged, and reaches nobody"),
-    "late": (Late, 1_000, "notices come N milliseconds late"),
+                "the value of Observe in each Nth notification is 1"),
+    "unnotified": (Swallowed, 3, "each Nth notification is acknowledged, and reaches nobody"),
+    "late": (Late, 1_000, "notifications come N milliseconds late"),
     "anew": (Anew, 1, "a write that comes again is handled anew"),
     "reset": (on_answers(is_reset_of_other, lost), 1,
               "each Nth Reset of the server is lost, but those of pings"),

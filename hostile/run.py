@@ -199,7 +199,7 @@ class Strangers:
         else:
             name = CLASSES.get(answer.code >> 5, "other")
             is_notification = answer.kind == CON and answer.code >> 5 == 2
-            name = "notices" if is_notification else name
+            name = "notifications" if is_notification else name
             if answer.code >> 5 in (2, 4, 5) and not is_notification:
                 self.answers[answer.refusal()] += 1
         self.classes[name] += 1

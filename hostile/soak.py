@@ -5,11 +5,11 @@ rd_serve is started with four workers on a free port of 127.0.0.1. Some fleets o
 whole and in blocks, refresh, change and remove their registrations, whose leases are short and
 lapse, and are fetched by simple registration; each fleet is looked up, in pages and in blocks, and
 observed. A model of each fleet (hostile/fleet.py) says what each lookup is to list. An entry that
-is within 50 milliseconds of its end may be listed or not. A notice is to come at the next tick, an
-answer at once, and a tag counts the changes that were made. All fleets together write faster than
-4,096 times in 247 seconds, so that the server refuses some writes from the fourth minute on, as the
-model knows. A line a minute says how far it is; at the end stand counts and what was wrong. The
-status is 1 where anything was.
+is within 50 milliseconds of its end may be listed or not. A notification is to come at the next
+tick, an answer at once, and a tag counts the changes that were made. All fleets together write
+faster than 4,096 times in 247 seconds, so that the server refuses some writes from the fourth
+minute on, as the model knows. A line a minute says how far it is; at the end stand counts and what
+was wrong. The status is 1 where anything was.
 """
 
 import argparse

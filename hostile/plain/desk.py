@@ -467,14 +467,14 @@ class Desk:
             self.time_fetch(fetch)
 
     def send_again(self, observer: Observer):
-        """Sends a notice again, or gives its observer up."""
+        """Sends a notification again, or gives its observer up."""
         if observer.flight.again(self.moment):
             self.send(observer.peer, observer.flight.octets)
         else:
             self.observers.remove(observer.peer, observer.token)
 
     def notify(self):
-        """Sends notices to observers that are due (RFC 7641 section 4.2)."""
+        """Sends notifications to observers that are due (RFC 7641 section 4.2)."""
         sent = 0
         for observer in self.observers.all:
             if sent == MOST_NOTICES:
@@ -487,7 +487,7 @@ class Desk:
                     sent += 1
 
     def send_notification(self, observer: Observer, body: bytes):
-        """Sends a notice."""
+        """Sends a notification."""
         size, tag, mid = observer.block.size, self.history.tag(self.moment), self.draw()
         options = [(ETAG, tag), (OBSERVE, spell_number(self.observers.next_value())), LINKS]
         if len(body) > size:

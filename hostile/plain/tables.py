@@ -202,11 +202,11 @@ class Observers:
             and (query in watched or len(watched) < MOST_WATCHED)
 
     def in_flight(self, peer: str) -> Observer | None:
-        """The one of a peer whose notice is not acknowledged."""
+        """The one of a peer whose notification is not acknowledged."""
         return next((each for each in self.all if each.peer == peer and each.flight), None)
 
     def flight_of(self, peer: str, mid: int) -> Observer | None:
-        """The one whose notice has a Message ID."""
+        """The one whose notification has a Message ID."""
         found = self.in_flight(peer)
         return found if found and found.flight.mid == mid else None
 
