@@ -300,19 +300,23 @@ abbrev pub kept : Result Ask LineBad → Result (Ask × Then) LineBad
 kept (Err why) = Err why
 kept (Ok ask) = Ok (ask, next.Keeps (half_of ask))
 
--- Return the request of a line of each form, with what happens after it.
+-- Returns the request of a line of `register`, with what happens after it.
 abbrev pub registering_entry : Option Host → List ℕ → Result (Ask × Then) LineBad
 registering_entry from line = with next.Ends (registering from line)
 
+-- Returns the request of a line of `refresh`, with what happens after it.
 abbrev pub refreshing_entry : Option Host → List ℕ → Result (Ask × Then) LineBad
 refreshing_entry from line = with next.Ends (refreshing from line)
 
+-- Returns the request of a line of `remove` that ends with a location, with what happens after it.
 abbrev pub removing_at : Option Host → List ℕ → Result (Ask × Then) LineBad
 removing_at from line = with next.Ends (removing from line)
 
+-- Returns the request of a line of `remove` that names a device, with what happens after it.
 abbrev pub removing_named : Option Host → List ℕ → Result (Ask × Then) LineBad
 removing_named from line = with next.Removes (named from line)
 
+-- Returns the request of a line of `keep`, with what happens after it.
 abbrev pub keeping_entry : Option Host → List ℕ → Result (Ask × Then) LineBad
 keeping_entry from line = kept (registering from line)
 

@@ -1,5 +1,5 @@
-//! `rd_install`: registers the devices of a list at directories of a network, or refreshes, keeps or
-//! removes their registrations, and prints each outcome.
+//! `rd_install`: registers the devices of a list at directories of a network, or refreshes, keeps
+//! or removes their registrations, and prints each outcome.
 #![tactic(auto)]
 
 use hosting::{Crew, HostClock, HostLink, Listener, Origin, Routes};
