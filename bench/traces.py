@@ -352,7 +352,7 @@ def idle_ticks(size: int, calls: int) -> tuple[Trace, Trace]:
     return before, after
 
 
-def notices(size: int, calls: int) -> tuple[Trace, Trace]:
+def notifications(size: int, calls: int) -> tuple[Trace, Trace]:
     """Observers are told of a change, in ticks that the set-up has not."""
     before = settled(size)
     before.join(OBSERVERS, size // 2)
@@ -433,7 +433,7 @@ KINDS = [
     Kind("the second block of a listing of all that is kept", blocks, MANY, CONTENT),
     Kind("an observer that joins, one of 64", joins, OBSERVERS, CONTENT),
     Kind("a tick with nothing due", idle_ticks, MANY, CONTENT, answers=0),
-    Kind("a tick with 64 notices", notices, FEW, CONTENT, answers=OBSERVERS),
+    Kind("a tick with 64 notifications", notifications, FEW, CONTENT, answers=OBSERVERS),
     Kind("registration and tick, 64 observers by 768 criteria", observed_by_many_criteria, FEW,
          CONTENT, answers=OBSERVERS),
     Kind("a tick that sweeps one", sweeps, FEW, CONTENT, answers=0),
