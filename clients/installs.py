@@ -330,22 +330,23 @@ def faults(run):
         folder = os.open(run.folder, os.O_RDONLY)
         opened.callback(os.close, folder)
         fails(run, "a list that cannot be read", "rd_install register < .", ["register"],
-              ["status 4", "read failed"], stdin=folder)
+              ["status 4", "standard input: it cannot be read"], stdin=folder)
         listed.write(line_of(1, f"coap://127.0.0.1:{run.port('server')}").encode() + b"\n")
         listed.seek(0)
         fails(run, "an output that cannot be written", "rd_install register < listed > /dev/full",
-              ["register"], ["status 2", "write failed"], stdin=listed, stdout=full)
+              ["register"], ["status 2", "standard output: it cannot be written"],
+              stdin=listed, stdout=full)
         listed.seek(0)
         listed.write(b"#" * LONG_LINE)
         listed.seek(0)
         fails(run, "a list for which the memory is too small",
               f"ulimit -v {ROOM >> 10}; rd_install register < listed", ["register"],
-              ["status 5", "memory"], stdin=listed, preexec_fn=has_little_room)
+              ["status 5", "memory: it ran out"], stdin=listed, preexec_fn=has_little_room)
     usage = "usage: rd_install [--from ADDRESS] register|refresh|remove|keep < LIST"
     for words in ([], ["registers"], ["--from", "register"], ["--from", "192.0.2", "register"]):
         case(run, "words that it has not", words, [""], ["status 3", usage])
     case(run, "an address that is not of this machine", ["--from", "192.0.2.1", "register"], [""],
-         ["status 6", "socket"])
+         ["status 6", "--from: not an address of this machine"])
 
 
 def run(run_of_cases):

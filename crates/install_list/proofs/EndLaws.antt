@@ -1,4 +1,4 @@
--- What is written where memory ran out before all else, or where a list was not read.
+-- What was written if memory ran out before all else, or if a list was not read.
 use Rattle.std.proofs.Common.{
   ◌≡◌,
   ℕ,
@@ -48,7 +48,7 @@ unread_written v (stop.Bad n why) r holds h =
     subst (λ (x : Result (List Entry) FirstBad). IsWritten v x (status.Line n why) holds holds)
     (sym h) refl
 
--- by what a source tells
+-- by what the source exposes
 pub unread_some : (left : Option (List ℕ)) (order : Order) (f : ListFault) (s : InstallStatus)
     (holds : Option (List ℕ))
     → s ≡ list_status f

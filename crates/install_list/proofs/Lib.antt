@@ -1,5 +1,5 @@
--- TextFronts: fronts of texts. ReportLaws: what is said of a status. SendLaws: which asks can be
--- sent. ListLaws: lines of a text, read one after the other. LineLaws: what a line asks for.
+-- TextFronts: prefixes of texts. ReportLaws: what is reported of a status. SendLaws: which requests
+-- can be sent. ListLaws: lines of a text, read one after another. LineLaws: the request of a line.
 -- PutLaws: lines that were written. EndLaws: which status an ending has, and which count rose.
 pub mod TextFronts
 pub mod ReportLaws

@@ -1,4 +1,4 @@
--- What a line asks for.
+-- The request of a line.
 use Rattle.std.proofs.Common.{
   ◌≡◌,
   ℕ,
@@ -77,7 +77,7 @@ asked_text : (from : Option Host) (uri links : List ℕ)
 unfolding asked_at
 asked_text from uri links utf8 = rw (is_utf8-from_IsUtf8 uri utf8) refl
 
--- an ask was made of it
+-- a request was built of it
 pub text_asked : (from : Option Host) (uri text links : List ℕ) (ask : Ask)
     (r : Result Ask LineFault)
     → text ≡ uri
@@ -110,7 +110,7 @@ last_behind : (x : List ℕ) (xs : List (List ℕ)) (y : List ℕ) (ys : List (L
     → last_of (x ∷ xs) ≡ last_of xs
 last_behind x xs y ys e = rw e refl
 
--- one word less
+-- one text less
 pub word_next : (text : List ℕ) (at : ℕ)
     → Some at ≡ position (λ b. b == space) text
     → last_word text ≡ last_word (drop (at + 1) text)
@@ -169,7 +169,7 @@ path_past : (option : Opt) (more : List Opt)
     → path_of (option ∷ more) ≡ path_of more
 path_past option more e = rw e refl
 
--- an option that is no segment
+-- an option that is not a segment
 pub option_past : (A : Type 0) (x : A) (option : Opt) (path : List (List ℕ))
     → is_segment option ≡ false
     → IsPushed {A = A} (Ok x) (path_of (option ∷ [])) path path
@@ -211,7 +211,7 @@ path_cut whole path left more option same cut =
     ∙ ap (λ (l : List (List ℕ)). path ++ l) (ap path_of cut ∙ path_parts option more)
     ∙ sym (append_assoc path (path_of (option ∷ [])) (path_of more))
 
--- an option more
+-- one option more
 pub path_next : (whole path after : List (List ℕ)) (left more : List Opt) (option : Opt)
     → whole ≡ path ++ path_of left
     → left ≡ option ∷ more
@@ -229,7 +229,7 @@ pub texts_next : (path after texts : List (List ℕ))
 texts_next path after texts first added is =
     ap are_texts added ∙ all_both path texts ∙ rw (first, is) refl
 
--- one that is no text, or was not copied
+-- one that is not UTF-8, or was not copied
 pub path_fault : (f : LineFault) (options left more : List Opt) (path after : List (List ℕ))
     (option : Opt) (A : Type 0)
     → path_of options ≡ path ++ path_of left

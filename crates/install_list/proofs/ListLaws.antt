@@ -82,7 +82,7 @@ lines_alone byte e = rw e refl
 abbrev place : List ℕ → ℕ
 place text = position_or_len (λ b. b == 10) text
 
--- a line feed stands at the place
+-- there is a line feed at the index
 at_by : (here : Bool) (byte : ℕ) (text : List ℕ)
     → (byte == 10) ≡ here
     → (place text < length text
@@ -104,7 +104,7 @@ pub lines_at : (text : List ℕ)
 lines_at [] inside = absurd (omega (arith, inside))
 lines_at (byte ∷ text) inside = at_by (byte == 10) byte text refl (lines_at text) inside
 
--- none stands in it
+-- the text has no line feed
 end_by : (here : Bool) (byte : ℕ) (text : List ℕ)
     → (byte == 10) ≡ here
     → ((text ≡ [] → ⊥) → length text ≤ place text → lines_of text ≡ text ∷ [])
@@ -158,7 +158,7 @@ found_none text some e = by (nat_lt (place text) (length text)) refl e
 
 -- ---- the list
 
--- what lines ask for in front of what the lines that are left ask for
+-- entries of lines, followed by those of the remaining lines
 abbrev pub in_front : List Entry → Result (List Entry) FirstBad → Result (List Entry) FirstBad
 in_front before (Err first) = Err first
 in_front before (Ok entries) = Ok (before ++ entries)

@@ -108,7 +108,7 @@ puts_then v left mid more was half is holds between now first second = (
       (Appends-trans holds between now _ _ first.3 second.3),
 )
 
--- ---- a front of them
+-- ---- a prefix of them
 
 pub puts_front : (v : Verb) (left more : List ℕ) (was is : Bool) (holds now : Option (List ℕ))
     → Puts v left more was is holds now
@@ -152,9 +152,9 @@ puts_cut v left mid was half holds between now first second = (
   Appends-trans holds between now _ _ first.3 second.5,
 )
 
--- ---- a turn
+-- ---- an iteration
 
--- behind lines that were written
+-- after lines that were written
 pub then_ends : (v : Verb) (left mid : List ℕ) (was half : Bool)
     (holds between now : Option (List ℕ)) (s : InstallStatus)
     → Puts v left mid was half holds between
@@ -205,7 +205,7 @@ rest_turned v (Some (status.Line n why)) left more was is holds now first h = ab
 
 -- ---- the next number
 
--- what stands at an index is the first of what is left
+-- the number at an index is the first of those that are left
 pub at_cons : (xs : List ℕ) (k : ℕ) (r : Option (Bor ℕ)) (x : Bor ℕ)
     → IsItemAt xs k r
     → r ≡ Some x
@@ -215,7 +215,7 @@ at_cons xs k r x item e =
     rw (add-one k)
     (drop-cons xs k x.now own.3.0 ∙ ap (λ (y : ℕ). y ∷ drop (suc k) xs) (sym own.1))
 
--- the same where a number is passed
+-- the same after one number
 pub left_next : (xs ys zs : List ℕ) (k j n : ℕ)
     → drop k xs ≡ n ∷ drop (k + 1) xs
     → xs ≡ ys

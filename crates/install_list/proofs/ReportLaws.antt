@@ -1,4 +1,4 @@
--- What is said of a status.
+-- What is reported of a status.
 use Rattle.std.proofs.Common.{
   ◌≡◌,
   ℕ,
@@ -48,7 +48,7 @@ joined_more i texts text rest left =
 module _ (old mid : Option (List ℕ)) (counted counts : ℕ) (i : ℕ)
     (texts : List (Bor (List ℕ)))
     (known : Appends old mid (joined (take i texts))) where
-  -- after the last text all was said
+  -- after the last text, all was reported
   pub all_said : length texts ≤ i → Says old mid counted counts (joined texts)
   all_said last =
       let whole = ap joined (take_all i texts last) in
@@ -59,7 +59,7 @@ module _ (old mid : Option (List ℕ)) (counted counts : ℕ) (i : ℕ)
         whole = inl refl;
       }
 
-  -- where the sink failed, a prefix
+  -- if the sink failed, a prefix
   pub front_said : (new : Option (List ℕ)) (text : Bor (List ℕ)) (rest : List (Bor (List ℕ)))
       → drop i texts ≡ text ∷ rest
       → (n : ℕ) × Appends mid new (take n text.now)
@@ -77,7 +77,7 @@ module _ (old mid : Option (List ℕ)) (counted counts : ℕ) (i : ℕ)
     whole = inr rose;
   }
 
--- what was said is what is said of this status
+-- the text that was reported is that of this status
 pub said : (status named : InstallStatus) (old new : Option (List ℕ)) (counted counts : ℕ)
     → status ≡ named
     → Says old new counted counts (status_text named)

@@ -1,4 +1,4 @@
--- An ask can be sent exactly where the test says so.
+-- A request can be sent if and only if it passes the test.
 use Rattle.std.proofs.Common.{
   ◌≡◌,
   ◌⊎◌,

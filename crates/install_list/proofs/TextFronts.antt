@@ -1,4 +1,4 @@
--- Fronts of texts.
+-- Prefixes of texts.
 use Rattle.std.proofs.Common.{
   ℕ,
   List,

@@ -1,4 +1,4 @@
--- Whether an ask can be sent in one datagram, as a test.
+-- A test of whether a request can be sent in one datagram.
 use Rattle.std.specs.Prelude.{
   ℕ,
   Bool,
@@ -18,8 +18,8 @@ use Rattle.message_model.specs.Message.{Opt, last_number, longest_value}
 use Rattle.client_model.specs.declared.asks.Ask.{Ask}
 use Rattle.client_model.specs.Requests.{ask_size}
 
--- options that can be written one after the other behind one of that number: no number falls, and
--- each can be written (RFC 7252 section 3.1)
+-- Returns whether options can be written one after another, after one with the number `before`:
+-- their numbers do not fall, and each option can be written (RFC 7252 section 3.1).
 abbrev pub can_follow : ℕ → List Opt → Bool
 can_follow before [] = true
 can_follow before (option ∷ options) =
@@ -27,7 +27,7 @@ can_follow before (option ∷ options) =
     && (nat_le option.0 last_number
     && (nat_le (length option.1) longest_value && can_follow option.0 options))
 
--- an ask that can be sent in one datagram (RFC 7252 section 4.6)
+-- Returns whether a request can be sent in one datagram (RFC 7252 section 4.6).
 abbrev pub can_be_sent : Ask → Bool
 can_be_sent ask =
     (ask.code == codes_of.post || ask.code == codes_of.delete)

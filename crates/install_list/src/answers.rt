@@ -1,4 +1,4 @@
-//! What an answer says beside its code: a challenge, when to ask again, and why.
+//! The contents of a refusal: a challenge, the time until the next attempt, or a reason.
 ghost use Rattle.std.specs.Prelude.{◌≤◌};
 
 use coap_message::{View, options_of, view};
@@ -7,33 +7,34 @@ use message_model::options::ECHO;
 use rd_base::{Bytes, Starved};
 use std::alloc::Global;
 
-/// Too Many Requests (RFC 8516).
+/// The code 4.29, Too Many Requests (RFC 8516).
 const TOO_MANY_REQUESTS: u8 = (4 << 5) | 29;
 
-/// The option that says how long an answer holds, in seconds (RFC 7252 section 5.10.5).
+/// The number of the option Max-Age (RFC 7252 section 5.10.5).
 const MAX_AGE: u32 = 14;
 
-/// How long an answer holds that does not say so, in seconds (RFC 7252 section 5.10.5).
+/// The Max-Age of an answer without this option, in seconds (RFC 7252 section 5.10.5).
 const DEFAULT_AGE: u64 = 60;
 
-/// The longest time after which an ask is made again, in seconds.
+/// The maximum time until a request is repeated, in seconds.
 const LONGEST_AGE: u64 = 3_600;
 
-/// The most octets of a reason that are kept.
+/// The maximum number of octets of a reason.
 const MAX_REASON: usize = 64;
 
-/// What an answer says that is no success.
+/// What an answer that is no success contains.
 #[derive(Debug, Drop)]
 pub(crate) enum Answer {
-    /// The request is to be sent again with an Echo option of this value (RFC 9175 section 2.3).
+    /// The request is to be repeated with this Echo value (RFC 9175 section 2.3).
     Challenge(Bytes),
-    /// It is to be sent again after so many milliseconds (RFC 7252 section 5.9.3.4, RFC 8516).
+    /// The request is to be repeated after this many milliseconds (RFC 7252 section 5.9.3.4, RFC
+    /// 8516).
     Later(u64),
-    /// It is refused, and this is why.
+    /// The request is refused, for this reason.
     Refused(Bytes),
 }
 
-/// The value of the first option of a number.
+/// Returns the value of the first option with this number.
 fn value_of<'a>(view: &View<'a>, number: u32) -> Option<&'a [u8]> {
     let mut options = options_of(view);
     'options: while let Some(option) = options.next() {
@@ -44,8 +45,8 @@ fn value_of<'a>(view: &View<'a>, number: u32) -> Option<&'a [u8]> {
     None
 }
 
-/// The number that octets write, the highest first, where it is at most 3,600 (RFC 7252 section
-/// 3.2).
+/// Returns the number that octets encode in network byte order (RFC 7252 section 3.2), at most
+/// 3,600.
 fn age_of(octets: &[u8]) -> u64
     ensures { result ≤ 3600 }
 {
@@ -56,7 +57,7 @@ fn age_of(octets: &[u8]) -> u64
     age
 }
 
-/// After how many milliseconds a request is to be sent again.
+/// Returns the time until the request is to be repeated, in milliseconds.
 fn later_of(view: &View<'_>) -> u64 {
     match value_of(view, MAX_AGE) {
         Some(octets) => age_of(octets) * 1_000,
@@ -64,13 +65,13 @@ fn later_of(view: &View<'_>) -> u64 {
     }
 }
 
-/// Whether an octet can be shown as a character of ASCII.
+/// Returns whether an octet is a printable character of ASCII.
 fn is_shown(octet: u8) -> bool {
     (32..127).contains(&octet)
 }
 
-/// The beginning of a diagnostic payload (RFC 7252 section 5.5.2), up to 64 octets of its first
-/// line.
+/// Returns a prefix of a diagnostic payload (RFC 7252 section 5.5.2): at most 64 octets, up to the
+/// first that is not printable.
 fn reason_of(alloc: Global, payload: &[u8]) -> Result<Bytes, Starved> {
     let mut reason = Bytes::new(alloc);
     'octets: for octet in payload {
@@ -82,11 +83,11 @@ fn reason_of(alloc: Global, payload: &[u8]) -> Result<Bytes, Starved> {
     Ok(reason)
 }
 
-/// What an answer in a datagram says that is no success.
+/// Returns what the answer in a datagram, which is no success, contains.
 ///
 /// # Errors
 ///
-/// Out of memory.
+/// `Starved` if memory runs out.
 pub(crate) fn answer_in(alloc: Global, code: u8, datagram: &[u8]) -> Result<Answer, Starved> {
     let Ok(view) = view(datagram) else {
         return Ok(Answer::Refused(Bytes::new(alloc)));

@@ -1,4 +1,4 @@
-//! A directory, and the asks that are made of it, one after the other (RFC 7252 section 4.7).
+//! A directory with its requests, which are made one after another (RFC 7252 section 4.7).
 ghost use Rattle.std.specs.Prelude.{◌≡◌};
 
 use crate::answers::{Answer, answer_in};
@@ -12,33 +12,33 @@ use registrant::{Talk, TalkAgain, TalkHeard, send};
 use std::alloc::Global;
 use udp_link::{Clock, Link};
 
-/// A directory, and the asks that are made of it, one after the other.
+/// A directory with its requests, which are made one after another.
 #[derive(Drop)]
 pub(crate) struct Directory {
     /// Its address.
     pub(crate) to: Peer,
-    /// Its asks, in the order of the list.
+    /// Its requests, in the order of the list.
     pub(crate) items: Vec<Item>,
-    /// The place of the ask that is made.
+    /// The index of the current request.
     pub(crate) at: usize,
-    /// That ask, while it waits for its answer.
+    /// The current request, while it waits for its answer.
     talk: Option<Talk>,
-    /// When the next one is made at the earliest.
+    /// The earliest moment at which the next request is sent.
     after: Moment,
-    /// Whether anything came from the directory since an ask ended as given up.
+    /// Whether anything came from the directory since a request was given up.
     is_heard: bool,
 }
 
-/// What became of the ask that is made.
+/// The result of a step of the current request.
 #[derive(Drop)]
 pub(crate) enum Step {
-    /// Nothing yet.
+    /// The request is undecided.
     Going,
-    /// It is decided.
+    /// The request has this outcome.
     Decided(End),
 }
 
-/// Returns the place of the ask that is due first, the first of those in the list.
+/// Returns the index of the request that is due first, or of the first in the list if several are.
 fn first_due(items: &[Item]) -> usize {
     let mut first = 0;
     let mut due = Moment(u64::MAX);
@@ -52,7 +52,7 @@ fn first_due(items: &[Item]) -> usize {
 }
 
 impl Directory {
-    /// Returns a directory of which nothing is asked yet. Takes no memory.
+    /// Creates a directory without requests. Does not allocate.
     pub(crate) fn of(alloc: Global, to: Peer) -> Directory {
         Directory {
             to,
@@ -64,7 +64,7 @@ impl Directory {
         }
     }
 
-    /// Picks the ask that is made next, and answers whether it is due.
+    /// Selects the next request, and returns whether it is due.
     fn pick(&mut self, now: Moment) -> bool {
         if now.0 < self.after.0 {
             return false;
@@ -76,7 +76,7 @@ impl Directory {
         }
     }
 
-    /// Starts the talk of the ask that is made next.
+    /// Builds the message of the next request.
     fn start<C: Clock>(
         &self,
         alloc: Global,
@@ -93,11 +93,11 @@ impl Directory {
         Ok(Some(Talk::start(alloc, ask, mid, token, now, word)?))
     }
 
-    /// Sends its next ask, where one is due and none waits for its answer.
+    /// Sends the next request, if it is due and no other waits for its answer.
     ///
     /// # Errors
     ///
-    /// `Starved`: out of memory.
+    /// `Starved` if memory runs out.
     pub(crate) fn begin<L: Link, C: Clock>(
         &mut self,
         alloc: Global,
@@ -122,7 +122,8 @@ impl Directory {
         Ok(())
     }
 
-    /// Answers a challenge by the same ask with its value, unless it was answered often enough.
+    /// Makes the next request the same with the Echo value of a challenge, unless two challenges
+    /// were answered before.
     fn challenged(&mut self, alloc: Global, code: u8, echo: &Bytes) -> Result<Step, Starved> {
         let is_answered = match self.items.get_mut(self.at) {
             Some(item) => item.challenge(alloc, echo.as_slice())?,
@@ -134,8 +135,8 @@ impl Directory {
         Ok(Step::Decided(End::Refused(code, Bytes::new(alloc))))
     }
 
-    /// Puts all further asks off for so many milliseconds, unless this one was put off often
-    /// enough.
+    /// Puts off all further requests for `wait` milliseconds, unless this one was put off eight
+    /// times before.
     fn delayed(&mut self, alloc: Global, now: Moment, code: u8, wait: u64) -> Step {
         let is_delayed = match self.items.get_mut(self.at) {
             Some(item) => item.delay(),
@@ -148,7 +149,8 @@ impl Directory {
         Step::Going
     }
 
-    /// Goes back to the ask of the line, where a registration that is kept is not there any more.
+    /// Returns whether a registration that is kept no longer exists. If so, the next request
+    /// registers the device again.
     fn is_forgotten(&mut self, code: u8) -> bool {
         if code != NOT_FOUND {
             return false;
@@ -159,7 +161,7 @@ impl Directory {
         }
     }
 
-    /// Returns what a refusal in a datagram comes to.
+    /// Handles a refusal in a datagram.
     fn refused(
         &mut self,
         alloc: Global,
@@ -177,7 +179,7 @@ impl Directory {
         }
     }
 
-    /// Returns what the location of a registration comes to.
+    /// Handles the location of a registration.
     fn located(&mut self, alloc: Global, location: Location) -> Result<Step, Starved> {
         let located = match self.items.get_mut(self.at) {
             Some(item) => item.locate(alloc, &location)?,
@@ -190,7 +192,7 @@ impl Directory {
         }
     }
 
-    /// Returns what the outcome of a talk comes to, which a datagram decided.
+    /// Handles the verdict on the current request; `datagram` is the one that decided it, if any.
     fn over(
         &mut self,
         alloc: Global,
@@ -208,11 +210,11 @@ impl Directory {
         }
     }
 
-    /// Hears a datagram of the directory.
+    /// Handles a datagram from the directory.
     ///
     /// # Errors
     ///
-    /// `Starved`: out of memory.
+    /// `Starved` if memory runs out.
     pub(crate) fn hear<L: Link>(
         &mut self,
         alloc: Global,
@@ -243,11 +245,11 @@ impl Directory {
         }
     }
 
-    /// Lets time pass.
+    /// Retransmits or gives up the current request, if it is time.
     ///
     /// # Errors
     ///
-    /// `Starved`: out of memory.
+    /// `Starved` if memory runs out.
     pub(crate) fn tick<L: Link>(
         &mut self,
         alloc: Global,
@@ -273,7 +275,7 @@ impl Directory {
         }
     }
 
-    /// Returns whether nothing came of an ask that is kept.
+    /// Returns whether the request belongs to a registration that is kept, and was given up.
     fn is_parted(&self, outcome: &Outcome) -> bool {
         match self.items.as_slice().get(self.at) {
             Some(item) => item.is_kept() && matches!(outcome, Outcome::GaveUp),
@@ -281,7 +283,7 @@ impl Directory {
         }
     }
 
-    /// Returns whether the directory is given up: nothing came from it.
+    /// Returns whether the directory is given up, since nothing came from it.
     pub(crate) fn is_lost(&self) -> bool {
         !self.is_heard
     }

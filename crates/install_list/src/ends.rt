@@ -1,39 +1,41 @@
-//! What became of an ask.
+//! The outcomes of requests.
 ghost use Rattle.std.specs.Prelude.{◌≡◌};
 
 use rd_base::{Bytes, Texts};
 
-/// What became of an ask.
+/// The outcome of a request.
 #[derive(Debug, Drop)]
 pub(crate) enum End {
-    /// The registration stands at this path of the directory (RFC 9176 section 5).
+    /// The registration is at this path of the directory (RFC 9176 section 5).
     Created(Texts),
-    /// The refresh or the removal was made (RFC 9176 sections 5.3.1 and 5.3.2).
+    /// The registration was refreshed or removed (RFC 9176 sections 5.3.1 and 5.3.2).
     Done,
-    /// The directory answered with this code, and said why in so many octets.
+    /// The directory answered with this code and this reason, which may be empty.
     Refused(u8, Bytes),
     /// The directory reset the request (RFC 7252 section 4.2).
     Reset,
-    /// Nothing came after the request was sent five times (RFC 7252 section 4.2).
+    /// Nothing came from the directory, although the request was sent five times (RFC 7252 section
+    /// 4.2).
     GaveUp,
-    /// The request was acknowledged, and no answer came (RFC 7252 section 5.2.2).
+    /// The directory acknowledged the request, and no separate response came (RFC 7252 section
+    /// 5.2.2).
     Silent,
-    /// Nothing came from the directory at all to an ask before this one, which was not sent.
+    /// The request was not sent, since nothing came from the directory for an earlier one.
     Unreached,
 }
 
-/// What became of an ask, without its location and its reason.
+/// The outcome of a request, without its location and its reason.
 #[derive(Clone, Copy, Debug, PartialEq, Eq)]
 pub(crate) enum Kind {
-    /// It was done.
+    /// It succeeded.
     Done,
-    /// It was refused with this code.
+    /// The directory refused it with this code.
     Refused(u8),
-    /// It was reset.
+    /// The directory reset it.
     Reset,
-    /// Nothing came.
+    /// Nothing came from the directory.
     GaveUp,
-    /// It was acknowledged alone.
+    /// The directory only acknowledged it.
     Silent,
     /// It was not sent.
     Unreached,
@@ -42,7 +44,7 @@ pub(crate) enum Kind {
 impl End {
     ghost use Rattle.install_list.specs.Printing.{is_done};
 
-    /// Returns whether what was asked for was done.
+    /// Returns whether the request succeeded.
     pub(crate) fn is_done(&self) -> bool
         ensures { result ≡ is_done self.now }
     {
@@ -54,7 +56,7 @@ impl End {
         }
     }
 
-    /// Returns whether a registration was made.
+    /// Returns whether the request created a registration.
     pub(crate) fn is_created(&self) -> bool {
         matches!(self, End::Created(_))
     }
@@ -64,7 +66,7 @@ impl End {
         self.is_done() || matches!(self, End::Refused(_, _))
     }
 
-    /// Returns what became of it, without its location and its reason.
+    /// Returns the outcome without its location and its reason.
     pub(crate) fn kind(&self) -> Kind {
         match self {
             End::Created(_) | End::Done => Kind::Done,

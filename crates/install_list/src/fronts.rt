@@ -1,5 +1,4 @@
-//! What became of each ask of a list, written in its order as soon as it and all before it are
-//! decided.
+//! Writes the outcomes of a list in its order, each as soon as it and all before it are decided.
 ghost use Rattle.std.specs.Prelude.{◌≡◌, ◌≤◌, ◌<◌, ◌+◌, ◌||◌, [], false, not, length, drop};
 ghost use Rattle.std.specs.Prelude.{IsTrue, OnOk};
 ghost use Rattle.udp_link.specs.declared.links.TheConstants.{MAX_DATAGRAM};
@@ -15,33 +14,33 @@ use std::alloc::{AllocGlobal, Global};
 use std::sync::Wait;
 use udp_link::{Clock, Link, MAX_DATAGRAM};
 
-/// Why what is decided was not written.
+/// Why an outcome was not written.
 #[derive(Clone, Copy, Debug, PartialEq, Eq)]
 pub(crate) enum PutFault {
-    /// The output failed.
+    /// The output could not be written.
     Unwritten,
     /// Memory ran out.
     Starved,
 }
 
-/// What is written of a list.
+/// The lines of output of a list, and how many of them were written.
 #[derive(Drop)]
 pub(crate) struct Front {
-    /// What is done with the lines.
+    /// What the program does with the lines.
     verb: Verb,
-    /// The number of the line of each ask, in the order of the list.
+    /// The number of the line of each request, in the order of the list.
     numbers: Vec<u64>,
-    /// How many of them are written.
+    /// How many of these lines were written.
     written: usize,
-    /// Whether one of these was not done.
+    /// Whether the outcome of one of these is not a success.
     is_undone: bool,
 }
 
-/// Writes what became of an ask, by the number of its line.
+/// Writes the line of an outcome, with the number of its request.
 ///
 /// # Errors
 ///
-/// `Unwritten`: the output failed. `Starved`: out of memory.
+/// `Unwritten` if the output could not be written; `Starved` if memory runs out.
 pub(crate) fn put_line<K: Sink>(
     alloc: Global,
     out: &mut K,
@@ -62,7 +61,7 @@ pub(crate) fn put_line<K: Sink>(
     Ok(())
 }
 
-/// Returns the outcome at an index, where there is one.
+/// Returns the outcome at an index, if there is one.
 fn outcome_at(outcomes: &[Option<Outcome>], at: usize) -> Option<&Outcome> {
     match outcomes.get(at) {
         Some(Some(outcome)) => Some(outcome),
@@ -72,7 +71,7 @@ fn outcome_at(outcomes: &[Option<Outcome>], at: usize) -> Option<&Outcome> {
 }
 
 impl Front {
-    /// Returns a list of which nothing is written yet. Takes no memory.
+    /// Creates the output of a list of which no line was written yet. Does not allocate.
     pub(crate) fn of(verb: Verb, numbers: Vec<u64>) -> Front
         ensures verb { result.verb ≡ verb }
         ensures left { drop result.written result.numbers.items ≡ numbers.items }
@@ -86,7 +85,7 @@ impl Front {
         }
     }
 
-    /// Writes the line of the next ask, which is there.
+    /// Writes the line of the next outcome.
     fn put<K: Sink>(
         &mut self,
         alloc: Global,
@@ -114,7 +113,7 @@ impl Front {
         }
     }
 
-    /// Writes the line of the next ask, if that is decided, and answers whether it is.
+    /// Writes the line of the next request, if it is decided, and returns whether it is.
     fn put_next<K: Sink>(
         &mut self,
         alloc: Global,
@@ -141,14 +140,14 @@ impl Front {
         }
     }
 
-    /// Returns whether all is written.
+    /// Returns whether all lines were written.
     fn is_over(&self) -> bool
         ensures { IsTrue result → drop self.now.written self.now.numbers.items ≡ [] }
     {
         self.written >= self.numbers.len()
     }
 
-    /// Returns how it ends where all is written.
+    /// Returns the status of a list of which all lines were written.
     fn status(&self) -> InstallStatus
         ensures { result ≡ ends.whole_status self.now.is_undone }
     {
@@ -159,7 +158,7 @@ impl Front {
     }
 }
 
-/// Returns the status of a list whose making failed.
+/// Returns the status of a list of which a poll failed.
 fn tell_status(fault: TellFault) -> InstallStatus
     ensures { result ≡ ends.tell_status fault }
 {
@@ -179,8 +178,7 @@ pub(crate) fn put_status(fault: PutFault) -> InstallStatus
     }
 }
 
-/// Makes one poll of a list of which no line is to be written now. None: it goes on. The room has
-/// 4,096 octets.
+/// Polls, with a `room` of 4,096 octets. Returns a status if the poll failed, and otherwise `None`.
 pub(crate) fn polled<L: Link, C: Clock>(
     alloc: Global,
     making: &mut Making,
@@ -198,7 +196,8 @@ pub(crate) fn polled<L: Link, C: Clock>(
     }
 }
 
-/// Ends where all is written, or else makes one poll. None: it goes on.
+/// Returns a status if all lines were written, and otherwise polls. Returns `None` if the program
+/// goes on.
 fn rest<L: Link, C: Clock>(
     alloc: Global,
     making: &mut Making,
@@ -218,7 +217,7 @@ fn rest<L: Link, C: Clock>(
     polled(alloc, making, link, clock, room)
 }
 
-/// Writes the next line, or else makes one poll. None: it goes on.
+/// Writes the next line, or polls if it is undecided. Returns `None` if the program goes on.
 fn turn<K: Sink, L: Link, C: Clock>(
     alloc: Global,
     making: &mut Making,
@@ -244,7 +243,7 @@ fn turn<K: Sink, L: Link, C: Clock>(
     }
 }
 
-/// Makes the asks of a list, turn after turn, and writes what became of each.
+/// Makes the requests of a list, and writes the line of each outcome.
 pub(crate) fn make_front<R, K, L, C>(
     rt: &R,
     making: &mut Making,

@@ -2,7 +2,7 @@
 use client_model::TOKEN_SIZE;
 use udp_link::Clock;
 
-/// The Message IDs and tokens of requests, one after the other from where they began.
+/// A generator of Message IDs and tokens, which counts up from random numbers.
 #[derive(Clone, Copy, Debug)]
 pub(crate) struct Identifiers {
     mid: u16,
@@ -10,7 +10,7 @@ pub(crate) struct Identifiers {
 }
 
 impl Identifiers {
-    /// Identifiers that begin where three words of a clock say.
+    /// Starts at numbers that three random words of the clock determine.
     pub(crate) fn begun<C: Clock>(clock: &mut C) -> Identifiers {
         let mid = (clock.word() % 65_536) as u16;
         let (high, low) = (clock.word(), clock.word());
@@ -20,7 +20,7 @@ impl Identifiers {
         }
     }
 
-    /// The next Message ID and the next token.
+    /// Returns the next Message ID and the next token.
     pub(crate) fn next(&mut self) -> (u16, [u8; TOKEN_SIZE]) {
         self.mid = self.mid.wrapping_add(1);
         self.token = self.token.wrapping_add(1);

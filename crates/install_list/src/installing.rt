@@ -1,4 +1,4 @@
-//! A list of devices, from its octets to the lines of what became of each and a status.
+//! A list of devices, from its octets to the lines of its outcomes and a status.
 ghost use Rattle.std.specs.Prelude.{◌≡◌, ◌≢◌, IfSome, drop};
 ghost use Rattle.std.specs.List.{All};
 ghost use Rattle.install_list.specs.declared.statuses.InstallStatus.TheVariants as status;
@@ -29,7 +29,7 @@ fn list_status(fault: ListFault) -> InstallStatus
     }
 }
 
-/// Makes the asks of a list that are kept.
+/// Makes the requests of a list that `keep` repeats.
 fn make_kept<R, K, L, C>(
     rt: &R,
     making: &mut Making,
@@ -54,7 +54,7 @@ where
     make_changes(rt, making, numbers.as_slice(), out, link, clock)
 }
 
-/// Makes the asks of a list once.
+/// Makes the requests of a list once.
 fn make_once<R, K, L, C>(
     rt: &R,
     making: &mut Making,
@@ -78,7 +78,7 @@ where
     make_front(rt, making, &mut front, out, link, clock)
 }
 
-/// Makes the asks of a list by their directories.
+/// Makes the requests of a list that are sorted by directory.
 fn make_listed<R, K, L, C>(
     rt: &R,
     verb: Verb,
@@ -113,7 +113,7 @@ where
     }
 }
 
-/// Makes the asks of a list.
+/// Makes the requests of a list.
 fn make_asks<R, K, L, C>(
     rt: &R,
     verb: Verb,
@@ -140,7 +140,7 @@ where
     make_listed(rt, verb, listed, out, link, clock)
 }
 
-/// Does what an order wants, but for what is said of its status.
+/// Does what the arguments say, except for reporting the status.
 fn install_said<R, S, K, L, C>(
     rt: &R,
     order: Order,
@@ -172,8 +172,10 @@ where
     }
 }
 
-/// Does all that `rd_install` does over its link: reads a list whole, makes the ask of each line,
-/// and writes what became of each (RFC 9176 sections 5 and 5.3).
+/// Does all that `rd_install` does over its link (RFC 9176 sections 5 and 5.3).
+///
+/// Reads and checks the whole list, makes the request of each line, and writes each outcome to
+/// `out`. Reports the status to `err`.
 pub fn install<R, S, K, E, L, C>(
     rt: &R,
     order: Order,

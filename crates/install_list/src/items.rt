@@ -1,4 +1,4 @@
-//! An ask of a list, and how often it was made.
+//! A request of a list with its state.
 ghost use Rattle.std.specs.Prelude.{IfOk};
 ghost use Rattle.client_model.specs.Requests.{CanBeSent};
 
@@ -10,54 +10,54 @@ use rd_base::{Moment, Starved};
 use registrant::{refresh_ask, remove_ask};
 use std::alloc::Global;
 
-/// How often an ask is challenged, at most.
+/// The maximum number of challenges that the program answers for one request.
 const MAX_CHALLENGES: u8 = 2;
 
-/// How often an ask is put off, at most.
+/// The maximum number of times that one request is put off.
 const MAX_DELAYS: u8 = 8;
 
-/// The longest time after which an ask that nobody answered is made again, in milliseconds.
+/// The maximum time until an unanswered request is repeated, in milliseconds.
 const PAUSE: u64 = 60_000;
 
-/// The moment at which nothing is due any more.
+/// A moment that never comes, for requests that are not due again.
 pub(crate) const NEVER: Moment = Moment(u64::MAX);
 
-/// An ask of a list.
+/// A request of a list.
 #[derive(Debug, Drop)]
 pub(crate) struct Item {
-    /// Its place among the asks of the list, from 0.
+    /// Its index among the requests of the list, from 0.
     pub(crate) place: usize,
-    /// The ask of its line.
+    /// The request of its line.
     first: Sendable,
-    /// What is done once that was answered with a location.
+    /// What happens after the directory answered that with a location.
     then: Then,
-    /// The ask of the location that it was answered with.
+    /// The request that refreshes or removes the registration at that location.
     located: Option<Sendable>,
-    /// The ask that is made next, with the Echo option of a challenge.
+    /// The next request with the Echo option of a challenge.
     echoed: Option<Sendable>,
-    /// When it is made at the earliest.
+    /// The earliest moment at which the next request is sent.
     pub(crate) due: Moment,
-    /// How often it was challenged.
+    /// How many challenges were answered.
     challenges: u8,
-    /// How often it was put off.
+    /// How many times it was put off.
     delays: u8,
-    /// What was told last.
+    /// The outcome that was reported last.
     told: Option<Kind>,
 }
 
-/// What a location comes to.
+/// What follows from a location.
 #[derive(Clone, Copy, Debug, PartialEq, Eq)]
 pub(crate) enum Located {
-    /// What the line asks for is done.
+    /// The request of the line succeeded.
     Done,
-    /// The ask of the location is made now.
+    /// The request of the location is sent next.
     Next,
-    /// There is no ask of the location.
+    /// No request can be built from the location.
     Unfit,
 }
 
 impl Item {
-    /// Returns an ask of a list that was not sent yet.
+    /// Creates a request of a list that was not sent yet.
     pub(crate) fn of(place: usize, ask: Ask, then: Then) -> Item
         requires { CanBeSent ask }
     {
@@ -74,7 +74,7 @@ impl Item {
         }
     }
 
-    /// Returns the ask that is made next, without what a directory challenged.
+    /// Returns the next request, without the option of a challenge.
     fn plain(&self) -> &Sendable {
         match &self.located {
             Some(ask) => ask,
@@ -82,7 +82,7 @@ impl Item {
         }
     }
 
-    /// Returns the ask that is made next.
+    /// Returns the next request.
     pub(crate) fn ask(&self) -> &Sendable {
         match &self.echoed {
             Some(ask) => ask,
@@ -90,12 +90,13 @@ impl Item {
         }
     }
 
-    /// Answers a challenge by the same ask with its value. False: there is no such ask, or there
-    /// were two challenges before.
+    /// Makes the next request the same with the Echo value of a challenge.
+    ///
+    /// Returns false if no such request can be built, or if there were two challenges before.
     ///
     /// # Errors
     ///
-    /// `Starved`: out of memory.
+    /// `Starved` if memory runs out.
     pub(crate) fn challenge(&mut self, alloc: Global, echo: &[u8]) -> Result<bool, Starved> {
         if self.challenges >= MAX_CHALLENGES {
             return Ok(false);
@@ -111,7 +112,7 @@ impl Item {
         }
     }
 
-    /// Counts that the ask is put off. False: it was put off eight times before.
+    /// Counts that the request is put off. Returns false if it was put off eight times before.
     pub(crate) fn delay(&mut self) -> bool {
         if self.delays >= MAX_DELAYS {
             return false;
@@ -120,7 +121,7 @@ impl Item {
         true
     }
 
-    /// Goes on with the ask of a location.
+    /// Makes the request of a location the next one.
     fn go_on(&mut self, ask: Result<Ask, AskBad>, located: Located) -> Result<Located, Starved>
         requires { IfOk ask CanBeSent }
     {
@@ -135,11 +136,11 @@ impl Item {
         }
     }
 
-    /// Takes the location with which the ask was answered.
+    /// Handles the location with which the directory answered the request.
     ///
     /// # Errors
     ///
-    /// `Starved`: out of memory.
+    /// `Starved` if memory runs out.
     pub(crate) fn locate(
         &mut self,
         alloc: Global,
@@ -152,8 +153,9 @@ impl Item {
         }
     }
 
-    /// Goes back to the ask of the line, where one that is kept is not there any more. False: it
-    /// is none that is kept, or it was not registered.
+    /// Makes the request of the line the next one, if a registration that is kept no longer exists.
+    ///
+    /// Returns false if the request is not kept, or no registration was made.
     pub(crate) fn forget(&mut self) -> bool {
         if !self.is_kept() || self.located.is_none() {
             return false;
@@ -163,12 +165,12 @@ impl Item {
         true
     }
 
-    /// Returns whether it is kept.
+    /// Returns whether the registration is kept: refreshed until the program ends.
     pub(crate) fn is_kept(&self) -> bool {
         matches!(self.then, Then::Keeps(_))
     }
 
-    /// Returns how long after what became of the ask it is made again, in milliseconds.
+    /// Returns the time from this outcome until the request is repeated, in milliseconds.
     fn wait_after(wait: u64, end: &End) -> u64 {
         if end.is_answered() {
             return wait;
@@ -176,7 +178,7 @@ impl Item {
         wait.min(PAUSE)
     }
 
-    /// Returns when the ask is due again after what became of it.
+    /// Returns when the request is due again after this outcome.
     fn due_after(&self, now: Moment, end: &End) -> Moment {
         match self.then {
             Then::Keeps(wait) => Moment(now.0.saturating_add(Item::wait_after(wait, end))),
@@ -184,8 +186,9 @@ impl Item {
         }
     }
 
-    /// Takes what became of the ask, and answers whether that is told: an ask that is kept tells
-    /// only what is another than before.
+    /// Handles the outcome of the request, and returns whether to report it.
+    ///
+    /// An outcome is reported if it differs from the one before, or created a registration.
     pub(crate) fn decide(&mut self, now: Moment, end: &End) -> bool {
         self.echoed = None;
         self.challenges = 0;

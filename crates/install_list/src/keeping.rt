@@ -1,4 +1,4 @@
-//! The asks of a list that are made again and again, and what changed of each.
+//! The requests that `keep` repeats, and the lines about their changes.
 ghost use Rattle.std.specs.Prelude.{◌≤◌, length};
 ghost use Rattle.udp_link.specs.declared.links.TheConstants.{MAX_DATAGRAM};
 ghost use Rattle.install_list.specs.Endings as ends;
@@ -11,7 +11,7 @@ use std::alloc::{AllocGlobal, Global};
 use std::sync::Wait;
 use udp_link::{Clock, Link, MAX_DATAGRAM};
 
-/// Takes the first outcome that is there, with its index.
+/// Removes and returns the first outcome, with its index.
 fn take_change(outcomes: &mut [Option<Outcome>]) -> Option<(usize, Outcome)> {
     'outcomes: for (at, outcome) in outcomes.iter_mut().enumerate() {
         if let Some(outcome) = outcome.take() {
@@ -21,7 +21,7 @@ fn take_change(outcomes: &mut [Option<Outcome>]) -> Option<(usize, Outcome)> {
     None
 }
 
-/// Returns the number at an index, or 0 where there is none.
+/// Returns the number at an index, or 0 if there is none.
 fn number_at(numbers: &[u64], at: usize) -> u64 {
     match numbers.get(at) {
         Some(number) => *number,
@@ -29,7 +29,7 @@ fn number_at(numbers: &[u64], at: usize) -> u64 {
     }
 }
 
-/// Writes the line of the first ask of which something changed, and answers whether there is one.
+/// Writes the line of the first request with a new outcome, and returns whether there is one.
 fn put_change<K: Sink>(
     alloc: Global,
     numbers: &[u64],
@@ -45,7 +45,8 @@ fn put_change<K: Sink>(
     Ok(true)
 }
 
-/// Writes the line of a change, or else makes one poll. Nothing: it goes on.
+/// Writes the line of a new outcome, or polls if there is none. Returns a status if the program
+/// ends.
 fn turn<K: Sink, L: Link, C: Clock>(
     alloc: Global,
     making: &mut Making,
@@ -67,7 +68,8 @@ fn turn<K: Sink, L: Link, C: Clock>(
     }
 }
 
-/// Makes the asks of a list again and again, turn after turn.
+/// Makes the requests of a list, repeats them when they are due, and writes the line of each new
+/// outcome, until the program ends.
 pub(crate) fn make_changes<R, K, L, C>(
     rt: &R,
     making: &mut Making,

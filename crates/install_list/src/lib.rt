@@ -1,5 +1,5 @@
-//! A list of devices as an installer writes it: registered at directories of a network, refreshed
-//! and removed, and what became of each as text (RFC 9176 sections 1, 5 and 5.3).
+//! Registers the devices of a list at directories of a network, or refreshes, keeps or removes
+//! their registrations, and writes each outcome as text (RFC 9176 sections 1, 5 and 5.3).
 #![tactic(auto)]
 
 mod answers;

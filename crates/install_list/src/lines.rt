@@ -1,4 +1,4 @@
-//! One line of a list: what it asks for, or why it is bad.
+//! One line of a list: its request, or why it is bad.
 ghost use Rattle.std.specs.Prelude.{◌≡◌, ◌≤◌, ◌∷◌, ◌++◌, [], Ok};
 ghost use Rattle.std.specs.Prelude.{IfOk, IfSome, OnOk, flat_map, unwrap_or};
 ghost use Rattle.client_model.specs.Requests.{CanBeSent};
@@ -18,7 +18,7 @@ use std::alloc::Global;
 use std::str;
 use trace_text::{number_read, offset_of};
 
-/// The most lines of a list.
+/// The maximum number of lines of a list.
 pub const MAX_LINES: u64 = 4_096;
 
 /// The lifetime of a registration that names none, in seconds (RFC 9176 section 5).
@@ -27,18 +27,19 @@ pub const LIFETIME: u64 = 90_000;
 /// The longest lifetime of a registration, in seconds (RFC 9176 section 5).
 pub const LONGEST_LIFETIME: u64 = 4_294_967_295;
 
-/// Why a line of a list is bad, in the order in which it is looked for.
+/// Why a line of a list is bad, in the order of the checks.
 #[derive(Clone, Copy, Debug, PartialEq, Eq)]
 pub enum LineBad {
-    /// It is line 4,097.
+    /// The line is line 4,097.
     Many,
-    /// Its links begin with `0x`, and are no octets in hexadecimal digits.
+    /// Its links begin with `0x`, and are not octets in hexadecimal digits.
     Form,
-    /// There is no ask of its URI and its links.
+    /// No request can be built from its URI and its links.
     Ask,
-    /// Its directory has a link-local address, which needs a zone, and a peer has none.
+    /// Its directory has a link-local address, which needs a zone, and a URI has none.
     Zone,
-    /// Its directory has an address of another family than the one from which all is sent.
+    /// The address of its directory has another family than the address from which the program
+    /// sends.
     Family,
     /// No part of its query begins with `base=`.
     Base,
@@ -47,7 +48,7 @@ pub enum LineBad {
 /// Why a line was not read.
 #[derive(Clone, Copy, Debug, PartialEq, Eq)]
 pub(crate) enum LineFault {
-    /// It is bad.
+    /// The line is bad.
     Bad(LineBad),
     /// Memory ran out.
     Starved,
@@ -62,8 +63,7 @@ fn trimmed(text: &[u8]) -> &[u8]
     text.trim_ascii()
 }
 
-/// Returns whether a line without the spaces around it asks for nothing: it is empty, or begins
-/// with `#`.
+/// Returns whether a trimmed line is ignored: it is empty, or begins with `#`.
 #[tactic(auto, unfolding(crate::specs::Lists::is_passed))]
 fn is_passed(line: &[u8]) -> bool
     ensures { result ≡ lists.is_passed line.now }
@@ -71,7 +71,7 @@ fn is_passed(line: &[u8]) -> bool
     line.is_empty() || line.starts_with(b"#")
 }
 
-/// Returns the URI of a line, and what stands behind the space after it: `-` where there is none.
+/// Returns the URI of a line and the text after the next space, or `-` if there is no space.
 fn parts_of(line: &[u8]) -> (&[u8], &[u8])
     ensures uri { result.0.now ≡ (lists.parts_of line.now).0 }
     ensures links { result.1.now ≡ (lists.parts_of line.now).1 }
@@ -90,7 +90,7 @@ fn is_named(line: &[u8]) -> bool
     offset_of(b'?', uri).is_some()
 }
 
-/// Returns the last word of a line.
+/// Returns the text of a line after its last space.
 fn last_word(line: &[u8]) -> &[u8]
     ensures { result.now ≡ lists.last_word line.now }
 {
@@ -101,8 +101,8 @@ fn last_word(line: &[u8]) -> &[u8]
     left
 }
 
-/// Reads the links that a text writes: octets in hexadecimal digits behind `0x`, none for `-`, and
-/// any other text as it is.
+/// Reads the links of a device: none for `-`, octets in hexadecimal digits after `0x`, and any
+/// other text as it is.
 #[tactic(auto, unfolding(crate::specs::Lists::links_of))]
 fn links_read(alloc: Global, text: &[u8]) -> Result<Bytes, LineFault>
     ensures { IsLinks result (lists.links_of text.now) }
@@ -130,7 +130,7 @@ fn copied(alloc: Global, octets: &[u8]) -> Result<Bytes, LineFault>
     }
 }
 
-/// Appends an octet of a query, of which a bracket is percent-encoded.
+/// Appends an octet of a query, percent-encoded if it is a bracket.
 #[tactic(auto, unfolding(crate::specs::Lists::quoted_octet))]
 fn push_octet(into: &mut Bytes, octet: u8) -> Result<(), Starved>
     ensures { OnOk result (into.new ≡ into.old ++ lists.quoted_octet octet) }
@@ -144,7 +144,7 @@ fn push_octet(into: &mut Bytes, octet: u8) -> Result<(), Starved>
     into.push(octet)
 }
 
-/// Appends a query, of which the brackets are percent-encoded.
+/// Appends a query and percent-encodes its brackets.
 fn push_query(into: &mut Bytes, query: &[u8]) -> Result<(), Starved>
     ensures { OnOk result (into.new
         ≡ into.old ++ flat_map lists.quoted_octet query.now) }
@@ -155,8 +155,8 @@ fn push_query(into: &mut Bytes, query: &[u8]) -> Result<(), Starved>
     Ok(())
 }
 
-/// Copies a URI and percent-encodes the brackets of its query, as an installer need not (RFC 3986
-/// section 3.4).
+/// Copies a URI and percent-encodes the brackets of its query, which an installer need not do (RFC
+/// 3986 section 3.4).
 fn uri_read(alloc: Global, text: &[u8]) -> Result<Bytes, Starved>
     ensures { IfOk result (λ uri. uri ≡ lists.quoted text.now) }
 {
@@ -180,7 +180,7 @@ fn is_link_local(host: Host) -> bool
     }
 }
 
-/// Returns whether what is sent from an address comes to another.
+/// Returns whether a socket at an address can send to another address.
 fn is_reached(from: Option<Host>, to: Host) -> bool
     ensures { result ≡ lists.is_reached from to }
 {
@@ -193,7 +193,7 @@ fn is_reached(from: Option<Host>, to: Host) -> bool
     }
 }
 
-/// Returns the ask of a directory that is reached from an address.
+/// Returns the request, if a socket at this address can send to its directory.
 #[tactic(auto, unfolding(crate::specs::Lists::reached))]
 fn reached(from: Option<Host>, ask: Ask) -> Result<Ask, LineFault>
     requires { CanBeSent ask }
@@ -209,9 +209,9 @@ fn reached(from: Option<Host>, ask: Ask) -> Result<Ask, LineFault>
     Ok(ask)
 }
 
-// ---- asks
+// ---- requests
 
-/// Returns why a line is bad of whose URI there is no ask.
+/// Returns why a line is bad if no request can be built from its URI and its links.
 fn fault_of(bad: AskBad) -> LineFault
     ensures { result ≡ lists.fault_of bad }
 {
@@ -223,7 +223,7 @@ fn fault_of(bad: AskBad) -> LineFault
     }
 }
 
-/// Makes the ask that registers links at the directory that a URI without brackets names.
+/// Builds the request that registers links at the directory of a URI without brackets in its query.
 #[tactic(auto, unfolding(crate::specs::Lists::asked_at))]
 fn ask_read(alloc: Global, from: Option<Host>, uri: &[u8], links: &[u8]) -> Result<Ask, LineFault>
     ensures exact { IsJudged result (lists.asked_at from uri.now links.now) }
@@ -238,7 +238,7 @@ fn ask_read(alloc: Global, from: Option<Host>, uri: &[u8], links: &[u8]) -> Resu
     }
 }
 
-/// Makes the ask that registers links at the directory that a URI names.
+/// Builds the request that registers links at the directory of a URI.
 fn registration_read(
     alloc: Global,
     from: Option<Host>,
@@ -254,7 +254,7 @@ fn registration_read(
     }
 }
 
-/// Makes the ask of a line `URI LINKS`, of which the links may be absent.
+/// Builds the request of a line `URI LINKS`, of which the links may be absent.
 fn named_read(alloc: Global, from: Option<Host>, line: &[u8]) -> Result<Ask, LineFault>
     ensures exact { IsJudged result (lists.named from line.now) }
     ensures sent { IfOk result CanBeSent }
@@ -266,7 +266,7 @@ fn named_read(alloc: Global, from: Option<Host>, line: &[u8]) -> Result<Ask, Lin
     }
 }
 
-/// Returns whether an option says the base of a registration (RFC 9176 section 5).
+/// Returns whether an option gives the base of a registration (RFC 9176 section 5).
 fn is_base(option: &(u32, Bytes)) -> bool
     ensures { result ≡ lists.is_base option.now }
 {
@@ -276,14 +276,14 @@ fn is_base(option: &(u32, Bytes)) -> bool
     option.1.as_slice().starts_with(b"base=")
 }
 
-/// Returns whether the base of a registration is said.
+/// Returns whether a request gives the base of its registration.
 fn has_base(ask: &Ask) -> bool
     ensures { result ≡ lists.has_base ask.now }
 {
     ask.options.as_slice().iter().any(|option| is_base(option))
 }
 
-/// Returns an ask that says its base.
+/// Returns the request, if it gives the base of its registration.
 fn based(ask: Ask) -> Result<Ask, LineFault>
     requires { CanBeSent ask }
     ensures exact { IsJudged result (lists.if_based (Ok ask)) }
@@ -295,7 +295,7 @@ fn based(ask: Ask) -> Result<Ask, LineFault>
     Ok(ask)
 }
 
-/// Makes the ask of a line that registers, with its base.
+/// Builds the request of a line of `register`, which gives a base.
 fn register_read(alloc: Global, from: Option<Host>, line: &[u8]) -> Result<Ask, LineFault>
     ensures exact { IsJudged result (lists.registering from line.now) }
     ensures sent { IfOk result CanBeSent }
@@ -308,7 +308,7 @@ fn register_read(alloc: Global, from: Option<Host>, line: &[u8]) -> Result<Ask, 
 
 // ---- locations
 
-/// Copies a segment of a path, which is text.
+/// Copies a segment of a path, if it is UTF-8.
 fn segment_read(alloc: Global, octets: &[u8]) -> Result<Text, LineFault>
     ensures { IsSegment result octets.now }
 {
@@ -335,7 +335,7 @@ fn push_segment(alloc: Global, path: &mut Texts, octets: &[u8]) -> Result<(), Li
     }
 }
 
-/// Appends the segment that an option is, if it is one.
+/// Appends the value of an option to a path, if the option is a segment.
 #[tactic(auto, using(crate::proofs::LineLaws::option_past, crate::proofs::LineLaws::option_here))]
 fn push_option(alloc: Global, path: &mut Texts, option: &(u32, Bytes)) -> Result<(), LineFault>
     ensures { IsPushed result (lists.path_of (option.now ∷ [])) path.old path.new }
@@ -346,7 +346,7 @@ fn push_option(alloc: Global, path: &mut Texts, option: &(u32, Bytes)) -> Result
     push_segment(alloc, path, option.1.as_slice())
 }
 
-/// Copies the segments of a path among options, each of which is text.
+/// Copies the segments of a path from these options, if all of them are UTF-8.
 fn path_read(alloc: Global, options: &[(u32, Bytes)]) -> Result<Texts, LineFault>
     ensures { IsPath result options.now }
 {
@@ -361,7 +361,7 @@ fn path_read(alloc: Global, options: &[(u32, Bytes)]) -> Result<Texts, LineFault
     Ok(path)
 }
 
-/// Returns whether an ask has a query, which a location has not.
+/// Returns whether a request has a query. A location has none.
 fn has_query(ask: &Ask) -> bool
     ensures { result ≡ lists.has_query ask.now }
 {
@@ -371,7 +371,7 @@ fn has_query(ask: &Ask) -> bool
         .any(|option| option.0 == URI_QUERY)
 }
 
-/// Returns the location that an ask has in its path.
+/// Returns the location that the path of a request names.
 #[tactic(auto, using(crate::proofs::LineLaws::at_fault), unfolding(crate::specs::Lists::located))]
 fn located(alloc: Global, ask: &Ask) -> Result<Location, LineFault>
     ensures { IsJudged result (lists.located ask.now) }
@@ -389,7 +389,7 @@ fn located(alloc: Global, ask: &Ask) -> Result<Location, LineFault>
     Ok(Location { to: ask.to, path })
 }
 
-/// Reads the location that the last word of a line names.
+/// Reads the location at the end of a line.
 fn location_read(alloc: Global, from: Option<Host>, line: &[u8]) -> Result<Location, LineFault>
     ensures { IsJudged result (lists.location_of from line.now) }
 {
@@ -399,7 +399,7 @@ fn location_read(alloc: Global, from: Option<Host>, line: &[u8]) -> Result<Locat
     }
 }
 
-/// Makes the ask that refreshes what stands at a location.
+/// Builds the request that refreshes the registration at a location.
 fn refresh_at(alloc: Global, location: &Location) -> Result<Ask, LineFault>
     ensures exact { IsJudged result (lists.ask_at refresh (Ok location.now)) }
     ensures sent { IfOk result CanBeSent }
@@ -410,7 +410,7 @@ fn refresh_at(alloc: Global, location: &Location) -> Result<Ask, LineFault>
     }
 }
 
-/// Makes the ask that removes what stands at a location.
+/// Builds the request that removes the registration at a location.
 fn remove_at(alloc: Global, location: &Location) -> Result<Ask, LineFault>
     ensures exact { IsJudged result (lists.ask_at removal (Ok location.now)) }
     ensures sent { IfOk result CanBeSent }
@@ -421,7 +421,7 @@ fn remove_at(alloc: Global, location: &Location) -> Result<Ask, LineFault>
     }
 }
 
-/// Makes the ask of a line that refreshes.
+/// Builds the request of a line of `refresh`.
 fn refresh_read(alloc: Global, from: Option<Host>, line: &[u8]) -> Result<Ask, LineFault>
     ensures exact { IsJudged result (lists.refreshing from line.now) }
     ensures sent { IfOk result CanBeSent }
@@ -432,7 +432,7 @@ fn refresh_read(alloc: Global, from: Option<Host>, line: &[u8]) -> Result<Ask, L
     }
 }
 
-/// Makes the ask of a line that removes what stands at a location.
+/// Builds the request of a line of `remove` that ends with a location.
 fn remove_read(alloc: Global, from: Option<Host>, line: &[u8]) -> Result<Ask, LineFault>
     ensures exact { IsJudged result (lists.removing from line.now) }
     ensures sent { IfOk result CanBeSent }
@@ -445,7 +445,7 @@ fn remove_read(alloc: Global, from: Option<Host>, line: &[u8]) -> Result<Ask, Li
 
 // ---- lifetimes
 
-/// Returns the lifetime that an option names, in seconds.
+/// Returns the lifetime that an option gives, in seconds.
 #[tactic(auto, unfolding(crate::specs::Lists::lifetime_in))]
 fn lifetime_in(option: &(u32, Bytes)) -> Option<u64>
     ensures exact { result ≡ lists.lifetime_in option.now }
@@ -460,7 +460,7 @@ fn lifetime_in(option: &(u32, Bytes)) -> Option<u64>
     }
 }
 
-/// Returns the lifetime that an option names, or else this one, in seconds.
+/// Returns the lifetime that an option gives, or else `lifetime`, in seconds.
 fn lifetime_next(lifetime: u64, option: &(u32, Bytes)) -> u64
     requires { lifetime ≤ LONGEST_LIFETIME }
     ensures exact { result ≡ unwrap_or (lists.lifetime_in option.now) lifetime }
@@ -472,8 +472,7 @@ fn lifetime_next(lifetime: u64, option: &(u32, Bytes)) -> u64
     }
 }
 
-/// Returns the last lifetime that options name, or else that of a registration that names none, in
-/// seconds.
+/// Returns the last lifetime that options give, or else the default lifetime, in seconds.
 fn lifetime_of(options: &[(u32, Bytes)]) -> u64
     ensures exact { result ≡ lists.lifetime_from LIFETIME options.now }
     ensures within { result ≤ LONGEST_LIFETIME }
@@ -487,7 +486,7 @@ fn lifetime_of(options: &[(u32, Bytes)]) -> u64
     lifetime
 }
 
-/// Returns half of the lifetime that an ask names in milliseconds, at least a second.
+/// Returns half of the lifetime of a registration in milliseconds, at least a second.
 fn half_of(ask: &Ask) -> u64
     ensures { result ≡ lists.half_of ask.now }
 {
@@ -500,7 +499,7 @@ fn half_of(ask: &Ask) -> u64
 
 // ---- a line
 
-/// Makes the ask of a line that registers, behind which nothing is done.
+/// Builds the request of a line of `register`, after which nothing happens.
 fn register_entry(alloc: Global, from: Option<Host>, line: &[u8]) -> Result<(Ask, Then), LineFault>
     ensures exact { IsJudged result (lists.registering_entry from line.now) }
     ensures sent { IfOk result (λ made. CanBeSent made.0) }
@@ -511,7 +510,7 @@ fn register_entry(alloc: Global, from: Option<Host>, line: &[u8]) -> Result<(Ask
     }
 }
 
-/// Makes the ask of a line that refreshes, behind which nothing is done.
+/// Builds the request of a line of `refresh`, after which nothing happens.
 fn refresh_entry(alloc: Global, from: Option<Host>, line: &[u8]) -> Result<(Ask, Then), LineFault>
     ensures exact { IsJudged result (lists.refreshing_entry from line.now) }
     ensures sent { IfOk result (λ made. CanBeSent made.0) }
@@ -522,7 +521,7 @@ fn refresh_entry(alloc: Global, from: Option<Host>, line: &[u8]) -> Result<(Ask,
     }
 }
 
-/// Makes the ask of a line that removes what stands at its location.
+/// Builds the request of a line of `remove` that ends with a location, after which nothing happens.
 fn remove_entry(alloc: Global, from: Option<Host>, line: &[u8]) -> Result<(Ask, Then), LineFault>
     ensures exact { IsJudged result (lists.removing_at from line.now) }
     ensures sent { IfOk result (λ made. CanBeSent made.0) }
@@ -533,8 +532,10 @@ fn remove_entry(alloc: Global, from: Option<Host>, line: &[u8]) -> Result<(Ask, 
     }
 }
 
-/// Makes the ask of a line that removes what it names: that which registers it, whose answer says
-/// where it stands.
+/// Builds the request of a line of `remove` that names a device.
+///
+/// The request registers the device once more. The answer gives the location, and the registration
+/// there is then removed.
 fn named_entry(alloc: Global, from: Option<Host>, line: &[u8]) -> Result<(Ask, Then), LineFault>
     ensures exact { IsJudged result (lists.removing_named from line.now) }
     ensures sent { IfOk result (λ made. CanBeSent made.0) }
@@ -545,7 +546,7 @@ fn named_entry(alloc: Global, from: Option<Host>, line: &[u8]) -> Result<(Ask, T
     }
 }
 
-/// Makes the ask of a line that removes.
+/// Builds the request of a line of `remove`.
 fn removal_entry(alloc: Global, from: Option<Host>, line: &[u8]) -> Result<(Ask, Then), LineFault>
     ensures exact { IsJudged result (lists.removing_entry from line.now) }
     ensures sent { IfOk result (λ made. CanBeSent made.0) }
@@ -556,7 +557,8 @@ fn removal_entry(alloc: Global, from: Option<Host>, line: &[u8]) -> Result<(Ask,
     remove_entry(alloc, from, line)
 }
 
-/// Makes the ask of a line that is kept.
+/// Builds the request of a line of `keep`, after which the registration is refreshed at intervals
+/// of half its lifetime.
 fn keep_entry(alloc: Global, from: Option<Host>, line: &[u8]) -> Result<(Ask, Then), LineFault>
     ensures exact { IsJudged result (lists.keeping_entry from line.now) }
     ensures sent { IfOk result (λ made. CanBeSent made.0) }
@@ -570,7 +572,7 @@ fn keep_entry(alloc: Global, from: Option<Host>, line: &[u8]) -> Result<(Ask, Th
     }
 }
 
-/// Makes the ask of a line that is not passed over, with what is done behind it.
+/// Builds the request of a line that is not ignored, with what happens after it.
 fn asked_read(alloc: Global, order: Order, line: &[u8]) -> Result<(Ask, Then), LineFault>
     ensures exact { IsJudged result (lists.asked order line.now) }
     ensures sent { IfOk result (λ made. CanBeSent made.0) }
@@ -583,7 +585,7 @@ fn asked_read(alloc: Global, order: Order, line: &[u8]) -> Result<(Ask, Then), L
     }
 }
 
-/// Reads a line that is not passed over, by its number.
+/// Reads a line that is not ignored.
 fn line_read(
     alloc: Global,
     order: Order,
@@ -599,11 +601,11 @@ fn line_read(
     }
 }
 
-/// Reads a line, by its number from 1. None: it asks for nothing.
+/// Reads the line with this number, from 1. Returns `None` if the line is ignored.
 ///
 /// # Errors
 ///
-/// `Bad`: the first reason why it is bad. `Starved` may come at any time: out of memory.
+/// `Bad` with the first reason why the line is bad; `Starved` if memory runs out.
 #[tactic(auto, unfolding(crate::specs::Lists::judged))]
 pub(crate) fn entry_read(
     alloc: Global,

@@ -1,4 +1,4 @@
-//! A whole list: the lines of a text, each read, and the directories of which their asks are made.
+//! Reads a whole list, and sorts its requests by directory.
 ghost use Rattle.std.specs.Prelude.{◌≡◌, ◌<◌, ◌≢◌, ◌∷◌, ◌++◌, [], length};
 ghost use Rattle.std.specs.Prelude.{IfOk, IfErr, OnOk, IfSome};
 ghost use Rattle.std.specs.List.{All};
@@ -20,25 +20,24 @@ use trace_text::offset_of;
 /// Why a list was not read.
 #[derive(Clone, Copy, Debug, PartialEq, Eq)]
 pub(crate) enum ListFault {
-    /// The source failed.
+    /// The source could not be read.
     Unread,
-    /// A line is bad.
+    /// The line with this number is bad.
     Bad(u64, LineBad),
     /// Memory ran out.
     Starved,
 }
 
-/// The asks of a list by their directories.
+/// The requests of a list, sorted by directory.
 #[derive(Drop)]
 pub(crate) struct Listed {
-    /// The number of the line of each ask, from 1, in the order of the list.
+    /// The number of the line of each request, from 1, in the order of the list.
     pub(crate) numbers: Vec<u64>,
-    /// The directories, in the order in which the list names them first.
+    /// The directories, in the order in which they first appear in the list.
     pub(crate) directories: Vec<Directory>,
 }
 
-/// Returns the first line of a text that is not empty, without its line feed, and what stands after
-/// it.
+/// Returns the first line of a nonempty text, without its line feed, and the text after it.
 fn first_line(text: &[u8]) -> (&[u8], &[u8])
     requires { text.now ≢ [] }
     ensures lines { lines_of text.now ≡ result.0.now ∷ lines_of result.1.now }
@@ -50,7 +49,7 @@ fn first_line(text: &[u8]) -> (&[u8], &[u8])
     }
 }
 
-/// Appends what a line asks for, if it asks for something.
+/// Appends the request of a line, if it has one.
 fn push_entry(entries: &mut List<Entry>, entry: Option<Entry>) -> Result<(), Starved>
     ensures ok { OnOk result (entries.new ≡ entries.old ++ items_of entry) }
 {
@@ -60,7 +59,7 @@ fn push_entry(entries: &mut List<Entry>, entry: Option<Entry>) -> Result<(), Sta
     }
 }
 
-/// Reads what the lines of a text ask for.
+/// Reads the requests of the lines of a text.
 pub(crate) fn list_read(alloc: Global, order: Order, text: &[u8]) -> Result<List<Entry>, ListFault>
     ensures exact { IsListed result (lists.listed order text.now) }
     ensures sent { IfOk result (All CanEntry) }
@@ -130,7 +129,8 @@ pub(crate) fn entries_of<S: Source>(
 }
 
 impl Listed {
-    /// Returns the place of the directory at an address, which is appended where there is none.
+    /// Returns the index of the directory at an address, and first appends that directory if it is
+    /// missing.
     fn place_of(&mut self, alloc: Global, to: Peer) -> Result<usize, Starved>
         ensures { self.new.numbers ≡ self.old.numbers }
     {
@@ -146,7 +146,7 @@ impl Listed {
         Ok(self.directories.len() - 1)
     }
 
-    /// Appends an ask to those of its directory.
+    /// Appends a request to those of its directory.
     fn push_item(&mut self, alloc: Global, to: Peer, item: Item) -> Result<(), Starved>
         ensures { self.new.numbers ≡ self.old.numbers }
     {
@@ -157,7 +157,7 @@ impl Listed {
         Ok(())
     }
 
-    /// Appends what a line asks for.
+    /// Appends the request of a line.
     fn push(&mut self, alloc: Global, entry: Entry) -> Result<(), Starved>
         requires { CanEntry entry }
         ensures { OnOk result (self.new.numbers.items
@@ -171,11 +171,11 @@ impl Listed {
         Ok(())
     }
 
-    /// Parts what lines ask for by their directories.
+    /// Sorts the requests of lines by directory.
     ///
     /// # Errors
     ///
-    /// `Starved`: out of memory.
+    /// `Starved` if memory runs out.
     pub(crate) fn of(alloc: Global, entries: List<Entry>) -> Result<Listed, Starved>
         requires { All CanEntry entries }
         ensures { IfOk result (λ listed. listed.numbers.items ≡ ends.numbered entries) }

@@ -1,4 +1,4 @@
-//! The asks of a list while they are made.
+//! The requests of a list while they are in progress.
 ghost use Rattle.std.specs.Prelude.{◌≡◌, ◌≤◌, length};
 ghost use Rattle.udp_link.specs.declared.links.TheConstants.{MAX_DATAGRAM};
 ghost use Rattle.install_list.specs.Endings as ends;
@@ -11,25 +11,25 @@ use registrant::TellFault;
 use std::alloc::Global;
 use udp_link::{Came, Clock, Link};
 
-/// What became of an ask of a directory.
+/// The outcome of a request, with its directory.
 #[derive(Drop)]
 pub(crate) struct Outcome {
-    /// The directory.
+    /// The address of the directory.
     pub(crate) to: Peer,
-    /// What became of it.
+    /// The outcome.
     pub(crate) end: End,
 }
 
-/// The asks of a list while they are made.
+/// The requests of a list while they are in progress.
 #[derive(Drop)]
 pub(crate) struct Making {
     identifiers: Identifiers,
     directories: Vec<Directory>,
-    /// What became of each ask and is still to be told, in the order of the list.
+    /// The outcome of each request that is still to be reported, in the order of the list.
     pub(crate) outcomes: Vec<Option<Outcome>>,
 }
 
-/// Takes what became of the ask of a place of a directory.
+/// Handles the outcome of the request at an index of a directory.
 fn settle(
     outcomes: &mut Vec<Option<Outcome>>,
     directory: &mut Directory,
@@ -49,7 +49,7 @@ fn settle(
     }
 }
 
-/// Returns whether the ask of a place of a directory is due.
+/// Returns whether the request at an index of a directory is due.
 fn is_due(directory: &Directory, at: usize, now: Moment) -> bool {
     match directory.items.as_slice().get(at) {
         Some(item) => item.due.0 <= now.0,
@@ -57,7 +57,7 @@ fn is_due(directory: &Directory, at: usize, now: Moment) -> bool {
     }
 }
 
-/// Gives up all that is due of a directory.
+/// Gives up all requests of a directory that are due.
 fn give_up(outcomes: &mut Vec<Option<Outcome>>, directory: &mut Directory, now: Moment) {
     'items: for at in 0..directory.items.len() {
         if is_due(directory, at, now) {
@@ -66,7 +66,8 @@ fn give_up(outcomes: &mut Vec<Option<Outcome>>, directory: &mut Directory, now: 
     }
 }
 
-/// Takes what a step of a directory came to. Where nothing came from it, all else is given up.
+/// Handles the result of a step of a directory. If nothing came from the directory, gives up its
+/// other requests that are due.
 fn take_step(
     outcomes: &mut Vec<Option<Outcome>>,
     directory: &mut Directory,
@@ -83,7 +84,7 @@ fn take_step(
     }
 }
 
-/// Hands a datagram to the directory from which it came.
+/// Passes a datagram to the directory that sent it.
 fn hear_all<L: Link>(
     alloc: Global,
     link: &mut L,
@@ -120,7 +121,7 @@ fn tick_all<L: Link>(
     Ok(())
 }
 
-/// Sends the next ask of each directory, where it is due.
+/// Sends the next request of each directory, if it is due.
 fn begin_each<L: Link, C: Clock>(
     alloc: Global,
     link: &mut L,
@@ -143,7 +144,7 @@ fn received(room: &[u8], size: usize) -> &[u8]
     &room[..size]
 }
 
-/// Returns as many places without an outcome.
+/// Returns a list of `count` missing outcomes.
 fn no_outcomes(alloc: Global, count: usize) -> Result<Vec<Option<Outcome>>, Starved> {
     let mut outcomes = Vec::new(alloc);
     'asks: for _ in 0..count {
@@ -153,11 +154,11 @@ fn no_outcomes(alloc: Global, count: usize) -> Result<Vec<Option<Outcome>>, Star
 }
 
 impl Making {
-    /// Returns a list of so many asks of which nothing is made yet.
+    /// Creates the state of a list of `count` requests, none of which was sent.
     ///
     /// # Errors
     ///
-    /// `Starved`: out of memory.
+    /// `Starved` if memory runs out.
     pub(crate) fn of<C: Clock>(
         alloc: Global,
         clock: &mut C,
@@ -173,7 +174,7 @@ impl Making {
         })
     }
 
-    /// Hears what came, if a datagram did.
+    /// Handles a datagram, if one was received.
     fn hear<L: Link>(
         &mut self,
         alloc: Global,
@@ -196,7 +197,7 @@ impl Making {
         )
     }
 
-    /// Hears what came, and lets time pass.
+    /// Handles a datagram, if one was received, and lets time pass.
     fn take<L: Link>(
         &mut self,
         alloc: Global,
@@ -210,7 +211,7 @@ impl Making {
         tick_all(alloc, link, &mut self.directories, &mut self.outcomes, now)
     }
 
-    /// Sends the next ask of each directory, where it is due.
+    /// Sends the next request of each directory, if it is due.
     fn begin_all<L: Link, C: Clock>(
         &mut self,
         alloc: Global,
@@ -228,11 +229,11 @@ impl Making {
         )
     }
 
-    /// Makes one poll: what is due is sent, and one receive is made. The room has 4,096 octets.
+    /// Sends the requests that are due, and receives once into `room`, which has 4,096 octets.
     ///
     /// # Errors
     ///
-    /// `Link`: a receive failed. `Starved`: out of memory.
+    /// `Link` if a receive failed; `Starved` if memory runs out.
     pub(crate) fn poll<L: Link, C: Clock>(
         &mut self,
         alloc: Global,

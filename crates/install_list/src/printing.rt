@@ -1,4 +1,4 @@
-//! What became of an ask, as a line of output.
+//! The outcome of a request, as a line of output.
 ghost use Rattle.std.specs.Prelude.{◌≡◌, ◌<◌, ◌++◌, OnOk, IfOk, decimal};
 ghost use Rattle.install_list.specs.Printing as printing;
 
@@ -8,7 +8,7 @@ use itoa::write_digits;
 use rd_base::{Bytes, Peer, Starved, Texts, base_of};
 use std::alloc::Global;
 
-/// The digits that a number of 64 bits has at most.
+/// The maximum number of decimal digits of a 64-bit number.
 const DIGITS: usize = 20;
 
 /// Appends the digits of a number.
@@ -20,7 +20,7 @@ fn push_number(into: &mut Bytes, number: u64) -> Result<(), Starved>
     into.append(&digits[start..])
 }
 
-/// Returns a hexadecimal digit of upper case.
+/// Returns a hexadecimal digit in upper case.
 fn digit(value: u8) -> u8
     requires { value < 16 }
     ensures { result ≡ printing.digit value }
@@ -31,14 +31,14 @@ fn digit(value: u8) -> u8
     b'A' + (value - 10)
 }
 
-/// Returns whether an octet stands for itself in a path (RFC 3986 section 2.3).
+/// Returns whether an octet is written in a path as it is (RFC 3986 section 2.3).
 fn is_plain(octet: u8) -> bool
     ensures { result ≡ printing.is_plain octet }
 {
     octet.is_ascii_alphanumeric() || matches!(octet, b'-' | b'.' | b'_' | b'~')
 }
 
-/// Appends an octet of a segment.
+/// Appends an octet of a segment, percent-encoded if need be.
 fn push_octet(into: &mut Bytes, octet: u8) -> Result<(), Starved>
     ensures { OnOk result (into.new ≡ into.old ++ printing.escaped octet) }
 {
@@ -78,7 +78,7 @@ fn push_location(alloc: Global, into: &mut Bytes, to: &Peer, path: &Texts) -> Re
     push_path(into, path)
 }
 
-/// Appends a code, as `4.04` (RFC 7252 section 3).
+/// Appends a code, such as `4.04` (RFC 7252 section 3).
 #[tactic(auto, unfolding(crate::specs::Printing::code_text))]
 fn push_code(into: &mut Bytes, code: u8) -> Result<(), Starved>
     ensures { OnOk result (into.new ≡ into.old ++ printing.code_text code) }
@@ -87,7 +87,7 @@ fn push_code(into: &mut Bytes, code: u8) -> Result<(), Starved>
     into.append(&[b'0' + class, b'.', b'0' + detail / 10, b'0' + detail % 10])
 }
 
-/// Returns what is said of what was done without a location.
+/// Returns the text for a request that succeeded without a location.
 fn done_word(verb: Verb) -> &'static [u8]
     ensures { result.now ≡ printing.done_text verb }
 {
@@ -99,7 +99,7 @@ fn done_word(verb: Verb) -> &'static [u8]
     }
 }
 
-/// Appends a reason with the space before it, where there is one.
+/// Appends a reason with a space before it, unless it is empty.
 fn push_reason(into: &mut Bytes, reason: &[u8]) -> Result<(), Starved>
     ensures { OnOk result (into.new ≡ into.old ++ printing.reason_behind reason.now) }
 {
@@ -119,7 +119,7 @@ fn push_refusal(into: &mut Bytes, code: u8, reason: &Bytes) -> Result<(), Starve
     push_reason(into, reason.as_slice())
 }
 
-/// Appends what became of an ask.
+/// Appends the text of an outcome.
 fn push_end(
     alloc: Global,
     into: &mut Bytes,
@@ -143,11 +143,11 @@ fn push_end(
     }
 }
 
-/// Returns the line of what became of an ask, by the number of its line in the list.
+/// Returns the line of an outcome, which begins with the number of its line in the list.
 ///
 /// # Errors
 ///
-/// `Starved`: out of memory.
+/// `Starved` if memory runs out.
 pub(crate) fn end_line(
     alloc: Global,
     verb: Verb,

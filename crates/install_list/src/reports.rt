@@ -1,4 +1,4 @@
-//! What is said of a status.
+//! The texts of statuses, written to the error sink.
 ghost use Rattle.std.specs.Prelude.{◌≡◌, ◌≤◌, drop, decimal, flat_map};
 ghost use Rattle.install_list.specs.Endings as ends;
 
@@ -6,10 +6,10 @@ use crate::{InstallStatus, LineBad};
 use itoa::write_digits;
 use rd_base::{Sink, write_all};
 
-/// The digits that a number of 64 bits has at most.
+/// The maximum number of decimal digits of a 64-bit number.
 const DIGITS: usize = 20;
 
-/// The name of a reason.
+/// Returns the name of a reason.
 fn reason_name(why: LineBad) -> &'static [u8]
     ensures { result.now ≡ ends.reason_text why }
 {
@@ -23,7 +23,7 @@ fn reason_name(why: LineBad) -> &'static [u8]
     }
 }
 
-/// Writes texts one after the other, up to one that cannot be written.
+/// Writes texts one after the other, or a prefix of them if the sink fails.
 fn say<E: Sink>(err: &mut E, texts: &[&[u8]])
     ensures { ends.Says (E.holds err.old) (E.holds err.new) (E.faults err.old) (E.faults err.new)
         (flat_map (λ text. text.now) texts.now) }
@@ -35,7 +35,7 @@ fn say<E: Sink>(err: &mut E, texts: &[&[u8]])
     }
 }
 
-/// Writes the digits of a number to the end of the octets, and answers where they begin.
+/// Writes the digits of a number to the end of `into`, and returns the index at which they begin.
 fn write_number(number: u64, into: &mut [u8; DIGITS]) -> usize
     ensures digits { drop result into.new ≡ decimal number }
     ensures within { result ≤ 20 }
@@ -43,7 +43,7 @@ fn write_number(number: u64, into: &mut [u8; DIGITS]) -> usize
     write_digits(number, into, DIGITS)
 }
 
-/// Says which line is bad, and why. Takes no memory.
+/// Reports which line is bad, and why. Does not allocate.
 fn say_line<E: Sink>(err: &mut E, line: u64, why: LineBad)
     ensures { ends.Says (E.holds err.old) (E.holds err.new) (E.faults err.old) (E.faults err.new)
         (ends.line_text line why) }
@@ -54,7 +54,7 @@ fn say_line<E: Sink>(err: &mut E, line: u64, why: LineBad)
     say(err, &[b"line ", &digits[start..], b": ", why, b"\n"]);
 }
 
-/// Says a status. Takes no memory.
+/// Reports a status. Does not allocate.
 pub(crate) fn say_status<E: Sink>(err: &mut E, status: InstallStatus)
     ensures { ends.IsReported (E.holds err.old) (E.holds err.new) (E.faults err.old)
         (E.faults err.new) status }
@@ -62,11 +62,11 @@ pub(crate) fn say_status<E: Sink>(err: &mut E, status: InstallStatus)
     match status {
         InstallStatus::Done => {}
         InstallStatus::Undone => {}
-        InstallStatus::Write => say(err, &[b"write failed\n"]),
+        InstallStatus::Write => say(err, &[b"standard output: it cannot be written\n"]),
         InstallStatus::Usage => say(err, &[b"usage: rd_install\n"]),
-        InstallStatus::Unread => say(err, &[b"read failed\n"]),
+        InstallStatus::Unread => say(err, &[b"standard input: it cannot be read\n"]),
         InstallStatus::Line(line, why) => say_line(err, line, why),
-        InstallStatus::Memory => say(err, &[b"memory\n"]),
-        InstallStatus::Link => say(err, &[b"link failed\n"]),
+        InstallStatus::Memory => say(err, &[b"memory: it ran out\n"]),
+        InstallStatus::Link => say(err, &[b"socket: receives fail\n"]),
     }
 }

@@ -1,4 +1,4 @@
-//! Asks that can be sent.
+//! Requests that fit one datagram.
 ghost use Rattle.std.specs.Prelude.{◌≡◌, true, IfOk};
 ghost use Rattle.client_model.specs.Requests.{CanBeSent};
 ghost use Rattle.install_list.specs.Sendable.{can_be_sent};
@@ -8,7 +8,7 @@ use rd_base::Starved;
 use registrant::{ask_again, echoed_ask};
 use std::alloc::Global;
 
-/// An ask that can be sent in one datagram.
+/// A request that can be sent in one datagram.
 #[derive(Debug, Drop)]
 pub(crate) struct Sendable {
     ask: Ask,
@@ -16,7 +16,7 @@ pub(crate) struct Sendable {
 }
 
 impl Sendable {
-    /// Returns an ask as one that can be sent.
+    /// Wraps a request that can be sent.
     #[tactic(auto, using(crate::proofs::SendLaws::sent_test))]
     pub(crate) fn of(ask: Ask) -> Sendable
         requires { CanBeSent ask }
@@ -24,11 +24,11 @@ impl Sendable {
         Sendable { ask }
     }
 
-    /// Copies the ask.
+    /// Copies the request.
     ///
     /// # Errors
     ///
-    /// `Starved`: out of memory.
+    /// `Starved` if memory runs out.
     #[tactic(auto, using(crate::proofs::SendLaws::sent_of))]
     pub(crate) fn again(&self, alloc: Global) -> Result<Ask, Starved>
         ensures { IfOk result CanBeSent }
@@ -36,11 +36,11 @@ impl Sendable {
         ask_again(alloc, &self.ask)
     }
 
-    /// Copies the ask and adds the Echo option of a challenge (RFC 9175 section 2.3).
+    /// Copies the request and adds the Echo option of a challenge (RFC 9175 section 2.3).
     ///
     /// # Errors
     ///
-    /// As those of `echoed_ask`.
+    /// The errors of `echoed_ask`.
     #[tactic(auto, using(crate::proofs::SendLaws::sent_of))]
     pub(crate) fn echoed(&self, alloc: Global, echo: &[u8]) -> Result<Ask, AskBad>
         ensures { IfOk result CanBeSent }

@@ -6,28 +6,28 @@ use crate::LineBad;
 /// How an installation ends, with its exit status.
 #[derive(Clone, Copy, Debug, PartialEq, Eq)]
 pub enum InstallStatus {
-    /// 0: all that the list asks for was done.
+    /// 0: every line of the list succeeded.
     Done,
-    /// 1: some line of it was not.
+    /// 1: some line of the list did not succeed.
     Undone,
-    /// 2: the output failed.
+    /// 2: the output could not be written.
     Write,
-    /// 3: the words are none that the program knows.
+    /// 3: the program does not know these arguments.
     Usage,
     /// 4: the list could not be read.
     Unread,
-    /// 4: a line of the list is bad, by its number from 1.
+    /// 4: the line of the list with this number, from 1, is bad.
     Line(u64, LineBad),
     /// 5: memory ran out.
     Memory,
-    /// 6: a receive of the link failed.
+    /// 6: a receive failed.
     Link,
 }
 
 impl InstallStatus {
     ghost use Rattle.install_list.specs.Endings.{code_of};
 
-    /// The exit status of the program.
+    /// Returns the exit status of the program.
     pub fn code(&self) -> u8
         ensures { result ≡ code_of self.now }
     {

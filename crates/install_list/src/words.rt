@@ -1,4 +1,4 @@
-//! What the words of the command line want.
+//! The arguments of the command line.
 ghost use Rattle.std.specs.Prelude.{◌≡◌, Some, IfOk, map};
 ghost use Rattle.std.specs.String.{string_bytes};
 ghost use Rattle.install_list.specs.Words as spec;
@@ -6,7 +6,7 @@ ghost use Rattle.install_list.specs.Words as spec;
 use rd_base::{Bytes, Host, Starved, peer_read_ascii};
 use std::alloc::Global;
 
-/// What is done with the lines of a list.
+/// What the program does with the lines of a list.
 #[derive(Clone, Copy, Debug, PartialEq, Eq)]
 pub enum Verb {
     /// Registers each device (RFC 9176 section 5).
@@ -19,16 +19,17 @@ pub enum Verb {
     Keep,
 }
 
-/// What the words of the command line want.
+/// The arguments of the command line as they were read.
 #[derive(Clone, Copy, Debug, PartialEq, Eq)]
 pub struct Order {
-    /// What is done with the lines.
+    /// What the program does with the lines.
     pub verb: Verb,
-    /// The address of the machine from which all is sent. None: any, of either family.
+    /// The address of this host from which the program sends, or `None` for all addresses of both
+    /// families.
     pub from: Option<Host>,
 }
 
-/// Returns the verb that a word names.
+/// Returns the verb that an argument names.
 #[tactic(auto, unfolding(crate::specs::Words::verb_of))]
 fn verb_of(word: &[u8]) -> Option<Verb>
     ensures { result ≡ spec.verb_of word.now }
@@ -48,7 +49,7 @@ fn verb_of(word: &[u8]) -> Option<Verb>
     None
 }
 
-/// Reads an address that stands between two other texts (RFC 5952).
+/// Reads the address of the peer that `front`, `text` and `end` spell together (RFC 5952).
 fn host_between(
     alloc: Global,
     front: &[u8],
@@ -76,7 +77,8 @@ fn host_of(alloc: Global, text: &[u8]) -> Result<Option<Host>, Starved>
     }
 }
 
-/// Returns whether an address stands for any of both families (RFC 4291 section 2.5.2).
+/// Returns whether an address is the unspecified address of IPv6 (RFC 4291 section 2.5.2), which
+/// means all addresses of both families.
 #[tactic(auto, unfolding(crate::specs::Words::is_any))]
 fn is_any(host: Host) -> bool
     ensures { result ≡ spec.is_any host }
@@ -87,7 +89,7 @@ fn is_any(host: Host) -> bool
     }
 }
 
-/// Returns the address from which all is sent, or none for the one that stands for any.
+/// Returns the address from which the program sends, or `None` for the unspecified address of IPv6.
 fn from_of(host: Host) -> Option<Host>
     ensures { result ≡ spec.from_of host }
 {
@@ -107,7 +109,7 @@ fn order_any(word: &[u8]) -> Option<Order>
     }
 }
 
-/// Returns the order of a verb with an address from which all is sent.
+/// Returns the order of a verb with an address from which the program sends.
 fn order_from(alloc: Global, address: &[u8], verb: Verb) -> Result<Option<Order>, Starved>
     ensures { IfOk result (λ order. order
         ≡ spec.order_from (Some verb) (spec.host_of address.now)) }
@@ -140,12 +142,14 @@ fn order_by(
     }
 }
 
-/// Reads the words of the command line: `register`, `refresh`, `remove` or `keep`, maybe behind
-/// `--from ADDRESS`. None: they are none of these.
+/// Reads the arguments: `register`, `refresh`, `remove` or `keep`, which may follow
+/// `--from ADDRESS`.
+///
+/// Returns `None` for any other arguments.
 ///
 /// # Errors
 ///
-/// `Starved`: out of memory.
+/// `Starved` if memory runs out.
 pub fn order_of(alloc: Global, words: &[String]) -> Result<Option<Order>, Starved>
     ensures { IfOk result (λ order. order ≡ spec.order_of (map string_bytes words.now)) }
 {

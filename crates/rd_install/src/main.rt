@@ -1,55 +1,64 @@
-//! `rd_install`: registers the devices of a list at directories of a network, refreshes or removes
-//! their registrations, and prints what became of each.
+//! `rd_install`: registers the devices of a list at directories of a network, or refreshes, keeps
+//! or removes their registrations, and prints each outcome.
 #![tactic(auto)]
 
 use hosting::{Crew, HostClock, HostLink, Listener, Origin, Routes};
 use install_list::{InstallStatus, Order, install, order_of};
 use rd_base::{Host, Peer, StdSink, StdSource};
 use std::alloc::AllocGlobal;
-use std::env;
 use std::hash::RandomState;
 use std::io::{ErrorKind, Write};
 use std::process::ExitCode;
 use std::sync::{Mutex, Wait};
+use std::{env, io};
 use udp_link::{Clock, Link};
 
 /// How the program ends.
 #[derive(Clone, Copy, Debug, PartialEq, Eq)]
 enum Ending {
-    /// The list was made, or not, and the call said so.
+    /// The call ended with this status, and has reported it.
     Said(InstallStatus),
-    /// Memory ran out before.
+    /// Memory ran out before the call.
     Memory,
-    /// The words are none that the program knows.
+    /// The program does not know these arguments.
     Usage,
+    /// The address of `--from` is not one of this host.
+    From,
     /// The socket could not be made.
     Socket,
+    /// The system gave no random numbers.
+    Keys,
+    /// The system's monotonic clock could not be read.
+    Clock,
 }
 
 impl Ending {
-    /// The exit status.
+    /// Returns the exit status.
     fn code(self) -> u8 {
         match self {
             Ending::Said(status) => status.code(),
             Ending::Usage => 3,
             Ending::Memory => 5,
-            Ending::Socket => 6,
+            Ending::From | Ending::Socket | Ending::Keys | Ending::Clock => 6,
         }
     }
 
-    /// What is still to be said on standard error.
+    /// Returns what is still to be reported on standard error.
     fn text(self) -> &'static str {
         match self {
             Ending::Said(_) => "",
             Ending::Usage =>
                 "usage: rd_install [--from ADDRESS] register|refresh|remove|keep < LIST\n",
-            Ending::Memory => "memory\n",
-            Ending::Socket => "socket\n",
+            Ending::Memory => "memory: it ran out\n",
+            Ending::From => "--from: not an address of this machine\n",
+            Ending::Socket => "socket: the system refuses it\n",
+            Ending::Keys => "random numbers: the system gives none\n",
+            Ending::Clock => "clock: the monotonic clock cannot be read\n",
         }
     }
 }
 
-/// The words of the command line, without the program's name.
+/// Returns the arguments of the command line, without the program's name.
 fn words_of(rt: &HostRuntime) -> Result<Vec<String>, Ending> {
     let mut args = match env::args(rt) {
         Ok(args) => args,
@@ -60,7 +69,7 @@ fn words_of(rt: &HostRuntime) -> Result<Vec<String>, Ending> {
     args.collect(rt.alloc()).map_err(|_| Ending::Memory)
 }
 
-/// What the words of the command line want.
+/// Reads the arguments of the command line.
 fn wanted(rt: &HostRuntime) -> Result<Order, Ending> {
     let words = words_of(rt)?;
     match order_of(rt.alloc(), words.as_slice()) {
@@ -70,36 +79,36 @@ fn wanted(rt: &HostRuntime) -> Result<Order, Ending> {
     }
 }
 
-/// A socket at an address of the machine, at a port that the system picks.
-fn listener_at(rt: &HostRuntime, host: Host) -> Option<Listener> {
-    Listener::bind(rt, rt.alloc(), Peer { host, port: 0 }).ok()
-}
-
-/// A socket at all addresses of the machine, of both families where it has IPv6, with the address
-/// that stands for those of the one family where it has not.
-fn listener_at_all(rt: &HostRuntime) -> (Option<Listener>, Option<Host>) {
-    match listener_at(rt, Host::V6([0; 8])) {
-        Some(listener) => (Some(listener), None),
-        None => {
-            let any = Host::V4([0; 4]);
-            (listener_at(rt, any), Some(any))
-        }
+/// Returns how the program ends if the system refuses its socket.
+fn refused(fault: &io::Error) -> Ending {
+    match fault.kind() {
+        ErrorKind::AddrNotAvailable => Ending::From,
+        ErrorKind::OutOfMemory => Ending::Memory,
+        _ => Ending::Socket,
     }
 }
 
-/// The socket from which all is sent, with its address, where it is of one family.
+/// Returns a socket at an address of this host, at a port that the system chooses.
+fn listener_at(rt: &HostRuntime, host: Host) -> Result<Listener, Ending> {
+    Listener::bind(rt, rt.alloc(), Peer { host, port: 0 }).map_err(|fault| refused(&fault))
+}
+
+/// Returns the socket from which the program sends, and its address if it is of one family.
+///
+/// If no address is given, the socket is at all addresses of this host: of both families if the
+/// host has IPv6, and otherwise of IPv4.
 fn listener_of(rt: &HostRuntime, from: Option<Host>) -> Result<(Listener, Option<Host>), Ending> {
-    let (listener, from) = match from {
-        Some(host) => (listener_at(rt, host), from),
-        None => listener_at_all(rt),
-    };
-    match listener {
-        Some(listener) => Ok((listener, from)),
-        None => Err(Ending::Socket),
+    if let Some(host) = from {
+        return Ok((listener_at(rt, host)?, from));
     }
+    if let Ok(listener) = listener_at(rt, Host::V6([0; 8])) {
+        return Ok((listener, None));
+    }
+    let any = Host::V4([0; 4]);
+    Ok((listener_at(rt, any)?, Some(any)))
 }
 
-/// What the link and the clock of the program stand on.
+/// The resources of the link and the clock of the program.
 #[derive(Drop)]
 struct Ground {
     listeners: [Listener; 1],
@@ -111,7 +120,7 @@ struct Ground {
 /// The link and the clock of the program.
 type Ends<'a> = (HostLink<'a, HostRuntime>, HostClock<'a, HostRuntime>);
 
-/// The link and the clock of the program over what they stand on.
+/// Returns the link and the clock of the program over their resources.
 fn ends_over<'a>(rt: &'a HostRuntime, ground: &'a Ground) -> Result<Ends<'a>, Ending> {
     let Ground {
         listeners,
@@ -123,18 +132,18 @@ fn ends_over<'a>(rt: &'a HostRuntime, ground: &'a Ground) -> Result<Ends<'a>, En
         return Err(Ending::Memory);
     };
     let Ok(clock) = HostClock::seeded(rt, origin) else {
-        return Err(Ending::Socket);
+        return Err(Ending::Keys);
     };
     Ok((link, clock))
 }
 
-/// What the link and the clock over a socket stand on.
+/// Returns the resources of a link over a socket, and of a clock.
 fn ground_of(rt: &HostRuntime, listener: Listener) -> Result<Ground, Ending> {
     let Ok(origin) = Origin::read(rt) else {
-        return Err(Ending::Socket);
+        return Err(Ending::Clock);
     };
     let Ok(keys) = RandomState::new(rt) else {
-        return Err(Ending::Socket);
+        return Err(Ending::Keys);
     };
     let Ok(routes) = Routes::new(rt.alloc(), keys) else {
         return Err(Ending::Memory);
@@ -147,7 +156,7 @@ fn ground_of(rt: &HostRuntime, listener: Listener) -> Result<Ground, Ending> {
     })
 }
 
-/// Does what an order wants over a link.
+/// Does what the arguments say, over a link.
 fn install_over<R: Wait + AllocGlobal, L: Link + Drop, C: Clock + Drop>(
     rt: &HostRuntime,
     handles: &R,
@@ -169,7 +178,7 @@ fn install_over<R: Wait + AllocGlobal, L: Link + Drop, C: Clock + Drop>(
     )
 }
 
-/// Says what is still to be said of an ending, and gives its exit status.
+/// Reports how the program ends, unless that was reported before, and returns its exit status.
 fn exit(rt: &HostRuntime, ending: Ending) -> ExitCode {
     let _ = rt.stderr().write_all(ending.text().as_bytes());
     ExitCode::from(ending.code())

@@ -5,7 +5,7 @@ use Rattle.install_list.specs.Lists.{CanEntry, entries_from, listed}
 use Rattle.install_list.proofs.ListLaws.{in_front}
 use Rattle.install_list.proofs.listing.list_read.Given as goal
 
--- what the lines so far ask for stands in front of what the others ask for
+-- the entries so far, followed by those of the remaining lines, are the entries of the text
 abbrev pub invariant-lines : goal.invariant-lines
 invariant-lines l = record {
   judged :

@@ -4,7 +4,7 @@ use Rattle.install_list.specs.Lists.{CanEntry}
 use Rattle.install_list.specs.Endings.{numbered}
 use Rattle.install_list.proofs.listing.Listed.of.Given as goal
 
--- the numbers so far stand in front of those that are left
+-- the numbers so far, followed by those of the remaining entries, are the numbers of all entries
 abbrev pub invariant-entries : goal.invariant-entries
 invariant-entries l = record {
   sent : All CanEntry l.left;
