@@ -19,8 +19,9 @@ use Rattle.std.proofs.Common.{
   ◌∙◌,
   subst,
 }
-use Rattle.std.specs.Prelude.{Bool, IsUtf8}
+use Rattle.std.specs.Prelude.{Bool, not, bytes_eq, IsUtf8}
 use Rattle.std.specs.List.{list_all}
+use Rattle.std.proofs.lemmas.Slice.Eq.{bytes_eq-Decides}
 use Rattle.rd_base.specs.declared.records.Item.{Item}
 use Rattle.rd_base.specs.declared.records.Record.{Record}
 use Rattle.rd_base.specs.declared.submitted_links.SubmittedLink.{SubmittedLink}
@@ -54,6 +55,17 @@ use Rattle.registration.specs.Submissions.{all_submitted, AreOfBody, IsOfBody}
 use Rattle.registration.proofs.DraftLaws.{same_references, references_so}
 use Rattle.registration.proofs.RewrittenLaws.{source_reads}
 use Rattle.registration.proofs.SubmissionLaws.{against_submitted}
+
+-- octets of which a test says that they do not differ
+pub same_octets : (xs ys : List ℕ) (differ : Bool)
+    → differ ≡ not (bytes_eq xs ys)
+    → differ ≡ false
+    → xs ≡ ys
+same_octets xs ys differ is off = (bytes_eq-Decides xs ys).0 (by (bytes_eq xs ys) (sym is ∙ off))
+  where
+    by : (b : Bool) → not b ≡ false → b ≡ true
+    by true h = refl
+    by false h = cc
 
 -- the links of a body, of which all targets and anchors are references
 abbrev referring : Option (List SubmittedLink) → Option (List SubmittedLink)

@@ -21,7 +21,10 @@ use Rattle.std.proofs.Common.{
   ap,
   ap₂,
   ◌∙◌,
+  subst,
 }
+use Rattle.std.specs.Prelude.{Result, Ok, Err, IfOk}
+use Rattle.rd_base.specs.declared.out_of_memory.Starved.{Starved}
 use Rattle.rd_base.specs.declared.records.Item.{Item}
 use Rattle.rd_base.specs.declared.submitted_links.SubmittedLink.{SubmittedLink}
 use Rattle.ref_resolve.specs.ComponentsOfParts.{is_without_query}
@@ -118,6 +121,13 @@ of_body-rebased base items h = record {
       ∙ ap (λ (links : List SubmittedLink). Some links) (sym (all_submitted-rebased base items));
   limited = h.limited;
 }
+
+pub of_body-result : (base : List ℕ) (items : List Item) (made : Result (List Item) Starved)
+    → AreOfBody items
+    → IfOk made (λ new. new ≡ map (rebased base) items)
+    → IfOk made AreOfBody
+of_body-result base items (Ok new) h same = subst AreOfBody (sym same) (of_body-rebased base items h)
+of_body-result base items (Err starved) h same = tt
 
 -- the links of a body that was read against any base, and is not refused
 pub of_body-read : (base body : List ℕ) (items : List Item)
