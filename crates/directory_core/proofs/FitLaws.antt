@@ -52,7 +52,12 @@ use Rattle.record_model.specs.AllowedParameters.{IsAllowedLifetime, IsAllowedCha
 use Rattle.record_model.specs.Records.{registered, updated}
 use Rattle.registration.specs.declared.drafts.Draft.{Draft}
 use Rattle.registration.specs.Drafts.{IsDraft, drafted, recorded}
-use Rattle.registration.proofs.DraftLaws.{draft_base, draft_lifetime, draft_references}
+use Rattle.registration.proofs.DraftLaws.{
+  draft_base,
+  draft_lifetime,
+  draft_references,
+  draft_of_body,
+}
 use Rattle.history_model.specs.declared.entries.Change.{Change}
 use Rattle.history_model.specs.declared.entries.Change.TheVariants as change
 use Rattle.history_model.specs.declared.entries.Entry.{Entry}
@@ -106,6 +111,7 @@ draft_sound draft h = let lt = draft_lifetime draft h in record {
   lasting = (lt.lasting, lt.small);
   references = draft_references draft h;
   against = draft_against draft h;
+  of_body = draft_of_body draft h;
   base = draft_base draft h;
 }
 

@@ -43,6 +43,7 @@ use Rattle.rd_base.proofs.lemmas.Pairs.{PairsByRecursion, pairs_filter, pairs_pu
 use Rattle.record_model.specs.ListingLines.{weight}
 use Rattle.record_model.specs.Parameters.{is_base}
 use Rattle.registration.specs.Drafts.{has_references}
+use Rattle.registration.specs.Submissions.{AreOfBody}
 use Rattle.history_model.specs.Leases.{lapse, is_live_at, live_among}
 use Rattle.history_model.specs.Refusals.{max_registrations, max_text, max_entries, text_of}
 use Rattle.history_model.specs.Replay.{is_numbered, numbered}
@@ -135,6 +136,7 @@ stored_on v w r a b c s =
       lasting = s.lasting;
       references = s.references;
       against = s.against;
+      of_body = s.of_body;
       base = s.base;
     }
 
@@ -147,6 +149,7 @@ pub record IsMade (now : ℕ) (r : Record) : Type 0 where
   pub lasting : (0 < r.lt) × (r.lt < 2 ^ 32)
   pub references : list_all has_references r.items ≡ true
   pub against : AreAgainst r.base r.items
+  pub of_body : AreOfBody r.items
   pub base : is_base r.base ≡ true
 
 pub made_live : (now moment : ℕ) (r : Record)
@@ -172,6 +175,7 @@ made_stored w r m order low high =
       lasting = m.lasting;
       references = m.references;
       against = m.against;
+      of_body = m.of_body;
       base = m.base;
     }
 

@@ -90,6 +90,7 @@ record_made number now granted draft began lapses sound = record {
   lasting = sound.lasting;
   references = sound.references;
   against = sound.against;
+  of_body = sound.of_body;
   base = sound.base;
 }
 

@@ -326,6 +326,7 @@ kept_swept v names leases count sum now counted k after_at after_swept counts re
                 s.lasting;
             references = s.references;
             against = s.against;
+            of_body = s.of_body;
             base = s.base;
           })
           (live_among now v.records) (each_filter (IsStored v) (is_live_at now) v.records k.stored)

@@ -24,6 +24,7 @@ use Rattle.history_model.specs.Replay.{is_numbered, with_changed}
 use Rattle.history_model.specs.Versions.{Version}
 use Rattle.registration.specs.declared.drafts.Draft.{Draft}
 use Rattle.registration.specs.Drafts.{has_references}
+use Rattle.registration.specs.Submissions.{AreOfBody}
 use Rattle.registration.specs.Weights.{capped}
 use Rattle.directory_core.specs.declared.refusals.Refusal.{Refusal}
 use Rattle.directory_core.specs.declared.refusals.Refusal.TheVariants as answer
@@ -65,6 +66,7 @@ pub record IsSound (draft : Draft) : Type 0 where
   pub lasting : (0 < draft.lt) × (draft.lt < 2 ^ 32)
   pub references : list_all has_references draft.items ≡ true
   pub against : AreAgainst draft.base draft.items
+  pub of_body : AreOfBody draft.items
   pub base : is_base draft.base ≡ true
 
 -- States that the result fits this much text and this count of entries. If the text is allowed and

@@ -10,6 +10,7 @@ use Rattle.history_model.specs.Refusals.{max_registrations, max_text, max_entrie
 use Rattle.history_model.specs.Versions.{Version}
 use Rattle.lease_queue.specs.declared.leases.Lease.{Lease}
 use Rattle.registration.specs.Drafts.{has_references}
+use Rattle.registration.specs.Submissions.{AreOfBody}
 use Rattle.directory_core.specs.declared.names.NameSlot.{NameSlot}
 use Rattle.directory_core.specs.LapseOrder.{in_order_of_lapse}
 use Rattle.directory_core.specs.LinksAgainst.{AreAgainst}
@@ -28,6 +29,7 @@ pub record IsStored (v : Version) (r : Record) : Type 0 where
   pub lasting : (0 < r.lt) × (r.lt < 2 ^ 32)
   pub references : list_all has_references r.items ≡ true
   pub against : AreAgainst r.base r.items
+  pub of_body : AreOfBody r.items
   pub base : is_base r.base ≡ true
 
 -- Returns the lease of a record.

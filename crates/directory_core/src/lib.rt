@@ -6,6 +6,7 @@ mod begin;
 mod boards;
 mod counts;
 mod directory;
+mod drafts;
 mod index;
 mod lapsing_iter;
 mod links_after;

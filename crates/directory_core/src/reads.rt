@@ -130,6 +130,7 @@ impl Directory {
             kept.now) }
         ensures live { IfSome result (λ kept. is_live_at now.0 kept.now ≡ true) }
         ensures named { IfSome result (λ kept. kept.now.name ≡ name.now) }
+        ensures sound { IfSome result (λ kept. shown.IsStored self.now kept.now) }
     {
         first_of_name::<Brand>(
             Blank::new(1),

@@ -9,6 +9,7 @@ ghost use Rattle.record_model.specs.Bases as bases;
 ghost use Rattle.record_model.specs.Parameters.{is_base};
 ghost use Rattle.record_model.specs.Records as records;
 ghost use Rattle.registration.specs.Drafts.{has_references, recorded};
+ghost use Rattle.registration.specs.Submissions.{AreOfBody};
 ghost use Rattle.directory_core.specs.AfterEntries.{IsSound};
 ghost use Rattle.directory_core.specs.LinksAgainst.{AreAfter, AreAgainst};
 ghost use Rattle.directory_core.specs.declared.links_after.LinksAfter.TheVariants as after;
@@ -89,10 +90,12 @@ fn attributes_after(alloc: Global, given: Pairs, old: &Pairs) -> Result<Pairs, S
 fn items_against(alloc: Global, old: &Record, base: &Text) -> Result<(Items, LinksAfter), Starved>
     requires references { list_all has_references old.now.items ≡ true }
     requires against { AreAgainst old.now.base old.now.items }
+    requires of_body { AreOfBody old.now.items }
     requires base { is_base base.now ≡ true }
     ensures items { IfOk result (λ made. made.0 ≡ map (records.rebased base.now) old.now.items) }
     ensures references { IfOk result (λ made. list_all has_references made.0 ≡ true) }
     ensures against { IfOk result (λ made. AreAgainst base.now made.0) }
+    ensures of_body { IfOk result (λ made. AreOfBody made.0) }
     ensures links { IfOk result (λ made. AreAfter made.1 old.now.items made.0) }
     ensures kept { IfOk result (λ made. base.now ≡ old.now.base → made.1 ≡ after.Kept) }
 {
@@ -122,6 +125,7 @@ pub(crate) fn updated_draft(
     requires lasting { (0 < old.now.lt) × (old.now.lt < 2 ^ 32) }
     requires references { list_all has_references old.now.items ≡ true }
     requires against { AreAgainst old.now.base old.now.items }
+    requires of_body { AreOfBody old.now.items }
     requires base { is_base old.now.base ≡ true }
     ensures made { IfOk result (λ made. (now : Moment)
         → recorded old.now.number now made.0 ≡ records.updated now peer change old.now) }

@@ -39,6 +39,8 @@ use Rattle.record_model.proofs.BodyLaws.{body_fault-limited}
 use Rattle.record_model.proofs.PeerBases.{is_base-base_of}
 use Rattle.registration.specs.declared.drafts.Draft.{Draft}
 use Rattle.registration.specs.Drafts.{IsDraft, drafted, has_references}
+use Rattle.registration.specs.Submissions.{all_submitted, AreOfBody}
+use Rattle.registration.proofs.SubmissionLaws.{submitted_items}
 
 -- a body without a fault is not refused as limited
 pub not_limited : (body : List ℕ) → body_fault body ≡ None → is_refused_as_limited body ≡ false
@@ -89,7 +91,7 @@ pub draft_lifetime : (draft : Draft) → IsDraft draft → IsAllowedLifetime dra
 unfolding drafted
 draft_lifetime draft h = subst (λ (d : Draft). IsAllowedLifetime d.lt) (sym h.made) h.allowed.lt
 
-same_references : (base : List ℕ) (links : List SubmittedLink)
+pub same_references : (base : List ℕ) (links : List SubmittedLink)
     → list_all has_references (items_of base links) ≡ list_all bodies.has_references links
 unfolding item_of
 same_references base [] = refl
@@ -112,7 +114,7 @@ linked_so : (submitted : Option (List SubmittedLink)) (links : List SubmittedLin
 linked_so None links h = cc
 linked_so (Some all) links h = all_taken (list_all bodies.has_references all) all links refl h
 
-references_so : (body : List ℕ) (links : List SubmittedLink)
+pub references_so : (body : List ℕ) (links : List SubmittedLink)
     → linked_references body ≡ Some links
     → list_all bodies.has_references links ≡ true
 unfolding linked_references
@@ -125,3 +127,16 @@ draft_references draft h =
     ap (λ (d : Draft). list_all has_references d.items) h.made
     ∙ same_references (registered_base h.params.base h.peer) h.links
     ∙ references_so h.body h.links h.read
+
+-- its links are those of a body that is not refused
+pub draft_of_body : (draft : Draft) → IsDraft draft → AreOfBody draft.items
+unfolding drafted
+draft_of_body draft h = record {
+  body = h.body;
+  read =
+      h.read
+      ∙ ap (λ (links : List SubmittedLink). Some links)
+      (sym (ap (λ (d : Draft). all_submitted d.items) h.made
+      ∙ submitted_items (registered_base h.params.base h.peer) h.links));
+  limited = h.limited;
+}

@@ -21,7 +21,10 @@ use Rattle.std.proofs.Common.{
   ap,
   ap₂,
   ◌∙◌,
+  subst,
 }
+use Rattle.std.specs.Prelude.{Result, Ok, Err, IfOk}
+use Rattle.rd_base.specs.declared.out_of_memory.Starved.{Starved}
 use Rattle.rd_base.specs.declared.records.Item.{Item}
 use Rattle.rd_base.specs.declared.submitted_links.SubmittedLink.{SubmittedLink}
 use Rattle.ref_resolve.specs.ComponentsOfParts.{is_without_query}
@@ -29,7 +32,9 @@ use Rattle.reference_model.specs.References.{Components, host, reference}
 use Rattle.reference_model.proofs.OnLiterals.{reference_on_literals}
 use Rattle.record_model.specs.Parameters.{has_host, is_base, is_base_of}
 use Rattle.record_model.specs.Records.{item_of, items_of, rebased}
-use Rattle.registration.specs.Submissions.{submitted_of, all_submitted}
+use Rattle.record_model.specs.Bodies.{linked_references}
+use Rattle.record_model.specs.Refusals.{is_refused_as_limited}
+use Rattle.registration.specs.Submissions.{submitted_of, all_submitted, AreOfBody}
 
 -- ---- what bases are
 
@@ -90,3 +95,47 @@ submitted_body base (Some links) items h =
     let same : items_of base links ≡ items = cc in
     ap (λ (ls : List SubmittedLink). Some ls)
     (sym (submitted_items base links) ∙ ap all_submitted same)
+
+-- ---- links of a body
+
+rebased_submitted : (base : List ℕ) (item : Item) → submitted_of (rebased base item) ≡ submitted_of item
+unfolding rebased
+rebased_submitted base item = refl
+
+-- resolved against another base, links are submitted as they were
+pub all_submitted-rebased : (base : List ℕ) (items : List Item)
+    → all_submitted (map (rebased base) items) ≡ all_submitted items
+all_submitted-rebased base [] = refl
+all_submitted-rebased base (item ∷ items) =
+    ap₂ (λ (x : SubmittedLink) (xs : List SubmittedLink). x ∷ xs) (rebased_submitted base item)
+    (all_submitted-rebased base items)
+
+-- and are of a body where they were
+pub of_body-rebased : (base : List ℕ) (items : List Item)
+    → AreOfBody items
+    → AreOfBody (map (rebased base) items)
+of_body-rebased base items h = record {
+  body = h.body;
+  read =
+      h.read
+      ∙ ap (λ (links : List SubmittedLink). Some links) (sym (all_submitted-rebased base items));
+  limited = h.limited;
+}
+
+pub of_body-result : (base : List ℕ) (items : List Item) (made : Result (List Item) Starved)
+    → AreOfBody items
+    → IfOk made (λ new. new ≡ map (rebased base) items)
+    → IfOk made AreOfBody
+of_body-result base items (Ok new) h same = subst AreOfBody (sym same) (of_body-rebased base items h)
+of_body-result base items (Err starved) h same = tt
+
+-- the links of a body that was read against any base, and is not refused
+pub of_body-read : (base body : List ℕ) (items : List Item)
+    → option_map (items_of base) (linked_references body) ≡ Some items
+    → is_refused_as_limited body ≡ false
+    → AreOfBody items
+of_body-read base body items read limited = record {
+  body = body;
+  read = submitted_body base (linked_references body) items read;
+  limited = limited;
+}

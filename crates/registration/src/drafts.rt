@@ -15,12 +15,13 @@ ghost use Rattle.record_model.specs.Refusals.{is_refused_as_limited};
 ghost use Rattle.ref_resolve.specs.ComponentsOfParts.{is_without_query};
 ghost use Rattle.reference_model.specs.References.{reference};
 ghost use Rattle.registration.specs.Drafts.{IsDraft, IsFaultOf, drafted, has_references, recorded};
-ghost use Rattle.registration.specs.Links.{BodyReads};
+ghost use Rattle.registration.specs.Links.{BodyReads, IsBody};
+ghost use Rattle.registration.specs.Submissions.{IsOfBody};
 
 use crate::links::read_links;
 use crate::submissions::Submitted;
 use link_format::{LinkBad, check};
-use rd_base::{Items, LinksBuilder, Name, Pairs, Peer, RegParams, Starved, Text, base_of};
+use rd_base::{Items, LinksBuilder, Name, Pairs, Peer, Record, RegParams, Starved, Text, base_of};
 use ref_resolve::parts_without_query;
 use std::alloc::{AllocFailed, Global};
 
@@ -111,6 +112,109 @@ fn items_of(alloc: Global, base: &str, body: &[u8]) -> Result<Items, DraftFault>
     }
 }
 
+/// The links of a record, shared, where it has this base and this body is their source; they are the
+/// links of the body then. An error is running out of memory.
+fn shared(stored: &Record, base: &Text, body: &[u8]) -> Result<Option<Items>, Starved>
+    requires { IsOfBody stored.now }
+    ensures { IfOk result (λ items. IfSome items (IsBody base.now body.now)) }
+{
+    if stored.base != *base {
+        return Ok(None);
+    }
+    if stored.items.source().as_bytes() != body {
+        return Ok(None);
+    }
+    let items = stored.items.share()?;
+    Ok(Some(items))
+}
+
+/// The links of a body against a base, or its first fault. They are shared with a record that has
+/// the base and the body.
+fn items_again(
+    alloc: Global,
+    base: &Text,
+    body: &[u8],
+    stored: &Record,
+) -> Result<Items, DraftFault>
+    requires base { is_base base.now ≡ true }
+    requires stored { IsOfBody stored.now }
+    ensures { BodyReads base.now body.now result }
+{
+    match shared(stored, base, body)? {
+        Some(items) => Ok(items),
+        None => items_of(alloc, base.as_str(), body),
+    }
+}
+
+/// The links of a body against a base, or its first fault. They are shared with the record, where
+/// there is one, if it has the base and the body.
+fn items_sharing(
+    alloc: Global,
+    base: &Text,
+    body: &[u8],
+    stored: Option<&Record>,
+) -> Result<Items, DraftFault>
+    requires base { is_base base.now ≡ true }
+    requires stored { IfSome stored (λ old. IsOfBody old.now) }
+    ensures { BodyReads base.now body.now result }
+{
+    match stored {
+        Some(stored) => items_again(alloc, base, body, stored),
+        None => items_of(alloc, base.as_str(), body),
+    }
+}
+
+/// The draft that [`build`](crate::build) gives. If this record has the base of the draft, and the
+/// body is the source of its links, their links are the same, and the draft shares those of the
+/// record in place of reading the body. The links of the record are those of a body that is not
+/// refused, against its base.
+///
+/// # Errors
+///
+/// Those of [`build`](crate::build): `Links` exactly where the body is no link document; else
+/// `Reference` exactly where a target or an anchor is no URI-reference; else `Limited` exactly
+/// where a link without a scheme in its target has one in its anchor. `Starved` may come instead of
+/// each, and leaves nothing.
+pub fn build_sharing(
+    alloc: Global,
+    params: RegParams,
+    peer: Peer,
+    body: &[u8],
+    stored: Option<&Record>,
+) -> Result<Draft, DraftFault>
+    requires base { IfSome params.base (λ base. is_base base ≡ true) }
+    requires stored { IfSome stored (λ old. IsOfBody old.now) }
+    ensures draft { IfOk result (λ draft. option_map (drafted peer params)
+        (linked_references body.now) ≡ Some draft) }
+    ensures record_of { (number : ℕ) (now : Moment)
+        → IfOk result (λ draft. option_map (registered number now peer params)
+        (linked_references body.now) ≡ Some (recorded number now draft)) }
+    ensures good { IfOk result (λ draft. body_fault body.now ≡ None) }
+    ensures limited { OnOk result (is_refused_as_limited body.now ≡ false) }
+    ensures is_draft { AreAllowed params → IfOk result IsDraft }
+    ensures base { IfOk result (λ draft. is_base draft.base ≡ true) }
+    ensures references { IfOk result (λ draft. list_all has_references draft.items ≡ true) }
+    ensures refused { IfErr result (λ fault. IsFaultOf body.now fault) }
+{
+    let RegParams {
+        name,
+        lt,
+        base,
+        attrs,
+    } = params;
+    let base_given = base.is_some();
+    let base = registered_base(alloc, base, peer)?;
+    let items = items_sharing(alloc, &base, body, stored)?;
+    Ok(Draft {
+        name,
+        lt,
+        base,
+        base_given,
+        attrs,
+        items,
+    })
+}
+
 /// The draft of a registration (RFC 9176 section 5): its links against its base, which is the one
 /// that is given, else that of the peer. A target or an anchor with a scheme stays as it was
 /// written; any other one is resolved (RFC 3986 section 5.2). The base of the parameters is one
@@ -136,23 +240,7 @@ pub fn build(alloc: Global, params: RegParams, peer: Peer, body: &[u8]) -> Resul
     ensures references { IfOk result (λ draft. list_all has_references draft.items ≡ true) }
     ensures refused { IfErr result (λ fault. IsFaultOf body.now fault) }
 {
-    let RegParams {
-        name,
-        lt,
-        base,
-        attrs,
-    } = params;
-    let base_given = base.is_some();
-    let base = registered_base(alloc, base, peer)?;
-    let items = items_of(alloc, base.as_str(), body)?;
-    Ok(Draft {
-        name,
-        lt,
-        base,
-        base_given,
-        attrs,
-        items,
-    })
+    build_sharing(alloc, params, peer, body, None)
 }
 
 /// The links of a body, before there is a base.

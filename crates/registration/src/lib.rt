@@ -10,7 +10,7 @@ mod references;
 mod submissions;
 mod weights;
 
-pub use drafts::{Draft, DraftFault, build, submitted};
+pub use drafts::{Draft, DraftFault, build, build_sharing, submitted};
 pub use other_bases::rebased;
 pub use submissions::Submitted;
 pub use weights::weight;

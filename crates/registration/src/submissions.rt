@@ -4,7 +4,7 @@ ghost use Rattle.std.specs.List.{list_all};
 ghost use Rattle.record_model.specs.Parameters.{is_base};
 ghost use Rattle.record_model.specs.Records as records;
 ghost use Rattle.registration.specs.Drafts.{has_references};
-ghost use Rattle.registration.specs.Submissions.{all_submitted};
+ghost use Rattle.registration.specs.Submissions.{all_submitted, AreOfBody};
 
 use crate::other_bases::rebased;
 use rd_base::{Items, Starved, Text};
@@ -24,19 +24,20 @@ impl Model for Submitted {
     ghost use Rattle.std.specs.List.{list_all};
     ghost use Rattle.rd_base.specs.declared.submitted_links.SubmittedLink.{SubmittedLink};
     ghost use Rattle.registration.specs.Drafts.{has_references};
-    ghost use Rattle.registration.specs.Submissions.{all_submitted};
+    ghost use Rattle.registration.specs.Submissions.{all_submitted, AreOfBody};
 
     ghost Value = { List SubmittedLink };
 
     ghost view = { λ s. all_submitted s.items };
 
-    ghost invariant = { λ s. list_all has_references s.items ≡ true };
+    ghost invariant = { λ s. (list_all has_references s.items ≡ true) × AreOfBody s.items };
 }
 
 impl Submitted {
     /// The links of a body without a fault, which were read against any base.
     pub(crate) fn of(items: Items) -> Submitted
-        requires { list_all has_references items ≡ true }
+        requires references { list_all has_references items ≡ true }
+        requires of_body { AreOfBody items }
         ensures { result ≡ all_submitted items }
     {
         Submitted { items }
@@ -49,6 +50,7 @@ impl Submitted {
         requires base { is_base base.now ≡ true }
         ensures items { IfOk result (λ items. items ≡ records.items_of base.now self.now) }
         ensures references { IfOk result (λ items. list_all has_references items ≡ true) }
+        ensures of_body { IfOk result AreOfBody }
     {
         rebased(alloc, &self.items, base)
     }

@@ -35,7 +35,7 @@ use message_model::codes::{
 };
 use observation::ChangeKind;
 use rd_base::{Moment, Peer, RegParams, Starved, UpdateParams};
-use registration::{Draft, DraftFault, Submitted, build, submitted};
+use registration::{Draft, DraftFault, Submitted, submitted};
 use std::alloc::Global;
 use std::sync::Arc;
 
@@ -235,7 +235,7 @@ pub(crate) fn registered(
         → IfOk result (IsPlanned history version.now.swept further
         (registration history now.0 s params body.now (block1_options block1) further)) }
 {
-    match build(alloc, params, peer, body) {
+    match version.draft(now, params, peer, body) {
         Ok(draft) => draft_registered(alloc, version, now, draft, block1),
         Err(fault) => refused_body(fault),
     }

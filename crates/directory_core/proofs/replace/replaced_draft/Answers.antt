@@ -15,5 +15,6 @@ returns-clause-sound c =
           (sym c.in_ok-base.ensures.cases)
           (subst (AreAgainst old.base) (sym c.in_ok-items.ensures.items)
           (against_made old.base c.args.links.now));
+      of_body = c.in_ok-items.ensures.of_body;
       base = ap (λ (base : List ℕ). is_base base) c.in_ok-base.ensures.cases ∙ c.requires.base;
     }

@@ -5,7 +5,8 @@ use Rattle.history_model.specs.Leases.{is_live_at}
 use Rattle.history_model.specs.Replay.{is_live_named, numbered}
 use Rattle.history_model.specs.Versions.{Version}
 use Rattle.directory_core.specs.NameSlots.{hash_of, numbers_of_hash, first_live_named}
-use Rattle.directory_core.specs.Shown.{IsKept}
+use Rattle.directory_core.specs.Shown.{IsStored, IsKept}
+use Rattle.directory_core.proofs.ChangeLaws.{known_of}
 use Rattle.directory_core.proofs.SlotLaws.{first-slots}
 use Rattle.directory_core.proofs.FitLaws.{named_found, some_so}
 use Rattle.directory_core.proofs.directory.Directory.live_named.Goals as goal
@@ -69,3 +70,19 @@ returns-clause-named c =
     (λ r found.
     (named_found c.args.name.now c.args.now.0 r v.records kept.rising
     (sym value ∙ found)).2)
+
+pub returns-clause-sound : goal.returns-clause-sound
+returns-clause-sound c =
+    let v = c.args.self.now in
+    let i = c.self.inside in
+    let kept : IsKept v i.names i.leases i.live i.text =
+    subst (λ w. IsKept w i.names i.leases i.live i.text) c.self.view_is c.self.invariant.0 in
+    let value :
+    option_copied c.first_of_name.result
+    ≡ find (is_live_named c.args.name.now c.args.now.0) v.records =
+    returns-clause-value c in
+    some_so c.first_of_name.result (λ r. IsStored v r)
+    (λ r found.
+    known_of (IsStored v) r.number r v.records kept.stored
+    (named_found c.args.name.now c.args.now.0 r v.records kept.rising
+    (sym value ∙ found)).0)

@@ -2,6 +2,7 @@ use Rattle.std.proofs.Common.{◌≡◌, sym, subst}
 use Rattle.rd_base.specs.declared.records.Record.{Record}
 use Rattle.record_model.specs.Records.{updated}
 use Rattle.registration.specs.Drafts.{recorded}
+use Rattle.registration.specs.Submissions.{AreOfBody}
 use Rattle.directory_core.specs.LinksAgainst.{AreAfter, AreAgainst}
 use Rattle.directory_core.specs.Shown.{IsKept}
 use Rattle.directory_core.proofs.AnswerLaws.{update_gone, update_answers}
@@ -12,6 +13,11 @@ pub updated_draft-requires-clause-against : goal.updated_draft-requires-clause-a
 updated_draft-requires-clause-against c =
     subst (λ (r : Record). AreAgainst r.base r.items) (sym c.as_record.ensures)
     c.in-Some.ensures.sound.against
+
+pub updated_draft-requires-clause-of_body : goal.updated_draft-requires-clause-of_body
+updated_draft-requires-clause-of_body c =
+    subst (λ (r : Record). AreOfBody r.items) (sym c.as_record.ensures)
+    c.in-Some.ensures.sound.of_body
 
 pub renewed-requires-clause-links : goal.renewed-requires-clause-links
 renewed-requires-clause-links c =

@@ -1,22 +1,14 @@
-use Rattle.std.proofs.Common.{ℕ, List, ap, ◌∙◌}
-use Rattle.record_model.specs.Parameters.{is_base}
 use Rattle.record_model.specs.Bodies.{linked_references}
 use Rattle.registration.proofs.DraftLaws.{not_limited, is_draft}
 use Rattle.registration.proofs.LinksLaws.{drafts, records}
-use Rattle.registration.proofs.SubmissionLaws.{base_is_without_query}
-use Rattle.registration.proofs.drafts.build.Goals as goal
-
-pub items_of-requires : goal.items_of-requires
-items_of-requires c =
-    base_is_without_query c.as_str.result.now
-    (ap (λ (t : List ℕ). is_base t) c.as_str.ensures ∙ c.in_ok-base.ensures.base)
+use Rattle.registration.proofs.drafts.build_sharing.Goals as goal
 
 pub returns-clause-draft : goal.returns-clause-draft
 returns-clause-draft c =
-    let read = rw c.as_str.ensures at c.in_ok-items.ensures.items in
     drafts c.args.peer c.args.params (linked_references c.args.body.now) c.in_ok-base.base
     c.is_some-base_given.result c.in_ok-items.items c.in_ok-base.ensures.value
-    c.is_some-base_given.ensures read
+    c.is_some-base_given.ensures
+    c.in_ok-items.ensures.items
 
 pub returns-clause-record_of : goal.returns-clause-record_of
 returns-clause-record_of c =
