@@ -4,6 +4,8 @@ use Rattle.std.proofs.Common.{
   ◌≡◌,
   ℕ,
   Bool,
+  true,
+  false,
   List,
   [],
   ◌∷◌,
@@ -22,8 +24,8 @@ use Rattle.rd_base.specs.declared.peers.Peer.{Peer}
 use Rattle.journal_model.specs.declared.rows.Row.{Row}
 use Rattle.journal_model.specs.declared.steps.Step.{Step}
 use Rattle.journal_model.specs.declared.steps.StepKind.TheVariants as step
-use Rattle.journal_model.specs.Journal.{entries_of}
-use Rattle.journal_model.specs.DeskJournal.{IsDeskJournal, MayFollow}
+use Rattle.journal_model.specs.Journal.{entries_of, is_look}
+use Rattle.journal_model.specs.DeskJournal.{CommitsOpen, ends_job, IsDeskJournal, MayFollow}
 use Rattle.journal_model.specs.Rows.{row, row_moment}
 use Rattle.journal_model.specs.Seats.{rows_of}
 use Rattle.journal_model.proofs.desks.OpenForOthers.{CommitReady, open-CommitReady}
@@ -39,6 +41,7 @@ use Rattle.rd_seat.specs.declared.actions.Action.{Action}
 use Rattle.rd_seat.specs.declared.actions.Action.TheVariants as action
 use Rattle.rd_seat.specs.declared.shares.Share.{Share}
 use Rattle.rd_seat.specs.Actions.{
+  action_row,
   action_step,
   Acts,
   HasActed,
@@ -46,18 +49,27 @@ use Rattle.rd_seat.specs.Actions.{
   LeavesJobOf,
   MayAct,
   OpensAt,
+  OpensIn,
 }
 use Rattle.rd_seat.specs.Jobs.{LeavesJob}
 use Rattle.rd_seat.specs.Seats.{SeatSeen}
-use Rattle.rd_seat.specs.Shares.{Rests, HasTaken, share_shown}
+use Rattle.rd_seat.specs.Shares.{
+  Rests,
+  HasTaken,
+  HasGiven,
+  HasTakenAction,
+  HasTurned,
+  share_shown,
+}
 use Rattle.rd_seat.specs.Steps.{begin_step, commit_step}
+use Rattle.rd_seat.specs.Turns.{StandsAtTurn}
 use Rattle.rd_seat.proofs.JobLaws.{held-LeavesJob, held-OpensJob}
-use Rattle.rd_seat.proofs.OneTurnLaws.{Turn}
+use Rattle.rd_seat.proofs.OneTurnLaws.{Turn, turn-HasTurned}
 use Rattle.rd_seat.proofs.TurnLaws.{
   leaves_staged,
   same_told,
   step-IsCalled,
-  turns-NoLaterLook,
+  step-MayFollow,
 }
 
 -- ---- what the desk says of a step
@@ -107,25 +119,34 @@ record IsNext (place : ℕ) (taken : Share) (a : Action) (desk : Shown Publisher
   pub acts : MayAct (seen_of taken.pass) place
       (action_step taken.mids.worker place a taken.mids.drawn) a taken.mids desk
 
+next : (place : ℕ) (taken : Share) (a : Action) (desk : Shown PublisherSeen)
+    → StandsAtTurn (seen_of taken.pass) desk
+    → is_look (action_step taken.mids.worker place a taken.mids.drawn).kind ≡ false
+    → (action_step taken.mids.worker place a taken.mids.drawn).worker ≡ taken.mids.worker
+    → (action_step taken.mids.worker place a taken.mids.drawn).drawn ≡ taken.mids.drawn
+    → CommitsOpen (seen_of taken.pass) (action_step taken.mids.worker place a taken.mids.drawn)
+    (action_step taken.mids.worker place a taken.mids.drawn).kind
+    → (ends_job (action_step taken.mids.worker place a taken.mids.drawn).kind ≡ true
+    → (action_step taken.mids.worker place a taken.mids.drawn).word ≡ 0)
+    → OpensIn (seen_of taken.pass) place a → IsNext place taken a desk
+next place taken a desk stands look worker drawn commits word opened = record {
+  may = step-MayFollow (seen_of taken.pass)
+      (action_step taken.mids.worker place a taken.mids.drawn) taken.mids desk stands worker
+      commits word;
+  acts = record {
+    called = step-IsCalled (seen_of taken.pass)
+        (action_step taken.mids.worker place a taken.mids.drawn) taken.mids desk stands look worker
+        drawn;
+    opened = opened;
+  };
+}
+
 action-IsNext : (place : ℕ) (before taken : Share) (a : Action) (desk : Shown PublisherSeen)
     → Rests before → HasTaken before taken desk → OpensAt place (share_shown before) a
     → IsNext place taken a desk
-action-IsNext place before taken (action.Admit a) desk rest took opened = record {
-  may = record {
-    commits = tt;
-    handed = record {
-      in_time = turns-NoLaterLook (seen_of taken.pass) a.moment.0 took.begun.stands.turns;
-      worker = taken.mids.few;
-      word = λ h. absurd (false≢true h);
-    };
-  };
-  acts = record {
-    called = step-IsCalled (seen_of taken.pass)
-        (action_step taken.mids.worker place (action.Admit a) taken.mids.drawn) taken.mids desk
-        took.begun.stands refl refl refl;
-    opened = tt;
-  };
-}
+action-IsNext place before taken (action.Admit a) desk rest took opened =
+    next place taken (action.Admit a) desk took.begun.stands refl refl refl tt
+    (λ h. absurd (false≢true h)) tt
 action-IsNext place before taken (action.Commit now j) desk rest took opened =
     let ready : CommitReady
     (action_step taken.mids.worker place (action.Commit now j) taken.mids.drawn) place j.admitted
@@ -138,67 +159,25 @@ action-IsNext place before taken (action.Commit now j) desk rest took opened =
     (subst (λ (n : ℕ). rows_of n (seen_of taken.pass) ≡ rows_of n (seen_of before.pass))
     rest.number took.begun.by_others) (ap (λ (m : Mids). m.worker) (sym took.mids)) refl refl refl
     in
-    record {
-      may = record {
-        commits = ready.opened;
-        handed = record {
-          in_time = turns-NoLaterLook (seen_of taken.pass) now.0 took.begun.stands.turns;
-          worker = taken.mids.few;
-          word = λ h. refl;
-        };
-      };
-      acts = record {
-        called = step-IsCalled (seen_of taken.pass)
-            (action_step taken.mids.worker place (action.Commit now j) taken.mids.drawn)
-            taken.mids desk took.begun.stands refl refl refl;
-        opened = record {
-          message = ready.message;
-          read = ready.read;
-          is_open = ready.is_open;
-        };
-      };
-    }
-action-IsNext place before taken (action.Keep now j) desk rest took opened = record {
-  may = record {
-    commits = tt;
-    handed = record {
-      in_time = turns-NoLaterLook (seen_of taken.pass) now.0 took.begun.stands.turns;
-      worker = taken.mids.few;
-      word = λ h. refl;
-    };
-  };
-  acts = record {
-    called = step-IsCalled (seen_of taken.pass)
-        (action_step taken.mids.worker place (action.Keep now j) taken.mids.drawn) taken.mids desk
-        took.begun.stands refl refl refl;
-    opened = tt;
-  };
-}
-action-IsNext place before taken (action.Tick now word) desk rest took opened = record {
-  may = record {
-    commits = tt;
-    handed = record {
-      in_time = turns-NoLaterLook (seen_of taken.pass) now.0 took.begun.stands.turns;
-      worker = taken.mids.few;
-      word = λ h. absurd (false≢true h);
-    };
-  };
-  acts = record {
-    called = step-IsCalled (seen_of taken.pass)
-        (action_step taken.mids.worker place (action.Tick now word) taken.mids.drawn) taken.mids
-        desk took.begun.stands refl refl refl;
-    opened = tt;
-  };
-}
+    next place taken (action.Commit now j) desk took.begun.stands refl refl refl ready.opened
+    (λ h. refl) (record {
+      message = ready.message;
+      read = ready.read;
+      is_open = ready.is_open;
+    })
+action-IsNext place before taken (action.Keep now j) desk rest took opened =
+    next place taken (action.Keep now j) desk took.begun.stands refl refl refl tt (λ h. refl) tt
+action-IsNext place before taken (action.Tick now word) desk rest took opened =
+    next place taken (action.Tick now word) desk took.begun.stands refl refl refl tt
+    (λ h. absurd (false≢true h)) tt
 
 -- The turn of an action that was taken on the desk.
 pub record ActionTurn (place : ℕ) (before taken : Share) (a : Action) (result : Admitted)
     (desk left : Shown PublisherSeen) (sent : List (Peer × List ℕ)) (drew : Mids) : Type 0 where
   pub turn : Turn before taken (action_step taken.mids.worker place a taken.mids.drawn)
       (is_starved_admission result) desk left sent drew
-  pub held : HoldsFor a result (row (seen_of taken.pass)
-      (action_step taken.mids.worker place a taken.mids.drawn)
-      (is_starved_admission result)).notes
+  pub held : HoldsFor a result
+      (action_row (seen_of taken.pass) place taken.mids a (is_starved_admission result)).notes
       (action_step taken.mids.worker place a taken.mids.drawn)
       (row_moment (seen_of taken.pass)
       (action_step taken.mids.worker place a taken.mids.drawn))
@@ -227,6 +206,53 @@ action-Turn place before taken a result desk left sent drew rest took opened act
       held = acted.held;
     }
 
+-- what the row of an action leaves to its worker
+action-LeavesJobOf : (a : Action) (place : ℕ) (mids : Mids) (found : List Row)
+    (result : Admitted) (seat : SeatSeen) → IsDeskJournal found → mids.worker ≡ seat.worker
+    → HoldsFor a result (action_row found place mids a (is_starved_admission result)).notes
+    (action_step mids.worker place a mids.drawn)
+    (row_moment found (action_step mids.worker place a mids.drawn))
+    → seat.seen ≡ action_row found place mids a (is_starved_admission result) ∷ found
+    → LeavesJobOf a result seat
+action-LeavesJobOf (action.Admit a) place mids found result seat journal own held seen = (
+  subst (LeavesJob result) (sym seen)
+      (held-LeavesJob found (action_step mids.worker place (action.Admit a) mids.drawn)
+      (is_starved_admission result) result refl held),
+  held-OpensJob found (action_step mids.worker place (action.Admit a) mids.drawn)
+      (is_starved_admission result) result seat journal own held seen,
+)
+action-LeavesJobOf (action.Commit now j) place mids found result seat journal own held seen = tt
+action-LeavesJobOf (action.Keep now j) place mids found result seat journal own held seen = tt
+action-LeavesJobOf (action.Tick now w) place mids found result seat journal own held seen = tt
+
+-- the share took the action
+pub action-HasTakenAction : (place : ℕ) (before taken given : Share) (a : Action)
+    (result : Admitted) (desk left : Shown PublisherSeen) (sent : List (Peer × List ℕ))
+    (drew : Mids) → Rests before
+    → HasTaken before taken desk → OpensAt place (share_shown before) a
+    → Acts a result taken.mids desk left sent drew
+    → HasGiven (action_row (seen_of taken.pass) place taken.mids a (is_starved_admission result))
+    (record {
+      alloc = taken.alloc;
+      pass = taken.pass;
+      looker = taken.looker;
+      mids = drew;
+      last = taken.last;
+    }) given left
+    → HasTakenAction before place a result sent given
+action-HasTakenAction place before taken given a result desk left sent drew rest took opened acts
+    gave =
+    let acted : ActionTurn place before taken a result desk left sent drew =
+    action-Turn place before taken a result desk left sent drew rest took opened acts in
+    record {
+      turned = subst (λ (m : Mids). HasTurned before (action_step m.worker place a m.drawn)
+          (is_starved_admission result) sent given) took.mids (turn-HasTurned acted.turn gave);
+      left = action-LeavesJobOf a place taken.mids (seen_of taken.pass) result (share_shown given)
+          took.begun.stands.turns.journal
+          (sym (ap (λ (m : Mids). m.worker) gave.mids ∙ acted.turn.made.worker)) acted.held
+          gave.ended.seen;
+    }
+
 -- the turn in which a run begins
 pub begin-Turn : (before taken : Share) (now : Moment) (first : ℕ) (starved : Bool)
     (desk left : Shown PublisherSeen) → Rests before → HasTaken before taken desk
@@ -248,39 +274,11 @@ begin-Turn before taken now first starved desk left rest took made told staged =
       rest = rest;
       took = took;
       called = called;
-      may = record {
-        commits = tt;
-        handed = record {
-          in_time = turns-NoLaterLook (seen_of taken.pass) now.0 took.begun.stands.turns;
-          worker = taken.mids.few;
-          word = λ h. absurd (false≢true h);
-        };
-      };
+      may = step-MayFollow (seen_of taken.pass) s taken.mids desk took.begun.stands refl tt
+          (λ h. absurd (false≢true h));
       made = made s refl called;
       told = same_told left.board.told desk.board.told told;
       staged = leaves_staged (row (seen_of taken.pass) s starved).notes left.tables.version
           desk.board.staged left.board.staged (is_some left.board.staged) (staged s refl called)
           took.begun.stands.staged;
     }
-
--- what the row of an action leaves to its worker
-pub action-LeavesJobOf : (a : Action) (worker place drawn : ℕ) (found : List Row)
-    (result : Admitted) (seat : SeatSeen) → IsDeskJournal found → worker ≡ seat.worker
-    → HoldsFor a result
-    (row found (action_step worker place a drawn) (is_starved_admission result)).notes
-    (action_step worker place a drawn) (row_moment found (action_step worker place a drawn))
-    → seat.seen ≡ row found (action_step worker place a drawn) (is_starved_admission result)
-    ∷ found → LeavesJobOf a result seat
-action-LeavesJobOf (action.Admit a) worker place drawn found result seat journal own held seen = (
-  subst (LeavesJob result) (sym seen)
-      (held-LeavesJob found (action_step worker place (action.Admit a) drawn)
-      (is_starved_admission result) result refl held),
-  held-OpensJob found (action_step worker place (action.Admit a) drawn)
-      (is_starved_admission result) result seat journal own held seen,
-)
-action-LeavesJobOf (action.Commit now j) worker place drawn found result seat journal own held
-    seen = tt
-action-LeavesJobOf (action.Keep now j) worker place drawn found result seat journal own held
-    seen = tt
-action-LeavesJobOf (action.Tick now word) worker place drawn found result seat journal own held
-    seen = tt

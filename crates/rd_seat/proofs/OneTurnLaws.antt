@@ -43,26 +43,32 @@ pub record Turn (before taken : Share) (s : Step) (starved : Bool)
 module _ {before taken : Share} {s : Step} {starved : Bool} {desk left : Shown PublisherSeen}
     {sent : List (Peer × List ℕ)} {drew : Mids}
     (turn : Turn before taken s starved desk left sent drew) where
+  abbrev found : List Row
+  found = seen_of taken.pass
+
+  abbrev new_row : Row
+  new_row = row (seen_of taken.pass) s starved
+
   -- the desk has stepped, and nothing is published yet
-  pub turn-HasStepped : HasStepped (first_entry (entries_of (row (seen_of taken.pass) s starved)))
-      (row (seen_of taken.pass) s starved) (number_of taken.pass) (seen_of taken.pass) left
+  pub turn-HasStepped : HasStepped (first_entry (entries_of new_row))
+      new_row (number_of taken.pass) found left
   turn-HasStepped =
       subst (λ (n : ℕ). HasStepped
-      (first_entry (entries_of (row (seen_of taken.pass) s starved)))
-      (row (seen_of taken.pass) s starved) n (seen_of taken.pass) left)
+      (first_entry (entries_of new_row))
+      new_row n found left)
       (turn.called.worker ∙ (ap (λ (m : Mids). m.worker) turn.took.mids
       ∙ (sym turn.rest.number ∙ sym turn.took.begun.number)))
-      (HasStepped-by (seen_of taken.pass) s starved
-      (first_entry (entries_of (row (seen_of taken.pass) s starved))) desk left
+      (HasStepped-by found s starved
+      (first_entry (entries_of new_row)) desk left
       turn.took.begun.stands turn.may turn.called.no_look turn.made.stands turn.told turn.staged
-      (row-MakesAtMost (seen_of taken.pass) s starved))
+      (row-MakesAtMost found s starved))
 
-  turn-AreTurns : AreTurns (row (seen_of taken.pass) s starved ∷ seen_of taken.pass)
-  turn-AreTurns = AreTurns-row (seen_of taken.pass) s starved turn.took.begun.stands.turns turn.may
+  turn-AreTurns : AreTurns (new_row ∷ found)
+  turn-AreTurns = AreTurns-row found s starved turn.took.begun.stands.turns turn.may
       turn.called.no_look
 
   module _ {given : Share}
-      (gave : HasGiven (row (seen_of taken.pass) s starved) (record {
+      (gave : HasGiven new_row (record {
         alloc = taken.alloc;
         pass = taken.pass;
         looker = taken.looker;
@@ -70,35 +76,35 @@ module _ {before taken : Share} {s : Step} {starved : Bool} {desk left : Shown P
         last = taken.last;
       }) given left) where
     -- the row is the later one of two moments
-    turn-later : given.last.0 ≡ max before.last.0 (row (seen_of taken.pass) s starved).moment.0
+    turn-later : given.last.0 ≡ max before.last.0 new_row.moment.0
     unfolding row
     turn-later =
         gave.last
         ∙ (ap (λ (m : Moment). max m.0 left.tables.moment) turn.took.last
         ∙ ap (max before.last.0) (turn.made.stands.moment
-        ∙ now-row (row (seen_of taken.pass) s starved) (seen_of taken.pass) turn.called.no_look))
+        ∙ now-row new_row found turn.called.no_look))
 
     turn-worker : given.mids.worker ≡ before.mids.worker
     turn-worker = ap (λ (m : Mids). m.worker) gave.mids ∙ (turn.made.worker
         ∙ ap (λ (m : Mids). m.worker) turn.took.mids)
 
     turn-drawn : given.mids.drawn
-        ≡ drawing (row (seen_of taken.pass) s starved).drew before.mids.drawn
+        ≡ drawing new_row.drew before.mids.drawn
     turn-drawn = ap (λ (m : Mids). m.drawn) gave.mids ∙ (turn.made.drawn
-        ∙ ap (λ (m : Mids). drawing (row (seen_of taken.pass) s starved).drew m.drawn)
+        ∙ ap (λ (m : Mids). drawing new_row.drew m.drawn)
         turn.took.mids)
 
     -- the seat is at rest again
     turn-rests : Rests given
     turn-rests = turn-IsAtRest before.pass given.pass before.looker taken.looker given.looker
-        before.mids given.mids before.last given.last (seen_of taken.pass)
-        (row (seen_of taken.pass) s starved) turn.rest
+        before.mids given.mids before.last given.last found
+        new_row turn.rest
         gave.ended.idle (gave.ended.number ∙ turn.took.begun.number) gave.ended.own gave.ended.below
         (gave.ended.label ∙ turn.took.begun.label) gave.ended.seen
         (gave.ended.name ∙ turn.took.begun.name) gave.ended.met_own turn.took.begun.only
         gave.ended.only turn.took.begun.stands.turns turn-AreTurns
         turn-later turn-worker (subst (λ (n : ℕ). n < 2 ^ 64) (sym turn-drawn)
-        (drawing-small (row (seen_of taken.pass) s starved).drew before.mids.drawn
+        (drawing-small new_row.drew before.mids.drawn
         turn.rest.drawn))
 
     -- and has made the row of the step
@@ -106,16 +112,16 @@ module _ {before taken : Share} {s : Step} {starved : Bool} {desk left : Shown P
     unfolding row
     turn-MakesStep shown front may =
         made-MakesRow (share_shown before) (share_shown given) shown
-        front (seen_of taken.pass) s starved sent may turn.took.begun.goes_on
-        (subst (λ (n : ℕ). rows_of n (seen_of taken.pass) ≡ rows_of n (seen_of before.pass))
+        front found s starved sent may turn.took.begun.goes_on
+        (subst (λ (n : ℕ). rows_of n found ≡ rows_of n (seen_of before.pass))
         turn.rest.number turn.took.begun.by_others)
         turn.took.begun.order turn.called.no_look
         (turn.called.worker ∙ ap (λ (m : Mids). m.worker) turn.took.mids)
         (turn.called.drawn ∙ ap (λ (m : Mids). m.drawn) turn.took.mids) turn.made.sent turn-worker
         gave.ended.seen
-        (gave.ended.mine ∙ ap (λ (rows : List Row). row (seen_of taken.pass) s starved ∷ rows)
+        (gave.ended.mine ∙ ap (λ (rows : List Row). new_row ∷ rows)
         turn.took.begun.mine)
-        turn-later (turn-drawn ∙ drawing-drawn_more (row (seen_of taken.pass) s starved).drew
+        turn-later (turn-drawn ∙ drawing-drawn_more new_row.drew
         before.mids.drawn turn.rest.drawn)
 
     -- so it had its turn, and still has met what it had met

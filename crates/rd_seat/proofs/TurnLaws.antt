@@ -5,6 +5,7 @@ use Rattle.std.proofs.Common.{
   inl,
   inr,
   ℕ,
+  ◌<◌,
   ◌≤◌,
   Bool,
   true,
@@ -45,7 +46,15 @@ use Rattle.event_model.specs.declared.notes.Note.{Note}
 use Rattle.journal_model.specs.declared.rows.Row.{Row}
 use Rattle.journal_model.specs.declared.steps.Step.{Step}
 use Rattle.journal_model.specs.Journal.{entries, entries_of, entry_noted, is_look, latest, now}
-use Rattle.journal_model.specs.DeskJournal.{MayFollow, begun, made, NoLaterLook}
+use Rattle.journal_model.specs.DeskJournal.{
+  CommitsOpen,
+  ends_job,
+  MayFollow,
+  begun,
+  made,
+  max_workers,
+  NoLaterLook,
+}
 use Rattle.journal_model.specs.Effects.{answering}
 use Rattle.journal_model.specs.Rows.{kept_body, effects, row, row_moment}
 use Rattle.journal_model.proofs.entries.RowLaws.{row-single}
@@ -276,6 +285,19 @@ step-IsCalled found s mids desk stands e own drew = record {
   handed = refl;
   worker = own;
   drawn = drew;
+}
+
+-- and the step may follow
+pub step-MayFollow : (found : List Row) (s : Step) (mids : Mids) (desk : Shown PublisherSeen)
+    → StandsAtTurn found desk → s.worker ≡ mids.worker → CommitsOpen found s s.kind
+    → (ends_job s.kind ≡ true → s.word ≡ 0) → MayFollow found s
+step-MayFollow found s mids desk stands own commits word = record {
+  commits = commits;
+  handed = record {
+    in_time = turns-NoLaterLook found s.handed.0 stands.turns;
+    worker = subst (λ (n : ℕ). n < max_workers) (sym own) mids.few;
+    word = word;
+  };
 }
 
 -- ---- a body that is kept

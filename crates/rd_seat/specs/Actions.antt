@@ -34,6 +34,11 @@ action_step worker place (action.Commit moment j) drawn =
 action_step worker place (action.Keep moment j) drawn = keep_step worker moment j drawn
 action_step worker place (action.Tick moment word) drawn = tick_step worker moment word drawn
 
+-- Returns the row of an action.
+abbrev pub action_row : List Row → ℕ → Mids → Action → Bool → Row
+action_row rows place mids a starved =
+    row rows (action_step mids.worker place a mids.drawn) starved
+
 -- ---- what an action requires
 
 -- States that the moment of the action is at most 10^15, and that its datagram, if it has one, is

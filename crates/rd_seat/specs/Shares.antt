@@ -5,9 +5,13 @@ use Rattle.event_model.specs.KeptAnswers.{Answer}
 use Rattle.history_model.specs.Live.{IsFront}
 use Rattle.journal_model.specs.declared.rows.Row.{Row}
 use Rattle.journal_model.specs.declared.steps.Step.{Step}
+use Rattle.rd_desk.specs.declared.admitted.Admitted.{Admitted}
+use Rattle.rd_desk.specs.calls.Admitting.{is_starved_admission}
 use Rattle.rd_desk.specs.calls.Shown.{Shown}
 use Rattle.version_board.specs.Ends.{PublisherSeen}
+use Rattle.rd_seat.specs.declared.actions.Action.{Action}
 use Rattle.rd_seat.specs.declared.shares.Share.{Share}
+use Rattle.rd_seat.specs.Actions.{action_step, LeavesJobOf}
 use Rattle.rd_seat.specs.Insides.{IsAtRest, hall_of, seat_shown}
 use Rattle.rd_seat.specs.OneTurn.{HasBegun, HasEnded}
 use Rattle.rd_seat.specs.Seats.{SeatSeen, MakesStep, LooksAtMet}
@@ -43,6 +47,13 @@ pub record HasTurned (before : Share) (s : Step) (starved : Bool) (sent : List (
     (after : Share) : Type 0 where
   pub goes_on : GoesOnAs before after
   pub made : MakesStep (share_shown before) s starved sent (share_shown after)
+
+-- A share that took an action at a turn. The worker has the job of the write that the row admits.
+pub record HasTakenAction (before : Share) (place : ℕ) (a : Action) (result : Admitted)
+    (sent : List (Peer × List ℕ)) (after : Share) : Type 0 where
+  pub turned : HasTurned before (action_step before.mids.worker place a before.mids.drawn)
+      (is_starved_admission result) sent after
+  pub left : LeavesJobOf a result (share_shown after)
 
 -- A share that looked from what it has met by then.
 pub record HasLooked (before : Share) (s : Step) (starved : Bool) (sent : List (Peer × List ℕ))

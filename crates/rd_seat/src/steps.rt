@@ -1,10 +1,9 @@
 //! The steps of a worker, each at a turn.
 ghost use Rattle.std.specs.Prelude.{◌≡◌, ◌≤◌, ◌^◌, ℕ, []};
-ghost use Rattle.rd_desk.specs.calls.Admitting.{is_starved_admission};
 ghost use Rattle.rd_desk.specs.calls.Stepping.{is_starved_step};
 ghost use Rattle.turn_lock.specs.Shown.{id_of, lock_of};
-ghost use Rattle.rd_seat.specs.Actions.{action_step, IsReady, OpensAt, LeavesJobOf};
-ghost use Rattle.rd_seat.specs.Shares.{Rests, HasTurned, share_shown};
+ghost use Rattle.rd_seat.specs.Actions.{IsReady, OpensAt};
+ghost use Rattle.rd_seat.specs.Shares.{Rests, HasTurned, HasTakenAction, share_shown};
 ghost use Rattle.rd_seat.specs.Steps.{begin_step};
 
 use crate::actions::{Action, act, is_starved, wake_after};
@@ -52,10 +51,7 @@ impl Share {
         requires ready { IsReady action }
         requires empty { out.old ≡ [] }
         requires opened { OpensAt place (share_shown self.old) action }
-        ensures turned { HasTurned self.old
-            (action_step self.old.mids.worker place action.entry self.old.mids.drawn)
-            (is_starved_admission result) out.new self.new }
-        ensures left { LeavesJobOf action.entry result (share_shown self.new) }
+        ensures { HasTakenAction self.old place action.entry result out.new self.new }
     {
         let mut shared = self.take(rt, lock, gate);
         let mids = Snapshot::of(&self.mids);
