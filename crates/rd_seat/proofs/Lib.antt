@@ -6,6 +6,8 @@ pub mod SeatLaws
 pub mod OneTurnLaws
 -- The jobs of a seat.
 pub mod JobLaws
+-- What a worker does at its turn.
+pub mod ActionLaws
 -- The seats of a new hall, and what a hall keeps between turns.
 pub mod OfHallLaws
 mod HallLaws

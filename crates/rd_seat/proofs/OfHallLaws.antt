@@ -1,5 +1,5 @@
 -- A seat stays one of its hall.
-use Rattle.std.proofs.Common.{◌≡◌, ap, subst}
+use Rattle.std.proofs.Common.{subst}
 use Rattle.journal_model.specs.declared.rows.Row.{Row}
 use Rattle.turn_lock.specs.Histories.{AllBelow}
 use Rattle.turn_lock.specs.Shown.{seen_of}
@@ -15,7 +15,3 @@ goes_on-IsOfHall before after it = record {
   below = subst (λ (h : HallSeen). AllBelow (λ (r : Row). r.step.worker) h.workers
       (seen_of after.pass)) it.hall it.rest.below;
 }
-
--- which lock it is of
-pub same_id : (a b : HallSeen) → a ≡ b → a.id ≡ b.id
-same_id a b e = ap (λ (h : HallSeen). h.id) e

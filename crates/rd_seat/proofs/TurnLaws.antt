@@ -27,7 +27,6 @@ use Rattle.std.proofs.Common.{
   Err,
   IsSome,
   IfSome,
-  is_some,
   refl,
   sym,
   ap,
@@ -47,7 +46,15 @@ use Rattle.event_model.specs.declared.notes.Note.{Note}
 use Rattle.journal_model.specs.declared.rows.Row.{Row}
 use Rattle.journal_model.specs.declared.steps.Step.{Step}
 use Rattle.journal_model.specs.Journal.{entries, entries_of, entry_noted, is_look, latest, now}
-use Rattle.journal_model.specs.DeskJournal.{MayFollow, begun, made, NoLaterLook, max_workers}
+use Rattle.journal_model.specs.DeskJournal.{
+  CommitsOpen,
+  ends_job,
+  MayFollow,
+  begun,
+  made,
+  max_workers,
+  NoLaterLook,
+}
 use Rattle.journal_model.specs.Effects.{answering}
 use Rattle.journal_model.specs.Rows.{kept_body, effects, row, row_moment}
 use Rattle.journal_model.proofs.entries.RowLaws.{row-single}
@@ -60,10 +67,10 @@ use Rattle.coap_answers.specs.declared.mids.Mids.{Mids}
 use Rattle.rd_look.specs.KeepJobs.{Keep}
 use Rattle.rd_desk.specs.calls.Desks.{StandsFor}
 use Rattle.rd_desk.specs.calls.Steps.{IsCalled}
-use Rattle.rd_desk.specs.calls.Shown.{Shown, AreToldOf}
+use Rattle.rd_desk.specs.calls.Shown.{Shown}
 use Rattle.rd_desk.specs.calls.Staging.{staged_after, LeavesStaged}
 use Rattle.version_board.specs.Ends.{PublisherSeen}
-use Rattle.rd_seat.specs.Steps.{first_entry, keep_step, no_entry, tick_step}
+use Rattle.rd_seat.specs.Steps.{first_entry, keep_step, tick_step}
 use Rattle.rd_seat.specs.Turns.{
   IsDeskRow,
   AreTurns,
@@ -202,12 +209,6 @@ stepped-StandsAtTurn entry r worker rows desk it published = by it.most
         (ap (λ h. h ++ entry ∷ []) it.told ∙ sym
         (entries-row r rows ∙ ap (λ es. entries rows ++ es) one)) refl
 
--- what the board tells is what the version stands for
-pub stands-AreToldOf : (rows : List Row) (desk : Shown PublisherSeen) → StandsAtTurn rows desk
-    → AreToldOf desk.tables.version (Some desk.board.told)
-stands-AreToldOf rows desk it = subst (λ h. VersionStandsFor 0 h desk.tables.version)
-    (sym it.told) it.tables.directory.history
-
 -- the board keeps its name
 pub board_published-name : (entry : Entry) (desk : Shown PublisherSeen)
     → (board_published entry desk).board.name ≡ desk.board.name
@@ -239,54 +240,13 @@ three (Some x) P Q R S h k l f = f x h k l
 
 -- ---- a tick
 
--- the call is that of its step
-pub tick-IsCalled : (found : List Row) (worker : ℕ) (moment : Moment) (word drawn : ℕ)
-    (mids : Mids) (desk : Shown PublisherSeen) → StandsAtTurn found desk → worker ≡ mids.worker
-    → drawn ≡ mids.drawn
-    → IsCalled found (tick_step worker moment word drawn) moment mids desk.tables
-tick-IsCalled found worker moment word drawn mids desk stands own drew = record {
-  journal = stands.turns.journal;
-  no_later_look = turns-NoLaterLook found moment.0 stands.turns;
-  no_look = refl;
-  stands = stands.tables;
-  handed = refl;
-  worker = own;
-  drawn = drew;
-}
-
 -- it notes no entry
-tick-entries_of : (found : List Row) (worker : ℕ) (moment : Moment) (word drawn : ℕ)
+pub tick-entries_of : (found : List Row) (worker : ℕ) (moment : Moment) (word drawn : ℕ)
     (starved : Bool) → entries_of (row found (tick_step worker moment word drawn) starved) ≡ []
 unfolding row effects
 tick-entries_of found worker moment word drawn starved =
     tick_effects-entries_in starved found (row_moment found (tick_step worker moment word drawn))
     (tick_step worker moment word drawn)
-
--- the desk after it
-pub tick-HasStepped : (found : List Row) (worker : ℕ) (moment : Moment) (word drawn : ℕ)
-    (starved : Bool) (desk after : Shown PublisherSeen) → StandsAtTurn found desk
-    → worker < max_workers
-    → StandsFor (row found (tick_step worker moment word drawn) starved ∷ found) after.tables
-    → after.board ≡ desk.board
-    → HasStepped no_entry (row found (tick_step worker moment word drawn) starved) worker found
-    after
-tick-HasStepped found worker moment word drawn starved desk after was few stands board =
-    HasStepped-by found (tick_step worker moment word drawn) starved no_entry desk after was
-    (record {
-      commits = tt;
-      handed = record {
-        in_time =
-            turns-NoLaterLook found moment.0 was.turns;
-        worker = few;
-        word =
-            λ h. absurd (false≢true h);
-      };
-    })
-    refl stands (ap (λ (p : PublisherSeen). p.told) board)
-    (ap (λ (p : PublisherSeen). p.staged) board
-    ∙ (was.staged ∙ sym (ap (λ es. staged_after es after.tables.version None)
-    (tick-entries_of found worker moment word drawn starved))))
-    (inl (tick-entries_of found worker moment word drawn starved))
 
 -- ---- a step that may make an entry
 
@@ -298,6 +258,11 @@ of_some : {A : Type 0} → A → Option A → A
 of_some d None = d
 of_some d (Some x) = x
 
+-- what a board exposes
+pub same_told : {A : Type 0} (x y : A) → Some x ≡ Some y → x ≡ y
+unfolding of_some
+same_told x y h = ap (of_some y) h
+
 -- what is staged then, where nothing was
 pub leaves_staged : (notes : List Note) (version : Version) (before after : Option Version)
     (is_staged : Bool)
@@ -306,24 +271,6 @@ pub leaves_staged : (notes : List Note) (version : Version) (before after : Opti
 unfolding inner
 leaves_staged notes version before after is_staged h none =
     ap inner h.0 ∙ ap (staged_after (filter_map entry_noted notes) version) none
-
--- the desk after it
-pub step-HasStepped : (found : List Row) (s : Step) (starved : Bool)
-    (desk after : Shown PublisherSeen) → StandsAtTurn found desk → MayFollow found s
-    → is_look s.kind ≡ false
-    → StandsFor (row found s starved ∷ found) after.tables
-    → Some after.board.told ≡ Some desk.board.told
-    → LeavesStaged (row found s starved).notes after.tables.version (Some desk.board.staged)
-    (Some after.board.staged) (is_some after.board.staged)
-    → HasStepped (first_entry (entries_of (row found s starved)))
-    (row found s starved) s.worker found after
-unfolding of_some
-step-HasStepped found s starved desk after was may e stands told staged =
-    HasStepped-by found s starved (first_entry (entries_of (row found s starved))) desk after was
-    may e stands (ap (of_some desk.board.told) told)
-    (leaves_staged (row found s starved).notes after.tables.version desk.board.staged
-    after.board.staged (is_some after.board.staged) staged was.staged)
-    (row-MakesAtMost found s starved)
 
 -- the call is that of a step
 pub step-IsCalled : (found : List Row) (s : Step) (mids : Mids) (desk : Shown PublisherSeen)
@@ -338,6 +285,19 @@ step-IsCalled found s mids desk stands e own drew = record {
   handed = refl;
   worker = own;
   drawn = drew;
+}
+
+-- and the step may follow
+pub step-MayFollow : (found : List Row) (s : Step) (mids : Mids) (desk : Shown PublisherSeen)
+    → StandsAtTurn found desk → s.worker ≡ mids.worker → CommitsOpen found s s.kind
+    → (ends_job s.kind ≡ true → s.word ≡ 0) → MayFollow found s
+step-MayFollow found s mids desk stands own commits word = record {
+  commits = commits;
+  handed = record {
+    in_time = turns-NoLaterLook found s.handed.0 stands.turns;
+    worker = subst (λ (n : ℕ). n < max_workers) (sym own) mids.few;
+    word = word;
+  };
 }
 
 -- ---- a body that is kept
@@ -356,27 +316,3 @@ unfolding row effects
 keep-entries_of found worker moment job drawn starved =
     kept-entries_in starved (keep_step worker moment job drawn)
     (reading job.datagram) job.answer.body job.answer.tag
-
--- the desk after it
-pub keep-HasStepped : (found : List Row) (worker : ℕ) (moment : Moment) (job : Keep) (drawn : ℕ)
-    (starved : Bool) (desk after : Shown PublisherSeen) → StandsAtTurn found desk
-    → worker < max_workers
-    → StandsFor (row found (keep_step worker moment job drawn) starved ∷ found) after.tables
-    → after.board ≡ desk.board
-    → HasStepped no_entry (row found (keep_step worker moment job drawn) starved) worker found after
-keep-HasStepped found worker moment job drawn starved desk after was few stands board =
-    HasStepped-by found (keep_step worker moment job drawn) starved no_entry desk after was
-    (record {
-      commits = tt;
-      handed = record {
-        in_time =
-            turns-NoLaterLook found moment.0 was.turns;
-        worker = few;
-        word = λ h. refl;
-      };
-    })
-    refl stands (ap (λ (p : PublisherSeen). p.told) board)
-    (ap (λ (p : PublisherSeen). p.staged) board
-    ∙ (was.staged ∙ sym (ap (λ es. staged_after es after.tables.version None)
-    (keep-entries_of found worker moment job drawn starved))))
-    (inl (keep-entries_of found worker moment job drawn starved))

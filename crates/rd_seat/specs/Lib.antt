@@ -6,6 +6,7 @@ pub mod Looks
 pub mod Insides
 pub mod Jobs
 pub mod Shares
+pub mod Actions
 pub mod Heard
 pub mod Halls
 pub mod Runs

@@ -13,6 +13,7 @@ ghost use Rattle.rd_seat.specs.Heard.{LeavesWrite, IsKeepOf, IsOpenWrite, MayBeD
 ghost use Rattle.rd_seat.specs.Seats.{SeatSeen, IsOfHall, MakesStep, LooksAtMet};
 ghost use Rattle.rd_seat.specs.Steps.{admit_step, look_step};
 
+use crate::actions::{Action, without_job};
 use crate::gates::{Gate, Place};
 use crate::halls::Hall;
 use crate::seats::Seat;
@@ -107,7 +108,8 @@ impl Seat {
                 datagram,
                 incoming,
             };
-            return of_admission(self.admit(rt, hall, gate, arrival, out));
+            let action = Action::Admit(arrival);
+            return of_admission(self.act(rt, hall, gate, action, out));
         };
         gate.pass(rt, Place::BeforeLook);
         of_look(self.answer_look(now, peer, &request, out))
@@ -143,8 +145,8 @@ impl Seat {
             (is_starved_step result) out.new self.new }
     {
         match job {
-            Job::Write(job) => self.commit(rt, hall, gate, now, job, out),
-            Job::Keep(job) => self.keep(rt, hall, gate, now, job, out),
+            Job::Write(job) => without_job(self.act(rt, hall, gate, Action::Commit(now, job), out)),
+            Job::Keep(job) => without_job(self.act(rt, hall, gate, Action::Keep(now, job), out)),
         }
     }
 }

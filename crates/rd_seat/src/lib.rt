@@ -2,13 +2,10 @@
 //! is one row of one journal. Looks take no turn: the latest published version answers them.
 #![tactic(auto)]
 
-mod admissions;
-mod beginnings;
-mod commits;
+mod actions;
 mod gates;
 mod halls;
 mod hearing;
-mod keeps;
 mod looks;
 mod publishing;
 mod runs;
@@ -16,7 +13,7 @@ mod seat_lists;
 mod seats;
 mod shared_desk;
 mod shares;
-mod ticks;
+mod steps;
 mod turns;
 
 pub use gates::{Gate, OpenGate, Place};

@@ -7,27 +7,24 @@ ghost use Rattle.history_model.specs.Live.{IsFront};
 ghost use Rattle.journal_model.specs.DeskJournal.{max_workers};
 ghost use Rattle.journal_model.specs.Machine.{is_look_datagram};
 ghost use Rattle.rd_request.specs.Accepted.{message_of};
-ghost use Rattle.rd_request.specs.Incoming.{IsIncoming};
 ghost use Rattle.rd_look.specs.Looking.{is_starved_look};
 ghost use Rattle.rd_desk.specs.calls.Admitting.{is_starved_admission};
 ghost use Rattle.rd_desk.specs.calls.Stepping.{is_starved_step};
 ghost use Rattle.turn_lock.specs.Shown.{number_of, label_of, is_holding, seen_of, mine_of};
 ghost use Rattle.version_board.specs.Ends.{new_looker};
-ghost use Rattle.rd_seat.specs.Jobs.{IsOpenJob, LeavesJob, OpensJob};
+ghost use Rattle.rd_seat.specs.Actions.{action_step, IsReady, OpensAt, LeavesJobOf};
 ghost use Rattle.rd_seat.specs.Looks.{answer_held, IsJobOf};
 ghost use Rattle.rd_seat.specs.Insides.{hall_of};
 ghost use Rattle.rd_seat.specs.Seats.{new_seat, IsOfHall, MakesStep, LooksAtMet};
-ghost use Rattle.rd_seat.specs.Steps.{tick_step, begin_step, admit_step};
-ghost use Rattle.rd_seat.specs.Steps.{commit_step, keep_step, look_step};
+ghost use Rattle.rd_seat.specs.Steps.{tick_step, begin_step, look_step};
 
+use crate::actions::{Action, without_job};
 use crate::gates::Gate;
 use crate::halls::Hall;
 use crate::shared_desk::SharedDesk;
 use crate::shares::Share;
 use rd_base::{Moment, Peer};
-use rd_desk::{
-    Admitted, Arrival, KeepJob, Looked, Mids, Outbox, Request, Stepped, WriteJob, look_request,
-};
+use rd_desk::{Admitted, Looked, Mids, Outbox, Request, Stepped, look_request};
 use std::alloc::Global;
 use std::marker::Model;
 use std::sync::Wait;
@@ -103,7 +100,7 @@ impl Seat {
         ensures made { MakesStep self.old (tick_step self.old.worker now word self.old.drawn)
             (is_starved_step result) out.new self.new }
     {
-        self.share.tick(rt, hall.lock(), gate, now, word, out)
+        without_job(self.act(rt, hall, gate, Action::Tick(now, word), out))
     }
 
     /// Begins a run above `first` at a turn of the seat, after waiting for the turn (this project's
@@ -140,79 +137,29 @@ impl Seat {
         self.share.begin(rt, hall.lock(), gate, now, first)
     }
 
-    /// Does the step that handles a datagram that is not a look, at a turn of the seat.
-    pub(crate) fn admit<R: Wait, G: Gate>(
+    /// Takes an action, at a turn of the seat.
+    pub(crate) fn act<R: Wait, G: Gate>(
         &mut self,
         rt: &R,
         hall: &Hall,
         gate: &G,
-        arrival: Arrival<'_>,
+        action: Action<'_>,
         out: &mut Outbox,
     ) -> Admitted
-        requires hall { self.old.hall ≡ hall.now }
-        requires moment { arrival.moment.0 ≤ 10 ^ 15 }
-        requires read { IsIncoming arrival.datagram.now arrival.incoming }
-        requires other { is_look_datagram arrival.datagram.now ≡ false }
-        requires empty { out.old ≡ [] }
-        ensures hall { self.new.hall ≡ self.old.hall }
-        ensures of_hall { IsOfHall self.old.hall self.new }
-        ensures met { IsFront self.old.met self.new.met }
-        ensures made { MakesStep self.old
-            (admit_step self.old.worker arrival.entry.moment arrival.entry.word arrival.entry.peer
-            arrival.entry.datagram.now self.old.drawn)
-            (is_starved_admission result) out.new self.new }
-        ensures left { LeavesJob result self.new.seen }
-        ensures opens { OpensJob result self.new }
-    {
-        let lock = hall.lock();
-        self.share.admit(rt, lock, gate, arrival, out)
-    }
-
-    /// Does the step of an admitted write, at a turn of the seat.
-    pub(crate) fn commit<R: Wait, G: Gate>(
-        &mut self,
-        rt: &R,
-        hall: &Hall,
-        gate: &G,
-        now: Moment,
-        job: WriteJob,
-        out: &mut Outbox,
-    ) -> Stepped
         ghost place: { ℕ }
         requires hall { self.old.hall ≡ hall.now }
-        requires moment { now.0 ≤ 10 ^ 15 }
+        requires ready { IsReady action }
         requires empty { out.old ≡ [] }
-        requires opened { IsOpenJob place self.old job }
+        requires opened { OpensAt place self.old action }
         ensures hall { self.new.hall ≡ self.old.hall }
         ensures of_hall { IsOfHall self.old.hall self.new }
         ensures met { IsFront self.old.met self.new.met }
         ensures made { MakesStep self.old
-            (commit_step self.old.worker place now job.peer job.datagram self.old.drawn)
-            (is_starved_step result) out.new self.new }
+            (action_step self.old.worker place action.entry self.old.drawn)
+            (is_starved_admission result) out.new self.new }
+        ensures left { LeavesJobOf action.entry result self.new }
     {
-        self.share.commit(rt, hall.lock(), gate, now, job, out)
-    }
-
-    /// Does the step that keeps a listing or a source, at a turn of the seat.
-    pub(crate) fn keep<R: Wait, G: Gate>(
-        &mut self,
-        rt: &R,
-        hall: &Hall,
-        gate: &G,
-        now: Moment,
-        job: KeepJob,
-        out: &mut Outbox,
-    ) -> Stepped
-        requires hall { self.old.hall ≡ hall.now }
-        requires moment { now.0 ≤ 10 ^ 15 }
-        requires empty { out.old ≡ [] }
-        ensures hall { self.new.hall ≡ self.old.hall }
-        ensures of_hall { IsOfHall self.old.hall self.new }
-        ensures met { IsFront self.old.met self.new.met }
-        ensures made { MakesStep self.old (keep_step self.old.worker now job self.old.drawn)
-            (is_starved_step result) out.new self.new }
-    {
-        self.share.keep(rt, hall.lock(), gate, now, job, out)
+        self.share.act(rt, hall.lock(), gate, action, out)
     }
 
     /// Answers a look ([`rd_desk::is_look`]) from the latest published version, without waiting.

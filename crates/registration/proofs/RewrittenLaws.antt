@@ -277,8 +277,12 @@ rewritten_is_link l h =
     and_parts (list_all is_target_character l.target) (list_all is_parameter l.parameters) h in
     let kept = kept_all is_parameter (λ p. not (is_anchor p)) l.parameters parts.1 in
     let last = anchor_is_parameter (anchor l) (plain_anchor l.parameters parts.1) in
-    rw (parts.0, list_all-append is_parameter (attributes l) (anchor_parameters (anchor l)), kept,
-    last) refl
+    rw (
+      parts.0,
+      list_all-append is_parameter (attributes l) (anchor_parameters (anchor l)),
+      kept,
+      last,
+    ) refl
 
 rewritten_are_links : (links : List Link)
     → list_all is_link links ≡ true

@@ -1,0 +1,4 @@
+use Rattle.rd_seat.proofs.seats.Seat.tick.Given as goal
+
+abbrev pub ghost-act : goal.ghost-act
+ghost-act g a = 0
