@@ -9,7 +9,8 @@ invariant-pairs l =
     record {
       entries : (e : Entry)
           → (has_entry l.after e
-          && not (has_entry (entries_of_all (map pair_seen (drop l.pair-index l.pairs)) l.number) e))
+          && not
+          (has_entry (entries_of_all (map pair_seen (drop l.pair-index l.pairs)) l.number) e))
           ≡ (has_entry l.fn.index e
           && not (has_entry (entries_of_all (map pair_seen l.pairs) l.number) e));
       ascends : IsAscending l.after;
