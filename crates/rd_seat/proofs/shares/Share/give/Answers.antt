@@ -24,7 +24,8 @@ use Rattle.rd_seat.proofs.shares.Share.give.Goals as goal
 pub publish_made-requires : goal.publish_made-requires
 publish_made-requires g c =
     let stepped = subst (λ (d : Shown PublisherSeen). IfSome g.S.Added.added (λ (r : Row).
-    HasStepped g.E.Entering.entered r (number_of c.args.self.now.pass) (seen_of c.args.self.now.pass) d))
+    HasStepped g.E.Entering.entered r (number_of c.args.self.now.pass)
+    (seen_of c.args.self.now.pass) d))
     (sym c.deref_mut.ensures.value) c.requires.stepped in
     both g.S.Added.added (λ (r : Row). HasStepped g.E.Entering.entered r
     (number_of c.args.self.now.pass) (seen_of c.args.self.now.pass) c.deref_mut.result.now)
@@ -38,7 +39,8 @@ publish_made-requires g c =
 pub give_back-requires-clause-value : goal.give_back-requires-clause-value
 give_back-requires-clause-value g c =
     let stepped = subst (λ (d : Shown PublisherSeen). IfSome g.S.Added.added (λ (r : Row).
-    HasStepped g.E.Entering.entered r (number_of c.args.self.now.pass) (seen_of c.args.self.now.pass) d))
+    HasStepped g.E.Entering.entered r (number_of c.args.self.now.pass)
+    (seen_of c.args.self.now.pass) d))
     (sym c.deref_mut.ensures.value) c.requires.stepped in
     picked g.S.Added.added (λ (r : Row). HasStepped g.E.Entering.entered r
     (number_of c.args.self.now.pass) (seen_of c.args.self.now.pass) c.deref_mut.result.now)
@@ -65,7 +67,8 @@ pub returns : goal.returns
 unfolding rows_of
 returns g c =
     let stepped = subst (λ (d : Shown PublisherSeen). IfSome g.S.Added.added (λ (r : Row).
-    HasStepped g.E.Entering.entered r (number_of c.args.self.now.pass) (seen_of c.args.self.now.pass) d))
+    HasStepped g.E.Entering.entered r (number_of c.args.self.now.pass)
+    (seen_of c.args.self.now.pass) d))
     (sym c.deref_mut.ensures.value) c.requires.stepped in
     three g.S.Added.added (λ (r : Row). HasStepped g.E.Entering.entered r
     (number_of c.args.self.now.pass) (seen_of c.args.self.now.pass) c.deref_mut.result.now)
