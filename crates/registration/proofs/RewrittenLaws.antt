@@ -52,23 +52,7 @@ use Rattle.link_model.specs.Characters.{
   is_token_character,
   is_target_character,
 }
-use Rattle.link_model.specs.Documents.{
-  Parameter,
-  Link,
-  parameter_text,
-  parameters_text,
-  link_text,
-  document_text,
-  closes_quotes,
-  is_token,
-  is_quoted_string,
-  is_value,
-  is_parameter_name,
-  is_parameter,
-  is_link,
-  IsDocument,
-}
-use Rattle.link_model.specs.DocumentReading.{document}
+use Rattle.link_model.specs.Documents.{Parameter, Link, parameter_text, parameters_text, link_text, document_text, closes_quotes, is_token, is_quoted_string, is_value, is_parameter_name, is_parameter, is_link}
 use Rattle.link_model.specs.Quoting.{
   content_up_to_quote,
   kept_before,
@@ -277,8 +261,12 @@ rewritten_is_link l h =
     and_parts (list_all is_target_character l.target) (list_all is_parameter l.parameters) h in
     let kept = kept_all is_parameter (λ p. not (is_anchor p)) l.parameters parts.1 in
     let last = anchor_is_parameter (anchor l) (plain_anchor l.parameters parts.1) in
-    rw (parts.0, list_all-append is_parameter (attributes l) (anchor_parameters (anchor l)), kept,
-    last) refl
+    rw (
+      parts.0,
+      list_all-append is_parameter (attributes l) (anchor_parameters (anchor l)),
+      kept,
+      last,
+    ) refl
 
 rewritten_are_links : (links : List Link)
     → list_all is_link links ≡ true
