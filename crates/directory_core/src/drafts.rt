@@ -20,7 +20,7 @@ impl Directory {
     /// Returns the live registration with this name. Its links are those of a body that is not
     /// refused, against its base.
     fn live_of_body(&self, name: &Name, now: Moment) -> Option<&Record>
-        ensures { IfSome result (λ record. IsOfBody record.now) }
+        ensures { IfSome result (λ old. IsOfBody old.now) }
     {
         match self.live_named(name, now) {
             Some(kept) => Some(kept.as_record()),

@@ -42,7 +42,7 @@ use Rattle.record_model.specs.BodyFaults.{
   is_of_links,
   is_of_limits,
 }
-use Rattle.record_model.specs.Records.{items_of, rebased}
+use Rattle.record_model.specs.Records.{items_of}
 use Rattle.record_model.specs.Refusals.{
   is_unlimited,
   is_refused_as_links,

@@ -98,7 +98,8 @@ submitted_body base (Some links) items h =
 
 -- ---- links of a body
 
-rebased_submitted : (base : List ℕ) (item : Item) → submitted_of (rebased base item) ≡ submitted_of item
+rebased_submitted : (base : List ℕ) (item : Item)
+    → submitted_of (rebased base item) ≡ submitted_of item
 unfolding rebased
 rebased_submitted base item = refl
 
@@ -126,7 +127,8 @@ pub of_body-result : (base : List ℕ) (items : List Item) (made : Result (List 
     → AreOfBody items
     → IfOk made (λ new. new ≡ map (rebased base) items)
     → IfOk made AreOfBody
-of_body-result base items (Ok new) h same = subst AreOfBody (sym same) (of_body-rebased base items h)
+of_body-result base items (Ok new) h same =
+    subst AreOfBody (sym same) (of_body-rebased base items h)
 of_body-result base items (Err starved) h same = tt
 
 -- the links of a body that was read against any base, and is not refused

@@ -112,8 +112,8 @@ fn items_of(alloc: Global, base: &str, body: &[u8]) -> Result<Items, DraftFault>
     }
 }
 
-/// The links of a record, shared, where it has this base and this body is their source; they are the
-/// links of the body then. An error is running out of memory.
+/// The links of a record, shared, where it has this base and this body is their source: they are
+/// the links of the body then. An error is running out of memory.
 fn shared(stored: &Record, base: &Text, body: &[u8]) -> Result<Option<Items>, Starved>
     requires { IsOfBody stored.now }
     ensures { IfOk result (λ items. IfSome items (IsBody base.now body.now)) }
