@@ -52,7 +52,21 @@ use Rattle.link_model.specs.Characters.{
   is_token_character,
   is_target_character,
 }
-use Rattle.link_model.specs.Documents.{Parameter, Link, parameter_text, parameters_text, link_text, document_text, closes_quotes, is_token, is_quoted_string, is_value, is_parameter_name, is_parameter, is_link}
+use Rattle.link_model.specs.Documents.{
+  Parameter,
+  Link,
+  parameter_text,
+  parameters_text,
+  link_text,
+  document_text,
+  closes_quotes,
+  is_token,
+  is_quoted_string,
+  is_value,
+  is_parameter_name,
+  is_parameter,
+  is_link,
+}
 use Rattle.link_model.specs.Quoting.{
   content_up_to_quote,
   kept_before,
