@@ -7,7 +7,7 @@ ghost use Rattle.journal_model.specs.declared.steps.StepKind.TheVariants as step
 ghost use Rattle.coap_answers.specs.Outboxes.{most_datagrams};
 ghost use Rattle.rd_seat.specs.Heard.{IsOpenWrite};
 ghost use Rattle.rd_seat.specs.Jobs.{last_place};
-ghost use Rattle.rd_seat.specs.Calls.{IsHearing, IsOfJob, job_at, job_held};
+ghost use Rattle.rd_seat.specs.Calls.{IsHearing, IsOfJob, job_at};
 ghost use Rattle.rd_seat.specs.Callers.{Hears, caller_seen};
 ghost use Rattle.coap_stream.specs.Calls.{Call, calls_sent};
 ghost use Rattle.coap_stream.specs.Made.{CallsMade, IsAsked, Speaks, voice_seen};
@@ -18,7 +18,7 @@ use crate::carried::carry_all;
 use crate::lines::{Line, Manner};
 use rd_base::Sink;
 use rd_desk::{Job, Outbox};
-use rd_seat::{Gate, Hall, Seat, SeatHeard};
+use rd_seat::{Gate, Hall, Seat};
 use std::sync::Wait;
 use udp_link::Clock;
 
@@ -81,16 +81,6 @@ fn tick<R: Wait, C: Clock, G: Gate>(
     tally.out.clear();
 }
 
-/// Returns the job that is left.
-fn job_in(heard: SeatHeard) -> Option<Job>
-    ensures { result ≡ job_held heard }
-{
-    match heard {
-        SeatHeard::Held(job) => Some(job),
-        SeatHeard::Done | SeatHeard::Starved => None,
-    }
-}
-
 /// Lets the seat handle a datagram, and writes the replies. Returns the job that is left, if any.
 fn hear<R: Wait, K: Sink, C: Clock, G: Gate>(
     context: &Context<R, G>,
@@ -129,7 +119,7 @@ fn hear<R: Wait, K: Sink, C: Clock, G: Gate>(
     );
     tally.still = carry_all(out, tally.still, &context.line, tally.most, &tally.out);
     tally.out.clear();
-    job_in(heard)
+    heard.into_job()
 }
 
 /// Lets the seat do the job that the previous datagram left, and writes the replies.

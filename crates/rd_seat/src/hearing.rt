@@ -6,6 +6,7 @@ ghost use Rattle.journal_model.specs.declared.rows.Row.{Row};
 ghost use Rattle.rd_look.specs.Looking.{is_starved_look};
 ghost use Rattle.rd_desk.specs.calls.Admitting.{is_starved_admission};
 ghost use Rattle.rd_desk.specs.calls.Stepping.{is_starved_step};
+ghost use Rattle.rd_seat.specs.Calls.{job_held};
 ghost use Rattle.rd_seat.specs.Jobs.{LeavesJob, OpensJob};
 ghost use Rattle.rd_seat.specs.Looks.{answer_held, IsJobOf};
 ghost use Rattle.rd_seat.specs.Heard.{is_starved_hearing, answer_left, go_step};
@@ -30,6 +31,18 @@ pub enum SeatHeard {
     Held(Job),
     /// Memory ran out. A request has been answered 5.00.
     Starved,
+}
+
+impl SeatHeard {
+    /// Returns the job that is left, if there is one.
+    pub fn into_job(self) -> Option<Job>
+        ensures { result ≡ job_held self }
+    {
+        match self {
+            SeatHeard::Held(job) => Some(job),
+            SeatHeard::Done | SeatHeard::Starved => None,
+        }
+    }
 }
 
 /// Returns the result of an admission.

@@ -5,7 +5,7 @@ ghost use Rattle.journal_model.specs.declared.steps.StepKind.TheVariants as step
 ghost use Rattle.coap_answers.specs.Outboxes.{most_datagrams};
 ghost use Rattle.rd_seat.specs.Heard.{IsOpenWrite};
 ghost use Rattle.rd_seat.specs.Jobs.{last_place};
-ghost use Rattle.rd_seat.specs.Calls.{IsHearing, IsOfJob, job_at, job_held};
+ghost use Rattle.rd_seat.specs.Calls.{IsHearing, IsOfJob, job_at};
 ghost use Rattle.rd_server.specs.serving.Calls.{Call};
 ghost use Rattle.rd_server.specs.serving.Workers.{CallsMade, worker_seen};
 ghost use Rattle.rd_server.specs.serving.Sums.{CountsCalls, GrowsBy, HasRoom};
@@ -15,7 +15,7 @@ use crate::serving::sends::finish;
 use crate::serving::served::{is_starved, is_starved_hearing};
 use rd_base::Peer;
 use rd_desk::Job;
-use rd_seat::{Gate, Seat, SeatHeard};
+use rd_seat::{Gate, Seat};
 use std::sync::Wait;
 use udp_link::{Clock, Link};
 
@@ -49,16 +49,6 @@ pub(crate) fn tick<R: Wait, L: Link, C: Clock, G: Gate>(
     finish(link, is_starved(stepped), &mut tally.out, &mut tally.served);
 }
 
-/// Returns the job that is left, if there is one.
-fn job_in(heard: SeatHeard) -> Option<Job>
-    ensures { result ≡ job_held heard }
-{
-    match heard {
-        SeatHeard::Held(job) => Some(job),
-        SeatHeard::Done | SeatHeard::Starved => None,
-    }
-}
-
 /// Has the seat handle a datagram. Returns the job that it leaves, if there is one.
 pub(crate) fn hear<R: Wait, L: Link, C: Clock, G: Gate>(
     context: &Context<R, G>,
@@ -86,7 +76,7 @@ pub(crate) fn hear<R: Wait, L: Link, C: Clock, G: Gate>(
     let heard = seat.hear(rt, hall, gate, now, word, peer, datagram, &mut tally.out);
     let starved = is_starved_hearing(&heard);
     finish(link, starved, &mut tally.out, &mut tally.served);
-    job_in(heard)
+    heard.into_job()
 }
 
 /// Has the seat do the job that the last datagram left.

@@ -24,7 +24,7 @@ returns-clause-made g c =
       made,
       hear-IsHearing look seat seen c.now-now.result c.word-word.result c.args.peer
           c.args.datagram.now result sent.0 refl,
-      ap (λ (o : Option Job). option_map (job_at (last_place seen)) o) (sym c.job_in.ensures),
+      ap (λ (o : Option Job). option_map (job_at (last_place seen)) o) (sym c.into_job.ensures),
       hear-made look _ _ (clock_seen g.C.Clock c.now-now.new.self) c.now-now.result
           c.word-word.result c.args.peer c.args.datagram.now result c.hear-heard.new.out sent.0
           refl
@@ -52,4 +52,4 @@ pub returns-clause-open : goal.returns-clause-open
 returns-clause-open g c =
     let seat = c.hear-heard.new.self in
     subst (λ (o : Option Job). IfSome o (λ j. IsOpenWrite (last_place seat.seen) seat j))
-    (sym c.job_in.ensures) (open-held c.hear-heard.result seat c.hear-heard.ensures.open)
+    (sym c.into_job.ensures) (open-held c.hear-heard.result seat c.hear-heard.ensures.open)
