@@ -3,7 +3,6 @@
 use Rattle.std.proofs.Common.{◌≡◌, ℕ, ◌^◌, ◌<◌, max, Bool, List, ◌∷◌, None, sym, ap, subst, ◌∙◌}
 use Rattle.rd_base.specs.declared.moments.Moment.{Moment}
 use Rattle.rd_base.specs.declared.peers.Peer.{Peer}
-use Rattle.history_model.specs.Live.{IsFront}
 use Rattle.journal_model.specs.declared.rows.Row.{Row}
 use Rattle.journal_model.specs.declared.steps.Step.{Step}
 use Rattle.journal_model.specs.Journal.{entries_of}
