@@ -207,7 +207,7 @@ impl<R: time::Clock + Copy, C: Clock, W: Write> Doorman<'_, R, C, W> {
     }
 }
 
-impl<'a, R: time::Clock + Copy, C: Clock, W: Write> Entrance for HostDoor<'a, R, C, W> {
+impl<'a, R: time::Clock + Copy + Send, C: Clock, W: Write> Entrance for HostDoor<'a, R, C, W> {
     ghost use Rattle.tcp_door.specs.Lanes.{LaneSeen};
 
     type In = HostSource<'a, R>;
