@@ -14,17 +14,8 @@ ghost use Rattle.directory_core.specs.LinksAgainst.{AreAfter};
 
 use crate::links_after::LinksAfter;
 use attribute_index::AttributeIndex;
-use rd_base::{Link, LinkPairs, Links, Pair, PairRef, Record, Starved, Text};
+use rd_base::{Link, LinkPairs, Links, Pair, PairRef, Record, Starved};
 use std::alloc::Global;
-
-/// Returns an attribute with copies of this name and this value.
-fn pair_of(alloc: Global, name: &str, value: &Text) -> Result<Pair, Starved>
-    ensures { IfOk result (λ pair. pair ≡ record { name = name.now; value = value.now }) }
-{
-    let name = Text::copy_of(alloc, name)?;
-    let value = value.clone()?;
-    Ok(Pair { name, value })
-}
 
 /// Borrows an attribute.
 fn borrowed(pair: &Pair) -> PairRef<'_>
@@ -36,20 +27,71 @@ fn borrowed(pair: &Pair) -> PairRef<'_>
     }
 }
 
-/// Returns the attributes that each endpoint has: its base, its name, its sector if it has one, and
+/// Borrows the attributes that each endpoint has: its base, its name, its sector if it has one, and
 /// its type (RFC 9176 section 6.4).
-fn own_attributes(alloc: Global, record_of: &Record) -> Result<Vec<Pair>, Starved>
-    ensures { IfOk result (λ pairs. pairs.items ≡ own_pairs record_of.now) }
+fn own_attributes<'a>(alloc: Global, record_of: &'a Record) -> Result<Vec<PairRef<'a>>, Starved>
+    ensures { IfOk result (λ pairs. map pair_seen pairs.items ≡ own_pairs record_of.now) }
 {
-    let mut pairs = Vec::new(alloc);
-    pairs.push(pair_of(alloc, "base", &record_of.base)?)?;
-    pairs.push(pair_of(alloc, "ep", &record_of.name.ep)?)?;
+    let mut pairs = Vec::with_capacity(alloc, 4)?;
+    pairs.push(PairRef {
+        name: "base",
+        value: record_of.base.as_str(),
+    })?;
+    pairs.push(PairRef {
+        name: "ep",
+        value: record_of.name.ep.as_str(),
+    })?;
     if let Some(sector) = &record_of.name.sector {
-        pairs.push(pair_of(alloc, "d", sector)?)?;
+        pairs.push(PairRef {
+            name: "d",
+            value: sector.as_str(),
+        })?;
     }
-    let endpoint = Text::copy_of(alloc, "core.rd-ep")?;
-    pairs.push(pair_of(alloc, "rt", &endpoint)?)?;
+    pairs.push(PairRef {
+        name: "rt",
+        value: "core.rd-ep",
+    })?;
     Ok(pairs)
+}
+
+/// Returns the index with these borrowed attributes of the record with a number.
+fn with_refs(
+    alloc: Global,
+    index: AttributeIndex,
+    pairs: &[PairRef<'_>],
+    number: u64,
+) -> Result<AttributeIndex, Starved>
+    requires { IsAscending index }
+    ensures entries { IfOk result
+        (λ after. (e : Entry) → has_entry after e ≡ (has_entry index e
+        || has_entry (entries_of_all (map pair_seen pairs.now) number) e)) }
+    ensures ascends { IfOk result (λ after. IsAscending after) }
+{
+    let mut after = index;
+    'pairs: for pair in pairs {
+        after = after.with(alloc, pair, number)?;
+    }
+    Ok(after)
+}
+
+/// Returns the index without these borrowed attributes of the record with a number.
+fn without_refs(
+    alloc: Global,
+    index: AttributeIndex,
+    pairs: &[PairRef<'_>],
+    number: u64,
+) -> Result<AttributeIndex, Starved>
+    requires { IsAscending index }
+    ensures entries { IfOk result
+        (λ after. (e : Entry) → has_entry after e ≡ (has_entry index e
+        && not (has_entry (entries_of_all (map pair_seen pairs.now) number) e))) }
+    ensures ascends { IfOk result (λ after. IsAscending after) }
+{
+    let mut after = index;
+    'pairs: for pair in pairs {
+        after = after.without(alloc, pair, number)?;
+    }
+    Ok(after)
 }
 
 /// Returns the index with these attributes of the record with a number.
@@ -191,7 +233,7 @@ fn with_record(
 {
     let own = own_attributes(alloc, record_of)?;
     let number = record_of.number;
-    let index = with_pairs(alloc, index, own.as_slice(), number)?;
+    let index = with_refs(alloc, index, own.as_slice(), number)?;
     let index = with_pairs(alloc, index, record_of.attrs.as_slice(), number)?;
     let index = with_links(alloc, index, record_of.items.links(), number)?;
     Ok(index)
@@ -227,7 +269,7 @@ pub(crate) fn without_record(
 {
     let own = own_attributes(alloc, record_of)?;
     let number = record_of.number;
-    let index = without_pairs(alloc, index, own.as_slice(), number)?;
+    let index = without_refs(alloc, index, own.as_slice(), number)?;
     let index = without_pairs(alloc, index, record_of.attrs.as_slice(), number)?;
     let index = without_links(alloc, index, record_of.items.links(), number)?;
     Ok(index)

@@ -1,7 +1,7 @@
 -- Proofs of the code that reads query options. NumberLaws, BaseLaws: single values. OctetFaults,
 -- RuleLaws: why one option is refused. WalkLaws: the first fault, option by option. Choices,
 -- ParametersKept, OptionsKept: what is kept of options. Results, LookupResults: what the calls
--- answer.
+-- answer. FaultlessLaws: options without a fault.
 pub mod NumberLaws
 pub mod BaseLaws
 pub mod OctetFaults
@@ -12,3 +12,4 @@ pub mod ParametersKept
 pub mod Results
 pub mod OptionsKept
 pub mod LookupResults
+pub mod FaultlessLaws

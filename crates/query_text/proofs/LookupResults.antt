@@ -43,7 +43,7 @@ lookup_refused kind left b result h e =
     error_at b (λ r. Answers r (unless_fault (lookup_fault left) (lookup_values kind left))) result
     (bad_answer left (lookup_values kind left) b h) e
 
-query_seen : (kind : Kind) (left : List (List ℕ))
+pub query_seen : (kind : Kind) (left : List (List ℕ))
     → lookup_values kind left ≡ query_of kind (wanted_of left)
 unfolding lookup_values wanted_of
 query_seen kind left = refl

@@ -89,12 +89,12 @@ unfolding update_parameters
 update_refused left b result h e =
     refused_answer reading.Update left (update_values left) b result h e
 
-registration_seen : (left : List (List ℕ))
+pub registration_seen : (left : List (List ℕ))
     → registration_values left ≡ registration_of (values_of left)
 unfolding registration_values values_of
 registration_seen left = refl
 
-update_seen : (left : List (List ℕ)) → update_values left ≡ update_of (values_of left)
+pub update_seen : (left : List (List ℕ)) → update_values left ≡ update_of (values_of left)
 unfolding update_values values_of
 update_seen left = refl
 

@@ -6,3 +6,4 @@ pub mod Walks
 pub mod Outcomes
 pub mod GivenParameters
 pub mod AskedOptions
+pub mod Faultless

@@ -4,6 +4,7 @@
 
 mod asked_options;
 mod bases;
+mod faultless;
 mod faults;
 mod given_parameters;
 mod lookups;
@@ -13,6 +14,7 @@ mod parameters;
 mod rules;
 mod walks;
 
+pub use faultless::{faultless_lookup_query, faultless_reg_params, faultless_update_params};
 pub use faults::{QueryBad, fault};
 pub use lookups::lookup_query;
 pub use parameters::{reg_params, update_params};

@@ -23,7 +23,7 @@ fn all_asked<'a, Q: Pieces<'a> + Drop>(alloc: Global, mut queries: Q) -> Result<
 }
 
 /// Returns the query of that kind that asks for this. Does not allocate.
-fn query_of(kind: Kind, asked: Asked) -> Query
+pub(crate) fn query_of(kind: Kind, asked: Asked) -> Query
     ensures { result ≡ query_of kind (wanted_in asked) }
 {
     Query {

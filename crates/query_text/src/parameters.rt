@@ -29,7 +29,7 @@ fn registering(simple: bool) -> Reading
 }
 
 /// Returns the parameters of a registration that give this. Does not allocate.
-fn registration_of(given: Given) -> RegParams
+pub(crate) fn registration_of(given: Given) -> RegParams
     ensures { result ≡ registration_of (values_in given) }
 {
     let Given {
@@ -51,7 +51,7 @@ fn registration_of(given: Given) -> RegParams
 }
 
 /// Returns the parameters of an update that give this. Does not allocate.
-fn update_of(given: Given) -> UpdateParams
+pub(crate) fn update_of(given: Given) -> UpdateParams
     ensures { result ≡ update_of (values_in given) }
 {
     UpdateParams {

@@ -9,11 +9,11 @@ ghost use Rattle.rd_request.specs.Asking.{seeks_links};
 use crate::accepted::Request;
 use crate::resources::kind_at;
 use coap_options::queries;
-use query_text::{QueryBad, lookup_query};
+use query_text::faultless_lookup_query;
 use rd_base::{Query, Starved};
 use std::alloc::Global;
 
-/// Returns the query of a lookup or a discovery.
+/// Returns the query of a lookup or a discovery. Its options are not judged again.
 ///
 /// # Requires
 ///
@@ -26,9 +26,5 @@ pub fn query_of(alloc: Global, request: &Request<'_>) -> Result<Query, Starved>
     requires seeks { seeks_links (path_in (message_of request.now)) ≡ true }
     ensures { IfOk result (λ query. query ≡ requests_of.query_of (message_of request.now)) }
 {
-    match lookup_query(alloc, kind_at(&request.resource), queries(&request.meaning)) {
-        Ok(query) => Ok(query),
-        Err(QueryBad::Starved) => Err(Starved),
-        Err(QueryBad::At { .. }) => unreachable!(),
-    }
+    faultless_lookup_query(alloc, kind_at(&request.resource), queries(&request.meaning))
 }

@@ -1,6 +1,6 @@
 //! The parameters of a registration, from the query options of its request (RFC 9176 sections 5 and
 //! 5.1).
-ghost use Rattle.std.specs.Prelude.{◌≡◌, None, IfOk};
+ghost use Rattle.std.specs.Prelude.{◌≡◌, Bool, None, IfOk};
 ghost use Rattle.message_model.specs.Request.{queries_in};
 ghost use Rattle.record_model.specs.AllowedParameters.{AreAllowed};
 ghost use Rattle.record_model.specs.Criteria.{fault_of};
@@ -9,11 +9,11 @@ ghost use Rattle.query_text.specs.Outcomes.{registering};
 ghost use Rattle.coap_message.specs.Views.{message_in};
 
 use coap_options::{Meaning, queries};
-use query_text::{QueryBad, reg_params};
+use query_text::faultless_reg_params;
 use rd_base::{RegParams, Starved};
 use std::alloc::Global;
 
-/// Returns the parameters of a registration, or of a simple registration if `simple`.
+/// Returns the parameters of a registration, or of a simple one. They are not judged again.
 ///
 /// # Requires
 ///
@@ -22,19 +22,12 @@ use std::alloc::Global;
 /// # Errors
 ///
 /// `Starved` if memory runs out.
-pub fn given_params(
-    alloc: Global,
-    meaning: &Meaning<'_>,
-    simple: bool,
-) -> Result<RegParams, Starved>
-    requires { fault_of (registering simple) (queries_in (message_in meaning.now.view)) ≡ None }
+pub fn given_params(alloc: Global, meaning: &Meaning<'_>) -> Result<RegParams, Starved>
+    requires { (simple : Bool)
+        × (fault_of (registering simple) (queries_in (message_in meaning.now.view)) ≡ None) }
     ensures value { IfOk result (λ params. params
         ≡ registration_values (queries_in (message_in meaning.now.view))) }
     ensures allowed { IfOk result AreAllowed }
 {
-    match reg_params(alloc, queries(meaning), simple) {
-        Ok(params) => Ok(params),
-        Err(QueryBad::Starved) => Err(Starved),
-        Err(QueryBad::At { .. }) => unreachable!(),
-    }
+    faultless_reg_params(alloc, queries(meaning))
 }

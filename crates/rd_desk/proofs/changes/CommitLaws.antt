@@ -16,7 +16,6 @@ use Rattle.std.proofs.Common.{
   None,
   Result,
   Ok,
-  Err,
   IfOk,
   is_some,
   option_and_then,
@@ -32,7 +31,6 @@ use Rattle.std.proofs.lemmas.Bool.{false≢true}
 use Rattle.rd_base.specs.declared.moments.Moment.{Moment}
 use Rattle.rd_base.specs.declared.out_of_memory.Starved.{Starved}
 use Rattle.rd_base.specs.declared.parameters.RegParams.{RegParams}
-use Rattle.rd_base.specs.declared.parameters.UpdateParams.{UpdateParams}
 use Rattle.rd_base.specs.declared.peers.Peer.{Peer}
 use Rattle.message_model.specs.declared.blocks.Block.{Block}
 use Rattle.message_model.specs.declared.messages.Unread.{Unread}
@@ -47,10 +45,8 @@ use Rattle.record_model.specs.declared.readings.Reading.TheVariants as reading_a
 use Rattle.record_model.specs.Criteria.{fault_of}
 use Rattle.record_model.specs.Faults.{Fault}
 use Rattle.record_model.specs.Parameters.{
-  unless_fault,
   registration_values,
   update_values,
-  update_parameters,
 }
 use Rattle.history_model.specs.declared.entries.Change.TheVariants as change
 use Rattle.history_model.specs.declared.entries.Entry.{Entry}
@@ -319,34 +315,6 @@ pub good_update : (m : Message) (number : ℕ)
 good_update m number none is updates =
     good_reading m reading_as.Update none (ap (λ (p : Path). reading_of p m.code) is
     ∙ ap (λ (code : ℕ). reading_of (path.Location number) code) updates)
-
--- what the query options of an update say
-update_read : (queries : List (List ℕ))
-    → fault_of reading_as.Update queries ≡ None
-    → update_parameters queries ≡ Ok (update_values queries)
-unfolding update_parameters fault_of
-update_read queries none =
-    ap (λ (fault : Option Fault). unless_fault fault (update_values queries)) none
-
-pub update_given : (queries left : List (List ℕ)) (given : UpdateParams)
-    → left ≡ queries
-    → fault_of reading_as.Update queries ≡ None
-    → update_parameters left ≡ Ok given
-    → given ≡ update_values queries
-update_given queries left given all none read =
-    let both : ◌≡◌ {A = Result UpdateParams Fault} (Ok given) (Ok (update_values queries)) =
-    sym read ∙ (ap update_parameters all ∙ update_read queries none) in
-    cc
-
-pub update_faulty : (queries left : List (List ℕ)) (fault : Fault)
-    → left ≡ queries
-    → fault_of reading_as.Update queries ≡ None
-    → update_parameters left ≡ Err fault
-    → ⊥
-update_faulty queries left fault all none read =
-    let both : ◌≡◌ {A = Result UpdateParams Fault} (Err fault) (Ok (update_values queries)) =
-    sym read ∙ (ap update_parameters all ∙ update_read queries none) in
-    absurd cc
 
 -- ---- by the block
 

@@ -66,7 +66,7 @@ pub(crate) fn whole_outcome(
     let write = &bringing.write;
     match bringing.purpose {
         Purpose::Register => {
-            let params = given_params(alloc, &write.request.meaning, false)?;
+            let params = given_params(alloc, &write.request.meaning)?;
             registered(alloc, version, now, write.peer, params, body, block1)
         }
         Purpose::Replace(number) => replaced(alloc, version, now, number, body, block1),

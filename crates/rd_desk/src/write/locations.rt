@@ -33,21 +33,17 @@ use crate::{Mids, Outbox, Stepped};
 use coap_options::queries;
 use directory_core::{Board, Directory};
 use message_model::codes::{POST, PUT};
-use query_text::{QueryBad, update_params};
+use query_text::faultless_update_params;
 use rd_base::{Moment, Starved, UpdateParams};
 use std::alloc::Global;
 
-/// Returns the parameters of an update.
+/// Returns the parameters of an update. They are not judged again.
 fn given_change(alloc: Global, updating: &Updating<'_>) -> Result<UpdateParams, Starved>
     ensures value { IfOk result (λ change. change
         ≡ update_values (queries_in (message_of updating.now.write.request))) }
     ensures allowed { IfOk result IsAllowedChange }
 {
-    match update_params(alloc, queries(&updating.write.request.meaning)) {
-        Ok(change) => Ok(change),
-        Err(QueryBad::Starved) => Err(Starved),
-        Err(QueryBad::At { .. }) => unreachable!(),
-    }
+    faultless_update_params(alloc, queries(&updating.write.request.meaning))
 }
 
 /// Returns the outcome of a request to update the registration with a number.

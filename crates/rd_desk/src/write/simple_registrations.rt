@@ -88,7 +88,7 @@ impl Tables {
         ensures version { self.new.version ≡ self.old.version }
     {
         let write = &registering.write;
-        let Ok(params) = given_params(self.alloc, &write.request.meaning, true) else {
+        let Ok(params) = given_params(self.alloc, &write.request.meaning) else {
             self.fail(mids, write, out);
             return Stepped::Starved;
         };

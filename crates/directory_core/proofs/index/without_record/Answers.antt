@@ -1,4 +1,5 @@
-use Rattle.std.proofs.Common.{◌&&◌, not, ap, ◌∙◌}
+use Rattle.std.proofs.Common.{◌&&◌, not, ap, map, ◌∙◌}
+use Rattle.rd_base.specs.PairRefs.{pair_seen}
 use Rattle.attribute_index.specs.Entries.{has_entry, entries_of_all}
 use Rattle.record_model.specs.ListingLines.{own_pairs}
 use Rattle.directory_core.specs.Bounds.{record_entries}
@@ -17,7 +18,7 @@ returns-clause-entries c e =
     (has_entry (record_entries r) e)
     (c.in_ok-index.ensures.entries e
     ∙ ap (λ ps. has_entry c.args.index e && not (has_entry (entries_of_all ps r.number) e))
-    (c.as_slice.ensures.value ∙ c.in_ok-own.ensures))
+    (ap (λ ps. map pair_seen ps) c.as_slice.ensures.value ∙ c.in_ok-own.ensures))
     (c.in_ok-index-2.ensures.entries e
     ∙ ap (λ ps. has_entry c.in_ok-index.index e
     && not (has_entry (entries_of_all ps r.number) e)) c.as_slice-2.ensures)

@@ -1,24 +1,20 @@
-use Rattle.coap_options.specs.ValuesLeft.{queries_left}
-use Rattle.coap_message.specs.Views.{message_in}
-use Rattle.message_model.specs.Request.{queries_in}
-use Rattle.record_model.specs.Parameters.{registration_parameters}
+use Rattle.std.proofs.Common.{◌≡◌, ℕ, List, IfOk, refl, ap, subst, ◌∙◌}
+use Rattle.record_model.specs.Criteria.{fault_of}
+use Rattle.record_model.specs.Parameters.{registration_values}
 use Rattle.query_text.specs.Outcomes.{registering}
-use Rattle.rd_request.proofs.ParameterLaws.{params_meant, params_read, params_faulty}
 use Rattle.rd_request.proofs.parameters.given_params.Goals as goal
 
-pub unreachable-requires : goal.unreachable-requires
-unreachable-requires c =
-    let queries = queries_in (message_in c.args.meaning.now.view) in
-    let faulty = rw c.in-Err-At.field-0-is at c.in-Err-At.ensures.value in
-    params_faulty queries (c.in-Err-At.field-0-0, c.in-Err-At.field-0-1)
-    (registration_parameters (registering c.args.simple) (queries_left c.queries.result))
-    (params_meant c.args.simple queries (queries_left c.queries.result) c.queries.ensures
-    c.requires) faulty
+pub faultless_reg_params-requires : goal.faultless_reg_params-requires
+faultless_reg_params-requires c k = (
+  (refl, tt),
+  (
+    c.requires.0,
+    ap (fault_of (registering c.requires.0)) c.queries.ensures ∙ c.requires.1,
+  ),
+)
 
-pub returns-in-Ok-clause-value : goal.returns-in-Ok-clause-value
-returns-in-Ok-clause-value c =
-    let queries = queries_in (message_in c.args.meaning.now.view) in
-    params_read queries c.in-Ok.params
-    (registration_parameters (registering c.args.simple) (queries_left c.queries.result))
-    (params_meant c.args.simple queries (queries_left c.queries.result) c.queries.ensures
-    c.requires) c.in-Ok.ensures.value
+pub returns-clause-value : goal.returns-clause-value
+returns-clause-value c =
+    subst (λ (queries : List (List ℕ)).
+    IfOk c.faultless_reg_params.result (λ params. params ≡ registration_values queries))
+    c.queries.ensures c.faultless_reg_params.ensures.value

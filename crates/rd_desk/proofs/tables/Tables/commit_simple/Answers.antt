@@ -15,10 +15,12 @@ use Rattle.rd_request.proofs.AskedLaws.{none_there}
 use Rattle.rd_desk.proofs.tables.Tables.commit_simple.Goals as goal
 
 pub given_params-requires : goal.given_params-requires
-given_params-requires c =
-    none_there (fault_of reading.Simple
-    (queries_in (message_in c.args.registering.now.write.request.meaning.view)))
-    c.args.registering.now.good
+given_params-requires c = (
+  true,
+  none_there (fault_of reading.Simple
+      (queries_in (message_in c.args.registering.now.write.request.meaning.view)))
+      c.args.registering.now.good,
+)
 
 pub returns-in_default-clause-way : goal.returns-in_default-clause-way
 returns-in_default-clause-way c =

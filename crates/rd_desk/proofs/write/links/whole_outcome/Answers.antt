@@ -1,4 +1,4 @@
-use Rattle.std.proofs.Common.{true, ◌≡◌, sym, subst, IfOk}
+use Rattle.std.proofs.Common.{true, false, ◌≡◌, sym, subst, IfOk}
 use Rattle.message_model.specs.Request.{queries_in}
 use Rattle.coap_message.specs.Views.{message_in}
 use Rattle.record_model.specs.declared.readings.Reading.TheVariants as reading
@@ -13,12 +13,14 @@ use Rattle.rd_desk.specs.parts.Purposes.{purpose_of, has_good_params}
 use Rattle.rd_desk.proofs.write.links.whole_outcome.Goals as goal
 
 pub given_params-requires : goal.given_params-requires
-given_params-requires c =
-    none_there (fault_of reading.Register
-    (queries_in (message_in c.args.bringing.now.write.request.meaning.view)))
-    (subst (λ (p : Purpose).
-    has_good_params p (message_in c.args.bringing.now.write.request.meaning.view) ≡ true)
-    c.in-Register.is c.args.bringing.now.good)
+given_params-requires c = (
+  false,
+  none_there (fault_of reading.Register
+      (queries_in (message_in c.args.bringing.now.write.request.meaning.view)))
+      (subst (λ (p : Purpose).
+      has_good_params p (message_in c.args.bringing.now.write.request.meaning.view) ≡ true)
+      c.in-Register.is c.args.bringing.now.good),
+)
 
 pub returns-in_ok-params-in-Register-clause-planned :
     goal.returns-in_ok-params-in-Register-clause-planned
