@@ -3,11 +3,12 @@ ghost use Rattle.std.specs.Prelude.{◌≡◌, ◌<◌};
 
 use crate::crews::{Crew, Trouble};
 use crate::door_counts::DoorCounts;
-use crate::guards::Guard;
+use crate::guards::is_heard;
 use crate::host_sources::HostSource;
 use crate::mapped::plain;
+use crate::prefixes::Network;
 use crate::watches::Watch;
-use rd_base::{Host, Peer};
+use rd_base::{Host, List, Peer};
 use std::alloc::Global;
 use std::io::Write;
 use std::net::{Ipv4Addr, Ipv6Addr, Net, SocketAddr, TcpListener, TcpStream};
@@ -58,8 +59,8 @@ impl TcpDoorway {
 pub struct DoorShare<'a> {
     /// How many workers have started, and why they end.
     pub crew: &'a Crew,
-    /// The guard, which says whose connections are accepted.
-    pub guard: &'a Guard,
+    /// The networks whose connections are accepted, or all if this is empty.
+    pub allow: &'a List<Network>,
     /// The counts of connections.
     pub counts: &'a DoorCounts,
 }
@@ -187,7 +188,7 @@ impl<R: time::Clock + Copy, C: Clock, W: Write> Doorman<'_, R, C, W> {
         }
         match self.listeners.poll() {
             TcpCame::One(caller) => {
-                if !self.share.guard.hears(host_of(caller.from)) {
+                if !is_heard(host_of(caller.from), self.share.allow) {
                     self.share.counts.add_dropped();
                     return Called::Nothing;
                 }

@@ -205,3 +205,9 @@ goes_on l seen c number hall old new (Some before) it = record {
         (caller_seen c it.seat y.clock) s.stands.attended h
     called_by (post.Udp x) (post.Tcp y) worker earlier s h = absurd s
     called_by (post.Tcp x) (post.Udp y) worker earlier s h = absurd s
+
+-- What a call left, said of the worker before it and of the one after it.
+pub as_left : {X : Type 0} (P : X → X → Type 0) (argument old after new : X)
+    → argument ≡ old → after ≡ new → P argument after → P old new
+as_left P argument old after new was is p =
+    subst (λ x. P x new) was (subst (λ y. P argument y) is p)

@@ -152,6 +152,13 @@ pub(crate) fn serve_all<
         rt,
         posts,
         MOST_THREADS,
-        &|_, post: &mut Post<L, E, C>| { work(rt, hall, post, gate, turns) },
+        &|_, post: &mut Post<L, E, C>|
+            requires hall { IfSome (seat_of post.old) (λ seat. seat.hall ≡ hall.now) }
+            requires turns { turns ≤ 10 ^ 12 }
+            ensures few { IsWithin post.new }
+            ensures served { IfSome (seat_of post.old) (λ seat.
+                PostServes L.Link.own E.seen C.Clock.own turns seat post.old post.new) }
+            ensures unserved { IfNone (seat_of post.old) (post.new ≡ seated post.old None) }
+        { work(rt, hall, post, gate, turns) },
     );
 }

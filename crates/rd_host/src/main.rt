@@ -271,7 +271,7 @@ fn stand_over<'a>(
     let origin = &shared.origin;
     let share = DoorShare {
         crew: &shared.crew,
-        guard: &shared.guard,
+        allow: shared.guard.networks(),
         counts: &shared.door_counts,
     };
     let telling = HostClock::of(rt, origin, [0; 32]);
