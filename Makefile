@@ -107,6 +107,7 @@ bench: build-rd_serve build-rd_host
 	@python3 bench/serve.py --table bench/figures/serve.tsv bin/rd_serve bin/rd_host
 	@python3 bench/workers.py bin/rd_serve
 	@python3 bench/streams.py bin/rd_serve
+	@python3 bench/connections.py bin/rd_host
 	@python3 bench/memory.py --table bench/figures/memory.tsv
 	@python3 bench/plot.py
 

@@ -3,15 +3,15 @@
 
 For each number of workers rd_serve is started on a free port of 127.0.0.1 and driven by libcoap's
 coap-client, case after case (clients/cases.py). Then it is driven over TCP (clients/streams.py),
-rd_host is ended and started again (clients/restarts.py), it keeps requests from the directory
-(clients/guards.py), rd_install registers, refreshes, keeps and removes lists of devices
-(clients/installs.py), and a recording of rd_host is replayed (clients/recordings.py). Each case
-prints one line: whether it passed, what it shows, and the command as it can be typed; it is run
-with `-v 7` besides, over UDP, by which the client shows each datagram. --answers shows what came,
-too. The last line counts the cases. What is wanted of each was written down from the RFCs and from
-docs/, never from what the program printed. A few are marked "(octets)": what coap-client cannot
-send goes out from a socket of this script. The status is 1 where a case failed, and 2 where there
-is nothing to run.
+rd_host serves UDP and TCP at once (clients/connections.py), rd_host is ended and started again
+(clients/restarts.py), it keeps requests from the directory (clients/guards.py), rd_install
+registers, refreshes, keeps and removes lists of devices (clients/installs.py), and a recording of
+rd_host is replayed (clients/recordings.py). Each case prints one line: whether it passed, what it
+shows, and the command as it can be typed; it is run with `-v 7` besides, over UDP, by which the
+client shows each datagram. --answers shows what came, too. The last line counts the cases. What is
+wanted of each was written down from the RFCs and from docs/, never from what the program printed. A
+few are marked "(octets)": what coap-client cannot send goes out from a socket of this script. The
+status is 1 where a case failed, and 2 where there is nothing to run.
 """
 
 import argparse
@@ -28,6 +28,7 @@ import time
 from pathlib import Path
 
 import cases
+import connections
 import guards
 import installs
 import messages
@@ -433,7 +434,8 @@ def main():
     for workers in words.workers or [1, 4]:
         failed += run_all(str(program), workers, words)
     if not words.fault:
-        for run_cases in (streams.run, restarts.run, guards.run, installs.run, recordings.run):
+        for run_cases in (streams.run, connections.run, restarts.run, guards.run, installs.run,
+                          recordings.run):
             failed += run_all(str(program), 1, words, run_cases)
     sys.exit(failed > 0)
 

@@ -1,6 +1,7 @@
 -- The arguments of `rd_host`: the addresses, the number of workers of each address, the number of
--- receives of each worker, the number above which the run begins, and the options of the guard.
-use Rattle.std.specs.Prelude.{◌≡◌, ◌≤◌, ℕ, ◌+◌, ◌/◌, List, [], ◌∷◌}
+-- connections, the number of receives of each worker, the number above which the run begins, and
+-- the options of the guard.
+use Rattle.std.specs.Prelude.{◌≡◌, ◌≤◌, ℕ, ◌+◌, ◌-◌, ◌/◌, List, [], ◌∷◌}
 use Rattle.std.specs.Prelude.{◌++◌, length, codes}
 use Rattle.std.specs.Prelude.{Option, Some, None, Result, Ok, Err, option_and_then, option_map}
 use Rattle.std.specs.Prelude.{IfSome, bytes_eq, drop, is_some, min, nat_le, position, take}
@@ -71,6 +72,13 @@ guard_name_of word =
     else (if bytes_eq word (codes "--criteria") then Some option_name.Criteria
     else (if bytes_eq word (codes "--lookups") then Some option_name.Lookups else None))))
 
+-- the option of connections with this name
+abbrev pub tcp_name_of : List ℕ → Option OptionName
+tcp_name_of word =
+    if bytes_eq word (codes "--tcp") then Some option_name.Tcp
+    else (if bytes_eq word (codes "--connections") then Some option_name.Connections
+    else guard_name_of word)
+
 -- the option with this name
 abbrev pub name_of : List ℕ → Option OptionName
 name_of word =
@@ -78,7 +86,7 @@ name_of word =
     else (if bytes_eq word (codes "--workers") then Some option_name.Workers
     else (if bytes_eq word (codes "--turns") then Some option_name.Turns
     else (if bytes_eq word (codes "--begin") then Some option_name.Begin
-    else guard_name_of word)))
+    else tcp_name_of word)))
 
 -- An option with its value: an address with a port from 1 on, a network, or a number from 1 to its
 -- limit. Numbers of the guard may be 0.
@@ -86,6 +94,9 @@ abbrev pub option_of : OptionName → List ℕ → Option HostOption
 option_of option_name.Listen value = option_map (λ p. host_option.Listen p) (address_of value)
 option_of option_name.Workers value =
     option_map (λ n. host_option.Workers n) (count_of max_ends value)
+option_of option_name.Tcp value = option_map (λ p. host_option.Tcp p) (address_of value)
+option_of option_name.Connections value =
+    option_map (λ n. host_option.Connections n) (count_of max_ends value)
 option_of option_name.Turns value =
     option_map (λ n. host_option.Turns n) (count_of max_turns value)
 option_of option_name.Begin value =
@@ -144,6 +155,8 @@ abbrev pub nothing_asked : HostAsked
 nothing_asked = record {
   listen = [];
   workers = None;
+  tcp = [];
+  connections = None;
   turns = None;
   begin = None;
   allow = [];
@@ -165,6 +178,10 @@ asked_with asked (host_option.Listen address) =
     Some (record asked { listen = asked.listen ++ address ∷ [] })
 asked_with asked (host_option.Workers n) =
     option_map (λ said. record asked { workers = Some said }) (once asked.workers n)
+asked_with asked (host_option.Tcp address) =
+    Some (record asked { tcp = asked.tcp ++ address ∷ [] })
+asked_with asked (host_option.Connections n) =
+    option_map (λ said. record asked { connections = Some said }) (once asked.connections n)
 asked_with asked (host_option.Turns n) =
     option_map (λ said. record asked { turns = Some said }) (once asked.turns n)
 asked_with asked (host_option.Begin n) =
@@ -192,23 +209,32 @@ asked_from (Some asked) (option ∷ options) = asked_from (asked_with asked opti
 abbrev pub asked_by : HostAsked → List (List ℕ) → Option HostAsked
 asked_by asked words = option_and_then (asked_from (Some asked)) (options_of words)
 
--- the most workers that each address may have, given the number of addresses, and the default
--- number: four, or as many as it may have
-abbrev pub most_each : ℕ → ℕ
-most_each addresses = max_ends / addresses
+-- The number of connections served at a time. If an address for connections is given, the default
+-- is four. Otherwise there are none, and the number must not be given.
+abbrev pub connections_of : HostAsked → Option ℕ
+connections_of asked =
+    if nat_le 1 (length asked.tcp) then Some (unwrap_or asked.connections 4)
+    else (if is_some asked.connections then None else Some 0)
 
-abbrev pub default_each : ℕ → ℕ
-default_each addresses = min 4 (most_each addresses)
+-- the most workers that each address may have, given the numbers of connections and of addresses,
+-- and the default number: four, or as many as it may have
+abbrev pub most_each : ℕ → ℕ → ℕ
+most_each connections addresses = (max_ends - connections) / addresses
 
--- the plan with this number of workers for each address, if there is an address and there are not
--- too many ends
-abbrev pub plan_with : HostAsked → ℕ → Option HostPlan
-plan_with asked workers =
+abbrev pub default_each : ℕ → ℕ → ℕ
+default_each connections addresses = min 4 (most_each connections addresses)
+
+-- the plan with these numbers of connections and of workers for each address, if there is an
+-- address and there are not too many ends
+abbrev pub plan_with : HostAsked → ℕ → ℕ → Option HostPlan
+plan_with asked connections workers =
     if nat_le 1 (length asked.listen)
-    && (nat_le 1 workers && nat_le workers (most_each (length asked.listen)))
+    && (nat_le 1 workers && nat_le workers (most_each connections (length asked.listen)))
     then Some (record {
       listen = asked.listen;
       workers = workers;
+      tcp = asked.tcp;
+      connections = connections;
       turns = unwrap_or asked.turns max_turns;
       begin = asked.begin;
       allow = asked.allow;
@@ -230,7 +256,10 @@ settled asked =
     if nat_le 1 (length asked.listen) then asked else record asked { listen = default_listen }
 
 abbrev pub plan_of : HostAsked → Option HostPlan
-plan_of asked = plan_with asked (unwrap_or asked.workers (default_each (length asked.listen)))
+plan_of asked = option_and_then
+    (λ connections. plan_with asked connections
+    (unwrap_or asked.workers (default_each connections (length asked.listen))))
+    (connections_of asked)
 
 -- the plan that the arguments make, if the program accepts them
 abbrev pub plan_said : List (List ℕ) → Option HostPlan
@@ -271,6 +300,8 @@ IsCount limit n = (1 ≤ n) × (n ≤ limit)
 abbrev pub IsOption : HostOption → Type 0
 IsOption (host_option.Listen address) = ⊤
 IsOption (host_option.Workers n) = IsCount max_ends n
+IsOption (host_option.Tcp address) = ⊤
+IsOption (host_option.Connections n) = IsCount max_ends n
 IsOption (host_option.Turns n) = IsCount max_turns n
 IsOption (host_option.Begin n) = IsCount max_begin n
 IsOption (host_option.Allow network) = ⊤
@@ -282,6 +313,7 @@ IsOption host_option.Quiet = ⊤
 
 pub record IsAsked (asked : HostAsked) : Type 0 where
   pub workers : IfSome asked.workers (IsCount max_ends)
+  pub connections : IfSome asked.connections (IsCount max_ends)
   pub turns : IfSome asked.turns (IsCount max_turns)
   pub begin : IfSome asked.begin (IsCount max_begin)
   pub share : IfSome asked.share (λ n. n ≤ max_share)
@@ -292,7 +324,8 @@ pub record IsAsked (asked : HostAsked) : Type 0 where
 pub record IsPlan (plan : HostPlan) : Type 0 where
   pub some_addresses : 1 ≤ length plan.listen
   pub some_workers : 1 ≤ plan.workers
-  pub most_workers : plan.workers ≤ most_each (length plan.listen)
+  pub most_workers : plan.workers ≤ most_each plan.connections (length plan.listen)
+  pub most_connections : plan.connections ≤ max_ends
   pub some_turns : 1 ≤ plan.turns
   pub most_turns : plan.turns ≤ max_turns
   pub begin : IfSome plan.begin (IsCount max_begin)

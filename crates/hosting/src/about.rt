@@ -3,7 +3,7 @@ use crate::wanted::Wanted;
 
 /// The text of `--help`.
 const HELP: &str = "\
-Serves a CoRE Resource Directory over UDP at addresses of this machine, without DTLS
+Serves a CoRE Resource Directory over UDP and TCP at addresses of this machine, without DTLS
 
 Usage: rd_host [--listen ADDRESS:PORT]... [OPTIONS]
 
@@ -11,6 +11,9 @@ Options:
       --listen <ADDRESS:PORT>  An address to listen at, as 192.0.2.1:5683 or [2001:db8::1]:5683
                                [default: [::1]:5683 and 127.0.0.1:5683]
       --workers <N>            How many workers each address has, 16 in all [default: 4 or fewer]
+      --tcp <ADDRESS:PORT>     An address at which connections are taken (RFC 8323) [default: none]
+      --connections <N>        How many connections are served at a time, 16 with all workers
+                               [default: 4]
       --turns <T>              How many receives each worker makes [default: 10^12]
       --begin <N>              Above which number locations and entity tags count, at most 10^14
                                [default: the milliseconds since 1970 at the start]

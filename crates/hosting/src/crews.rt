@@ -11,6 +11,8 @@ use std::sync::atomic::{AtomicU64, Ordering};
 pub enum Trouble {
     /// Receives at this address fail with this error of the system.
     Receives(Peer, io::Error),
+    /// Accepting connections fails with this error of the system.
+    Accepts(io::Error),
     /// Only this number of links started within two seconds: the system started no threads for the
     /// others.
     Threads(u64),

@@ -97,6 +97,9 @@ fn trouble_line(alloc: Global, trouble: &Trouble) -> Result<String, Starved> {
             let text = text.as_str();
             format!(in alloc; "{text}: receives fail: {fault}\n")?
         }
+        Trouble::Accepts(fault) => {
+            format!(in alloc; "connections: they cannot be taken: {fault}\n")?
+        }
         Trouble::Threads(begun) => {
             format!(in alloc; "threads: the system started them for {begun} workers alone\n")?
         }

@@ -1,6 +1,6 @@
 //! The guard before the directory. It decides by the source of a datagram, by the number of
 //! requests of that source, and by the number of query options.
-ghost use Rattle.std.specs.Prelude.{ℕ, IfSome};
+ghost use Rattle.std.specs.Prelude.{◌≡◌, ℕ, IfSome};
 ghost use Rattle.coap_message.specs.Views.{message_in};
 ghost use Rattle.hosting.specs.Refusals.{IsWhy, most_of};
 
@@ -64,6 +64,12 @@ pub struct Guard {
     /// Whether lookups have a share.
     has_lookups: bool,
     shares: Mutex<Shares>,
+}
+
+/// Returns whether what comes from this address is admitted, if only these networks are allowed, or
+/// all if there is none.
+pub(crate) fn is_heard(host: Host, allow: &List<Network>) -> bool {
+    allow.is_empty() || is_in_any(host, allow.as_slice())
 }
 
 /// Returns a share of `bound` requests, or `None` if `bound` is 0.
@@ -157,9 +163,16 @@ impl Guard {
         }
     }
 
+    /// Returns the networks whose datagrams and connections are admitted, or none if all are.
+    pub fn networks(&self) -> &List<Network>
+        ensures { result.now ≡ self.now.allow }
+    {
+        &self.allow
+    }
+
     /// Returns whether datagrams of this address are admitted.
     pub(crate) fn hears(&self, host: Host) -> bool {
-        self.allow.is_empty() || is_in_any(host, self.allow.as_slice())
+        is_heard(host, &self.allow)
     }
 
     /// Returns whether no limit concerns a message: lookups have no share, and it is a GET without

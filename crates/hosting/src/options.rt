@@ -37,6 +37,10 @@ pub(crate) enum OptionName {
     Listen,
     /// `--workers`: the number of workers of each address.
     Workers,
+    /// `--tcp`: an address at which connections are accepted.
+    Tcp,
+    /// `--connections`: the number of connections served at a time.
+    Connections,
     /// `--turns`: the number of receives of each worker.
     Turns,
     /// `--begin`: the number above which the run begins.
@@ -62,6 +66,10 @@ pub(crate) enum HostOption {
     Listen(Peer),
     /// The number of workers of each address.
     Workers(u8),
+    /// An address at which connections are accepted.
+    Tcp(Peer),
+    /// The number of connections served at a time.
+    Connections(u8),
     /// The number of receives of each worker.
     Turns(u64),
     /// The number above which the run begins.
@@ -102,6 +110,19 @@ fn guard_name_of(word: &[u8]) -> Option<OptionName>
     None
 }
 
+/// Returns the option of connections with this name.
+fn tcp_name_of(word: &[u8]) -> Option<OptionName>
+    ensures { result ≡ spec.tcp_name_of word.now }
+{
+    if word == b"--tcp".as_slice() {
+        return Some(OptionName::Tcp);
+    }
+    if word == b"--connections".as_slice() {
+        return Some(OptionName::Connections);
+    }
+    guard_name_of(word)
+}
+
 /// Returns the option with this name.
 pub(crate) fn name_of(word: &[u8]) -> Option<OptionName>
     ensures { result ≡ spec.name_of word.now }
@@ -118,7 +139,7 @@ pub(crate) fn name_of(word: &[u8]) -> Option<OptionName>
     if word == b"--begin".as_slice() {
         return Some(OptionName::Begin);
     }
-    guard_name_of(word)
+    tcp_name_of(word)
 }
 
 /// Returns the number from 1 to `limit` that a text prints in decimal, without a leading zero.
@@ -142,6 +163,15 @@ fn address_of(value: &[u8]) -> Option<HostOption>
     Some(HostOption::Listen(address))
 }
 
+/// Returns an address at which connections are accepted.
+fn tcp_address_of(value: &[u8]) -> Option<HostOption>
+    ensures value { result ≡ spec.option_of OptionName.Tcp value.now }
+    ensures within { IfSome result IsOption }
+{
+    let address = address_read(value)?;
+    Some(HostOption::Tcp(address))
+}
+
 /// Returns an option with its value, or `None` if the option does not accept the value.
 fn option_of(name: OptionName, value: &[u8]) -> Option<HostOption>
     ensures value { result ≡ spec.option_of name value.now }
@@ -150,6 +180,8 @@ fn option_of(name: OptionName, value: &[u8]) -> Option<HostOption>
     match name {
         OptionName::Listen => address_of(value),
         OptionName::Workers => Some(HostOption::Workers(count_of(MAX_ENDS, value)? as u8)),
+        OptionName::Tcp => tcp_address_of(value),
+        OptionName::Connections => Some(HostOption::Connections(count_of(MAX_ENDS, value)? as u8)),
         OptionName::Turns => Some(HostOption::Turns(count_of(MAX_TURNS, value)?)),
         OptionName::Begin => Some(HostOption::Begin(count_of(MAX_BEGIN, value)?)),
         OptionName::Allow => Some(HostOption::Allow(network_read(value)?)),

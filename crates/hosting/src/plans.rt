@@ -1,5 +1,5 @@
 //! The arguments of `rd_host`, and the plan that they make.
-ghost use Rattle.std.specs.Prelude.{◌≡◌, ◌≤◌, ◌*◌, IfOk, IfSome, length, map};
+ghost use Rattle.std.specs.Prelude.{◌≡◌, ◌≤◌, ◌+◌, ◌*◌, IfOk, IfSome, length, map, unwrap_or};
 ghost use Rattle.std.specs.String.{string_bytes};
 ghost use Rattle.hosting.specs.Words as spec;
 ghost use Rattle.hosting.specs.Words.{IsAsked, IsOption, IsPlan, IsRead, IsWanted};
@@ -39,6 +39,11 @@ pub struct HostPlan {
     /// The number of workers of each address: at least one, and at most 16 for all addresses
     /// together.
     pub workers: u8,
+    /// The addresses at which connections are accepted, in the order given.
+    pub tcp: List<Peer>,
+    /// The number of connections served at a time, or 0 if there is no address for them. Together
+    /// with the workers of all addresses, there are at most 16.
+    pub connections: u8,
     /// The number of receives of each worker, from 1 to 10^12. The default is 10^12.
     pub turns: u64,
     /// The number above which the run begins, from 1 to 10^14, if it is given.
@@ -66,7 +71,7 @@ impl HostPlan {
         requires { IsPlan self.now }
         ensures value { result ≡ self.now.workers * length self.now.listen }
         ensures some { 1 ≤ result }
-        ensures most { result ≤ 16 }
+        ensures most { result + self.now.connections ≤ 16 }
     {
         usize::from(self.workers) * self.listen.len()
     }
@@ -79,6 +84,10 @@ pub(crate) struct HostAsked {
     pub(crate) listen: List<Peer>,
     /// The number of workers of each address, if given.
     pub(crate) workers: Option<u8>,
+    /// The addresses given at which connections are accepted.
+    pub(crate) tcp: List<Peer>,
+    /// The number of connections served at a time, if given.
+    pub(crate) connections: Option<u8>,
     /// The number of receives of each worker, if given.
     pub(crate) turns: Option<u64>,
     /// The number above which the run begins, if given.
@@ -105,6 +114,8 @@ impl HostAsked {
         HostAsked {
             listen: List::new(alloc),
             workers: None,
+            tcp: List::new(alloc),
+            connections: None,
             turns: None,
             begin: None,
             allow: List::new(alloc),
@@ -141,6 +152,35 @@ impl HostAsked {
         }
         Ok(HostAsked {
             workers: Some(workers),
+            ..self
+        })
+    }
+
+    /// Adds an address at which connections are accepted.
+    fn with_tcp(self, address: Peer) -> Result<HostAsked, HostFault>
+        requires { IsAsked self }
+        ensures read { IsRead (spec.asked_with self (HostOption.Tcp address)) result }
+        ensures within { IfOk result IsAsked }
+    {
+        let mut asked = self;
+        if asked.tcp.push(address).is_err() {
+            return Err(HostFault::Starved);
+        }
+        Ok(asked)
+    }
+
+    /// Sets the number of connections served at a time, unless it was given before.
+    fn with_connections(self, connections: u8) -> Result<HostAsked, HostFault>
+        requires asked { IsAsked self }
+        requires option { IsOption (HostOption.Connections connections) }
+        ensures read { IsRead (spec.asked_with self (HostOption.Connections connections)) result }
+        ensures within { IfOk result IsAsked }
+    {
+        if self.connections.is_some() {
+            return Err(HostFault::Usage);
+        }
+        Ok(HostAsked {
+            connections: Some(connections),
             ..self
         })
     }
@@ -276,6 +316,8 @@ impl HostAsked {
         match option {
             HostOption::Listen(address) => self.with_address(address),
             HostOption::Workers(workers) => self.with_workers(workers),
+            HostOption::Tcp(address) => self.with_tcp(address),
+            HostOption::Connections(connections) => self.with_connections(connections),
             HostOption::Turns(turns) => self.with_turns(turns),
             HostOption::Begin(begin) => self.with_begin(begin),
             HostOption::Allow(network) => self.with_allowed(network),
@@ -303,18 +345,36 @@ impl HostAsked {
         Ok(asked)
     }
 
-    /// Returns the plan, with the defaults. Returns `None` if there is no address, or there are too
-    /// many ends.
-    fn plan(self) -> Option<HostPlan>
-        requires { IsAsked self }
-        ensures value { result ≡ spec.plan_of self }
+    /// Returns the number of connections served at a time, or `None` if a number was given, but no
+    /// address.
+    fn connections_of(&self) -> Option<u8>
+        requires { IsAsked self.now }
+        ensures value { result ≡ spec.connections_of self.now }
+        ensures within { IfSome result (λ connections. connections ≤ 16) }
+    {
+        if !self.tcp.is_empty() {
+            return Some(self.connections.unwrap_or(4));
+        }
+        if self.connections.is_some() {
+            return None;
+        }
+        Some(0)
+    }
+
+    /// Returns the plan with this number of connections, and the defaults. Returns `None` if there
+    /// is no address, or there are too many ends.
+    fn plan_beside(self, connections: u8) -> Option<HostPlan>
+        requires asked { IsAsked self }
+        requires few { connections ≤ 16 }
+        ensures value { result ≡ spec.plan_with self connections
+            (unwrap_or self.workers (spec.default_each connections (length self.listen))) }
         ensures within { IfSome result IsPlan }
     {
         let addresses = self.listen.len() as u64;
         if addresses == 0 {
             return None;
         }
-        let most = (MAX_ENDS / addresses) as u8;
+        let most = ((MAX_ENDS - u64::from(connections)) / addresses) as u8;
         let workers = self.workers.unwrap_or(most.min(4));
         if workers == 0 || most < workers {
             return None;
@@ -322,6 +382,8 @@ impl HostAsked {
         Some(HostPlan {
             listen: self.listen,
             workers,
+            tcp: self.tcp,
+            connections,
             turns: self.turns.unwrap_or(MAX_TURNS),
             begin: self.begin,
             allow: self.allow,
@@ -331,6 +393,17 @@ impl HostAsked {
             lookups: self.lookups.unwrap_or(0),
             quiet: self.quiet,
         })
+    }
+
+    /// Returns the plan, with the defaults. Returns `None` if there is no address, or there are too
+    /// many ends, or the number of connections was given, but no address for them.
+    fn plan(self) -> Option<HostPlan>
+        requires { IsAsked self }
+        ensures value { result ≡ spec.plan_of self }
+        ensures within { IfSome result IsPlan }
+    {
+        let connections = self.connections_of()?;
+        self.plan_beside(connections)
     }
 }
 
@@ -377,12 +450,12 @@ fn question_of(words: &[String]) -> Option<Wanted>
 ///
 /// The options may come in any order, each as two arguments or joined by `=`:
 ///
-/// - `--listen` with an address and its port, `--allow` and `--trust` with a network: any number of
-///   times;
-/// - at most once each: `--workers` with a number from 1, by which there are at most 16 ends;
-///   `--turns` with one from 1 to 10^12; `--begin` with one from 1 to 10^14; `--share` with one up
-///   to 4,096; `--criteria` with one up to 768; `--lookups` with one up to 65,535; and `--quiet`,
-///   without a value.
+/// - `--listen` and `--tcp` with an address and its port, `--allow` and `--trust` with a network:
+///   any number of times;
+/// - at most once each: `--workers` and `--connections` with a number from 1, by which there are at
+///   most 16 ends; `--turns` with one from 1 to 10^12; `--begin` with one from 1 to 10^14;
+///   `--share` with one up to 4,096; `--criteria` with one up to 768; `--lookups` with one up to
+///   65,535; and `--quiet`, without a value.
 ///
 /// # Errors
 ///

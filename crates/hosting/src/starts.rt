@@ -1,14 +1,14 @@
 //! The line that a server prints at its start.
 use crate::about::NAME_AND_VERSION;
 use crate::plans::HostPlan;
-use rd_base::{Starved, peer_text};
+use rd_base::{Peer, Starved, peer_text};
 use std::alloc::Global;
 use std::fmt::Write;
 
-/// Returns the addresses of a plan, separated by commas.
-fn listen_text(alloc: Global, plan: &HostPlan) -> Result<String, Starved> {
+/// Returns the addresses, separated by commas.
+fn addresses_text(alloc: Global, addresses: &[Peer]) -> Result<String, Starved> {
     let mut text = String::new(alloc);
-    for (k, address) in plan.listen.as_slice().iter().enumerate() {
+    for (k, address) in addresses.iter().enumerate() {
         if k > 0 {
             text.push(',')?;
         }
@@ -27,7 +27,7 @@ impl HostPlan {
     ///
     /// `Starved` if memory runs out.
     pub fn start_line(&self, alloc: Global, begin: u64) -> Result<String, Starved> {
-        let listen = listen_text(alloc, self)?;
+        let listen = addresses_text(alloc, self.listen.as_slice())?;
         let HostPlan {
             workers,
             share,
@@ -36,6 +36,10 @@ impl HostPlan {
         } = self;
         let mut line = String::from_str(alloc, NAME_AND_VERSION)?;
         write!(line, ": listen={listen} workers={workers}")?;
+        if !self.tcp.is_empty() {
+            let tcp = addresses_text(alloc, self.tcp.as_slice())?;
+            write!(line, " tcp={tcp} connections={}", self.connections)?;
+        }
         write!(line, " share={share} criteria={criteria} begin={begin}\n")?;
         Ok(line)
     }

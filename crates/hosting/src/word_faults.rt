@@ -17,6 +17,8 @@ fn name_text(name: OptionName) -> &'static str {
     match name {
         OptionName::Listen => "--listen",
         OptionName::Workers => "--workers",
+        OptionName::Tcp => "--tcp",
+        OptionName::Connections => "--connections",
         OptionName::Turns => "--turns",
         OptionName::Begin => "--begin",
         OptionName::Allow => "--allow",
@@ -33,6 +35,8 @@ fn option_name(option: &HostOption) -> OptionName {
     match option {
         HostOption::Listen(_) => OptionName::Listen,
         HostOption::Workers(_) => OptionName::Workers,
+        HostOption::Tcp(_) => OptionName::Tcp,
+        HostOption::Connections(_) => OptionName::Connections,
         HostOption::Turns(_) => OptionName::Turns,
         HostOption::Begin(_) => OptionName::Begin,
         HostOption::Allow(_) => OptionName::Allow,
@@ -78,8 +82,10 @@ fn wrong_network(alloc: Global, name: &str, value: &str) -> Result<String, Starv
 fn wrong_value(alloc: Global, name: OptionName, value: &str) -> Result<String, Starved> {
     let text = name_text(name);
     match name {
-        OptionName::Listen => wrong_address(alloc, text, value),
-        OptionName::Workers => wrong_number(alloc, text, value, 1, MAX_ENDS),
+        OptionName::Listen | OptionName::Tcp => wrong_address(alloc, text, value),
+        OptionName::Workers | OptionName::Connections => {
+            wrong_number(alloc, text, value, 1, MAX_ENDS)
+        }
         OptionName::Turns => wrong_number(alloc, text, value, 1, MAX_TURNS),
         OptionName::Begin => wrong_number(alloc, text, value, 1, MAX_BEGIN),
         OptionName::Allow | OptionName::Trust => wrong_network(alloc, text, value),
@@ -118,6 +124,16 @@ fn wrong_word(alloc: Global, word: &str, rest: &[String]) -> Result<String, Star
 fn wrong_plan(alloc: Global, asked: &HostAsked) -> Result<String, Starved> {
     let addresses = asked.listen.len().max(1);
     let workers = asked.workers.unwrap_or(1);
+    if asked.tcp.is_empty() && asked.connections.is_some() {
+        return Ok(format!(in alloc; "--connections: no address is given by --tcp")?);
+    }
+    if !asked.tcp.is_empty() {
+        let connections = asked.connections.unwrap_or(4);
+        return Ok(format!(in alloc;
+            "--connections: {}, and {} workers for each of {} addresses, are more than {} in all",
+            connections, workers, addresses, MAX_ENDS
+        )?);
+    }
     Ok(format!(in alloc;
         "--workers: {workers} for each of {addresses} addresses are more than {MAX_ENDS} in all"
     )?)

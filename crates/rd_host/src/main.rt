@@ -1,17 +1,20 @@
-//! `rd_host`: a directory that serves clients over UDP at addresses of its host, with many workers.
+//! `rd_host`: a directory that serves clients over UDP and TCP at addresses of its host, with many
+//! workers.
 #![tactic(auto)]
 
-ghost use Rattle.std.specs.Prelude.{◌≡◌, ◌≤◌, ◌<◌, ◌^◌, IfOk, length, vec_len};
+ghost use Rattle.std.specs.Prelude.{◌≡◌, ◌+◌, ◌≤◌, ◌<◌, ◌^◌, IfOk, IfSome, length, vec_len};
 ghost use Rattle.hosting.specs.Words.{IsPlan, IsWanted};
+ghost use Rattle.joint_server.specs.Posts as posts_of;
 ghost use Rattle.rd_server.specs.serving.Servers.{AreOfHall};
 
 mod endings;
 
 use endings::Ending;
 use hosting::{
-    CountedLink, Counts, Crew, Failure, Guard, GuardedLink, HostClock, HostLink, HostPlan,
-    Listener, Origin, Routes, Teller, Wanted, read_words,
+    CountedLink, Counts, Crew, DoorCounts, DoorShare, Failure, Guard, GuardedLink, HostClock,
+    HostDoor, HostLink, HostPlan, Listener, Origin, Routes, TcpDoorway, Teller, Wanted, read_words,
 };
+use joint_server::{Post, Stand, make_joint_hall, serve_posts};
 use rd_base::{Peer, Starved, StdSink};
 use rd_desk::Stepped;
 use rd_seat::{Hall, OpenGate};
@@ -22,6 +25,7 @@ use std::io::{Stderr, Write};
 use std::process::ExitCode;
 use std::sync::{Mutex, Wait};
 use std::thread::Threads;
+use tcp_door::Entrance;
 use udp_link::{Clock, Link};
 
 /// The resources of one worker: its link, the output and the clock for its counts, the clock of its
@@ -84,6 +88,36 @@ fn listeners_at(rt: &HostRuntime, plan: &HostPlan) -> Result<Vec<Listener>, Endi
     Ok(listeners)
 }
 
+/// Returns a socket that listens for connections at an address. If the host has no IPv6, prints
+/// that on standard error and returns `None`.
+fn doorway_at(rt: &HostRuntime, address: Peer) -> Result<Option<TcpDoorway>, Ending> {
+    match TcpDoorway::bind(rt, rt.alloc(), address) {
+        Ok(doorway) => Ok(Some(doorway)),
+        Err(fault) => {
+            let failure = Failure::Socket(address, fault);
+            if !failure.is_for_want_of_v6() {
+                return Err(failure.into());
+            }
+            let line = failure.left_out(rt.alloc())?;
+            let _ = rt.stderr().write_all(line.as_bytes());
+            Ok(None)
+        }
+    }
+}
+
+/// Returns a socket at each address for connections, except at those of IPv6 if the host has none.
+fn doorways_at(rt: &HostRuntime, plan: &HostPlan) -> Result<Vec<TcpDoorway>, Ending> {
+    let mut doorways = Vec::new(rt.alloc());
+    'addresses: for address in plan.tcp.as_slice() {
+        if let Some(doorway) = doorway_at(rt, *address)? {
+            if doorways.push(doorway).is_err() {
+                return Err(Failure::Memory.into());
+            }
+        }
+    }
+    Ok(doorways)
+}
+
 /// The resources that the workers of a server share.
 #[derive(Drop)]
 struct Shared {
@@ -97,6 +131,10 @@ struct Shared {
     guard: Guard,
     /// The counters of the links, if they count.
     counts: Option<Counts>,
+    /// A socket at each address for connections.
+    doorways: Vec<TcpDoorway>,
+    /// The counters of connections.
+    door_counts: DoorCounts,
     /// The start of the program, from which the clocks count.
     origin: Origin,
 }
@@ -125,9 +163,11 @@ fn shared_of(rt: &HostRuntime, plan: &HostPlan) -> Result<Shared, Ending>
     Ok(Shared {
         listeners,
         routes,
-        crew: Crew::of(plan.ends() as u64),
+        crew: Crew::of(plan.ends() as u64 + u64::from(plan.connections)),
         guard: Guard::of(rt, rt.alloc(), plan)?,
         counts: counts_of(rt, plan)?,
+        doorways: doorways_at(rt, plan)?,
+        door_counts: DoorCounts::of(u64::from(plan.connections)),
         origin,
     })
 }
@@ -213,6 +253,39 @@ fn guarded<'a, R, L: Drop, C: Drop, W: Drop>(
     Ok(ends)
 }
 
+/// The clock of a worker on this host.
+type OwnClock<'a> = HostClock<'a, HostRuntime>;
+
+/// The door of a worker on this host.
+type OwnDoor<'a> = HostDoor<'a, &'a HostRuntime, OwnClock<'a>, Stderr>;
+
+/// Creates the stand of a worker that accepts connections, in this lane.
+fn stand_over<'a>(
+    rt: &'a HostRuntime,
+    shared: &'a Shared,
+    plan: &HostPlan,
+    lane: u8,
+) -> Result<Stand<OwnDoor<'a>, OwnClock<'a>>, Ending>
+    requires { lane < 16 }
+{
+    let origin = &shared.origin;
+    let share = DoorShare {
+        crew: &shared.crew,
+        allow: shared.guard.networks(),
+        counts: &shared.door_counts,
+    };
+    let telling = HostClock::of(rt, origin, [0; 32]);
+    let out = if plan.quiet { None } else { Some(rt.stderr()) };
+    let doorways = shared.doorways.as_slice();
+    let Ok(door) = HostDoor::over(rt, rt.alloc(), share, doorways, lane, telling, out) else {
+        return Err(Failure::Memory.into());
+    };
+    let Ok(clock) = HostClock::seeded(rt, origin) else {
+        return Err(Failure::Keys.into());
+    };
+    Ok(Stand::of(door, clock))
+}
+
 /// Prints a text about the program.
 fn tell(rt: &HostRuntime, text: &str) -> Ending {
     match rt.stdout().write_all(text.as_bytes()) {
@@ -231,6 +304,29 @@ fn plan_of(rt: &HostRuntime) -> Result<HostPlan, Ending>
     }
 }
 
+/// Begins a run above `first` by the seat of an end, if it has one.
+///
+/// # Errors
+///
+/// `Starved` if memory runs out.
+fn begin_by<R: Wait, L, C: Clock>(
+    handles: &R,
+    hall: &Hall,
+    end: &mut End<L, C>,
+    first: u64,
+) -> Result<(), Starved>
+    requires hall { IfSome end.old.seat (λ seat. seat.hall ≡ hall.now) }
+    ensures hall { IfSome end.new.seat (λ seat. seat.hall ≡ hall.now) }
+{
+    let now = end.clock.now();
+    if let Some(seat) = &mut end.seat {
+        if seat.begin(handles, hall, &OpenGate, now, first) == Stepped::Starved {
+            return Err(Starved);
+        }
+    }
+    Ok(())
+}
+
 /// Begins a run above `first` by the seat of the first end, before any worker serves.
 ///
 /// # Errors
@@ -246,15 +342,33 @@ fn begin_run<R: Wait, L, C: Clock>(
     ensures hall { AreOfHall hall.now ends.new }
     ensures length { length ends.new ≡ length ends.old }
 {
-    if let Some(end) = ends.first_mut() {
-        let now = end.clock.now();
-        if let Some(seat) = &mut end.seat {
-            if seat.begin(handles, hall, &OpenGate, now, first) == Stepped::Starved {
-                return Err(Starved);
-            }
-        }
+    match ends.first_mut() {
+        Some(end) => begin_by(handles, hall, end, first),
+        None => Ok(()),
     }
-    Ok(())
+}
+
+/// Begins a run above `first` by the seat of the first worker, if that worker serves over UDP.
+///
+/// Call this before any worker serves.
+///
+/// # Errors
+///
+/// `Starved` if memory runs out.
+fn begin_joint_run<R: Wait, L, E, C: Clock>(
+    handles: &R,
+    hall: &Hall,
+    posts: &mut [Post<L, E, C>],
+    first: u64,
+) -> Result<(), Starved>
+    requires hall { posts_of.AreOfHall hall.now posts.old }
+    ensures hall { posts_of.AreOfHall hall.now posts.new }
+    ensures length { length posts.new ≡ length posts.old }
+{
+    match posts.first_mut() {
+        Some(Post::Udp(end)) => begin_by(handles, hall, end, first),
+        _ => Ok(()),
+    }
 }
 
 /// Makes a hall for the ends, begins its run above `first`, and serves.
@@ -310,6 +424,103 @@ fn serve_guarded<
     serve_above(rt, handles, &mut ends, plan, first)
 }
 
+/// Creates the workers: first those over UDP, from the ends, then those over TCP, from the stands.
+fn joint_posts<L: Drop, E: Drop, C: Drop>(
+    alloc: Global,
+    ends: Vec<End<L, C>>,
+    stands: Vec<Stand<E, C>>,
+) -> Result<Vec<Post<L, E, C>>, Starved>
+    requires few { vec_len ends + vec_len stands ≤ 16 }
+    ensures { IfOk result (λ posts. vec_len posts ≡ vec_len ends + vec_len stands) }
+{
+    let mut posts = Vec::with_capacity(alloc, ends.len() + stands.len())?;
+    'ends: for end in ends {
+        posts.push_reserved(Post::Udp(end));
+    }
+    'stands: for stand in stands {
+        posts.push_reserved(Post::Tcp(stand));
+    }
+    Ok(posts)
+}
+
+/// Makes a hall for the workers, begins its run above `first`, and serves.
+///
+/// Prints the line of its start on standard error, and serves even if that cannot be written.
+///
+/// # Errors
+///
+/// `Starved` if memory runs out before the workers are served.
+fn serve_jointly_above<
+    R: Threads + Wait + Sync + AllocGlobal,
+    L: Link + Send,
+    E: Entrance + Send,
+    C: Clock + Send,
+>(
+    rt: &HostRuntime,
+    handles: &R,
+    posts: &mut [Post<L, E, C>],
+    plan: &HostPlan,
+    first: u64,
+) -> Result<ServeStatus, Starved>
+    requires posts { (1 ≤ length posts.old) × (length posts.old ≤ 16) }
+    requires turns { plan.now.turns ≤ 10 ^ 12 }
+{
+    let line = plan.start_line(rt.alloc(), first)?;
+    let hall = make_joint_hall(handles, posts)?;
+    if let Err(starved) = begin_joint_run(handles, &hall, posts, first) {
+        hall.end(handles);
+        return Err(starved);
+    }
+    let _ = rt.stderr().write_all(line.as_bytes());
+    let mut out = StdSink::of(rt.stdout());
+    Ok(serve_posts(handles, hall, posts, &OpenGate, plan.turns, &mut out))
+}
+
+/// Serves as [`serve_jointly_above`] does, behind the guard, and counts what passes.
+///
+/// # Errors
+///
+/// `Starved` if memory runs out before the workers are served.
+fn serve_jointly<
+    R: Threads + Wait + Sync + AllocGlobal,
+    L: Link + Send + Drop,
+    E: Entrance + Send + Drop,
+    C: Clock + Send + Drop,
+    W: Write + Send + Drop,
+>(
+    rt: &HostRuntime,
+    handles: &R,
+    shared: &Shared,
+    contexts: Vec<Context<L, C, W>>,
+    stands: Vec<Stand<E, C>>,
+    plan: &HostPlan,
+    first: u64,
+) -> Result<ServeStatus, Starved>
+    requires some { 1 ≤ vec_len contexts }
+    requires few { vec_len contexts + vec_len stands ≤ 16 }
+    requires turns { plan.now.turns ≤ 10 ^ 12 }
+{
+    let ends = guarded(handles, rt.alloc(), shared, contexts)?;
+    let mut posts = joint_posts(rt.alloc(), ends, stands)?;
+    serve_jointly_above(rt, handles, &mut posts, plan, first)
+}
+
+/// Creates the stands of a plan, each in its own lane.
+fn stands_over<'a>(
+    rt: &'a HostRuntime,
+    shared: &'a Shared,
+    plan: &HostPlan,
+) -> Result<Vec<Stand<OwnDoor<'a>, OwnClock<'a>>>, Ending>
+    requires { plan.now.connections ≤ 16 }
+    ensures { IfOk result (λ stands. vec_len stands ≡ plan.now.connections) }
+{
+    let mut stands = Vec::with_capacity(rt.alloc(), usize::from(plan.connections))?;
+    'lanes: for lane in 0..plan.connections {
+        stands.push_reserved(stand_over(rt, shared, plan, lane)?);
+    }
+    Ok(stands)
+}
+
 fn main(rt: HostRuntime) -> ExitCode {
     let plan = match plan_of(&rt) {
         Ok(plan) => plan,
@@ -323,8 +534,17 @@ fn main(rt: HostRuntime) -> ExitCode {
         Ok(contexts) => contexts,
         Err(ending) => return ending.exit(&rt),
     };
+    let stands = match stands_over(&rt, &shared, &plan) {
+        Ok(stands) => stands,
+        Err(ending) => return ending.exit(&rt),
+    };
     let first = plan.begin.unwrap_or(shared.origin.begin());
-    match serve_guarded(&rt, &rt, &shared, contexts, &plan, first) {
+    let served = if stands.is_empty() {
+        serve_guarded(&rt, &rt, &shared, contexts, &plan, first)
+    } else {
+        serve_jointly(&rt, &rt, &shared, contexts, stands, &plan, first)
+    };
+    match served {
         Ok(status) => Ending::of(status, &shared.crew).exit(&rt),
         Err(starved) => Ending::from(starved).exit(&rt),
     }

@@ -6,8 +6,8 @@ use std::alloc::Global;
 use std::fmt::Write;
 use std::test::Fail;
 
-/// What the arguments after the bar ask for: workers, receives, addresses, and the number above
-/// which the run begins if it is given; or `refused`.
+/// What the arguments after the bar ask for: workers, receives, addresses, and any other options;
+/// or `refused`.
 const WORDS: &str = "\
 4 1000000000000 192.0.2.1:5683 | --listen 192.0.2.1:5683
 4 1000000000000 [2001:db8::1]:61616 | --listen=[2001:db8::1]:61616
@@ -32,6 +32,10 @@ const WORDS: &str = "\
 4 1000000000000 [::1]:5683 | --listen=[0:0::1]:5683
 4 1000000000000 [2001:db8::1]:1 | --listen=[2001:0DB8:0:0:0:0:0:1]:1
 4 1000000000000 127.0.0.1:1 lookups 65535 | --listen=127.0.0.1:1 --lookups=65535
+4 1000000000000 192.0.2.1:5683 tcp 192.0.2.1:5683 connections 4 | --listen=192.0.2.1:5683 \
+--tcp=192.0.2.1:5683
+1 1000000000000 192.0.2.1:5683 tcp 192.0.2.1:5683 connections 15 | --listen=192.0.2.1:5683 \
+--tcp=192.0.2.1:5683 --connections=15
 help | --help
 help | -h
 version | --version
@@ -69,6 +73,8 @@ refused | --listen=127.0.0.1:1 --share=4097
 refused | --listen=127.0.0.1:1 --share=1 --share=2
 refused | --listen=127.0.0.1:1 --criteria=769
 refused | --listen=127.0.0.1:1 --lookups=65536
+refused | --listen=192.0.2.1:5683 --tcp=192.0.2.1:5683 --connections=16
+refused | --connections=2
 refused | --listen
 refused | --listen --listen=127.0.0.1:1
 refused | --listen=127.0.0.1:1 --port=1
@@ -82,6 +88,8 @@ fn told(alloc: Global, plan: &HostPlan) -> Result<String, Fail> {
     let HostPlan {
         listen,
         workers,
+        tcp,
+        connections,
         turns,
         begin,
         allow,
@@ -95,6 +103,13 @@ fn told(alloc: Global, plan: &HostPlan) -> Result<String, Fail> {
     for address in listen.as_slice() {
         let address = peer_text(alloc, address)?;
         write!(text, " {}", address.as_str())?;
+    }
+    for address in tcp.as_slice() {
+        let address = peer_text(alloc, address)?;
+        write!(text, " tcp {}", address.as_str())?;
+    }
+    if *connections > 0 {
+        write!(text, " connections {connections}")?;
     }
     if let Some(begin) = begin {
         write!(text, " above {begin}")?;

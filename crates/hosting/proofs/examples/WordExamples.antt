@@ -29,6 +29,8 @@ one : wanted_of (codes "--listen" ∷ codes "192.0.2.1:5683" ∷ [])
     ≡ Some (wanted.Serve (record {
       listen = inner ∷ [];
       workers = 4;
+      tcp = [];
+      connections = 0;
       turns = 1_000_000_000_000;
       begin = None;
       allow = [];
@@ -47,6 +49,8 @@ two : wanted_of (codes "--workers=8" ∷ codes "--listen=[2001:db8::1]:61616" �
     ≡ Some (wanted.Serve (record {
       listen = outer ∷ inner ∷ [];
       workers = 8;
+      tcp = [];
+      connections = 0;
       turns = 1;
       begin = None;
       allow = [];
@@ -70,6 +74,8 @@ abbrev loopback : ℕ → HostPlan
 loopback workers = record {
   listen = default_listen;
   workers = workers;
+  tcp = [];
+  connections = 0;
   turns = 1_000_000_000_000;
   begin = None;
   allow = [];
@@ -94,6 +100,8 @@ other_spelling : wanted_of (codes "--quiet" ∷ codes "--listen=[2001:DB8:0:0::1
     ≡ Some (wanted.Serve (record {
       listen = outer ∷ [];
       workers = 4;
+      tcp = [];
+      connections = 0;
       turns = 1_000_000_000_000;
       begin = None;
       allow = [];
@@ -157,6 +165,8 @@ plan_at addresses =
     plan_of (record {
       listen = replicate addresses inner;
       workers = None;
+      tcp = [];
+      connections = None;
       turns = Some 7;
       begin = Some 9;
       allow = [];
@@ -171,6 +181,8 @@ abbrev planned : ℕ → ℕ → HostPlan
 planned addresses workers = record {
   listen = replicate addresses inner;
   workers = workers;
+  tcp = [];
+  connections = 0;
   turns = 7;
   begin = Some 9;
   allow = [];
@@ -189,3 +201,39 @@ five = refl
 
 seventeen : plan_at 17 ≡ None
 seventeen = refl
+
+-- each connection takes the place of a worker, and connections need an address
+abbrev served_both : ℕ → ℕ → HostPlan
+served_both workers connections = record {
+  listen = inner ∷ [];
+  workers = workers;
+  tcp = inner ∷ [];
+  connections = connections;
+  turns = 1_000_000_000_000;
+  begin = None;
+  allow = [];
+  trust = [];
+  share = 1024;
+  criteria = 16;
+  lookups = 0;
+  quiet = false;
+}
+
+both : wanted_of (codes "--listen=192.0.2.1:5683" ∷ codes "--tcp=192.0.2.1:5683" ∷ [])
+    ≡ Some (wanted.Serve (served_both 4 4))
+unfolding on_literals
+both = refl
+
+many_connections : wanted_of (codes "--listen=192.0.2.1:5683" ∷ codes "--tcp=192.0.2.1:5683"
+    ∷ codes "--connections=15" ∷ []) ≡ Some (wanted.Serve (served_both 1 15))
+unfolding on_literals
+many_connections = refl
+
+too_many_connections : wanted_of (codes "--listen=192.0.2.1:5683"
+    ∷ codes "--tcp=192.0.2.1:5683" ∷ codes "--connections=16" ∷ []) ≡ None
+unfolding on_literals
+too_many_connections = refl
+
+no_address : wanted_of (codes "--connections=2" ∷ []) ≡ None
+unfolding on_literals
+no_address = refl
