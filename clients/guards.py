@@ -131,11 +131,11 @@ def ends(run):
           ["status 3", '--allow: "10.0.0.0/33" is no network; give one as 192.0.2.0/24 or '
            "2001:db8::/32"])
     ended(run, "a number that comes twice", ["--listen", taken, "--turns=1", "--turns=2"],
-          ["status 3", "--turns: it stands twice"])
+          ["status 3", "--turns: it is given twice"])
     ended(run, "a word without a value that comes twice", ["--quiet", "--quiet"],
-          ["status 3", "--quiet: it stands twice"])
+          ["status 3", "--quiet: it is given twice"])
     ended(run, "another word", ["--listen", taken, "--quick"],
-          ["status 3", "--quick: no option of rd_host (--help tells them)"])
+          ["status 3", "--quick: no option of rd_host (--help lists them)"])
 
 
 def starts(run):

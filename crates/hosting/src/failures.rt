@@ -156,8 +156,8 @@ impl Failure {
     /// Returns the line to print if memory for the whole line runs out.
     pub fn short_line(&self) -> &'static str {
         match self {
-            Failure::Words(_) => "words: not those of rd_host (--help tells them)\n",
-            Failure::Unread => "words: one is not UTF-8\n",
+            Failure::Words(_) => "arguments: not those of rd_host (--help lists them)\n",
+            Failure::Unread => "arguments: one is not UTF-8\n",
             Failure::Socket(..) => "socket: the system refuses it\n",
             Failure::NoAddress => "--listen: no address is left, since this machine has no IPv6\n",
             Failure::Link(_) => "link: receives fail\n",

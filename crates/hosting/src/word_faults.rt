@@ -106,7 +106,7 @@ fn wrong_other(alloc: Global, word: &str) -> Result<String, Starved> {
     if matches!(word, "--help" | "-h" | "--version" | "-V") {
         return Ok(format!(in alloc; "{word}: it stands alone")?);
     }
-    Ok(format!(in alloc; "{word}: no option of rd_host (--help tells them)")?)
+    Ok(format!(in alloc; "{word}: no option of rd_host (--help lists them)")?)
 }
 
 /// Returns what is wrong with an argument, given those after it.
@@ -152,7 +152,7 @@ fn wrong_words(alloc: Global, words: &[String]) -> Result<String, Starved> {
             Err(HostFault::Starved) => return Err(Starved),
             Err(HostFault::Usage) => {
                 let name = name_text(option_name(&option));
-                return Ok(format!(in alloc; "{name}: it stands twice")?);
+                return Ok(format!(in alloc; "{name}: it is given twice")?);
             }
         };
         left = behind;
