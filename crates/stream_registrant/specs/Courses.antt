@@ -19,6 +19,7 @@ use Rattle.std.specs.Prelude.{
   None,
   Ok,
   Err,
+  ⊤,
 }
 use Rattle.std.specs.Io.KnownBytes.{Consumes, IsAtEnd, Keeps}
 use Rattle.rd_base.specs.Outside.{Rose}
@@ -216,3 +217,25 @@ pub record IsSent (r : Request) (opening request : List ℕ) (before now : Seen)
 abbrev pub IsTold : Request → List ℕ → List ℕ → Seen → Seen → End → Type 0
 IsTold r opening request before now end =
     IsUnsent (length request) before now end ⊎ IsSent r opening request before now end
+
+-- ---- by the octets
+
+-- Returns how all messages of a stream end a request.
+abbrev pub verdict_in : Request → Stream → Option End
+verdict_in r s = verdict r (reverse s.messages)
+
+-- States that a request ended as the verdict says, unless a read or a write failed, memory ran out,
+-- or the request was too long. Without a verdict, it ended at the end of the source or at a bad
+-- message.
+abbrev pub Decides : Option End → End → Type 0
+Decides v (Ok a) = v ≡ Some (Ok a)
+Decides v (Err unanswered.Released) = v ≡ Some (Err unanswered.Released)
+Decides v (Err unanswered.Aborted) = v ≡ Some (Err unanswered.Aborted)
+Decides v (Err unanswered.Closed) = v ≡ None
+Decides v (Err (unanswered.Bad why)) = v ≡ None
+Decides v (Err _) = ⊤
+
+-- States that of the octets that the source had, in whatever pieces they came.
+abbrev pub IsDecided : Request → Option (List ℕ) → SessionSeen → End → Type 0
+IsDecided r None s end = ⊤
+IsDecided r (Some octets) s end = Decides (verdict_in r (ahead s octets)) end

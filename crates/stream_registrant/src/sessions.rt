@@ -1,11 +1,12 @@
 //! A connection to a directory, and the requests over it.
 ghost use Rattle.std.specs.Prelude.{◌≡◌, ◌<◌, List, ℕ, []};
+ghost use Rattle.stream_model.specs.Streams.{stream_of};
 ghost use Rattle.stream_reader.specs.Shown.{message_of};
 ghost use Rattle.client_model.specs.Requests.{CanBeSent};
 ghost use Rattle.stream_registrant.specs.Answers.{request_in, request_over};
 ghost use Rattle.stream_registrant.specs.Courses as courses;
-ghost use Rattle.stream_registrant.specs.Courses.{Ends, IsKept, IsRead, IsStepped, IsTold, Seen};
-ghost use Rattle.stream_registrant.specs.Courses.{Waits, seen, source_turns};
+ghost use Rattle.stream_registrant.specs.Courses.{Ends, IsDecided, IsKept, IsRead, IsStepped, IsTold};
+ghost use Rattle.stream_registrant.specs.Courses.{Seen, Waits, seen, source_turns};
 ghost use Rattle.stream_registrant.specs.Hearing.{IsHeardIn, IsRefused};
 ghost use Rattle.stream_registrant.specs.Saying.{opening, request_octets, voice_seen};
 
@@ -43,7 +44,8 @@ impl Model for Session {
 impl Session {
     /// Creates the session of a new connection.
     pub fn new() -> Session
-        ensures { result ≡ courses.at_opening }
+        ensures new { result ≡ courses.at_opening }
+        ensures ahead { (octets : List ℕ) → courses.ahead result octets ≡ stream_of octets }
     {
         Session {
             reader: StreamReader::new(),
@@ -163,10 +165,11 @@ impl Session {
         out: &mut K,
     ) -> Result<Answer, Unanswered>
         requires { CanBeSent ask.now }
-        ensures { IsTold (request_over ask.now token) (opening self.old.is_open)
+        ensures course { IsTold (request_over ask.now token) (opening self.old.is_open)
             (request_octets ask.now token)
             (seen S.Source.own K.Sink.own self.old source.old out.old)
             (seen S.Source.own K.Sink.own self.new source.new out.new) result }
+        ensures told { IsDecided (request_over ask.now token) (S.left source.old) self.old result }
     {
         if let Err(why) = begin(alloc, self.is_open, ask, &token, out) {
             return Err(why);

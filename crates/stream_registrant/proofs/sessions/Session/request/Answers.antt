@@ -4,10 +4,11 @@ use Rattle.stream_registrant.specs.Answers.{request_over}
 use Rattle.stream_registrant.specs.Courses.{IsTold, Ends, SessionSeen, seen}
 use Rattle.stream_registrant.specs.Saying.{opening, request_octets, voice_seen}
 use Rattle.stream_registrant.proofs.CourseLaws.{begins, told_sent, told_unsent}
+use Rattle.stream_registrant.proofs.DecidedLaws.{decided}
 use Rattle.stream_registrant.proofs.sessions.Session.request.Goals as goal
 
-pub returns-in-Err : goal.returns-in-Err
-returns-in-Err g c =
+pub returns-in-Err-clause-course : goal.returns-in-Err-clause-course
+returns-in-Err-clause-course g c =
     let r = request_over c.args.ask.now c.args.token in
     let request = request_octets c.args.ask.now c.args.token in
     let now : SessionSeen = record {
@@ -23,8 +24,8 @@ returns-in-Err g c =
     (seen g.S.Source g.K.Sink now c.args.source.now c.args.out.now)
     (voice_seen g.K.Sink c.begin.new.out) c.in-Err.why c.in-Err.ensures)
 
-pub returns : goal.returns
-returns g c =
+pub returns-clause-course : goal.returns-clause-course
+returns-clause-course g c =
     let r = request_over c.args.ask.now c.args.token in
     let request = request_octets c.args.ask.now c.args.token in
     let now : SessionSeen = record {
@@ -44,3 +45,17 @@ returns g c =
     (subst (λ (q : Request). Ends q first before after c.hear_all.result) c.request_of.ensures
     (c.hear_all.ensures first before
     (begins _ first before true (voice_seen g.K.Sink c.begin.new.out) c.in_default.ensures.0))))
+
+pub returns-in-Err-clause-told : goal.returns-in-Err-clause-told
+returns-in-Err-clause-told g c =
+    decided (request_over c.args.ask.now c.args.token) (opening c.args.self.now.is_open)
+    (request_octets c.args.ask.now c.args.token)
+    (seen g.S.Source g.K.Sink c.args.self.now c.args.source.now c.args.out.now) _
+    (Err c.in-Err.why) (returns-in-Err-clause-course g c)
+
+pub returns-clause-told : goal.returns-clause-told
+returns-clause-told g c =
+    decided (request_over c.args.ask.now c.args.token) (opening c.args.self.now.is_open)
+    (request_octets c.args.ask.now c.args.token)
+    (seen g.S.Source g.K.Sink c.args.self.now c.args.source.now c.args.out.now) _
+    c.hear_all.result (returns-clause-course g c)
