@@ -1,34 +1,7 @@
 -- The course of a request, step by step.
-use Rattle.std.proofs.Common.{
-  ◌≡◌,
-  ℕ,
-  ◌+◌,
-  ◌≤◌,
-  Bool,
-  List,
-  [],
-  ◌∷◌,
-  ◌++◌,
-  drop,
-  length,
-  Option,
-  Some,
-  None,
-  Result,
-  Ok,
-  Err,
-  refl,
-  sym,
-  ap,
-  subst,
-  ◌∙◌,
-  inl,
-  inr,
-  append_assoc,
-  append-nil,
-}
+use Rattle.std.proofs.Common.{◌≡◌, ℕ, ◌≤◌, Bool, List, [], ◌∷◌, ◌++◌, drop, length, Option, Some, None, Ok, Err, refl, sym, ap, subst, ◌∙◌, inl, inr, append_assoc, append-nil}
 use Rattle.std.specs.Prelude.{reverse}
-use Rattle.std.specs.Io.KnownBytes.{Consumes, IsAtEnd, Keeps}
+use Rattle.std.specs.Io.KnownBytes.{Consumes}
 use Rattle.std.proofs.KnownBytes.{Consumes-nil, Consumes-trans, Consumes-kept}
 use Rattle.std.proofs.lemmas.List.{reverse-append}
 use Rattle.rd_base.specs.Outside.{Rose}
@@ -36,7 +9,7 @@ use Rattle.stream_model.specs.declared.messages.StreamBad.{StreamBad}
 use Rattle.stream_model.specs.declared.messages.Judged.{Judged}
 use Rattle.stream_model.specs.declared.messages.Judged.TheVariants as judged
 use Rattle.stream_model.specs.Faults.{longest_message}
-use Rattle.stream_model.specs.Streams.{IsGood, Stream, broken, with_message}
+use Rattle.stream_model.specs.Streams.{IsGood, Stream, with_message}
 use Rattle.stream_model.proofs.ReadingLaws.{bad_judged, good_judged}
 use Rattle.stream_reader.specs.declared.feeding.Fed.TheVariants as fed
 use Rattle.stream_reader.specs.Reading.{
@@ -50,7 +23,6 @@ use Rattle.stream_reader.specs.Reading.{
 }
 use Rattle.stream_reader.specs.Shown.{Shown, message_by, message_of, shown_in}
 use Rattle.client_model.specs.Requests.{Request}
-use Rattle.stream_registrant.specs.declared.answers.Answer.{Answer}
 use Rattle.stream_registrant.specs.declared.answers.Unanswered.{Unanswered}
 use Rattle.stream_registrant.specs.declared.answers.Unanswered.TheVariants as unanswered
 use Rattle.stream_registrant.specs.declared.hearing.Step.{Step}

@@ -4,13 +4,11 @@ use Rattle.std.specs.Str.{is_utf8, chars}
 use lib.Utf8.{encode}
 use Rattle.rd_base.specs.declared.peers.Host.TheVariants as host
 use Rattle.rd_base.specs.declared.peers.Peer.{Peer}
-use Rattle.message_model.specs.Codes as codes_of
 use Rattle.message_model.proofs.Notation.{hex}
 use Rattle.message_model.proofs.OnLiterals.{messages_on_literals}
 use Rattle.stream_model.specs.Judging.{extension_size}
 use Rattle.stream_model.specs.Messages as stream_messages
 use Rattle.stream_reader.specs.Shown.{shown_in}
-use Rattle.client_model.specs.declared.asks.Ask.{Ask}
 use Rattle.client_model.specs.declared.asks.Purpose.TheVariants as purpose
 use Rattle.client_model.specs.declared.outcomes.Outcome.TheVariants as outcome
 use Rattle.client_model.specs.Asks.{registering}

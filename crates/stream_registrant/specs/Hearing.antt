@@ -1,5 +1,5 @@
 -- What is done for a message.
-use Rattle.std.specs.Prelude.{◌≡◌, List, ℕ, Option, Some, None, Result, Ok, Err, ⊤}
+use Rattle.std.specs.Prelude.{◌≡◌, List, ℕ, Option, Some, None, Ok, Err, ⊤}
 use Rattle.stream_model.specs.declared.messages.StreamBad.{StreamBad}
 use Rattle.stream_reader.specs.Shown.{Shown}
 use Rattle.client_model.specs.Requests.{Request}

@@ -146,11 +146,7 @@ fn view_of<'a>(token: &'a [u8; TOKEN_SIZE], frame: &Frame<'a>) -> View<'a>
 }
 
 /// Returns the answer that a response with the token gives.
-fn answer_by(
-    alloc: Global,
-    pending: &Pending,
-    meaning: &Meaning<'_>,
-) -> Result<Answer, Starved>
+fn answer_by(alloc: Global, pending: &Pending, meaning: &Meaning<'_>) -> Result<Answer, Starved>
     ensures { let m = message_in meaning.now.view in
         IfOk result (λ answer. answer
         ≡ spec.answer_with m (verdicts.answered pending.now.purpose pending.now.to m.code

@@ -1,5 +1,4 @@
-use Rattle.std.proofs.Common.{◌≤◌, ◌-◌, ap, drop, length, min, ◌∙◌, arith}
-use Rattle.std.proofs.lemmas.List.{length-take}
+use Rattle.std.proofs.Common.{ap, drop, ◌∙◌}
 use Rattle.stream_registrant.proofs.PieceLaws.{few_of, spent}
 use Rattle.stream_registrant.proofs.pieces.Piece.spend.Goals as goal
 

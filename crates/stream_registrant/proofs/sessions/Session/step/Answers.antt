@@ -1,8 +1,8 @@
-use Rattle.std.proofs.Common.{List, ℕ, drop, sym, subst}
+use Rattle.std.proofs.Common.{List, ℕ, sym, subst}
 use Rattle.stream_reader.specs.declared.feeding.Fed.TheVariants as fed
 use Rattle.stream_reader.specs.Reading.{GoesOn, IsFed}
 use Rattle.stream_registrant.specs.Answers.{request_in}
-use Rattle.stream_registrant.specs.Courses.{IsStepped, Seen, SessionSeen, Waits, seen}
+use Rattle.stream_registrant.specs.Courses.{IsStepped, SessionSeen, Waits, seen}
 use Rattle.stream_registrant.specs.Saying.{voice_seen}
 use Rattle.stream_registrant.proofs.CourseLaws.{steps_bad, steps_read, steps_whole}
 use Rattle.stream_registrant.proofs.sessions.Session.step.Goals as goal
