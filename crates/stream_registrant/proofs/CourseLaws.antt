@@ -1,5 +1,30 @@
 -- The course of a request, step by step.
-use Rattle.std.proofs.Common.{◌≡◌, ℕ, ◌≤◌, Bool, List, [], ◌∷◌, ◌++◌, drop, length, Option, Some, None, Ok, Err, refl, sym, ap, subst, ◌∙◌, inl, inr, append_assoc, append-nil}
+use Rattle.std.proofs.Common.{
+  ◌≡◌,
+  ℕ,
+  ◌≤◌,
+  Bool,
+  List,
+  [],
+  ◌∷◌,
+  ◌++◌,
+  drop,
+  length,
+  Option,
+  Some,
+  None,
+  Ok,
+  Err,
+  refl,
+  sym,
+  ap,
+  subst,
+  ◌∙◌,
+  inl,
+  inr,
+  append_assoc,
+  append-nil,
+}
 use Rattle.std.specs.Prelude.{reverse}
 use Rattle.std.specs.Io.KnownBytes.{Consumes}
 use Rattle.std.proofs.KnownBytes.{Consumes-nil, Consumes-trans, Consumes-kept}
@@ -98,7 +123,9 @@ broken_judged old new piece n why fed_so = by (held_as old) refl fed_so
     by judged.More is s = bad_judged new.is_first new.pending why s.is_bad
     by judged.Whole is s = bad_judged new.is_first new.pending why s.is_bad
     by (judged.Bad other) is s =
-        ap held_as s.1 ∙ is ∙ ap (λ (w : StreamBad). judged.Bad w) (sym (same_why n 0 why other s.0))
+        ap held_as s.1
+        ∙ is
+        ∙ ap (λ (w : StreamBad). judged.Bad w) (sym (same_why n 0 why other s.0))
 
 -- ---- what is taken
 

@@ -1,5 +1,24 @@
 -- How a request ends, by the octets of its source, in whatever pieces they come.
-use Rattle.std.proofs.Common.{◌≡◌, ℕ, List, [], ◌∷◌, ◌++◌, Option, Some, None, Ok, Err, refl, sym, ap, subst, ◌∙◌, inl, inr}
+use Rattle.std.proofs.Common.{
+  ◌≡◌,
+  ℕ,
+  List,
+  [],
+  ◌∷◌,
+  ◌++◌,
+  Option,
+  Some,
+  None,
+  Ok,
+  Err,
+  refl,
+  sym,
+  ap,
+  subst,
+  ◌∙◌,
+  inl,
+  inr,
+}
 use Rattle.std.specs.Prelude.{reverse}
 use Rattle.std.specs.Io.KnownBytes.{Consumes, IsAtEnd}
 use Rattle.std.proofs.lemmas.List.{reverse-append, reverse-reverse}
@@ -18,7 +37,16 @@ use Rattle.stream_reader.specs.Shown.{shown_in}
 use Rattle.client_model.specs.Requests.{Request}
 use Rattle.stream_registrant.specs.declared.answers.Unanswered.TheVariants as unanswered
 use Rattle.stream_registrant.specs.Answers.{End, ends_in, or_later, verdict}
-use Rattle.stream_registrant.specs.Courses.{Concludes, Decides, IsDecided, IsTold, Seen, ahead, verdict_in, with_messages}
+use Rattle.stream_registrant.specs.Courses.{
+  Concludes,
+  Decides,
+  IsDecided,
+  IsTold,
+  Seen,
+  ahead,
+  verdict_in,
+  with_messages,
+}
 
 -- ---- a new session
 

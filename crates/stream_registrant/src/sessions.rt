@@ -5,8 +5,8 @@ ghost use Rattle.stream_reader.specs.Shown.{message_of};
 ghost use Rattle.client_model.specs.Requests.{CanBeSent};
 ghost use Rattle.stream_registrant.specs.Answers.{request_in, request_over};
 ghost use Rattle.stream_registrant.specs.Courses as courses;
-ghost use Rattle.stream_registrant.specs.Courses.{Ends, IsDecided, IsKept, IsRead, IsStepped, IsTold};
-ghost use Rattle.stream_registrant.specs.Courses.{Seen, Waits, seen, source_turns};
+ghost use Rattle.stream_registrant.specs.Courses.{Ends, IsDecided, IsKept, IsRead, IsStepped};
+ghost use Rattle.stream_registrant.specs.Courses.{IsTold, Seen, Waits, seen, source_turns};
 ghost use Rattle.stream_registrant.specs.Hearing.{IsHeardIn, IsRefused};
 ghost use Rattle.stream_registrant.specs.Saying.{opening, request_octets, voice_seen};
 
