@@ -46,8 +46,9 @@ type HostContext<'a> = Context<HostLink<'a, HostRuntime>, HostClock<'a, HostRunt
 type GuardedEnds<'a, R, L, C, W> = Vec<End<GuardedLink<'a, R, CountedLink<'a, L, C, W>, C>, C>>;
 
 /// The workers whose links have a guard and are counted, and those that accept connections.
-type GuardedPosts<'a, R, L, E, C, W> =
-    Vec<Post<GuardedLink<'a, R, CountedLink<'a, L, C, W>, C>, E, C>>;
+type GuardedPosts<'a, R, L, E, C, W> = Vec<
+    Post<GuardedLink<'a, R, CountedLink<'a, L, C, W>, C>, E, C>,
+>;
 
 /// Returns what the arguments want.
 fn wanted(rt: &HostRuntime) -> Result<Wanted, Ending>

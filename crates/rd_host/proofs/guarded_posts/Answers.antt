@@ -10,5 +10,7 @@ if_ok P Q (Err e) f p = tt
 pub returns : goal.returns
 returns g c =
     if_ok _ _ c.joint_posts.result
-    (λ posts is. (omega (arith, is, c.in_ok-ends.ensures, c.requires.some),
-    omega (arith, is, c.in_ok-ends.ensures, c.requires.few))) c.joint_posts.ensures
+    (λ posts is. (
+      omega (arith, is, c.in_ok-ends.ensures, c.requires.some),
+      omega (arith, is, c.in_ok-ends.ensures, c.requires.few),
+    )) c.joint_posts.ensures
