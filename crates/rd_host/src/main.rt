@@ -45,6 +45,11 @@ type HostContext<'a> = Context<HostLink<'a, HostRuntime>, HostClock<'a, HostRunt
 /// The ends of workers whose links have a guard and are counted.
 type GuardedEnds<'a, R, L, C, W> = Vec<End<GuardedLink<'a, R, CountedLink<'a, L, C, W>, C>, C>>;
 
+/// The workers whose links have a guard and are counted, and those that accept connections.
+type GuardedPosts<'a, R, L, E, C, W> = Vec<
+    Post<GuardedLink<'a, R, CountedLink<'a, L, C, W>, C>, E, C>,
+>;
+
 /// Returns what the arguments want.
 fn wanted(rt: &HostRuntime) -> Result<Wanted, Ending>
     ensures { IfOk result IsWanted }
@@ -348,6 +353,26 @@ fn begin_run<R: Wait, L, C: Clock>(
     }
 }
 
+/// Begins a run above `first` by the seat of a worker, if it serves over UDP and has one.
+///
+/// # Errors
+///
+/// `Starved` if memory runs out.
+fn begin_post<R: Wait, L, E, C: Clock>(
+    handles: &R,
+    hall: &Hall,
+    post: &mut Post<L, E, C>,
+    first: u64,
+) -> Result<(), Starved>
+    requires hall { IfSome (posts_of.seat_of post.old) (λ seat. seat.hall ≡ hall.now) }
+    ensures hall { IfSome (posts_of.seat_of post.new) (λ seat. seat.hall ≡ hall.now) }
+{
+    match post {
+        Post::Udp(end) => begin_by(handles, hall, end, first),
+        Post::Tcp(_) => Ok(()),
+    }
+}
+
 /// Begins a run above `first` by the seat of the first worker, if that worker serves over UDP.
 ///
 /// Call this before any worker serves.
@@ -366,8 +391,8 @@ fn begin_joint_run<R: Wait, L, E, C: Clock>(
     ensures length { length posts.new ≡ length posts.old }
 {
     match posts.first_mut() {
-        Some(Post::Udp(end)) => begin_by(handles, hall, end, first),
-        _ => Ok(()),
+        Some(post) => begin_post(handles, hall, post, first),
+        None => Ok(()),
     }
 }
 
@@ -443,6 +468,23 @@ fn joint_posts<L: Drop, E: Drop, C: Drop>(
     Ok(posts)
 }
 
+/// Creates the workers: first those over UDP, with a guard and a counter over each link, then those
+/// over TCP.
+fn guarded_posts<'a, R, L: Drop, E: Drop, C: Drop, W: Drop>(
+    rt: &'a R,
+    alloc: Global,
+    shared: &'a Shared,
+    contexts: Vec<Context<L, C, W>>,
+    stands: Vec<Stand<E, C>>,
+) -> Result<GuardedPosts<'a, R, L, E, C, W>, Starved>
+    requires some { 1 ≤ vec_len contexts }
+    requires few { vec_len contexts + vec_len stands ≤ 16 }
+    ensures { IfOk result (λ posts. (1 ≤ vec_len posts) × (vec_len posts ≤ 16)) }
+{
+    let ends = guarded(rt, alloc, shared, contexts)?;
+    joint_posts(alloc, ends, stands)
+}
+
 /// Makes a hall for the workers, begins its run above `first`, and serves.
 ///
 /// Prints the line of its start on standard error, and serves even if that cannot be written.
@@ -500,8 +542,7 @@ fn serve_jointly<
     requires few { vec_len contexts + vec_len stands ≤ 16 }
     requires turns { plan.now.turns ≤ 10 ^ 12 }
 {
-    let ends = guarded(handles, rt.alloc(), shared, contexts)?;
-    let mut posts = joint_posts(rt.alloc(), ends, stands)?;
+    let mut posts = guarded_posts(handles, rt.alloc(), shared, contexts, stands)?;
     serve_jointly_above(rt, handles, &mut posts, plan, first)
 }
 
