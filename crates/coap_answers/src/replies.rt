@@ -273,6 +273,7 @@ fn answer_mid(mids: &mut Mids, kind: Kind4, mid: u16) -> u16
 ///
 /// `reply` has a code that is neither empty nor reserved, an Observe value below 2^24 if any, valid
 /// blocks, and a payload of at most 1,024 octets.
+#[inline(always)]
 pub fn begin_answer(mids: &mut Mids, view: &View<'_>, reply: &Reply<'_>) -> Writer
     requires reply { IsReply reply.now }
     ensures begun { (s : Step)

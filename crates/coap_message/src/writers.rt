@@ -87,6 +87,7 @@ impl Writer {
     ///
     /// The class of the code is not reserved. An empty message, of code 0.00, has no token (RFC
     /// 7252 sections 3 and 4.1).
+    #[inline(always)]
     pub fn start(kind: Kind4, code: u8, mid: u16, token: TokenRef<'_>) -> Writer
         requires class { codes_of.is_reserved code ≡ false }
         requires empty { code ≡ codes_of.empty → token.octets.now ≡ [] }

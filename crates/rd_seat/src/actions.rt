@@ -24,6 +24,7 @@ pub(crate) enum Action<'a> {
 }
 
 /// Returns the result of a step that leaves no job.
+#[inline(always)]
 fn of_step(stepped: Stepped) -> Admitted
     ensures { is_starved_admission result ≡ is_starved_step stepped }
 {
@@ -34,6 +35,7 @@ fn of_step(stepped: Stepped) -> Admitted
 }
 
 /// Returns how the step of an action ended that leaves no job.
+#[inline(always)]
 pub(crate) fn without_job(admitted: Admitted) -> Stepped
     ensures { is_starved_step result ≡ is_starved_admission admitted }
 {
@@ -45,6 +47,7 @@ pub(crate) fn without_job(admitted: Admitted) -> Stepped
 }
 
 /// Returns whether memory ran out.
+#[inline(always)]
 pub(crate) fn is_starved(admitted: &Admitted) -> bool
     ensures { result ≡ is_starved_admission admitted.now }
 {
@@ -57,6 +60,7 @@ pub(crate) fn is_starved(admitted: &Admitted) -> bool
 
 /// Whom the end of the turn wakes: nobody where this worker has a job now, for which it takes the
 /// turn again.
+#[inline(always)]
 pub(crate) fn wake_after(admitted: &Admitted) -> Wake {
     match admitted {
         Admitted::Held(_) => Wake::Nobody,
@@ -65,6 +69,7 @@ pub(crate) fn wake_after(admitted: &Admitted) -> Wake {
 }
 
 /// Takes the action on the desk.
+#[inline(always)]
 pub(crate) fn act(
     desk: &mut Desk<Publisher>,
     mids: &mut Mids,

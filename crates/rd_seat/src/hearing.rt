@@ -46,6 +46,7 @@ impl SeatHeard {
 }
 
 /// Returns the result of an admission.
+#[inline(always)]
 fn of_admission(admitted: Admitted) -> SeatHeard
     ensures starved { is_starved_hearing result ≡ is_starved_admission admitted }
     ensures left { (rows : List Row) → LeavesJob admitted rows → LeavesWrite result rows }

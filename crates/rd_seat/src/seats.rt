@@ -138,6 +138,7 @@ impl Seat {
     }
 
     /// Takes an action, at a turn of the seat.
+    #[inline(always)]
     pub(crate) fn act<R: Wait, G: Gate>(
         &mut self,
         rt: &R,

@@ -37,6 +37,7 @@ struct BeginningParts {
 impl Share {
     /// Takes an action, at a turn. The admission of a write has a place in the journal that the
     /// seat has seen.
+    #[inline(always)]
     pub(crate) fn act<R: Wait, G: Gate>(
         &mut self,
         rt: &R,
