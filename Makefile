@@ -20,8 +20,8 @@ SEED = 1
 # The random traces of `make cases`.
 COUNT = 10000
 
-# How many checks of the gate run side by side: one a processor, as long as there are 4.5 GB for each.
-# Without this word `rt ci` reckons with three times the memory that its checks take, and waits.
+# How many checks of the gate run side by side: one a processor, as long as there are 4.5 GB for
+# each. Without this word `rt ci` plans three times the memory that its checks take, and waits.
 LANES = $(shell awk -v most="$$(nproc)" '/^MemAvailable:/ { n = int($$2 / 4500000); \
 	print n < 1 ? 1 : n < most ? n : most }' /proc/meminfo)
 

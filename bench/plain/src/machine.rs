@@ -333,8 +333,8 @@ impl Machine {
         Ok(())
     }
 
-    /// Time passes: notifications are sent again, observers whose listing changed are told, and what is
-    /// old is forgotten.
+    /// Lets time pass: sends notifications again, tells observers whose listing changed, and
+    /// forgets what is old.
     fn tick(&mut self, moment: u64, word: u32) {
         self.pass(moment);
         self.notifications_again();
