@@ -7,7 +7,7 @@ use crate::characters::{
     is_name_character, is_not_control, is_target_character, is_token_character,
 };
 
-/// A point of the grammar, named after what may follow there.
+/// A point of the grammar. The comment of each variant says what may come there.
 #[derive(Clone, Copy, Debug, PartialEq, Eq)]
 pub enum Point {
     /// The end of the document, or a link.

@@ -1,4 +1,4 @@
--- What parameters and submitted links make: drafts, and the records that drafts become (RFC 9176
+-- Drafts, made of parameters and submitted links, and the records that they become (RFC 9176
 -- section 5).
 use Rattle.std.specs.Prelude.{◌≡◌, ⊤, ℕ, Bool, false, ◌&&◌, List, Some, is_some}
 use Rattle.rd_base.specs.Peers.{IsHost}
@@ -30,7 +30,7 @@ drafted peer params links = record {
   items = items_of (registered_base params.base peer) links;
 }
 
--- Returns the record that a draft becomes under a number, at a moment.
+-- Returns the record that a draft becomes under a number, granted at a moment.
 unfoldable pub recorded : ℕ → Moment → Draft → Record
 recorded number now draft = record {
   number = number;
@@ -43,13 +43,13 @@ recorded number now draft = record {
   items = draft.items;
 }
 
--- Returns whether the target of an item, as it was submitted, is a URI-reference, and so is its
--- anchor if it has one.
+-- Returns whether the target of a link is a URI-reference as it was submitted, and also its anchor
+-- if it has one.
 abbrev pub has_references : Item → Bool
 has_references item = is_reference item.target_ref && where_present is_reference item.anchor_ref
 
--- A draft that a registration can make. The numbers of its peer fit, its parameters are allowed,
--- and its links are those of a body that is not refused (RFC 9176 section 5).
+-- States that a registration can give the draft (RFC 9176 section 5). It comes from a peer whose
+-- numbers fit, has allowed parameters, and has the links of a body that is not refused.
 pub record IsDraft (draft : Draft) : Type 0 where
   pub peer : Peer
   pub params : RegParams
@@ -61,7 +61,7 @@ pub record IsDraft (draft : Draft) : Type 0 where
   pub limited : is_refused_as_limited body ≡ false
   pub made : draft ≡ drafted peer params links
 
--- States that the result is the fault of the body. Nothing is said of running out of memory.
+-- States that the answer is the fault of the body. Running out of memory has no cause in the body.
 abbrev pub IsFaultOf : List ℕ → DraftFault → Type 0
 IsFaultOf body (fault.Links offset) = body_fault body ≡ Some (no_document offset)
 IsFaultOf body (fault.Reference offset) = body_fault body ≡ Some (no_reference offset)

@@ -2,7 +2,7 @@
 pub mod Drafts
 -- Links as they were submitted (RFC 6690 section 2).
 pub mod Submissions
--- The parts of these definitions.
+-- The definitions that these are made of.
 pub mod LinkParameters
 pub mod References
 pub mod Links

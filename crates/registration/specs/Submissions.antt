@@ -1,4 +1,4 @@
--- Links as they were submitted (RFC 6690 section 2), given links against a base.
+-- Links as they were submitted (RFC 6690 section 2), taken from links against a base.
 use Rattle.std.specs.Prelude.{◌≡◌, ℕ, false, List, map, Some}
 use Rattle.rd_base.specs.declared.records.Item.{Item}
 use Rattle.rd_base.specs.declared.records.Record.{Record}
@@ -20,13 +20,13 @@ submitted_of item = record {
 abbrev pub all_submitted : List Item → List SubmittedLink
 all_submitted items = map submitted_of items
 
--- Links of a body that is not refused, against any base.
+-- States that these are the links of a body that is not refused, against any base.
 pub record AreOfBody (items : List Item) : Type 0 where
   pub body : List ℕ
   pub read : linked_references body ≡ Some (all_submitted items)
   pub limited : is_refused_as_limited body ≡ false
 
--- A record whose links are those of a body that is not refused, against the record's base.
+-- States that the links of a record are those of a body that is not refused, against its base.
 pub record IsOfBody (r : Record) : Type 0 where
   pub against : map (rebased r.base) r.items ≡ r.items
   pub links : AreOfBody r.items
