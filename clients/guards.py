@@ -172,22 +172,38 @@ def why_not(words: list[str]) -> str:
     return done.stderr.strip() or "it fails" if done.returncode else ""
 
 
+def without_v6(run, name: str, words: list[str], wanted: list[str], scheme: str):
+    """A case: what rd_host says at its start on a host without IPv6, and what it then answers."""
+    words = ["--workers=1", "--begin=41", *words]
+    process = run.start(outside([run.beside("rd_host"), *words]))
+    said = []
+    for line in process.stderr:
+        said.append(line.decode().strip())
+        if said[-1].startswith("rd_host "):
+            break
+    uri = f"{scheme}://127.0.0.1/.well-known/core?rt=core.rd"
+    client = subprocess.run(beside(process, [run.client, "-B", "5", uri]),
+                            stdin=subprocess.DEVNULL, stdout=subprocess.PIPE, timeout=10,
+                            check=False)
+    process.kill()
+    run.tell(name, shlex.join(["rd_host", *words]), [*wanted, '</rd>;rt="core.rd";ct=40'],
+             [*said, client.stdout.decode().strip()])
+
+
 def serves_v4(run):
-    """What it does by default on a host without IPv6; skipped where the system makes no network."""
+    """What it does on a host without IPv6; skipped where the system makes no network."""
     if why := why_not(outside(["true"])):
         print(f"skipped  a host without IPv6: {why}", flush=True)
         return
-    words = ["--workers=1", "--begin=41"]
-    process = run.start(outside([run.beside("rd_host"), *words]))
-    left_out, start = (process.stderr.readline().decode().strip() for _ in range(2))
-    client = subprocess.run(
-        beside(process, [run.client, "-B", "5", "coap://127.0.0.1/.well-known/core?rt=core.rd"]),
-        stdin=subprocess.DEVNULL, stdout=subprocess.PIPE, timeout=10, check=False)
-    process.kill()
-    run.tell("a host without IPv6", shlex.join(["rd_host", *words]),
-             ["[::1]:5683: left out, since this machine has no IPv6", "begin=41",
-              '</rd>;rt="core.rd";ct=40'],
-             [left_out, start.rpartition(" ")[2], client.stdout.decode().strip()])
+    left_out = "[::1]:5683: left out, since this machine has no IPv6"
+    line = "rd_host 0.1.0: listen=127.0.0.1:5683 workers=1{} share=1024 criteria=16 begin=41"
+    without_v6(run, "a host without IPv6", [], [left_out, line.format("")], "coap")
+    without_v6(run, "the same with an address of IPv6 for connections, too",
+               ["--tcp=[::1]:5683", "--tcp=127.0.0.1:5683", "--connections=2"],
+               [left_out, left_out, line.format(" tcp=127.0.0.1:5683 connections=2")], "coap+tcp")
+    without_v6(run, "the same with no other address for connections", ["--tcp=[::1]:5683"],
+               [left_out, left_out, "--tcp: no address is left, so no connections are accepted",
+                line.format("")], "coap")
 
 
 def shares(run, opened):

@@ -5,6 +5,7 @@
 ghost use Rattle.std.specs.Prelude.{◌≡◌, ◌+◌, ◌≤◌, ◌<◌, ◌^◌, IfOk, IfSome, length, vec_len};
 ghost use Rattle.hosting.specs.Words.{IsPlan, IsWanted};
 ghost use Rattle.joint_server.specs.Posts as posts_of;
+ghost use Rattle.rd_host.specs.Opening.{IsOpened};
 ghost use Rattle.rd_server.specs.serving.Servers.{AreOfHall};
 
 mod endings;
@@ -15,7 +16,7 @@ use hosting::{
     HostDoor, HostLink, HostPlan, Listener, Origin, Routes, TcpDoorway, Teller, Wanted, read_words,
 };
 use joint_server::{Post, Stand, make_joint_hall, serve_posts};
-use rd_base::{Peer, Starved, StdSink};
+use rd_base::{List, Peer, Starved, StdSink};
 use rd_desk::Stepped;
 use rd_seat::{Hall, OpenGate};
 use rd_server::{End, ServeStatus, given_words, make_hall, serve_seats};
@@ -27,6 +28,9 @@ use std::sync::{Mutex, Wait};
 use std::thread::Threads;
 use tcp_door::Entrance;
 use udp_link::{Clock, Link};
+
+/// The line for a plan of which no address for TCP is left.
+const NO_DOORWAY: &[u8] = b"--tcp: no address is left, so no connections are accepted\n";
 
 /// The resources of one worker: its link, the output and the clock for its counts, the clock of its
 /// guard, and its own clock.
@@ -75,22 +79,27 @@ fn listener_at(rt: &HostRuntime, address: Peer) -> Result<Option<Listener>, Endi
     }
 }
 
-/// Returns a socket at each address, except at those of IPv6 if the host has none.
-fn listeners_at(rt: &HostRuntime, plan: &HostPlan) -> Result<Vec<Listener>, Ending>
-    ensures { IfOk result (λ listeners. 1 ≤ vec_len listeners) }
+/// Returns a socket at each address, except at those of IPv6 if the host has none. Returns the
+/// addresses of these sockets, too.
+fn listeners_at(rt: &HostRuntime, addresses: &[Peer]) -> Result<(Vec<Listener>, List<Peer>), Ending>
+    ensures some { IfOk result (λ opened. 1 ≤ vec_len opened.0) }
+    ensures each { IfOk result (λ opened. length opened.1 ≡ vec_len opened.0) }
+    ensures few { IfOk result (λ opened. length opened.1 ≤ length addresses.now) }
 {
     let mut listeners = Vec::new(rt.alloc());
-    'addresses: for address in plan.listen.as_slice() {
+    let mut listen = List::new(rt.alloc());
+    'addresses: for address in addresses {
         if let Some(listener) = listener_at(rt, *address)? {
             if listeners.push(listener).is_err() {
                 return Err(Failure::Memory.into());
             }
+            listen.push(*address)?;
         }
     }
     if listeners.is_empty() {
         return Err(Failure::NoAddress.into());
     }
-    Ok(listeners)
+    Ok((listeners, listen))
 }
 
 /// Returns a socket that listens for connections at an address. If the host has no IPv6, prints
@@ -111,16 +120,59 @@ fn doorway_at(rt: &HostRuntime, address: Peer) -> Result<Option<TcpDoorway>, End
 }
 
 /// Returns a socket at each address for connections, except at those of IPv6 if the host has none.
-fn doorways_at(rt: &HostRuntime, plan: &HostPlan) -> Result<Vec<TcpDoorway>, Ending> {
+/// Returns the addresses of these sockets, too.
+fn doorways_at(
+    rt: &HostRuntime,
+    addresses: &[Peer],
+) -> Result<(Vec<TcpDoorway>, List<Peer>), Ending>
+    ensures { IfOk result (λ opened. length opened.1 ≡ vec_len opened.0) }
+{
     let mut doorways = Vec::new(rt.alloc());
-    'addresses: for address in plan.tcp.as_slice() {
+    let mut tcp = List::new(rt.alloc());
+    'addresses: for address in addresses {
         if let Some(doorway) = doorway_at(rt, *address)? {
             if doorways.push(doorway).is_err() {
                 return Err(Failure::Memory.into());
             }
+            tcp.push(*address)?;
         }
     }
-    Ok(doorways)
+    Ok((doorways, tcp))
+}
+
+/// Returns the number of connections of a plan of which these addresses for TCP are left. If none
+/// is left, returns 0, and prints that on standard error if the plan has some.
+fn connections_left(rt: &HostRuntime, plan: &HostPlan, tcp: &List<Peer>) -> u8
+    ensures few { result ≤ plan.now.connections }
+    ensures none { length tcp.now ≡ 0 → result ≡ 0 }
+{
+    if !tcp.is_empty() {
+        return plan.connections;
+    }
+    if !plan.tcp.is_empty() {
+        let _ = rt.stderr().write_all(NO_DOORWAY);
+    }
+    0
+}
+
+/// Returns the plan with these addresses and this number of connections in place of its own.
+#[tactic(auto, using(crate::proofs::PlanLaws::fewer_fit))]
+fn plan_at(plan: HostPlan, listen: List<Peer>, tcp: List<Peer>, connections: u8) -> HostPlan
+    requires plan { IsPlan plan }
+    requires some { 1 ≤ length listen }
+    requires few { length listen ≤ length plan.listen }
+    requires connections { connections ≤ plan.connections }
+    ensures plan { IsPlan result }
+    ensures listen { result.listen ≡ listen }
+    ensures tcp { result.tcp ≡ tcp }
+    ensures connections { result.connections ≡ connections }
+{
+    HostPlan {
+        listen,
+        tcp,
+        connections,
+        ..plan
+    }
 }
 
 /// The resources that the workers of a server share.
@@ -153,14 +205,19 @@ fn counts_of(rt: &HostRuntime, plan: &HostPlan) -> Result<Option<Counts>, Starve
 }
 
 /// Returns the resources that the workers of a server of this plan share.
-fn shared_of(rt: &HostRuntime, plan: &HostPlan) -> Result<Shared, Ending>
-    requires { IsPlan plan.now }
+fn shared_of(
+    rt: &HostRuntime,
+    plan: &HostPlan,
+    listeners: Vec<Listener>,
+    doorways: Vec<TcpDoorway>,
+) -> Result<Shared, Ending>
+    requires plan { IsPlan plan.now }
+    requires listeners { 1 ≤ vec_len listeners }
     ensures { IfOk result (λ shared. 1 ≤ vec_len shared.listeners) }
 {
     let Ok(origin) = Origin::read(rt) else {
         return Err(Failure::Clock.into());
     };
-    let listeners = listeners_at(rt, plan)?;
     let Ok(keys) = RandomState::new(rt) else {
         return Err(Failure::Keys.into());
     };
@@ -171,7 +228,7 @@ fn shared_of(rt: &HostRuntime, plan: &HostPlan) -> Result<Shared, Ending>
         crew: Crew::of(plan.ends() as u64 + u64::from(plan.connections)),
         guard: Guard::of(rt, rt.alloc(), plan)?,
         counts: counts_of(rt, plan)?,
-        doorways: doorways_at(rt, plan)?,
+        doorways,
         door_counts: DoorCounts::of(u64::from(plan.connections)),
         origin,
     })
@@ -307,6 +364,30 @@ fn plan_of(rt: &HostRuntime) -> Result<HostPlan, Ending>
         Wanted::Serve(plan) => Ok(plan),
         question => Err(tell(rt, question.text())),
     }
+}
+
+/// The plan to serve, with the sockets at its addresses.
+#[derive(Drop)]
+struct Opened {
+    plan: HostPlan,
+    listeners: Vec<Listener>,
+    doorways: Vec<TcpDoorway>,
+}
+
+/// Returns the plan to serve and its sockets. If the host has no IPv6, the plan is left without the
+/// addresses of IPv6. If none of its addresses for TCP is left, it has no connections.
+fn open_plan(rt: &HostRuntime) -> Result<Opened, Ending>
+    ensures { IfOk result IsOpened }
+{
+    let plan = plan_of(rt)?;
+    let (listeners, listen) = listeners_at(rt, plan.listen.as_slice())?;
+    let (doorways, tcp) = doorways_at(rt, plan.tcp.as_slice())?;
+    let connections = connections_left(rt, &plan, &tcp);
+    Ok(Opened {
+        plan: plan_at(plan, listen, tcp, connections),
+        listeners,
+        doorways,
+    })
 }
 
 /// Begins a run above `first` by the seat of an end, if it has one.
@@ -563,11 +644,15 @@ fn stands_over<'a>(
 }
 
 fn main(rt: HostRuntime) -> ExitCode {
-    let plan = match plan_of(&rt) {
-        Ok(plan) => plan,
+    let Opened {
+        plan,
+        listeners,
+        doorways,
+    } = match open_plan(&rt) {
+        Ok(opened) => opened,
         Err(ending) => return ending.exit(&rt),
     };
-    let shared = match shared_of(&rt, &plan) {
+    let shared = match shared_of(&rt, &plan, listeners, doorways) {
         Ok(shared) => shared,
         Err(ending) => return ending.exit(&rt),
     };
