@@ -28,7 +28,6 @@ use Rattle.joint_server.specs.Posts.{
   ServesBy,
   seat_of,
   seated,
-  stand_seated,
 }
 use Rattle.joint_server.specs.Standing.{AttendsDoor}
 use Rattle.joint_server.proofs.StandLaws.{stand_called, stand_hall}

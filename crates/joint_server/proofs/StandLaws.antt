@@ -22,7 +22,6 @@ use Rattle.joint_server.specs.Standing.{
   AttendsDoor,
   IsFew,
   IsTurned,
-  Stands,
   StandsSo,
   TurnMade,
   WasAttended,
